@@ -11,10 +11,11 @@ EVERY := 1
 JOBS := 1
 SECONDS := 600
 
-.PHONY: help try run build test check stories stops plants fmt npm front beside log kill files older limits large soak starve fuzz bench compare examples kit
+.PHONY: help demo quick try run build test check stories stops plants fmt npm front beside log socket kill files older limits large soak starve fuzz bench compare examples kit
 
 help:
 	@echo 'Build:'
+	@echo '  make demo     serves a new registry for a look with npm: minutes, and nothing is proved'
 	@echo '  make try      runs the program before any proof: a few minutes, and nothing is proved'
 	@echo '  make run      proves and builds the program, and publishes $(BODY)'
 	@echo '  make build    proves and builds the program as out/registry'
@@ -22,15 +23,17 @@ help:
 	@echo 'Test:'
 	@echo '  make test     the gate: proves every crate from nothing, and runs every test and story'
 	@echo '  make check    proves every crate over what earlier checks kept'
+	@echo '  make quick    runs every test and story over builds without a proof (JOBS=2: two at once)'
 	@echo '  make stories  runs the stories alone: FILES=tags.txt runs one file'
 	@echo '  make stops    stops a disk at each of its calls, and a page gives back another byte'
-	@echo '  make plants   tries every wrong body, also those outside the gate'
+	@echo '  make plants   tries the wrong bodies that were not tried since they changed'
 	@echo '  make fmt      formats the files'
 	@echo
 	@echo 'Try the built program out/registry:'
 	@echo '  make npm      publishes and installs with the stock npm client: a minute'
-	@echo '  make front    the same through nginx with TLS: it needs nginx, and yarn where it is there'
+	@echo '  make front    the same through nginx with TLS, hostile clients, public packages: 2 minutes; it needs nginx'
 	@echo '  make beside   runs commands beside a server, and kills, halts and stops it meanwhile: 4 minutes'
+	@echo '  make socket   serves at a Unix socket: who may connect, takeovers, stops: ten seconds'
 	@echo '  make log      keeps a log of requests: moves it away, and fills its disk: half a minute'
 	@echo '  make kill     kills a server 500 times while versions are published: 6 minutes'
 	@echo '  make files    fills a disk, and opens files that hold no registry'
@@ -55,6 +58,9 @@ try: kit
 	@echo 'running the program before any proof' >&2
 	@(cd $(PROGRAM) && rt try) < $(BODY)
 	@echo 'Nothing was proved: make run proves the program.' >&2
+
+demo: kit
+	@tools/demo
 
 # There is a program in out/ only if this proof passes. It is run once, on the example.
 build: kit
@@ -82,6 +88,9 @@ beside: out/registry
 
 log: out/registry
 	@examples/log.sh out/registry
+
+socket: out/registry
+	@examples/socket.sh out/registry
 
 kill: out/registry
 	@examples/kill.sh out/registry
@@ -115,9 +124,14 @@ compare: out/registry
 bench: out/registry
 	@tools/measure_requests --program out/registry
 
+# A test may take ten minutes, since the prover works beside it.
 test: kit examples
 	@tools/check_listings
-	@tools/gate_times rt ci
+	@tools/check_pages
+	@RT_SECONDS=600 tools/gate_times rt ci
+
+quick: kit
+	@tools/quick --jobs $(JOBS)
 
 # Proves and builds the program that runs stories, and runs it on a copy of their files.
 stories: kit

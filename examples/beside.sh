@@ -9,7 +9,7 @@
 # both must print the same, byte for byte, and end alike. Then it is tried what a killed server leaves,
 # two servers, a folder that others may enter, a path too long for a socket, a server that is just
 # starting, one that is halted, clients that stop in the middle, more clients at once than there are
-# seats, and a server that is killed while it answers. Last come tokens that are made beside a server,
+# slots, and a server that is killed while it answers. Last come tokens that are made beside a server,
 # copies and checks while versions are published, commands that are killed or halted while they hold
 # the server, and stops. Each try prints a line, and the last line is `N passed, 0 failed`, with status
 # 0, or the status is 1. It takes four minutes, and needs curl and python3.
@@ -225,7 +225,7 @@ run first "$db" --operator user-add ann
 
 is_private() {
     serve "$db"
-    [ "$(stat -c %a "$db-server")" = 700 ] && [ -S "$db-server/words" ]
+    [ "$(stat -c %a "$db-server")" = 700 ] && [ -S "$db-server/command" ]
 }
 try "the socket lies in a folder of mode 0700" is_private
 
@@ -249,7 +249,7 @@ try 'a second server of the file is refused' is_refused_twice
 
 goes_on_after_a_kill() {
     stop
-    [ -S "$db-server/words" ] || return 1
+    [ -S "$db-server/command" ] || return 1
     run one "$db" --operator user-add cid
     is_done one || return 1
     serve "$db" || return 1
@@ -268,10 +268,12 @@ ends_unanswered() {
     ended=0
     wait "$client" || ended=$?
     echo "$ended" > "$work/one.status"
-    is one 3 'the registry'"'"'s server gave no answer: what was asked may be done' || return 1
-    serve "$db"
+    is_done one || return 1
+    serve "$db" || return 1
+    run one "$db" --operator user-add eve
+    is one 1 Exists
 }
-try 'a command whose server is killed says that it may be done' ends_unanswered
+try 'a command whose server is killed before it is ready is done without it' ends_unanswered
 
 loses_nothing() {
     : > "$work/answered"
@@ -320,7 +322,9 @@ ends_in_time() {
     after=$(date +%s)
     kill -CONT "$server"
     echo "$((after - before)) s" >> "$work/said"
-    is one 3 'gave no answer' && [ $((after - before)) -le 11 ]
+    is one 3 'nothing was done' && [ $((after - before)) -le 11 ] || return 1
+    run one "$db" --operator user-add gus
+    is_done one
 }
 try 'a halted server holds a command for ten seconds, and no longer' ends_in_time
 
@@ -338,7 +342,7 @@ print('there', flush=True)
 time.sleep(seconds)
 END
 stall() {
-    python3 "$work/stall.py" "$db-server/words" "$1" "$2" > "$work/stalled" &
+    python3 "$work/stall.py" "$db-server/command" "$1" "$2" > "$work/stalled" &
     others=$!
     for _ in $(seq 1 200); do
         if grep -q there "$work/stalled"; then return 0; fi
@@ -360,7 +364,7 @@ holds_up_nobody() {
 }
 try 'a client that stops in the middle holds up nobody' holds_up_nobody
 
-waits_for_a_seat() {
+waits_for_a_slot() {
     stall 8 60
     before=$(date +%s)
     run one "$db" --operator user-add ida
@@ -371,7 +375,7 @@ waits_for_a_seat() {
     others=
     is_done one && [ $((after - before)) -le 10 ]
 }
-try 'with eight such clients a ninth is answered within ten seconds' waits_for_a_seat
+try 'with eight such clients a ninth is answered within ten seconds' waits_for_a_slot
 
 answers_all() {
     clients=
@@ -385,7 +389,7 @@ answers_all() {
 try '24 commands at once are all answered' answers_all
 
 cuts() {
-    python3 - "$db-server/words" >> "$work/said" 2>&1 <<'END'
+    python3 - "$db-server/command" >> "$work/said" 2>&1 <<'END'
 import socket, struct, sys
 words = [b'--operator', b'user-add', b'cut']
 message = struct.pack('>I', len(words)) + b''.join(struct.pack('>I', len(word)) + word for word in words) + struct.pack('>Q', 0)
@@ -393,8 +397,10 @@ for length in range(len(message) + 2):
     one = socket.socket(socket.AF_UNIX)
     one.connect(sys.argv[1])
     one.settimeout(10)
+    assert one.recv(1) == b'r'
     one.sendall((message + b'x')[:length])
-    one.shutdown(socket.SHUT_WR)
+    if length != len(message):
+        one.shutdown(socket.SHUT_WR)
     came = b''
     while True:
         piece = one.recv(65536)
@@ -406,7 +412,7 @@ END
 }
 try 'a message that was cut, or has a byte more, is answered by nothing' cuts
 
-# ---- doors that stay shut
+# ---- folders that aren't entered
 
 is_warned() {
     stop
@@ -427,7 +433,7 @@ is_warned() {
     run one "$db" --operator user-add jan
     is_done one
 }
-try 'a folder that others may enter, or that is none, is no door' is_warned
+try 'a folder that others may enter, or that is none, has no sockets' is_warned
 
 is_too_long() {
     stop
@@ -442,7 +448,7 @@ is_too_long() {
     after=$(date +%s)
     is one 3 "another process has the registry's file" && [ $((after - before)) -le 9 ]
 }
-try 'a path too long for a socket is served without a door' is_too_long
+try 'a path too long for a socket is served without sockets' is_too_long
 
 is_taken_away() {
     stop
@@ -454,7 +460,41 @@ is_taken_away() {
     server=
     [ ! -e "$db-server" ]
 }
-try 'a server that ends takes its door away' is_taken_away
+try 'a server that ends takes its sockets away' is_taken_away
+
+# ---- other names, and other files
+
+is_found_by_a_link() {
+    stop
+    serve "$db" || return 1
+    ln -sf "$db" "$work/link.db"
+    run one "$work/link.db" --operator user-add lil
+    is_done one || return 1
+    run one "$db" --operator user-add lil
+    is one 1 Exists
+}
+try 'a command by a link reaches the server of the file' is_found_by_a_link
+
+is_told_from_another() {
+    mv "$db" "$work/moved.db" && mv "$db-wal" "$work/moved.db-wal" && "$program" --db "$work/new.db" --operator user-add new > /dev/null && mv "$work/new.db" "$db" && mv "$work/new.db-wal" "$db-wal" || return 1
+    run one "$db" --operator user-add mia
+    is one 3 "has another file open" || return 1
+    run one "$db" check
+    is one 3 "has another file open" || return 1
+    run one "$db" backup "$work/other.db"
+    is one 3 "has another file open" && [ ! -e "$work/other.db" ] || return 1
+    run one "$db" stop
+    is_done one || return 1
+    wait "$server" || return 1
+    server=
+    run one "$db" --operator user-add new
+    is one 1 Exists || return 1
+    run one "$work/moved.db" --operator user-add lil
+    is one 1 Exists || return 1
+    rm -f "$db" "$db-wal"
+    mv "$work/moved.db" "$db"
+}
+try 'another file at the path of a server is told from its own' is_told_from_another
 
 # ---- tokens that are made
 
@@ -581,13 +621,30 @@ waits_for_a_hold() {
     run two "$db" --operator user-add bea
     wait "$first"
     is one 3 "can't be held" || return 1
-    is two 3 'gave no answer' || return 1
+    is two 3 'nothing was done' || return 1
     kill -9 "$others"
     others=
+    run two "$db" --operator user-add bea
+    is_done two || return 1
     run one "$db" check
     is_done one
 }
 try 'a second command waits for a held server for ten seconds, and no longer' waits_for_a_hold
+
+is_not_done_later() {
+    halt "$work/fourth.db" || return 1
+    "$program" --db "$db" --operator user-add cleo > /dev/null 2>&1 &
+    client=$!
+    sleep 0.5
+    kill "$client"
+    wait "$client" 2>/dev/null || true
+    kill -9 "$others"
+    others=
+    answers || return 1
+    run one "$db" --operator user-add cleo
+    is_done one
+}
+try 'a command that was interrupted while the server is held is not done later' is_not_done_later
 
 is_let_go_late() {
     python3 "$work/halt.py" late "$program" "$db" "$work/late.db" > "$work/late" 2>&1 || return 1

@@ -1,6 +1,6 @@
 #!/bin/sh
 # A server that keeps a log of its requests: what stands there, a log that is moved away, one whose
-# folder is gone, and a disk that is full.
+# folder is gone, a disk that is full, and standard output as a log.
 #
 #     examples/log.sh [PROGRAM]
 #
@@ -112,8 +112,10 @@ get /-/package/kit/dist-tags npm_ann_000000001
 try 'a log that was moved away is begun anew' soon has_lines "$log" 1
 try 'and nothing more comes to the old one' last_is "$log.1" '- - - 400 19'
 end
+printf 'half a line' >> "$log"
 serve "$log"
-try 'after a kill it goes on behind what is there' soon has_lines "$log" 2
+try 'after a kill it goes on behind what is there' soon last_is "$log" '# begun'
+try 'where a line was cut, in a line of its own' has_lines "$log" 3
 registry stop > "$work/out"
 server=
 try 'the last line says why it ended' last_is "$log" '# ended: a command told it to stop'
@@ -123,8 +125,27 @@ try 'the last line says why it ended' last_is "$log" '# ended: a command told it
 mkfifo "$work/pipe"
 try "the registry's own file is no log" is_refused "$work/registry.db"
 try "nor is the log of that" is_refused "$work/registry.db-wal"
+for end in shm journal server server/requests.log; do
+    try "nor what would be its -$end" is_refused "$work/registry.db-$end"
+done
+mkdir "$work/other"
+ln -s "$work" "$work/other/folder"
+try 'also by another path' is_refused "$work/other/folder/registry.db-journal"
+ln -s registry.db-wal "$work/link-wal"
+try 'nor a link to one of them' is_refused "$work/link-wal"
 try 'nor is a pipe' is_refused "$work/pipe"
 try 'nor a folder' is_refused "$work"
+
+serve "$log"
+get /-/package/kit/dist-tags npm_ann_000000001
+mv "$log" "$log.2"
+ln -s registry.db-wal "$log"
+get /-/package/kit/dist-tags npm_ann_000000001
+try 'a link to one of them that comes later is none' sh -c "sleep 0.2; ! grep -aq dist-tags '$work/registry.db-wal'"
+rm "$log"
+get /-/package/kit/dist-tags npm_ann_000000001
+try 'and once it is gone the loss is told' soon says "$log" ' # lost lines: 1$'
+end
 
 # ---- logs that can't be written
 
@@ -151,6 +172,34 @@ if [ "$(id -u)" = 0 ] && mkdir "$work/disk" && mount -t tmpfs -o size=64k none "
 else
     echo 'left out: a full disk, which root alone can make'
 fi
+
+# ---- standard output as a log
+
+mkfifo "$work/journal"
+# A reader that reads when it is told to.
+exec 3<> "$work/journal"
+"$program" --db "$work/registry.db" serve --port "$port" --log - > "$work/journal" 2> "$work/errors" &
+server=$!
+read -r first <&3
+try 'where it listens stands first on standard output' [ "$first" = "listening 127.0.0.1:$port" ]
+read -r first <&3
+try 'and then the log' [ "${first#* }" = '# begun' ]
+get /-/package/kit/dist-tags npm_ann_000000001
+read -r first <&3
+try 'a request has a line there' [ "$(echo "$first" | sed 's/^[^ ]* //; s/ [0-9.-]*$//')" = 'ann GET /-/package/kit/dist-tags 404 20' ]
+curl -s -o "$work/answers" "http://127.0.0.1:$port/-/package/kit-[1-3000]/dist-tags"
+get /-/package/kit/dist-tags npm_ann_000000001
+try 'where nobody reads it all is answered' is_answered
+timeout 1 cat <&3 > "$work/journal.log" || true
+get /-/package/kit/dist-tags npm_ann_000000001
+timeout 1 cat <&3 >> "$work/journal.log" || true
+try 'and the loss is told' says "$work/journal.log" ' # lost lines: [0-9]*$'
+try 'each line that came is whole' sh -c "! grep -qv -e ' - GET /-/package/kit-[0-9]*/dist-tags 404 20 [0-9.]*$' -e ' # lost lines: [0-9]*$' -e ' ann GET /-/package/kit/dist-tags 404 20 [0-9.]*$' '$work/journal.log'"
+exec 3>&-
+get /-/package/kit/dist-tags npm_ann_000000001
+get /-/package/kit/dist-tags npm_ann_000000001
+try 'where the reader is gone all is answered' is_answered
+end
 
 echo "$passed passed, $failed failed"
 [ "$failed" = 0 ]

@@ -1,5 +1,5 @@
--- The access half of the registry's state: who is in which organisation and team, and what is
--- granted to whom.
+-- The access half of the registry's state: the members of organisations and teams, and what they
+-- are granted.
 use Rattle.registry_names.specs.Texts.{Text}
 use Rattle.registry_names.specs.Maps.{TextMap, PairMap, TripleMap}
 use Rattle.registry_names.specs.declared.status.Status.{Status}

@@ -15,7 +15,8 @@ pub record SameOrganisation (S T : Access) (caller : Caller) (o : Text) : Type 0
   pub organisation : has_organisation S o ≡ has_organisation T o
   pub role : role_of S caller o ≡ role_of T caller o
 
--- the package's scope and status are the same, and so is what the caller is and is granted on it
+-- the package's scope and status are the same, and so are whether the caller maintains it and what
+-- their teams are granted on it
 pub record SamePackage (S T : Access) (caller : Caller) (p : Text) : Type 0 where
   pub scope : (o : Text) → scope_of p ≡ Some o → SameOrganisation S T caller o
   pub status : at S.statuses p ≡ at T.statuses p

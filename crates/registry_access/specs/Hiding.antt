@@ -1,4 +1,4 @@
--- How a package looks to one who may not read it.
+-- How a package looks to a caller who may not read it.
 use Rattle.std.specs.Prelude.{◌≡◌, ◌≢◌, Bool, false, not, ◌&&◌, is_some, Some, None}
 use Rattle.registry_names.specs.Texts.{Text, is}
 use Rattle.registry_names.specs.Maps.{at, erase, keep}
@@ -35,7 +35,8 @@ publishes_as_member S caller p (Owners q) = false
 publishes_as_member S caller p (Read q) = false
 publishes_as_member S caller p (OrgRead o) = false
 
--- whatever else the caller asks, they get what they would get were the package never published
+-- whatever else the caller asks, they get what they would get if the package had never been
+-- published
 abbrev pub IsHidden : Access → Caller → Text → Type 0
 IsHidden S caller p = (ask : Ask) → publishes_as_member S caller p ask ≡ false → allowed_in S caller ask ≡ allowed_in (access_without S p) caller ask
 

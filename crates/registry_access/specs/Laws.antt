@@ -30,7 +30,7 @@ IsGreatestGrant S caller p (Some greatest) = IsGreatestOf S caller p greatest
 abbrev pub GreatestGrantCounts : Type 0
 GreatestGrantCounts = (S : Access) (caller : Caller) (p : Text) → IsGreatestGrant S caller p (position_in S caller p).grant
 
--- who may do more with a package may read it
+-- a caller who may do more with a package may read it
 pub record IsReadable (caller : Caller) (scoped : Bool) (at : Position) : Type 0 where
   pub writer : (rule : Rule) → may_write caller at ≡ Ok rule → may_read at ≡ Ok A8
   pub maintainer : (rule : Rule) → may_manage_maintainers caller at ≡ Ok rule → may_read at ≡ Ok A8
@@ -43,6 +43,6 @@ WritersRead = (caller : Caller) (scoped : Bool) (at : Position) → IsReadable c
 abbrev pub AgreeingAllow : Type 0
 AgreeingAllow = (S T : Access) (caller : Caller) (ask : Ask) → SameFor S T caller ask → allowed_in S caller ask ≡ allowed_in T caller ask
 
--- rows that say all that a state says agree with it, whoever asks for whatever
+-- rows that say all that a state says agree with it, whatever anyone asks
 abbrev pub WholeRowsStand : Type 0
 WholeRowsStand = (rows : AccessRows) (S : Access) → RowsTellAll rows S → (caller : Caller) (ask : Ask) → RowsTell rows S caller ask

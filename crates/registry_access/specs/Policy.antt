@@ -38,7 +38,7 @@ by_rule rule holds = if holds then Ok rule else Err (Denied rule)
 abbrev pub may_operate : Caller → Verdict
 may_operate caller = for_known caller (by_rule A1 (is_operator caller))
 
--- ---- of an organisation that is there or isn't, in which the caller has a role or none
+-- ---- of an organisation that may be there, and in which the caller may have a role
 
 -- A2: an owner
 abbrev pub may_manage_members : Caller → Bool → Option Role → Verdict
@@ -54,11 +54,11 @@ may_see_organisation caller there role = for_known caller (where_found there (by
 
 -- ---- of a package
 
--- A8: whoever reads it
+-- A8: a caller who reads it
 abbrev pub may_read : Position → Verdict
 may_read position = where_found (reads (level_at position)) (Ok A8)
 
--- A6: whoever writes it
+-- A6: a caller who writes it
 abbrev pub may_write : Caller → Position → Verdict
 may_write caller position = for_known caller (where_found (reads (level_at position)) (by_rule A6 (writes (level_at position))))
 
@@ -66,7 +66,7 @@ may_write caller position = for_known caller (where_found (reads (level_at posit
 abbrev pub may_manage_maintainers : Caller → Position → Verdict
 may_manage_maintainers caller position = for_known caller (where_found (reads (level_at position)) (by_rule A7 position.maintainer))
 
--- a name without a scope. A5, for its first version: any user. A6, for a further one: whoever
+-- a name without a scope. A5, for its first version: any user. A6, for a further one: a caller who
 -- writes it
 abbrev pub may_publish_unscoped : Caller → Position → Verdict
 may_publish_unscoped caller position =
@@ -83,7 +83,7 @@ may_publish_scoped caller position =
 abbrev pub may_publish : Caller → Bool → Position → Verdict
 may_publish caller scoped position = if scoped then may_publish_scoped caller position else may_publish_unscoped caller position
 
--- what an ask about a package comes to, by what the caller is to it. An ask about none finds
+-- what an ask about a package comes to, by what the caller is to it. An ask about no package finds
 -- nothing
 abbrev pub allowed_at : Caller → Ask → Position → Verdict
 allowed_at caller (Publish p) position = may_publish caller (is_some (scope_of p.now)) position

@@ -37,7 +37,7 @@ position_in S caller p = record {
   grant = greatest_grant (granted S caller p);
 }
 
--- Nothing on a package that was never published. Else what one who writes has, or the greater of
+-- Nothing on a package that was never published. Otherwise what a writer has, or the greater of
 -- what everybody has and what is granted
 abbrev pub level_by : Option Status → Bool → Option Grant → Level
 level_by None may_write grant = Nothing

@@ -29,9 +29,9 @@ RowsTell rows S caller ask = SameFor (state_of rows) S caller ask
 abbrev pub RowsTellOfPackage : AccessRows → Access → Caller → Text → Type 0
 RowsTellOfPackage rows S caller p = SamePackage (state_of rows) S caller p
 
--- A standing agrees with a state at a caller and a package. Of an owner or admin, whose role alone
--- lets them write, its list of grants means nothing. In `grants` neither the order counts
--- nor how often a grant occurs there.
+-- A standing agrees with a state at a caller and a package. Its list of grants means nothing for an
+-- owner or admin, whose role alone lets them write. In `grants` neither the order nor how often a
+-- grant occurs counts.
 pub record StandingTells (standing : Standing) (S : Access) (caller : Caller) (p : Text) : Type 0 where
   pub organisation : standing.organisation ≡ has_scope S (scope_of p)
   pub role : standing.role ≡ scope_role S caller (scope_of p)

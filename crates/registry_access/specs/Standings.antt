@@ -11,7 +11,7 @@ use Rattle.registry_access.specs.declared.standing.Standing.{Standing}
 abbrev pub is_listed : List Grant → Grant → Bool
 is_listed gs g = list_any (λ h. is_grant h g) gs
 
--- of one who is no user
+-- of a caller who isn't a user
 abbrev pub outsider : Standing → Position
 outsider s = record { organisation = s.organisation; role = None; status = s.status; maintainer = false; grant = None }
 

@@ -23,8 +23,8 @@ use registry_names::{Ident, Name, Refusal, Rule};
 
 /// The caller's level on a package.
 ///
-/// It is what the rows say, and so what each state says with which they agree: each
-/// that has the same of this caller and this package. More rows than are needed do no harm.
+/// It is what the rows say, and so what each state says that they agree with: each that says the
+/// same of this caller and this package. More rows than are needed do no harm.
 pub fn level(rows: &AccessRows, caller: &Caller, name: &Name) -> Level
     ensures of_rows { result ≡ level_in (state_of rows.now) caller.now name.now }
     ensures of_state { (S : Access) → RowsTellOfPackage rows.now S caller.now name.now
@@ -56,8 +56,8 @@ pub fn allowed(rows: &AccessRows, caller: &Caller, ask: &Ask) -> Result<Rule, Re
     by_rows(rows, caller, ask)
 }
 
-/// The same of an ask about the package of a standing, as [`allowed`] answers it. An ask about no
-/// package, which a standing can't answer, is `NotFound`.
+/// The same for an ask about the package of a standing, as [`allowed`] answers it. `NotFound` is
+/// returned for an ask that isn't about a package, which a standing can't answer.
 pub fn allowed_by(standing: &Standing, caller: &Caller, ask: &Ask) -> Result<Rule, Refusal>
     ensures of_standing { result
         ≡ allowed_at caller.now ask.now (position_of standing.now caller.now) }

@@ -1,13 +1,13 @@
-//! Who asks.
+//! The callers.
 
 use registry_names::Ident;
 
-/// Who asks: whom the registry knows by the credential that came with a request. A credential that
-/// names nobody makes no caller.
+/// A caller, whom the registry knows by the credential that came with a request. A
+/// credential that names nobody gives no caller.
 #[derive(Drop)]
 pub enum Caller {
-    /// Who runs the registry: manages its users, tokens and organisations, and else has what
-    /// everybody has.
+    /// The operator, who runs the registry. They manage its users, tokens and organisations, and
+    /// otherwise have what everybody has.
     Operator,
     /// A user.
     User(Ident),

@@ -5,8 +5,8 @@ ghost use Rattle.registry_access.specs.Spellings.{grant_named, grant_text};
 
 use std::fmt;
 
-/// What a team of an organisation is granted on a package of its scope. Who is granted nothing has
-/// no grant.
+/// What a team of an organisation is granted on a package of its scope. A team that is granted
+/// nothing has no grant.
 #[derive(Clone, Copy, Debug, PartialEq, Eq)]
 pub enum Grant {
     /// Its members see the package.
@@ -16,7 +16,8 @@ pub enum Grant {
 }
 
 impl Grant {
-    /// The grant that a text spells: `read-only` or `read-write`. `None` comes for any other text.
+    /// The grant that a text spells: `read-only` or `read-write`. `None` is returned for any other
+    /// text.
     pub fn parse(text: &str) -> Option<Grant>
         ensures { result ≡ grant_named text.now }
     {
@@ -27,7 +28,7 @@ impl Grant {
         }
     }
 
-    /// The text that spells it, as `read-only`.
+    /// The text that spells it, such as `read-only`.
     pub fn text(self) -> &'static str
         ensures { result.now ≡ grant_text self }
     {

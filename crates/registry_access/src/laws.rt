@@ -7,7 +7,7 @@ ghost use Rattle.registry_access.specs.Spellings.{grant_named, grant_text, role_
 
 /// A package that a caller may not read is hidden from them: where every package without a scope is
 /// public, whatever they ask, except to publish it as a member of its scope, they get what they
-/// would get were it never published.
+/// would get if it had never been published.
 pub fn unread_are_hidden()
     ensures { UnreadAreHidden }
 {}
@@ -18,20 +18,20 @@ pub fn greatest_grant_counts()
     ensures { GreatestGrantCounts }
 {}
 
-/// Reading is never refused where writing is allowed, nor managing the maintainers, nor publishing
-/// a further version.
+/// Reading is never refused where writing is allowed, or managing the maintainers, or publishing a
+/// further version.
 pub fn writers_read()
     ensures { WritersRead }
 {}
 
 /// A caller is allowed by nothing but what their ask concerns: of an organisation, whether it is
-/// there and their role in it; of a package, besides, its status, whether they are a maintainer of
+/// there and their role in it; of a package, also its status, whether they are a maintainer of
 /// it, and what their teams are granted on it.
 pub fn agreeing_states_allow_the_same()
     ensures { AgreeingAllow }
 {}
 
-/// Whoever loads all rows may put any ask to them.
+/// Any ask may be put to the rows where all of them are loaded.
 pub fn all_stored_rows_answer_every_ask()
     ensures { WholeRowsStand }
 {}

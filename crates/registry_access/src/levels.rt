@@ -8,6 +8,6 @@ pub enum Level {
     Nothing,
     /// To see it.
     Read,
-    /// To publish, change and withdraw its versions, too.
+    /// Also to publish, change and withdraw its versions.
     Write,
 }

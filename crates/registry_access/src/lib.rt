@@ -1,10 +1,9 @@
 //! Who may do what: roles, levels, and the policy.
 //!
-//! A caller has a level on each package, nothing, read or write, and is allowed what they ask by
-//! one of the rules A1 to A9, or is refused. Both follow from the rows that say who is in which
-//! organisation and team and what is granted to whom, and take no memory. Contracts say so of the
-//! registry's whole state: a package that a caller may not read looks as if it had never been
-//! published, except to a member of its scope who publishes it.
+//! A caller has a level on each package: nothing, read or write. What they ask is allowed by one of
+//! the rules A1 to A9, or refused. Both follow from the rows of members, teams and grants, and take
+//! no memory. Contracts say so of the registry's whole state: a package that a caller may not read
+//! looks as if it had never been published, except to a member of its scope who publishes it.
 #![tactic(auto)]
 
 mod access;

@@ -40,8 +40,8 @@ fn writes(level: Level) -> bool
     level >= Level::Write
 }
 
-/// The rule that allows the caller to manage users, tokens and organisations, which asks for no
-/// rows; or `NoCaller` for an anonymous caller, and `Denied` for any other but the operator.
+/// The rule that allows the caller to manage users, tokens and organisations. It needs no rows.
+/// `NoCaller` is returned for an anonymous caller, and `Denied` for any other but the operator.
 pub fn may_operate(caller: &Caller) -> Result<Rule, Refusal>
     ensures { result ≡ spec.may_operate caller.now }
 {

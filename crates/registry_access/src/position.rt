@@ -89,7 +89,7 @@ impl Position {
         }
     }
 
-    /// What a standing says, which is of a user more than what everybody has.
+    /// What a standing says. It says more than what everybody has only of a user.
     pub(crate) fn in_standing(standing: &Standing, caller: &Caller) -> Position
         ensures { result ≡ position_of standing.now caller.now }
     {

@@ -17,8 +17,8 @@ pub enum Role {
 }
 
 impl Role {
-    /// The role that a text spells: `developer`, `admin` or `owner`. `None` comes for any other
-    /// text.
+    /// The role that a text spells: `developer`, `admin` or `owner`. `None` is returned for any
+    /// other text.
     pub fn parse(text: &str) -> Option<Role>
         ensures { result ≡ role_named text.now }
     {
@@ -30,7 +30,7 @@ impl Role {
         }
     }
 
-    /// The text that spells it, as `developer`.
+    /// The text that spells it, such as `developer`.
     pub fn text(self) -> &'static str
         ensures { result.now ≡ role_text self }
     {

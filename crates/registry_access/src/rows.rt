@@ -15,7 +15,7 @@ pub struct MemberRow {
     pub role: Role,
 }
 
-/// An organisation has a team. All of it is key.
+/// An organisation has a team. The whole row is its key.
 #[derive(Drop)]
 pub struct TeamRow {
     /// The organisation's name.
@@ -24,7 +24,7 @@ pub struct TeamRow {
     pub team: Text,
 }
 
-/// A user is in a team of an organisation. All of it is key.
+/// A user is in a team of an organisation. The whole row is its key.
 #[derive(Drop)]
 pub struct TeamMemberRow {
     /// The organisation's name.
@@ -48,7 +48,7 @@ pub struct GrantRow {
     pub grant: Grant,
 }
 
-/// A package was published, now or once. Its key is the package.
+/// A package is published, or once was. Its key is the package.
 #[derive(Drop)]
 pub struct PackageRow {
     /// The package's name.
@@ -57,7 +57,7 @@ pub struct PackageRow {
     pub status: Status,
 }
 
-/// A user is a maintainer of a package. All of it is key.
+/// A user is a maintainer of a package. The whole row is its key.
 #[derive(Drop)]
 pub struct MaintainerRow {
     /// The package's name.
@@ -75,7 +75,7 @@ pub struct AccessRows {
     pub members: Vec<MemberRow>,
     /// The teams of organisations.
     pub teams: Vec<TeamRow>,
-    /// Who is in which team.
+    /// The members of teams.
     pub team_members: Vec<TeamMemberRow>,
     /// What teams are granted on packages.
     pub grants: Vec<GrantRow>,
@@ -85,7 +85,7 @@ pub struct AccessRows {
     pub maintainers: Vec<MaintainerRow>,
 }
 
-// Written out, so that to drop the rows is one call and not one for each table.
+// Written out, so that dropping the rows is one call, not one for each table.
 impl Drop for AccessRows {
     fn drop(self) {
         let AccessRows {

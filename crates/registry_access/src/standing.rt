@@ -7,15 +7,16 @@ use registry_names::Status;
 /// What one caller is to one package.
 #[derive(Drop)]
 pub struct Standing {
-    /// Whether the organisation of the package's scope is there. False for a package without one.
+    /// Whether the organisation of the package's scope is there. It is false for a package without
+    /// a scope.
     pub organisation: bool,
     /// The caller's role in that organisation, if they are a member of it.
     pub role: Option<Role>,
-    /// The package's status. None where it was never published.
+    /// The package's status. `None` where it was never published.
     pub status: Option<Status>,
     /// Whether the caller is a maintainer of the package.
     pub maintainer: bool,
-    /// What the caller's teams are granted on the package, in any order. Of an owner or admin,
-    /// whose role alone lets them write, it means nothing.
+    /// What the caller's teams are granted on the package, in any order. It means nothing for an
+    /// owner or admin, whose role alone lets them write.
     pub grants: Vec<Grant>,
 }

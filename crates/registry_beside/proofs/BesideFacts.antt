@@ -17,7 +17,7 @@ use Rattle.registry_http.specs.Services.{Applies, applied}
 use Rattle.registry_cli.specs.Lines.{line_of}
 use Rattle.registry_guests.specs.Beside.{Beside, GuestTurn, GuestsLead, GuestsTurn, beside, beside_guests}
 use Rattle.registry_guests.specs.GuestTurns.{IsGuestTurn}
-use Rattle.registry_guests.specs.Saying.{prints}
+use Rattle.registry_guests.specs.Outputs.{prints}
 use Rattle.registry_beside.specs.Beside.{AnyTurn, AskAll, AsksFor, AsksNothing, IsOneRun, LogRunsBeside, TakeTurns, TakesTurn, TurnsRunBeside, of_connection, of_connections, of_guest, of_guests}
 
 -- ---- one list of turns
@@ -131,13 +131,13 @@ module _ {D : Type 0} (show : D → Shown) (M : D) where
   of-connection K N (bad_input r) last o ended ts runs turn = asked-none K N (of_connection (record { cause = bad_input r; outcome = o; ended = ended })) ts runs tt turn.1
   of-connection K N no_memory last o ended ts runs turn = asked-none K N (of_connection (record { cause = no_memory; outcome = o; ended = ended })) ts runs tt turn.1
 
-  of-guest : (K N : D) (t : GuestTurn) (ts : List AnyTurn) → RunsSo (show M) (show K) ts → IsGuestTurn (applied show) K t.words t.body t.at (prints t.said) N → RunsSo (show M) (show N) (of_guest t ∷ ts)
+  of-guest : (K N : D) (t : GuestTurn) (ts : List AnyTurn) → RunsSo (show M) (show K) ts → IsGuestTurn (applied show) K t.arguments t.body t.at (prints t.output) N → RunsSo (show M) (show N) (of_guest t ∷ ts)
   of-guest K N t ts runs turn =
       elim turn [
         | inl (command, asks) ↦
             elim asks [
               | inl (who, what, o, reads, applies, says) ↦
-                  asked-more K N (of_guest t) ts (record { at = unwrap_or (line_of t.words).at t.at; who = who; what = what }) o runs
+                  asked-more K N (of_guest t) ts (record { at = unwrap_or (line_of t.arguments).at t.at; who = who; what = what }) o runs
                   (record { command = command; reads = reads; moment = refl; printed = says }) applies
               | inr (stop, reads, says, rests) ↦ asked-none K N (of_guest t) ts runs (inl (command, stop, reads, says)) rests
             ]

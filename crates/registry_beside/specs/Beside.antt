@@ -1,4 +1,4 @@
--- Turns of connections and of commands beside them, and the run of a registry that they come to.
+-- Turns of connections and of commands beside them, as one run of a registry.
 use Rattle.std.specs.Prelude.{◌≡◌, ◌⊎◌, ◌++◌, ◌∷◌, [], Bool, Err, List, Ok, map, unwrap_or}
 use Rattle.sqlite.specs.State.{State as Shown}
 use Rattle.registry_names.specs.declared.stop.Stop.{Stop}
@@ -14,7 +14,7 @@ use Rattle.registry_cli.specs.Asked.{reads_line}
 use Rattle.registry_cli.specs.Lines.{line_of}
 use Rattle.registry_guests.specs.Beside.{Beside, GuestTurn, GuestsLead, beside, beside_guests}
 use Rattle.registry_guests.specs.GuestTurns.{IsCommand, IsGuestTurn, IsUnasked}
-use Rattle.registry_guests.specs.Saying.{printed_of, prints}
+use Rattle.registry_guests.specs.Outputs.{printed_of, prints}
 
 -- a turn of a connection, or of a command
 pub data AnyTurn : Type 0 where
@@ -36,7 +36,7 @@ of_guests (of_guest t ∷ ts) = t ∷ of_guests ts
 module _ {D : Type 0} (answers : Answering D) where
   abbrev pub TakesTurn : D → AnyTurn → D → Type 0
   TakesTurn M (of_connection t) N = (last : Bool) × IsTurn answers M last t N
-  TakesTurn M (of_guest t) N = IsGuestTurn answers M t.words t.body t.at (prints t.said) N
+  TakesTurn M (of_guest t) N = IsGuestTurn answers M t.arguments t.body t.at (prints t.output) N
 
   -- turns, the newest first, each taken at what all older ones left
   abbrev pub TakeTurns : D → List AnyTurn → D → Type 0
@@ -45,19 +45,19 @@ module _ {D : Type 0} (answers : Answering D) where
 
 -- ---- the requests of turns
 
--- A command asks this, and its outcome is printed: its words are a command line, read from left to
--- right, and the moment is that of the line, or of the turn.
+-- A command asks for this request, and its outcome is printed. The command's words are a command
+-- line, read from left to right; the moment is that of the line, or else that of the turn.
 pub record CommandAsks (t : GuestTurn) (r : Request) (o : Outcome) : Type 0 where
-  pub command : IsCommand t.words
-  pub reads : reads_line (line_of t.words) t.body (Ok (r.who, r.what))
-  pub moment : r.at ≡ unwrap_or (line_of t.words).at t.at
-  pub printed : prints t.said ≡ printed_of o
+  pub command : IsCommand t.arguments
+  pub reads : reads_line (line_of t.arguments) t.body (Ok (r.who, r.what))
+  pub moment : r.at ≡ unwrap_or (line_of t.arguments).at t.at
+  pub printed : prints t.output ≡ printed_of o
 
--- its words ask for an action out of form, or for none
+-- its words ask for an action that isn't in form, or for no action
 abbrev pub CommandAsksNothing : GuestTurn → Type 0
 CommandAsksNothing t =
-    (IsCommand t.words × (stop : Stop) × reads_line (line_of t.words) t.body (Err stop) × (prints t.said ≡ printed_of (stopped stop)))
-    ⊎ IsUnasked t.words (prints t.said)
+    (IsCommand t.arguments × (stop : Stop) × reads_line (line_of t.arguments) t.body (Err stop) × (prints t.output ≡ printed_of (stopped stop)))
+    ⊎ IsUnasked t.arguments (prints t.output)
 
 -- this was asked in a turn, and came to this
 abbrev pub AsksFor : AnyTurn → Request → Outcome → Type 0
@@ -79,7 +79,7 @@ abbrev pub AskAll : List AnyTurn → List Request → List Outcome → Type 0
 AskAll [] rs os = (rs ≡ []) × (os ≡ [])
 AskAll (t ∷ ts) rs os = (qs : List Request) × (ps : List Outcome) × AskAll ts qs ps × AsksNext t qs ps rs os
 
--- The turns are one run of the registry: of it all holds that `run` says.
+-- The turns are one run of the registry, of which everything holds that `run` says.
 pub record IsOneRun (old new : Shown) (ts : List AnyTurn) : Type 0 where
   pub requests : List Request
   pub outcomes : List Outcome
@@ -93,8 +93,8 @@ module _ {D : Type 0} (show : D → Shown) where
   abbrev pub TurnsRunBeside : Type 0
   TurnsRunBeside = (M N : D) (ts : List AnyTurn) → TakeTurns (applied show) M ts N → IsOneRun (show M) (show N) ts
 
-  -- of the turns of connections beside commands, and of commands after them: they are the turns of the
-  -- connections and those of the commands, all and in their order
+  -- The turns of connections beside commands, and of commands after them, are one run. It has all
+  -- turns of the connections in their order, and all turns of the commands in theirs
   abbrev pub LogRunsBeside : Type 0
   LogRunsBeside = (M : D) (K N : Beside D) (log : List LogEntry) → FollowAll (beside_guests (applied show)) (beside M []) log K → GuestsLead (applied show) K N
       → (ts : List AnyTurn) × (of_connections ts ≡ map (λ e. e.turn) log) × (of_guests ts ≡ N.turns) × TakeTurns (applied show) M ts N.service × IsOneRun (show M) (show N.service) ts

@@ -7,14 +7,14 @@ ghost use Rattle.registry_beside.specs.Beside.{LogRunsBeside, TurnsRunBeside};
 use sqlite::Alter;
 
 /// The turns of connections and of commands, each taken at what all older ones left, are one run of
-/// the registry: of the requests that were asked in them, in their order, with the outcomes that were
-/// answered. So what is said of a run holds of them: each outcome is the machine's answer on what the
-/// earlier ones left, no reply is lost in a crash, and of a registry of which nothing was asked before
-/// the headline holds.
+/// the registry: of the requests that were asked in them, in their order, with the outcomes that
+/// were answered. So everything that is said of a run holds of them: each outcome is the machine's
+/// answer on what the earlier ones left, no reply is lost in a crash, and where nothing was asked
+/// of the registry before, the headline holds.
 ///
-/// The turns of connections whose service lets commands take turns before a request, and the commands
-/// after the last of them, are such turns: those of the connections, all and in their order, those of
-/// the commands, all and in theirs, and no others.
+/// Take connections whose service lets commands take turns before a request, and the commands after
+/// the last of these turns. Together they are such turns: all those of the connections in their
+/// order, all those of the commands in theirs, and no others.
 pub fn turns_beside_guests_are_one_run<S: Alter>()
     ensures turns { TurnsRunBeside (shown S.Store) }
     ensures all { LogRunsBeside (shown S.Store) }

@@ -1,5 +1,5 @@
-//! A registry whose server answers commands, too: all that it is asked is one run. Definitions and
-//! their laws alone.
+//! A registry whose server answers commands, too: everything that it is asked is one run. This
+//! crate has only definitions and their laws.
 #![tactic(auto)]
 
 pub mod laws;

@@ -7,7 +7,7 @@ use Rattle.registry_names.specs.Maps.{first_at}
 use Rattle.registry_names.proofs.TextFacts.{is_true, is_self, is_sym}
 use Rattle.registry_names.proofs.KeyFacts.{text_key}
 use Rattle.registry_names.proofs.MapFacts.{first_at-kept}
-use Rattle.registry_cache.specs.Caches.{Entries, Cache, cache, texts, kept, kept_where, passed, entries_without, prefix, forgotten, is_large, without_large, asked, beside, with_text, with_room}
+use Rattle.registry_cache.specs.Caches.{Entries, Cache, cache, cost, texts, kept, kept_where, passed, entries_without, prefix, forgotten, is_large, without_large, asked, beside, with_text, with_room}
 
 -- ---- what a test passes
 
@@ -156,7 +156,7 @@ prefix_first e es fs k x false h on = cc
 -- what is in a prefix is in the whole
 first_at-prefix : (room : ℕ) (es : Entries) (k x : Text) → first_at is (prefix room es) k ≡ Some x → first_at is es k ≡ Some x
 first_at-prefix room [] k x h = h
-first_at-prefix room (e ∷ es) k x h = prefix_first e es (prefix (room - length e.1) es) k x (nat_le (length e.1) room) h (first_at-prefix (room - length e.1) es k x)
+first_at-prefix room (e ∷ es) k x h = prefix_first e es (prefix (room - cost e) es) k x (nat_le (cost e) room) h (first_at-prefix (room - cost e) es k x)
 
 none_in : (o p : Option Text) → ((x : Text) → o ≡ Some x → p ≡ Some x) → p ≡ None → o ≡ None
 none_in None p on h = refl
@@ -177,7 +177,7 @@ without_large_some s other x h = where_some (not (is_large s other)) (kept s oth
 module _ (s : Cache) (name text : Text) where
   beside_some : (other x : Text) → kept (beside s name text) other ≡ Some x → kept (forgotten s name) other ≡ Some x
   beside_some other x h =
-      behind_some (forgotten s name).large (beside s name text).entries (forgotten s name).entries other x (first_at-prefix (s.limit - length text) (forgotten s name).entries other x) h
+      behind_some (forgotten s name).large (beside s name text).entries (forgotten s name).entries other x (first_at-prefix (s.limit - cost (name, text)) (forgotten s name).entries other x) h
 
   -- where the text has room, and where it has none
   abbrev pub small : Cache
@@ -208,7 +208,7 @@ module _ (s : Cache) (name text : Text) where
 
   -- the text is kept
   pub kept-with_text : kept (with_text s name text) name ≡ Some text
-  kept-with_text = either_under (nat_le (length text) s.limit)
+  kept-with_text = either_under (nat_le (cost (name, text)) s.limit)
 
   small_beside : (other : Text) → is name other ≡ false → kept small other ≡ kept (beside s name text) other
   small_beside other f =
@@ -236,7 +236,7 @@ module _ (s : Cache) (name text : Text) where
   -- under the name nothing else is kept than the text, and under another name nothing else than was
   -- kept there
   pub put_keeps_right : (other x : Text) → kept (with_text s name text) other ≡ Some x → MatchBool (is name other) (x ≡ text) (kept s other ≡ Some x)
-  put_keeps_right other x h = either_right other x (nat_le (length text) s.limit) h
+  put_keeps_right other x h = either_right other x (nat_le (cost (name, text)) s.limit) h
 
   -- what a name that was left out keeps is kept under another
   gone : (b : Bool) (x : Text) (w o : Option Text) → w ≡ cond b None o → w ≡ Some x → MatchBool b ⊥ (o ≡ Some x)
@@ -249,17 +249,17 @@ module _ (s : Cache) (name text : Text) where
 
   pub room_keeps_right : (other x : Text) → kept (with_room s name text) other ≡ Some x → MatchBool (is name other) ⊥ (kept s other ≡ Some x)
   room_keeps_right other x h =
-      gone (is name other) x (kept (forgotten s name) other) (kept s other) (kept-forgotten s name other) (room_some other x (nat_le (length text) s.limit) h)
+      gone (is name other) x (kept (forgotten s name) other) (kept s other) (kept-forgotten s name other) (room_some other x (nat_le (cost (name, text)) s.limit) h)
 
   limit_either : (t u : Cache) (b : Bool) → t.limit ≡ s.limit → u.limit ≡ s.limit → (cond b t u).limit ≡ s.limit
   limit_either t u true e f = e
   limit_either t u false e f = f
 
   pub limit-with_text : (with_text s name text).limit ≡ s.limit
-  limit-with_text = limit_either small big (nat_le (length text) s.limit) refl refl
+  limit-with_text = limit_either small big (nat_le (cost (name, text)) s.limit) refl refl
 
   pub limit-with_room : (with_room s name text).limit ≡ s.limit
-  limit-with_room = limit_either (beside s name text) (without_large (forgotten s name)) (nat_le (length text) s.limit) refl refl
+  limit-with_room = limit_either (beside s name text) (without_large (forgotten s name)) (nat_le (cost (name, text)) s.limit) refl refl
 
   -- ---- a large text and the others
 
@@ -271,12 +271,12 @@ module _ (s : Cache) (name text : Text) where
   is_small_in other None f = refl
   is_small_in other (Some e) f = is_small_of e.0 other e.1 (not (is e.0 name)) f
 
-  pub large_leaves_others : (other : Text) → s.limit < length text → is name other ≡ false → is_large s other ≡ false → kept (with_text s name text) other ≡ kept s other
+  pub large_leaves_others : (other : Text) → s.limit < cost (name, text) → is name other ≡ false → is_large s other ≡ false → kept (with_text s name text) other ≡ kept s other
   large_leaves_others other long f small_one =
-      ap (λ b. kept (cond b small big) other) (lt-leb (length text) s.limit long) ∙ big_beside other f
+      ap (λ b. kept (cond b small big) other) (lt-leb (cost (name, text)) s.limit long) ∙ big_beside other f
       ∙ kept-kept_where (forgotten s name) (λ q. not (is_large (forgotten s name) q)) other
       ∙ ap (λ b. cond (not b) (kept (forgotten s name) other) None) (is_small_in other s.large small_one)
       ∙ same_kept other f
 
-  pub others_leave_large : length text ≤ s.limit → (with_text s name text).large ≡ (forgotten s name).large
-  others_leave_large fits = ap (λ b. (cond b small big).large) (le-leb (length text) s.limit fits)
+  pub others_leave_large : cost (name, text) ≤ s.limit → (with_text s name text).large ≡ (forgotten s name).large
+  others_leave_large fits = ap (λ b. (cond b small big).large) (le-leb (cost (name, text)) s.limit fits)

@@ -9,7 +9,7 @@ use Rattle.lru.proofs.CallerLemmas.{Contains-lookup_entry}
 use Rattle.registry_names.specs.Texts.{Text, is}
 use Rattle.registry_names.specs.Maps.{first_at}
 use Rattle.registry_names.proofs.TextFacts.{is_true, is_sym}
-use Rattle.registry_cache.specs.Caches.{Entries, size, entries_without}
+use Rattle.registry_cache.specs.Caches.{Entries, cost, size, entries_without}
 use Rattle.registry_cache.specs.Inside.{named}
 use Rattle.registry_cache.proofs.PrefixFacts.{size_push}
 
@@ -113,15 +113,22 @@ module _ {S V : Type 0} (key : S → Text) (bytes : V → Text) where
       ap (λ b. named key bytes (cond b es (e ∷ remove_entry (query key name) es))) (asks name (key e.0))
       ∙ out_cons name e es (remove_entry (query key name) es) (is (key e.0) name) refl (λ at. sym (none_out name e.0 es at d.0)) (named-remove_entry name es d.1)
 
-  taken_cons : (e : S × V) (es fs : List (S × V)) (o : Option V) (v : V) (b : Bool) → cond b (Some e.1) o ≡ Some v
-      → (o ≡ Some v → size (named key bytes es) ≡ length (bytes v) + size (named key bytes fs)) → length (bytes e.1) + size (named key bytes es) ≡ length (bytes v) + size (named key bytes (cond b es (e ∷ fs)))
-  taken_cons e es fs o v true h on = let same : e.1 ≡ v = cc in ap (λ (q : V). length (bytes q) + size (named key bytes es)) same
-  taken_cons e es fs o v false h on = let rest = on h in omega arith
+  taken_cons : (name : Text) (e : S × V) (es fs : List (S × V)) (o : Option V) (v : V) (b : Bool) → (b ≡ true → key e.0 ≡ name) → cond b (Some e.1) o ≡ Some v
+      → (o ≡ Some v → size (named key bytes es) ≡ cost (name, bytes v) + size (named key bytes fs))
+      → cost (key e.0, bytes e.1) + size (named key bytes es) ≡ cost (name, bytes v) + size (named key bytes (cond b es (e ∷ fs)))
+  taken_cons name e es fs o v true at h on = let same : e.1 ≡ v = cc in ap₂ (λ (k : Text) (q : V). cost (k, bytes q) + size (named key bytes es)) (at refl) same
+  taken_cons name e es fs o v false at h on = let rest = on h in omega arith
 
-  -- the bytes of the value that goes were counted
-  pub size-remove_entry : (test : S → Bool) (es : List (S × V)) (v : V) → lookup test es ≡ Some v → size (named key bytes es) ≡ length (bytes v) + size (named key bytes (remove_entry test es))
-  size-remove_entry test [] v h = cc
-  size-remove_entry test (e ∷ es) v h = taken_cons e es (remove_entry test es) (lookup test es) v (test e.0) h (size-remove_entry test es v)
+  -- a key that a query finds is its name
+  asked_name : (name : Text) (k : S) → query key name k ≡ true → key k ≡ name
+  asked_name name k t = is_true (key k) name (sym (asks name (key k)) ∙ t)
+
+  -- what goes was counted
+  pub size-remove_entry : (name : Text) (es : List (S × V)) (v : V) → lookup (query key name) es ≡ Some v
+      → size (named key bytes es) ≡ cost (name, bytes v) + size (named key bytes (remove_entry (query key name) es))
+  size-remove_entry name [] v h = cc
+  size-remove_entry name (e ∷ es) v h =
+      taken_cons name e es (remove_entry (query key name) es) (lookup (query key name) es) v (query key name e.0) (asked_name name e.0) h (size-remove_entry name es v)
 
   -- ---- an entry goes to the front
 
@@ -147,7 +154,9 @@ module _ {S V : Type 0} (key : S → Text) (bytes : V → Text) where
   size_at : (name : Text) (es : List (S × V)) (o : Option (S × V)) → lookup_entry (query key name) es ≡ o
       → size (named key bytes (option_map_or (λ f. f ∷ remove_entry (query key name) es) o es)) ≡ size (named key bytes es)
   size_at name es None h = refl
-  size_at name es (Some f) h = sym (size-remove_entry (query key name) es f.1 (lookup_by_entry (query key name) es ∙ ap (option_map (λ (g : S × V). g.1)) h))
+  size_at name es (Some f) h =
+      ap (λ (k : Text). cost (k, bytes f.1) + size (named key bytes (remove_entry (query key name) es))) (asked_name name f.0 (Contains-lookup_entry (query key name) es f h).1)
+      ∙ sym (size-remove_entry name es f.1 (lookup_by_entry (query key name) es ∙ ap (option_map (λ (g : S × V). g.1)) h))
 
   pub size-promoted : (name : Text) (es : List (S × V)) → size (named key bytes (promoted (query key name) es)) ≡ size (named key bytes es)
   size-promoted name es = size_at name es (lookup_entry (query key name) es) refl
@@ -167,7 +176,7 @@ module _ {S V : Type 0} (key : S → Text) (bytes : V → Text) where
   pub named-last : (es : List (S × V)) (x : S × V) → slice_get es (length es - 1) ≡ Some x → named key bytes es ≡ named key bytes (take (length es - 1) es) ++ (key x.0, bytes x.1) ∷ []
   named-last es x h = ap (named key bytes) (cut_last es x h) ∙ map-append _ (take (length es - 1) es) (x ∷ [])
 
-  pub size-last : (es : List (S × V)) (x : S × V) → slice_get es (length es - 1) ≡ Some x → size (named key bytes es) ≡ size (named key bytes (take (length es - 1) es)) + length (bytes x.1)
+  pub size-last : (es : List (S × V)) (x : S × V) → slice_get es (length es - 1) ≡ Some x → size (named key bytes es) ≡ size (named key bytes (take (length es - 1) es)) + cost (key x.0, bytes x.1)
   size-last es x h = ap size (named-last es x h) ∙ size_push (named key bytes (take (length es - 1) es)) (key x.0, bytes x.1)
 
   pub size-none : (es : List (S × V)) → slice_get es (length es - 1) ≡ None → size (named key bytes es) ≡ 0

@@ -6,7 +6,7 @@ use Rattle.registry_names.specs.Maps.{first_at}
 use Rattle.registry_names.proofs.TextFacts.{is_self, is_sym}
 use Rattle.registry_names.proofs.KeyFacts.{text_key}
 use Rattle.registry_names.proofs.MapFacts.{first_at-kept}
-use Rattle.registry_cache.specs.Caches.{Entries, Cache, texts, kept, kept_where, entries_without, prefix, forgotten, is_large, without_large, asked, beside}
+use Rattle.registry_cache.specs.Caches.{Entries, Cache, cost, texts, kept, kept_where, entries_without, prefix, forgotten, is_large, without_large, asked, beside}
 use Rattle.registry_cache.specs.Laws.{AreOnce, AskedKeepsOnce, ForgottenKeepsOnce, PutKeepsOnce, RoomKeepsOnce}
 use Rattle.registry_cache.proofs.CacheFacts.{asked_at, behind_none, big, kept-kept_where, kept_small, no_large, none_in_prefix, none_kept, none_under, passed_texts, small}
 
@@ -32,7 +32,7 @@ begun_once e fs false none once = tt
 prefix_once : (room : ℕ) (es : Entries) → AreOnce es → AreOnce (prefix room es)
 prefix_once room [] once = once
 prefix_once room (e ∷ es) once =
-    begun_once e (prefix (room - length e.1) es) (nat_le (length e.1) room) (none_in_prefix (room - length e.1) es e.0 once.0) (prefix_once (room - length e.1) es once.1)
+    begun_once e (prefix (room - cost e) es) (nat_le (cost e) room) (none_in_prefix (room - cost e) es e.0 once.0) (prefix_once (room - cost e) es once.1)
 
 where_once : (s : Cache) (test : Text → Bool) → AreOnce (texts s) → AreOnce (texts (kept_where s test))
 where_once s test once = subst AreOnce (sym (passed_texts test s.entries s.large)) (filter_once test (texts s) once)
@@ -71,11 +71,11 @@ cons_once (Some e) name text es h none once =
 module _ (name text : Text) (s : Cache) (once : AreOnce (texts s)) where
   beside_once : AreOnce (texts (beside s name text))
   beside_once =
-      behind_once (forgotten s name).large (forgotten s name).entries (beside s name text).entries (none_in_prefix (s.limit - length text) (forgotten s name).entries)
-      (prefix_once (s.limit - length text) (forgotten s name).entries) (forgotten_once name s once)
+      behind_once (forgotten s name).large (forgotten s name).entries (beside s name text).entries (none_in_prefix (s.limit - cost (name, text)) (forgotten s name).entries)
+      (prefix_once (s.limit - cost (name, text)) (forgotten s name).entries) (forgotten_once name s once)
 
   none_beside : first_at is (beside s name text).entries name ≡ None
-  none_beside = none_in_prefix (s.limit - length text) (forgotten s name).entries name (none_under name s.entries)
+  none_beside = none_in_prefix (s.limit - cost (name, text)) (forgotten s name).entries name (none_under name s.entries)
 
   small_once : AreOnce (texts (small s name text))
   small_once =
@@ -100,8 +100,8 @@ module _ (name text : Text) (s : Cache) (once : AreOnce (texts s)) where
 
 pub put_once : PutKeepsOnce
 put_once name text s once =
-    either name text s once (small s name text) (big s name text) (nat_le (length text) s.limit) (small_once name text s once) (big_once name text s once)
+    either name text s once (small s name text) (big s name text) (nat_le (cost (name, text)) s.limit) (small_once name text s once) (big_once name text s once)
 
 pub room_once : RoomKeepsOnce
 room_once name text s once =
-    either name text s once (beside s name text) (without_large (forgotten s name)) (nat_le (length text) s.limit) (beside_once name text s once) (apart_once name text s once)
+    either name text s once (beside s name text) (without_large (forgotten s name)) (nat_le (cost (name, text)) s.limit) (beside_once name text s once) (apart_once name text s once)

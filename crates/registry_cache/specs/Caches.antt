@@ -9,8 +9,8 @@ use Rattle.registry_names.specs.Maps.{first_at}
 abbrev pub Entries : Type 0
 Entries = List (Text × Text)
 
--- Each name with its text, the latest asked first, and how many bytes these texts may have together.
--- Beside them one text that alone has more, with its name
+-- Each name with its text, the latest asked first, and how many bytes these may take together. Beside
+-- them one text that alone takes more, with its name
 pub record Cache : Type 0 where
   pub entries : Entries
   pub large : Option (Text × Text)
@@ -28,19 +28,27 @@ cache_code = code_by (Entries × (Option (Text × Text) × ℕ))
     (coded× (coded_list coded_entry) (coded× (coded_option coded_entry) coded_ℕ))
     (λ s. (s.entries, (s.large, s.limit))) (λ p. cache p.0 p.1.0 p.1.1) (λ _. refl)
 
--- the bytes of all these texts together
+-- what an entry takes in memory beside its bytes and those of its name
+abbrev pub entry_cost : ℕ
+entry_cost = 256
+
+-- what an entry takes of the limit
+abbrev pub cost : Text × Text → ℕ
+cost e = entry_cost + (length e.0 + length e.1)
+
+-- what all these take together
 abbrev pub size : Entries → ℕ
 size [] = 0
-size (e ∷ es) = length e.1 + size es
+size (e ∷ es) = cost e + size es
 
 -- without what is under the name
 abbrev pub entries_without : Text → Entries → Entries
 entries_without name es = filter (λ e. not (is e.0 name)) es
 
--- the longest prefix whose texts have no more bytes than these
+-- the longest prefix that takes no more than this
 abbrev pub prefix : ℕ → Entries → Entries
 prefix room [] = []
-prefix room (e ∷ es) = if nat_le (length e.1) room then e ∷ prefix (room - length e.1) es else []
+prefix room (e ∷ es) = if nat_le (cost e) room then e ∷ prefix (room - cost e) es else []
 
 -- the text, where the test passes its name
 abbrev pub passed : (Text → Bool) → Option (Text × Text) → Option (Text × Text)
@@ -54,7 +62,7 @@ module _ (s : Cache) where
 
   -- the bytes of the large text, if there is one
   abbrev pub large_size : ℕ
-  large_size = size (option_to_list s.large)
+  large_size = option_map_or (λ e. length e.1) s.large 0
 
   -- what is kept under the names that the test passes, in the same order, and nothing else
   abbrev pub kept_where : (Text → Bool) → Cache
@@ -77,8 +85,7 @@ module _ (s : Cache) (name : Text) where
   abbrev pub forgotten : Cache
   forgotten = kept_where s (λ q. not (is q name))
 
-  -- The same is kept. The name with its text comes before the others that may have so many bytes
-  -- together, if it is one of them
+  -- The same is kept. The name with its text is now the first of the entries, if it is among them
   abbrev pub asked : Cache
   asked = cache
       (option_map_or (λ text. (name, text) ∷ entries_without name s.entries) (first_at is s.entries name)
@@ -88,17 +95,17 @@ module _ (s : Cache) (name : Text) where
     -- a text within the limit: of the others, from the latest asked on, as long as they fit beside
     -- it, and the large one
     abbrev pub beside : Cache
-    beside = cache (prefix (s.limit - length text) forgotten.entries) forgotten.large s.limit
+    beside = cache (prefix (s.limit - cost (name, text)) forgotten.entries) forgotten.large s.limit
 
     -- What stays of the others where the text comes. A large text takes the place of the large one,
     -- and no other goes
     abbrev pub with_room : Cache
-    with_room = if nat_le (length text) s.limit then beside else without_large forgotten
+    with_room = if nat_le (cost (name, text)) s.limit then beside else without_large forgotten
 
     -- the text is kept under the name with those of the others, as the latest asked or as the large
     -- one
     abbrev pub with_text : Cache
-    with_text = if nat_le (length text) s.limit
+    with_text = if nat_le (cost (name, text)) s.limit
         then cache ((name, text) ∷ beside.entries) beside.large s.limit
         else cache (without_large forgotten).entries (Some (name, text)) s.limit
 

@@ -7,8 +7,8 @@ use Rattle.registry_cache.specs.Caches.{Entries, size}
 abbrev pub named : {S V : Type 0} → (S → Text) → (V → Text) → List (S × V) → Entries
 named name bytes es = map (λ e. (name e.0, bytes e.1)) es
 
--- The bytes of all that is kept, but for the large one, are counted and are few enough. They alone
--- make what is kept go, and no number of entries does
+-- What all that is kept takes, but for the large one, is counted and is little enough. It alone makes
+-- what is kept go, and no number of entries does
 pub record IsCounted (es : Entries) (count limit cap : ℕ) : Type 0 where
   pub counted : count ≡ size es
   pub limited : count ≤ limit

@@ -2,7 +2,7 @@
 use Rattle.std.specs.Prelude.{◌≡◌, ◌≤◌, ◌<◌, ℕ, ◌+◌, false, cond, [], ◌∷◌, ◌++◌, length, Some, None, MatchBool}
 use Rattle.registry_names.specs.Texts.{Text, is}
 use Rattle.registry_names.specs.Maps.{first_at}
-use Rattle.registry_cache.specs.Caches.{Entries, Cache, cache, texts, kept, size, prefix, is_large, forgotten, asked, with_text, with_room}
+use Rattle.registry_cache.specs.Caches.{Entries, Cache, cache, cost, texts, kept, size, prefix, is_large, forgotten, asked, with_text, with_room}
 
 -- ---- what is kept under each name
 
@@ -20,8 +20,8 @@ ForgottenAlone = (s : Cache) (name other : Text)
 abbrev pub PutIsKept : Type 0
 PutIsKept = (s : Cache) (name text : Text) → kept (with_text s name text) name ≡ Some text
 
--- under the name nothing else is kept than the text, and under another name nothing else than was
--- kept there
+-- under the name nothing is kept but the text, and under another name nothing but what was kept
+-- there
 abbrev pub PutKeepsRight : Type 0
 PutKeepsRight = (s : Cache) (name text other found : Text)
     → kept (with_text s name text) other ≡ Some found
@@ -56,18 +56,18 @@ PutKeepsOnce = (name text : Text) → StaysOnce (λ s. with_text s name text)
 abbrev pub RoomKeepsOnce : Type 0
 RoomKeepsOnce = (name text : Text) → StaysOnce (λ s. with_room s name text)
 
--- ---- a text that alone has more bytes than the limit
+-- ---- a text that alone takes more than the limit
 
 -- it lets none of the others go but what was kept under its name, and the one that was large before
 abbrev pub LargeLeavesOthers : Type 0
 LargeLeavesOthers = (s : Cache) (name text other : Text)
-    → s.limit < length text → is name other ≡ false → is_large s other ≡ false
+    → s.limit < cost (name, text) → is name other ≡ false → is_large s other ≡ false
     → kept (with_text s name text) other ≡ kept s other
 
 -- the others don't let it go: it goes with its name
 abbrev pub OthersLeaveLarge : Type 0
 OthersLeaveLarge = (s : Cache) (name text : Text)
-    → length text ≤ s.limit → (with_text s name text).large ≡ (forgotten s name).large
+    → cost (name, text) ≤ s.limit → (with_text s name text).large ≡ (forgotten s name).large
 
 -- ---- the longest prefix
 
@@ -76,7 +76,7 @@ pub record IsLongest (room : ℕ) (es : Entries) : Type 0 where
   pub room_enough : size (prefix room es) ≤ room
   pub begins : (rest : Entries) × (es ≡ prefix room es ++ rest)
   pub longest : (e : Text × Text) (rest : Entries)
-      → es ≡ prefix room es ++ e ∷ rest → room < size (prefix room es) + length e.1
+      → es ≡ prefix room es ++ e ∷ rest → room < size (prefix room es) + cost e
 
 abbrev pub PrefixesAreLongest : Type 0
 PrefixesAreLongest = (room : ℕ) (es : Entries) → IsLongest room es

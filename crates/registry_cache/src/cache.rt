@@ -1,9 +1,10 @@
 //! The cache of what is shared.
 
-ghost use Rattle.std.specs.Prelude.{◌≡◌, ◌≤◌, ◌+◌, ◌∷◌, [], length, option_copied, option_map, IfOk, OnOk, OnErr, Some, None, not};
+ghost use Rattle.std.specs.Prelude.{◌≡◌, ◌≤◌, ◌+◌, nat_le, ◌∷◌, [], length, option_copied, option_map, IfOk, OnOk, OnErr, Some, None, not};
 ghost use Rattle.registry_names.specs.Texts.{is};
 ghost use Rattle.registry_names.specs.Maps.{first_at};
-ghost use Rattle.registry_cache.specs.Caches.{cache, kept, size, large_size, asked, forgotten, with_text, with_room, prefix, entries_without, passed, without_large};
+ghost use Rattle.registry_cache.specs.Caches as spec;
+ghost use Rattle.registry_cache.specs.Caches.{cache, entry_cost, kept, size, large_size, asked, forgotten, with_text, with_room, prefix, entries_without, passed, without_large};
 
 use crate::named::Named;
 use crate::shared::Shared;
@@ -13,8 +14,13 @@ use lru::LruCache;
 use std::alloc::{AllocError, Global};
 use std::marker::Model;
 
-/// Texts or blobs by name, of which all together have a limited number of bytes, and beside them one
-/// that alone has more. The names, and what a value takes in memory beside its bytes, aren't counted.
+/// What an entry takes of a cache's limit beside its bytes and those of its name: its place among
+/// the others, and what the allocator adds.
+pub const ENTRY_COST: usize = 256;
+
+/// Texts or blobs by name, which together take a limited number of bytes, and beside them one that
+/// alone takes more. A text takes its bytes, those of its name and [`ENTRY_COST`].
+///
 /// Contracts see each name with the bytes, the latest asked first, then the large one with its name,
 /// if there is one, and the limit.
 #[derive(Drop)]
@@ -47,10 +53,10 @@ impl<V: Shared> Model for SharedCache<V> {
 }
 
 impl<V: Shared> SharedCache<V> {
-    /// A cache that keeps nothing, and will keep values of at most `limit` bytes together, and one
-    /// that alone has more.
+    /// A cache that keeps nothing, and will keep values that take at most `limit` bytes together, and
+    /// one that alone takes more.
     ///
-    /// An error comes where no memory is left.
+    /// An error is returned where no memory is left.
     pub fn new(alloc: Global, limit: usize) -> Result<SharedCache<V>, AllocError>
         ensures { IfOk result (λ s. s ≡ cache [] None limit) }
     {
@@ -65,7 +71,7 @@ impl<V: Shared> SharedCache<V> {
 
     /// What is kept under the name, which is now the latest asked.
     ///
-    /// An error comes where the number of its owners can't be counted any more.
+    /// An error is returned where the number of its owners can't be counted any more.
     pub fn get(&mut self, name: &str) -> Result<Option<V>, AllocError>
         ensures text { IfOk result (λ value. option_map V.bytes value ≡ kept self.old name.now) }
         ensures cache { self.new ≡ asked self.old name.now }
@@ -88,23 +94,24 @@ impl<V: Shared> SharedCache<V> {
     }
 
     /// Keeps the value under the name, in place of what was kept there, as the latest asked. Others
-    /// go where there are too many bytes, the least lately asked first. One that alone has more bytes
-    /// than the limit is kept in place of the one that was kept so before, and of the others none
-    /// goes.
+    /// go where together they take too much, the least lately asked first. One that alone takes more
+    /// than the limit is kept in place of the one that was kept so before, and none of the
+    /// others goes.
     ///
-    /// An error comes where no memory is left. Then nothing is kept under the name, and of the others
-    /// as much as if the value were.
+    /// An error is returned where no memory is left. Then nothing is kept under the name, and as
+    /// much of the others as if the value were kept.
     pub fn put(&mut self, name: &str, value: V) -> Result<(), AllocError>
         ensures ok { OnOk result (self.new ≡ with_text self.old name.now (V.bytes value)) }
         ensures err { OnErr result (self.new ≡ with_room self.old name.now (V.bytes value)) }
     {
         self.forget(name);
         let len = value.len();
-        if len > self.limit {
+        if !fits(self.limit, name, len) {
             return self.put_large(name, value);
         }
-        self.make_room(self.limit - len);
-        self.add(name, value, len)
+        let cost = cost_of(self.limit, name, len);
+        self.make_room(self.limit - cost);
+        self.add(name, value, cost)
     }
 
     /// Keeps nothing under the name from now on, and all else as it is.
@@ -115,7 +122,7 @@ impl<V: Shared> SharedCache<V> {
         self.forget_entry(name);
     }
 
-    /// The number of bytes of all values together, without the large one.
+    /// The number of bytes that all entries take together, without the large one.
     pub fn size(&self) -> usize
         ensures size { result ≡ size self.now.entries }
         ensures limited { result ≤ self.now.limit }
@@ -123,7 +130,8 @@ impl<V: Shared> SharedCache<V> {
         self.size
     }
 
-    /// The number of bytes of the value that alone has more than the limit, and 0 where there is none.
+    /// The number of bytes of the value that alone takes more than the limit, and 0 where there is
+    /// none.
     pub fn large_size(&self) -> usize
         ensures { result ≡ large_size self.now }
     {
@@ -133,7 +141,7 @@ impl<V: Shared> SharedCache<V> {
         }
     }
 
-    /// The limit of the number of bytes of all values together, without the large one.
+    /// The limit of the number of bytes that all entries take together, without the large one.
     pub fn limit(&self) -> usize
         ensures { result ≡ self.now.limit }
     {
@@ -152,7 +160,7 @@ impl<V: Shared> SharedCache<V> {
     {
         let _names_differ = self.entries.len();
         if let Some(value) = self.entries.pop(name) {
-            self.size -= value.len();
+            self.size -= cost_of(self.size, name, value.len());
         }
     }
 
@@ -189,23 +197,23 @@ impl<V: Shared> SharedCache<V> {
         Ok(())
     }
 
-    // Lets the least lately asked go until no more bytes are kept than these.
+    // Lets the least lately asked go until the others take no more than this.
     fn make_room(&mut self, room: usize)
         ensures { self.new ≡ cache (prefix room self.old.entries) self.old.large self.old.limit }
     {
         while self.size > room {
-            let Some((_, value)) = self.entries.pop_lru() else {
+            let Some((name, value)) = self.entries.pop_lru() else {
                 return;
             };
-            self.size -= value.len();
+            self.size -= cost_of(self.size, name.as_str(), value.len());
         }
     }
 
     // Keeps a value more, under a name that has none.
-    fn add(&mut self, name: &str, value: V, len: usize) -> Result<(), AllocError>
+    fn add(&mut self, name: &str, value: V, cost: usize) -> Result<(), AllocError>
         requires new { first_at is self.old.entries name.now ≡ None }
-        requires len { len ≡ length (V.bytes value) }
-        requires room { size self.old.entries + len ≤ self.old.limit }
+        requires cost { cost ≡ spec.cost (name.now, V.bytes value) }
+        requires room { size self.old.entries + cost ≤ self.old.limit }
         ensures ok { OnOk result (self.new ≡ cache ((name.now, V.bytes value) ∷ self.old.entries)
             self.old.large self.old.limit) }
         ensures err { OnErr result (self.new ≡ self.old) }
@@ -214,7 +222,30 @@ impl<V: Shared> SharedCache<V> {
         let name = String::from_str(alloc, name)?;
         let _few = self.entries.len();
         self.entries.put(name, value)?;
-        self.size += len;
+        self.size += cost;
         Ok(())
     }
+}
+
+// Whether an entry takes no more than the limit: under this name, with so many bytes.
+fn fits(limit: usize, name: &str, len: usize) -> bool
+    ensures { result ≡ nat_le (entry_cost + (length name.now + len)) limit }
+{
+    if limit < ENTRY_COST {
+        return false;
+    }
+    let room = limit - ENTRY_COST;
+    if room < name.len() {
+        return false;
+    }
+    len <= room - name.len()
+}
+
+// What an entry takes that fits.
+fn cost_of(limit: usize, name: &str, len: usize) -> usize
+    requires { entry_cost + (length name.now + len) ≤ limit }
+    ensures cost { result ≡ entry_cost + (length name.now + len) }
+    ensures within { result ≤ limit }
+{
+    ENTRY_COST + (name.len() + len)
 }

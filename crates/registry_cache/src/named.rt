@@ -24,7 +24,7 @@ impl<V: Shared> Model for Named<V> {
 impl<V: Shared> Named<V> {
     /// The value under a copy of the name.
     ///
-    /// An error comes where no memory is left for that.
+    /// An error is returned where no memory is left for that.
     pub(crate) fn new(alloc: Global, name: &str, value: V) -> Result<Named<V>, AllocError>
         ensures { IfOk result (λ n. n ≡ (name.now, V.bytes value)) }
     {

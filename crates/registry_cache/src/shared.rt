@@ -15,7 +15,7 @@ pub trait Shared: Drop + Sized {
 
     /// The same bytes for one more owner. They aren't copied.
     ///
-    /// An error comes where the number of owners can't be counted any more.
+    /// An error is returned where the number of owners can't be counted any more.
     fn share(&self) -> Result<Self, AllocError>
         ensures { IfOk result (λ s. bytes s ≡ bytes self.now) };
 }

@@ -11,8 +11,8 @@ use std::alloc::{AllocError, Global};
 use std::marker::Model;
 use std::rc::Rc;
 
-/// Bytes of any kind, as an archive's, that are shared, and so can't be changed. Contracts see them
-/// as a list.
+/// Bytes of any kind, such as an archive's, that are shared, and so can't be changed. Contracts see
+/// them as a list.
 #[derive(Debug, Drop)]
 pub struct SharedBlob {
     bytes: Rc<Vec<u8>>,
@@ -27,7 +27,7 @@ impl Model for SharedBlob {
 impl SharedBlob {
     /// A copy of the bytes, with one owner.
     ///
-    /// An error comes where no memory is left.
+    /// An error is returned where no memory is left.
     pub fn from_slice(alloc: Global, bytes: &[u8]) -> Result<SharedBlob, AllocError>
         ensures { IfOk result (λ b. b ≡ bytes.now) }
     {
@@ -36,7 +36,7 @@ impl SharedBlob {
 
     /// The bytes with one owner. They aren't copied.
     ///
-    /// An error comes where no memory is left for the number of owners.
+    /// An error is returned where no memory is left for the number of owners.
     pub fn from_blob(alloc: Global, blob: Blob) -> Result<SharedBlob, AllocError>
         ensures { IfOk result (λ b. b ≡ blob) }
     {

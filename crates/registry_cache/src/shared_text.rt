@@ -27,7 +27,7 @@ impl Model for SharedText {
 impl SharedText {
     /// A copy of the text, with one owner.
     ///
-    /// An error comes where no memory is left.
+    /// An error is returned where no memory is left.
     pub fn from_str(alloc: Global, text: &str) -> Result<SharedText, AllocError>
         ensures { IfOk result (λ t. t ≡ text.now) }
     {
@@ -36,7 +36,7 @@ impl SharedText {
 
     /// The text with one owner. Memory that it took beyond its bytes is given back.
     ///
-    /// An error comes where no memory is left.
+    /// An error is returned where no memory is left.
     pub fn from_text(text: Text) -> Result<SharedText, AllocError>
         ensures { IfOk result (λ t. t ≡ text) }
     {

@@ -1,4 +1,4 @@
--- When loaded rows are those of all that is stored.
+-- When the rows that were loaded are those of everything that is stored.
 use Rattle.std.specs.Prelude.{◌≡◌, ◌⊎◌, ℕ, List, [], map}
 use Rattle.sqlite_value.specs.Order.{Row}
 use Rattle.sqlite_trees.specs.declared.store.Store.{Ghosts}
@@ -17,7 +17,8 @@ use Rattle.registry_check.specs.declared.tables.Packages.{Packages}
 use Rattle.registry_check.specs.declared.tables.Tables.{Tables}
 use Rattle.registry_check.specs.declared.tables.Versions.{Versions}
 
--- A query with no parameters was answered, and of its rows this is so; or it failed, and that is so.
+-- A query with no parameters was answered, and the first condition holds of its rows; or it failed,
+-- and the second holds.
 abbrev pub Finds : {S : Type 0} → Ghosts S → List ℕ → Transaction S → Transaction S → (List Row → Type 0) → Type 0 → Type 0
 Finds store sql old new is_told failed = ((rows : List Row) × (Queried sql [] (shown store old) (shown store new) rows × is_told rows)) ⊎ (Stays store old new × failed)
 

@@ -1,4 +1,4 @@
--- What requests suppose of all that is stored, and the rows that say it.
+-- What requests suppose of everything that is stored, and the rows that say it.
 use Rattle.std.specs.Prelude.{◌≡◌, List, []}
 use Rattle.registry_names.specs.Maps.{entries}
 use Rattle.registry_rules.specs.Kept.{IsSound}
@@ -10,7 +10,7 @@ use Rattle.registry_check.specs.Problems.{problems}
 use Rattle.registry_check.specs.Rows.{Rows}
 use Rattle.registry_check.specs.declared.problem.Problem.{Problem}
 
--- the rows of all that is stored, in the order of their keys
+-- the rows of everything that is stored, in the order of their keys
 abbrev pub rows_in : Contents → Rows
 rows_in c = record {
   users = entries c.users;
@@ -37,11 +37,11 @@ pub record MeetsPremises (c : Contents) : Type 0 where
   pub needs : HoldsNeeds c
   pub archives : HoldsArchives c
 
--- these are the problems of all that is stored
+-- these are the problems of everything that is stored
 abbrev pub AreProblems : List Problem → Contents → Type 0
 AreProblems found c = found ≡ problems (rows_in c)
 
--- there is none exactly where the premises hold
+-- there is no problem exactly where the premises hold
 abbrev pub TellsPremises : List Problem → Contents → Type 0
 TellsPremises found c = (found ≡ [] → MeetsPremises c) × (MeetsPremises c → found ≡ [])
 

@@ -1,4 +1,4 @@
--- What breaks a rule: of each row, each rule that is tried on it and doesn't hold.
+-- What breaks a rule: for each row, each rule that is tried on it and doesn't hold.
 use Rattle.std.specs.Prelude.{ℤ, List, [], ◌∷◌, ◌++◌, if◌then◌else◌}
 use Rattle.std.specs.List.{flat_map}
 use Rattle.registry_names.specs.Keys.{Pair, Triple}

@@ -1,5 +1,5 @@
--- The rules: for each kind of row which ones it keeps, of all the rows that there are. `R` is all
--- rows, and the row is a key `k` with a value `v`.
+-- The rules: for each kind of row, which rules a row keeps among all rows. `R` is all rows, and the
+-- row is a key `k` with a value `v`.
 use Rattle.std.specs.Prelude.{◌==◌, ℤ, Bool, true, false, not, ◌&&◌, ◌||◌, List, [], ◌∷◌, Option, Some, None, is_none, length, find, option_map}
 use Rattle.std.specs.List.{list_any, list_all}
 use Rattle.std.specs.Ordering.{int_eq}
@@ -80,11 +80,12 @@ maintainer_tests R (k, v) = test HasPackage (has is R.packages k.0) ∷ test Has
 abbrev pub is_named : Rows → NeedKey → Bool
 is_named R k = list_any (λ (e : Pair × Release). pair_is e.0 (k.0, k.1.0) && names_if_any k.1.1.0 k.1.1.1 (needs_of e.1.manifest)) R.live
 
--- four texts
+-- both have the same four texts
 abbrev pub need_is : NeedKey → NeedKey → Bool
 need_is = both triple_is
 
--- each of these needs is stored under the version. Of a text that is no manifest none is asked
+-- each of these needs is stored under the version. A text that isn't a manifest has no needs to
+-- store
 abbrev pub are_stored : Rows → Pair → Option (List Need) → Bool
 are_stored R k None = true
 are_stored R k (Some needs) = list_all (λ need. has need_is R.needs (k.0, (k.1, (need.target, need.range)))) needs
@@ -104,7 +105,7 @@ held_tests R (k, v) = test Lives (has pair_is R.live k) ∷ test IsStored (has i
 abbrev pub is_held : Rows → ℤ → Bool
 is_held R n = list_any (λ (e : Pair × ℤ). int_eq e.1 n) R.held
 
--- it is this number
+-- it is there, and is this number
 abbrev pub numbered : ℤ → Option ℤ → Bool
 numbered n None = false
 numbered n (Some m) = int_eq m n

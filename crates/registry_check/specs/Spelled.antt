@@ -1,4 +1,4 @@
--- What a row of each table spells, column by column: its key and its value.
+-- How the key and the value of a row of each table are spelled, column by column.
 use Rattle.std.specs.Prelude.{ℤ}
 use Rattle.sqlite_value.specs.Order.{Row, column}
 use Rattle.registry_names.specs.Keys.{Pair, Triple}

@@ -19,7 +19,7 @@ pub(crate) trait Checked {
     /// What contracts see of a row: its key and its value.
     ghost Entry: { Type 0 };
 
-    /// A row, as contracts see it.
+    /// A row as contracts see it.
     ghost entry: { Self.Row → Entry };
 
     /// What a row is about.
@@ -37,7 +37,7 @@ pub(crate) trait Checked {
         ensures { IfOk result (λ tests. tests.items ≡ tried (rows_of all.now) (entry row.now)) };
 }
 
-/// Adds what breaks a rule for these rows.
+/// Adds the problems of these rows.
 pub(crate) fn push_problems<K: Checked>(
     alloc: Global,
     problems: &mut Vec<Problem>,
@@ -53,7 +53,7 @@ pub(crate) fn push_problems<K: Checked>(
     Ok(())
 }
 
-// Adds the rules that don't hold of a row.
+// Adds the rules that don't hold for a row.
 fn push_broken<K: Checked>(
     alloc: Global,
     problems: &mut Vec<Problem>,

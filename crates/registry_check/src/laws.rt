@@ -1,4 +1,4 @@
-//! What the problems say of all that is stored.
+//! What the problems say of everything that is stored.
 
 ghost use Rattle.registry_check.specs.Premises.{NoneMeansPremises};
 

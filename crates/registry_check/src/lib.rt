@@ -1,9 +1,9 @@
-//! What an open of a registry can't know: whether all that the tables hold is what requests
-//! suppose of it.
+//! What opening a registry can't find out: whether everything that the tables hold is as requests
+//! suppose.
 //!
-//! Each row of each table is tried by the rules for it, as that an organisation has an owner, or
-//! that the needs which are stored of a version are those of its manifest. What breaks a rule is
-//! answered as a [`Problem`]. Where there is none, all premises of a request hold.
+//! Each row of each table is tried by its rules, such as that an organisation has an owner, or that
+//! the stored needs of a version are those of its manifest. What breaks a rule is returned as a
+//! [`Problem`]. Where there is no problem, all premises of a request hold.
 #![tactic(auto)]
 
 mod archives;

@@ -134,7 +134,7 @@ fn load_versions<S: Alter>(alloc: Global, tx: &mut Transaction<'_, S>) -> Result
     })
 }
 
-// The rows that a query answers, as values of this kind.
+// The rows that a query returns, as values of this kind.
 fn load<K: RowKind, S: Alter>(
     alloc: Global,
     tx: &mut Transaction<'_, S>,

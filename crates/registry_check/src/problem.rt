@@ -67,7 +67,7 @@ pub enum Thing {
         /// The version.
         version: Text,
     },
-    /// What is stored of a version's needs.
+    /// A stored need of a version.
     Need {
         /// The package.
         package: Text,
@@ -75,7 +75,7 @@ pub enum Thing {
         version: Text,
         /// The package that it needs.
         target: Text,
-        /// The versions of that.
+        /// The range of versions that it needs.
         range: Text,
     },
     /// That a version has an archive.
@@ -101,7 +101,7 @@ pub struct Problem {
     pub thing: Thing,
 }
 
-/// Whether a rule holds of some row.
+/// Whether a rule holds for some row.
 #[derive(Clone, Copy, Drop)]
 pub(crate) struct Test {
     /// The rule.

@@ -1,11 +1,11 @@
-//! The rules that what is stored keeps.
+//! The rules that everything stored keeps.
 
 ghost use Rattle.std.specs.Prelude.{◌≡◌, Some};
 ghost use Rattle.registry_check.specs.Words.{rule_text};
 
 use std::fmt;
 
-/// What is so of each row of a kind, in a registry that only requests have written.
+/// What holds for each row of a kind, in a registry that only requests have written.
 #[derive(Clone, Copy, Debug, PartialEq, Eq)]
 pub enum Rule {
     /// The user that it names is there.
@@ -20,7 +20,7 @@ pub enum Rule {
     HasOwner,
     /// An organisation has the team `developers`.
     HasFirstTeam,
-    /// Who is in a team is a member of its organisation.
+    /// A user in a team is a member of its organisation.
     IsMember,
     /// A package without a scope is public.
     IsPublic,
@@ -40,11 +40,11 @@ pub enum Rule {
     Lives,
     /// The archive that a version has is stored.
     IsStored,
-    /// An archive that is stored is some version's.
+    /// An archive that is stored belongs to some version.
     IsHeld,
     /// The integrity of an archive is that of its bytes.
     HasIntegrity,
-    /// No archive before it has its integrity and its bytes.
+    /// No archive before it has the same integrity and bytes.
     IsFirst,
 }
 

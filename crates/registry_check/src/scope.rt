@@ -5,8 +5,8 @@ ghost use Rattle.registry_names.specs.Names.{scope_of};
 ghost use Rattle.registry_names.specs.Texts as texts;
 ghost use Rattle.registry_rules.specs.Refusals as spec;
 
-/// The scope of the text, which need not be a name: what is between an `@` at its begin and the
-/// first slash.
+/// The scope of the text, which need not be a name: what follows an `@` at its beginning, up to the
+/// first slash, if there is one.
 fn scope(text: &str) -> Option<&str>
     ensures { option_map (λ s. s.now) result ≡ scope_of text.now }
 {

@@ -127,7 +127,7 @@ fn is_need(row: &NeedRow, name: &str, version: &str, need: &Need) -> bool
             && (is(&row.target, need.target.as_str()) && is(&row.range, need.range.as_str())))
 }
 
-// The number of the first of these archives with the integrity and the bytes of this one.
+// The number of the first of these archives that has the integrity and the bytes of this one.
 fn first_like(rows: &[ArchiveRow], archive: &ArchiveRow) -> Option<i64>
     ensures { result ≡ option_map (λ r. r.number)
         (find (λ r. is_archive archive.now.integrity archive.now.bytes (archive_entry r).1) rows.now) }
@@ -137,7 +137,7 @@ fn first_like(rows: &[ArchiveRow], archive: &ArchiveRow) -> Option<i64>
         .map(|row| row.number)
 }
 
-// Whether both have one integrity and the same bytes.
+// Whether both have the same integrity and the same bytes.
 fn is_same(archive: &ArchiveRow, other: &ArchiveRow) -> bool
     ensures { result
         ≡ is_archive archive.now.integrity archive.now.bytes (archive_entry other.now).1 }
@@ -220,7 +220,7 @@ impl Tables {
         any_need(&self.versions.needs, name, version, need)
     }
 
-    // The number of the first archive with the integrity and the bytes of this one.
+    // The number of the first archive that has the integrity and the bytes of this one.
     fn first_number(&self, archive: &ArchiveRow) -> Option<i64>
         ensures { result ≡ option_map (λ e. e.0)
             (find (λ e. is_archive archive.now.integrity archive.now.bytes e.1)
@@ -229,7 +229,7 @@ impl Tables {
         first_like(&self.versions.archives, archive)
     }
 
-    /// Whether no archive before this one is the same.
+    /// Whether no archive before this one is equal to it.
     pub(crate) fn is_first(&self, archive: &ArchiveRow) -> bool
         ensures { result ≡ spec.is_first (rows_of self.now) archive.now.number
             (archive_entry archive.now).1 }

@@ -3,7 +3,7 @@
 use registry_access::{GrantRow, MaintainerRow, MemberRow, PackageRow, TeamMemberRow, TeamRow};
 use registry_names::{Blob, Text};
 
-/// Whose a token is.
+/// The user of a token.
 #[derive(Drop)]
 pub(crate) struct TokenRow {
     /// The SHA-256 of its text.
@@ -12,7 +12,7 @@ pub(crate) struct TokenRow {
     pub(crate) user: Text,
 }
 
-/// A live version, as its row says of it.
+/// A live version, as its row has it.
 #[derive(Drop)]
 pub(crate) struct LiveRow {
     /// The package.
@@ -38,11 +38,11 @@ pub(crate) struct NeedRow {
     pub(crate) version: Text,
     /// The package that it needs.
     pub(crate) target: Text,
-    /// The versions of that.
+    /// The range of versions that it needs.
     pub(crate) range: Text,
 }
 
-/// Which archive a version has.
+/// The archive of a version.
 #[derive(Drop)]
 pub(crate) struct HeldRow {
     /// The package.
@@ -64,7 +64,7 @@ pub(crate) struct ArchiveRow {
     pub(crate) bytes: Blob,
 }
 
-/// Who is there.
+/// Users, tokens and organisations.
 #[derive(Drop)]
 pub(crate) struct Accounts {
     /// The names of the users.
@@ -86,7 +86,7 @@ pub(crate) struct Groups {
     pub(crate) team_members: Vec<TeamMemberRow>,
 }
 
-/// What was published, and who may do what with it.
+/// What was published, and what callers may do with it.
 #[derive(Drop)]
 pub(crate) struct Packages {
     /// The packages.
@@ -104,16 +104,16 @@ pub(crate) struct Versions {
     pub(crate) live: Vec<LiveRow>,
     /// What they need.
     pub(crate) needs: Vec<NeedRow>,
-    /// Which archives they have.
+    /// The archives that they have.
     pub(crate) held: Vec<HeldRow>,
     /// The archives.
     pub(crate) archives: Vec<ArchiveRow>,
 }
 
-/// All of it.
+/// All rows.
 #[derive(Drop)]
 pub(crate) struct Tables {
-    /// Who is there.
+    /// Users, tokens and organisations.
     pub(crate) accounts: Accounts,
     /// Who is in which organisation and team.
     pub(crate) groups: Groups,

@@ -1,5 +1,5 @@
-//! The check of tables in memory: new ones have no problem, and a change that breaks a rule is
-//! named with it.
+//! The check of tables in memory: new tables have no problem, and a change that breaks a rule is
+//! reported with it.
 
 ghost use Rattle.std.specs.Prelude.{◌≡◌, OnOk};
 ghost use Rattle.sqlite.specs.Held.{state};
@@ -32,7 +32,7 @@ fn an_organisation_without_an_owner_is_named(rt: HostRuntime) -> Result<(), Fail
     has(&problems, &[Rule::HasOwner, Rule::HasFirstTeam])
 }
 
-// What the check answers of new tables, or of those with an organisation that has nobody.
+// What the check returns for new tables, or for tables with an organisation that has nobody.
 fn problems_on<S: Alter>(
     alloc: Global,
     conn: &mut Connection<S>,
@@ -73,7 +73,7 @@ fn organise<S: Alter>(tx: &mut Transaction<'_, S>) -> Result<(), Fault>
     )
 }
 
-// Whether these rules are broken, in this order, and no other.
+// Whether exactly these rules are broken, in this order.
 fn has(problems: &[Problem], rules: &[Rule]) -> Result<(), Fail> {
     let is_so = problems.len() == rules.len()
         && problems

@@ -95,7 +95,8 @@ impl Checked for Needs {
     }
 }
 
-// The needs that a manifest names. None of a text that is no manifest, or names them out of form.
+// The needs that a manifest names. `None` for a text that isn't a manifest, or that names needs
+// that aren't in form.
 fn named(alloc: Global, manifest: &str) -> Result<Option<Vec<Need>>, Fault>
     ensures { IfOk result (λ named. option_map (λ ns. ns.items) named
         ≡ needs.needs_of manifest.now) }

@@ -19,11 +19,11 @@ use registry_names::Fault;
 use sqlite::{Alter, Transaction};
 use std::alloc::Global;
 
-/// Tries all rules on all that is stored, and answers what breaks one, in the order of the tables
-/// and of their keys.
+/// Tries all rules on everything that is stored, and returns what breaks one, in the order of the
+/// tables and of their keys.
 ///
-/// There is no problem exactly where all that a request supposes of the tables is so. Nothing is
-/// changed. A fault says nothing of what is stored.
+/// There is no problem exactly where everything holds that a request supposes of the tables.
+/// Nothing is changed. A fault says nothing about what is stored.
 pub fn check<S: Alter>(alloc: Global, tx: &mut Transaction<'_, S>) -> Result<Vec<Problem>, Fault>
     requires in_form { InForm S.Store tx.old }
     ensures stays { Stays S.Store tx.old tx.new }

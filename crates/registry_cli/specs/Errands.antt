@@ -1,20 +1,22 @@
--- What whoever runs the registry asks for beside requests, and what its words mean. They are looked
--- for where the words of requests are wrong, so none of those means anything else.
-use Rattle.std.specs.Prelude.{◌≡◌, ℕ, true, false, List, [], ◌∷◌, ◌++◌, Option, None, Some, Ok, codes, decimal, if◌then◌else◌}
+-- What whoever runs the registry asks for beside requests, and what the words of it mean. Arguments
+-- are read as an errand only where they are wrong as a request, so the words of requests keep their
+-- meaning.
+use Rattle.std.specs.Prelude.{◌≡◌, ◌||◌, ℕ, Bool, true, false, List, [], ◌∷◌, ◌++◌, Option, None, Some, Ok, codes, decimal, is_none, is_some, unwrap_or, if◌then◌else◌}
 use Rattle.std.specs.Str.{bytes_eq}
 use Rattle.clap.specs.Simple.{App, matches_of, subcommand_of}
 use Rattle.clap.specs.Takes.{takes}
-use Rattle.clap.specs.Walk.{Row, Rule, Text}
+use Rattle.clap.specs.Walk.{Row, Rule, Text, first_of}
 use Rattle.registry_publish.specs.Tokens.{digest_of}
 use Rattle.registry_rules.specs.declared.request.Action.{Action}
 use Rattle.registry_rules.specs.declared.request.Action.TheVariants as action
 use Rattle.registry_rules.specs.declared.request.Credential.{Credential}
 use Rattle.registry_cli.specs.Asked.{reads_line}
 use Rattle.registry_cli.specs.Lines.{at_in, has_both, line_of, value_in, who_in}
-use Rattle.registry_cli.specs.Subcommands.{bare, connections, option, options, port, registry, required, user, with_rules, with_subcommands}
+use Rattle.registry_cli.specs.Subcommands.{bare, connections, number, numbers, option, options, registry, required, user, with_rules, with_subcommands}
 use Rattle.registry_cli.specs.declared.errands.Errand.{Errand}
 use Rattle.registry_cli.specs.declared.errands.Errand.TheVariants.{TokenNew, Check, Backup, Stop, Serve}
 use Rattle.registry_cli.specs.declared.errands.NewToken.{NewToken}
+use Rattle.registry_cli.specs.declared.errands.Serving.{Serving}
 use Rattle.registry_cli.specs.declared.meaning.Line.{Line}
 use Rattle.registry_cli.specs.declared.meaning.Who.{Who}
 use Rattle.registry_cli.specs.declared.meaning.Who.TheVariants.{Operator, User, Anonymous}
@@ -24,11 +26,18 @@ use Rattle.registry_cli.specs.declared.meaning.Who.TheVariants.{Operator, User, 
 abbrev pub copy : Rule
 copy = required (codes "COPY")
 
+-- the port, which may be left out where there is a socket or a log
+abbrev pub port_beside : Rule
+port_beside = number (codes "PORT") (codes "port") (numbers 1 65535)
+
+abbrev pub socket : Rule
+socket = option (codes "SOCKET") (codes "socket")
+
 abbrev pub log : Rule
-log = record (option (codes "LOG") (codes "log")) { required = true }
+log = option (codes "LOG") (codes "log")
 
 abbrev pub errands : List (Text × List Rule)
-errands = (codes "token-new", user ∷ []) ∷ (codes "check", []) ∷ (codes "backup", copy ∷ []) ∷ (codes "stop", []) ∷ (codes "serve", port ∷ connections ∷ log ∷ []) ∷ []
+errands = (codes "token-new", user ∷ []) ∷ (codes "check", []) ∷ (codes "backup", copy ∷ []) ∷ (codes "stop", []) ∷ (codes "serve", port_beside ∷ socket ∷ connections ∷ log ∷ []) ∷ []
 
 -- the options are those of requests
 abbrev pub house : App
@@ -51,9 +60,21 @@ backup rows found = Some (Backup (db_in rows) (value_in found (codes "COPY")))
 abbrev pub stop : List Row → Option Errand
 stop rows = Some (Stop (db_in rows))
 
--- the line that serves without a log, and the file of the log
+-- the port that is given, and 8080 without one
+abbrev pub port_in : List Row → Text
+port_in found = unwrap_or (first_of (codes "PORT") found) (codes "8080")
+
+-- it listens at the port if a port is given, or if no socket is
+abbrev pub listens_at_port : List Row → Bool
+listens_at_port found = is_some (first_of (codes "PORT") found) || is_none (first_of (codes "SOCKET") found)
+
+-- the line that serves, without a socket or a log
+abbrev pub serving_line : Who → List Row → List Row → Line
+serving_line who rows found = record { db = db_in rows; who = who; at = at_in rows; what = codes "serve" ∷ port_in found ∷ value_in found (codes "CONNECTIONS") ∷ [] }
+
+-- the same, with the path of the socket and that of the log, where they are given
 abbrev pub serve : Who → List Row → List Row → Option Errand
-serve who rows found = Some (Serve (record { db = db_in rows; who = who; at = at_in rows; what = codes "serve" ∷ value_in found (codes "PORT") ∷ value_in found (codes "CONNECTIONS") ∷ [] }) (value_in found (codes "LOG")))
+serve who rows found = Some (Serve (record { line = serving_line who rows found; has_port = listens_at_port found; socket = first_of (codes "SOCKET") found; log = first_of (codes "LOG") found }))
 
 abbrev pub errand_called : Who → List Row → Text → List Row → Option Errand
 errand_called who rows name found =
@@ -81,12 +102,12 @@ errand_of arguments = errand_in (matches_of house arguments) (subcommand_of hous
 abbrev pub token_add_words : Text → Text → List Text
 token_add_words user token = codes "token-add" ∷ user ∷ token ∷ []
 
--- the line by which whoever asks adds it
+-- the line by which whoever asks adds the token
 abbrev pub token_add : NewToken → Text → Line
 token_add n token = record { db = n.db; who = n.who; at = n.at; what = token_add_words n.user token }
 
--- The arguments by which a server is asked for the same: they name no file, since a server has its
--- own. The user stands after `--`, where no text is taken for an option.
+-- The arguments that ask a server to do the same. They name no file, since a server has its own.
+-- The user stands after `--`, where no text is taken for an option.
 
 abbrev pub listed : Option Text → List Text
 listed None = []
@@ -111,8 +132,8 @@ pub record MeansTokenAdd (n : NewToken) (token : Text) (words : List Text) : Typ
   pub one : has_both words ≡ false
   pub line : line_of words ≡ record (token_add n token) { db = codes "registry.db" }
 
--- whoever asks, and whatever the file has: what the line asks for is that the user gets the token
--- that has this text's digest
+-- whoever asks, and whatever the file has, the line asks that the user gets the token with this
+-- text's digest
 abbrev pub AddsTokenOf : Line → Text → Text → Type 0
 AddsTokenOf line user token = (body : List ℕ) (who : Credential) (what : Action) → reads_line line body (Ok (who, what))
     → (digest : List ℕ) × (digest_of token ≡ Some digest) × (what ≡ action.TokenAdd user digest)

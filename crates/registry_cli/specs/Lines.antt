@@ -13,7 +13,7 @@ use Rattle.registry_cli.specs.declared.meaning.Line.{Line}
 
 -- ---- of what was found of the options and of the subcommand
 
--- the value of the argument with this name, and the empty text where there is none
+-- the value of the argument with this name, or the empty text where there isn't one
 abbrev pub value_in : List Row → Text → Text
 value_in rows id = unwrap_or (first_of id rows) []
 
@@ -52,7 +52,7 @@ parameters_of name = unwrap_or (option_map (λ s. map (λ w. w.id) s.1) (find (�
 abbrev pub is_called : Text → Bool
 is_called name = is_some (find (λ s. bytes_eq s.0 name) subcommands)
 
--- the argument after so many, and the empty text where there is none
+-- the argument at this index, counted from 0, or the empty text where there isn't one
 abbrev pub argument_at : List Text → ℕ → Text
 argument_at what i = unwrap_or (slice_get what i) []
 
@@ -69,7 +69,8 @@ abbrev pub IsWhole : List Text → Type 0
 IsWhole [] = ⊥
 IsWhole (name ∷ arguments) = (is_called name ≡ true) × (length arguments ≡ length (parameters_of name))
 
--- the subcommand's name and its arguments in their order, defaults filled in
+-- the subcommand's name and its arguments in their order, with the defaults of those that were left
+-- out
 abbrev pub told : Option (Text × List Row) → List Text
 told None = []
 told (Some found) = found.0 ∷ map (value_in found.1) (parameters_of found.0)

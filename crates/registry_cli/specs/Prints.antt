@@ -28,7 +28,7 @@ printed (Doc text) = on_output (text ++ newline)
 printed (Bytes archive) = on_output archive
 printed (Refused refusal) = on_errors (codes "refused: " ++ refusal_text refusal ++ newline)
 
--- ---- of a line that adds a token which was made: the token where it was added, and never else
+-- ---- of a line that adds a token which was made: the token where it was added, and nowhere else
 
 abbrev pub token_out : List ℕ → Reply → List ℕ
 token_out token Created = token ++ newline
@@ -40,6 +40,6 @@ printed_token token reply = record (printed reply) { out = token_out token reply
 
 -- ---- where it is printed
 
--- Over some calls a stream took this text, or a prefix of it.
+-- In one or more calls a stream took this text, or a prefix of it.
 abbrev pub WritesSome : Option (List ℕ) → Option (List ℕ) → Bool → List ℕ → Type 0
 WritesSome old new unknown text = Writes old new unknown text ⊎ WritesPrefix old new unknown text

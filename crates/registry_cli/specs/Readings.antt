@@ -1,4 +1,4 @@
--- What arguments are read as: what may be answered of a text.
+-- What arguments are read as: the answers that are allowed for a text.
 use Rattle.std.specs.Prelude.{◌≡◌, ◌⊎◌, ℕ, true, false, List, Some, None, Result, Ok, Err}
 use Rattle.std.specs.Str.{bytes_eq}
 use Rattle.registry_names.specs.Texts.{Text}
@@ -26,13 +26,13 @@ use Rattle.registry_rules.specs.declared.request.Asked.{Asked}
 use Rattle.registry_rules.specs.declared.request.Asked.TheVariants.{Exact, Latest}
 use Rattle.registry_cli.specs.Lines.{argument_at}
 
--- what may be answered where a value of this type is to be read
+-- the answers that are allowed where a value of this type is to be read
 abbrev pub Reading : Type 0 → Type 1
 Reading A = Result A Stop → Type 0
 
 -- ---- one argument
 
--- a text of which this holds is refused so, and of any other no memory is left for its value
+-- a text of which this holds gives this refusal; for any other text no memory is left for its value
 abbrev pub IsRefusedFor : Refusal → Type 0 → Stop → Type 0
 IsRefusedFor refusal P stop = ((stop ≡ Faulted Memory) × ¬ P) ⊎ ((stop ≡ Refused refusal) × P)
 
@@ -88,7 +88,7 @@ reads_asked t (Err stop) = (bytes_eq t latest ≡ false) × IsMemoryOr BadVersio
 abbrev pub gives : {A : Type 0} → A → Reading A
 gives a result = result ≡ Ok a
 
--- the first, and where it gives a value what follows from it; what stops first is answered
+-- the first, and then what follows from its value, where it gives one; what stops first is returned
 abbrev pub read_then : {A B : Type 0} → Reading A → (A → Reading B) → Reading B
 read_then {A} first next (Ok b) = (a : A) × first (Ok a) × next a (Ok b)
 read_then {A} first next (Err stop) = first (Err stop) ⊎ ((a : A) × first (Ok a) × next a (Err stop))

@@ -1,5 +1,5 @@
--- The arguments that the program takes: its options, and its subcommands with their arguments, a
--- line for each.
+-- The arguments that the program takes: its options, and its subcommands with their arguments, each
+-- on a line of its own.
 use Rattle.std.specs.Prelude.{ℕ, pos, true, List, [], ◌∷◌, ◌++◌, fold, Some, codes}
 use Rattle.clap.specs.Walk.{Rule, Text}
 use Rattle.clap.specs.Simple.{App, Shape, new_app, new_rule, on_top, with_rule, with_subcommand}
@@ -21,7 +21,7 @@ optional id text = record (new_rule id) { defaults = text ∷ [] }
 abbrev pub option : Text → Text → Rule
 option id name = record (new_rule id) { long = Some name }
 
--- whole numbers, at least and at most so much
+-- whole numbers from the first to the second
 abbrev pub numbers : ℕ → ℕ → ValueParser
 numbers least most = Signed (pos least) (pos most)
 

@@ -1,10 +1,10 @@
--- The program's own table of subcommands, as the definition's.
+-- The program's own table of subcommands is that of the definition.
 use Rattle.std.specs.Borrow.{Bor}
 use Rattle.std.specs.Prelude.{List, map, true}
 use Rattle.clap.specs.Walk.{Rule, Text}
 use Rattle.registry_cli.specs.Subcommands.{number, numbers, option, optional, required, with_default}
 use Rattle.registry_cli.specs.declared.subcommand.Need.{Need}
-use Rattle.registry_cli.specs.declared.subcommand.Need.TheVariants.{Required, Default, Number, Word}
+use Rattle.registry_cli.specs.declared.subcommand.Need.TheVariants.{Required, Default, Number, NumberIfSaid, WordIfSaid}
 use Rattle.registry_cli.specs.declared.subcommand.Parameter.{Parameter}
 use Rattle.registry_cli.specs.declared.subcommand.Subcommand.{Subcommand}
 
@@ -12,7 +12,8 @@ abbrev pub rule : Text → Need → Rule
 rule id Required = required id
 rule id (Default text) = optional id text.now
 rule id (Number name most text) = with_default text.now (number id name.now (numbers 1 most))
-rule id (Word name) = record (option id name.now) { required = true }
+rule id (NumberIfSaid name most) = number id name.now (numbers 1 most)
+rule id (WordIfSaid name) = option id name.now
 
 abbrev pub rule_of_parameter : Parameter → Rule
 rule_of_parameter w = rule w.id.now w.need

@@ -45,12 +45,12 @@ pub(crate) enum Verb {
     TeamPackages,
 }
 
-/// The credential and the action that a line asks for, with the body of the file that it names,
-/// which `publish` alone reads. `serve` asks for no action.
+/// The credential and the action that a line asks for. `body` is the content of the file that the
+/// line names, which only `publish` reads. `serve` asks for no action.
 ///
 /// The texts are read from left to right, the user's name first, and the first that isn't in form
-/// gives its refusal. `Memory` comes where no memory is left, and for no text out of form, except a
-/// version or the body.
+/// gives its refusal. `Memory` is returned where no memory is left, and never for a text that isn't
+/// in form, except a version or the body.
 pub fn action_of(alloc: Global, line: &Line, body: &[u8]) -> Result<(Credential, Action), Stop>
     requires whole { IsWhole line.now.what }
     requires asks { asks_to_serve line.now.what ≡ false }

@@ -16,7 +16,7 @@ pub(crate) fn is_same(text: &str, other: &str) -> bool
     text == other
 }
 
-/// The argument after so many, and the empty text where there is none.
+/// The argument at this index, or the empty text where there isn't one.
 pub(crate) fn argument_at(arguments: &[Text], index: usize) -> &str
     ensures { result.now ≡ lines.argument_at arguments.now index }
 {
@@ -26,14 +26,14 @@ pub(crate) fn argument_at(arguments: &[Text], index: usize) -> &str
     }
 }
 
-/// The arguments after a subcommand\'s name.
+/// The arguments after a subcommand's name.
 pub(crate) fn one<A: FromArgument>(alloc: Global, arguments: &[Text]) -> Result<A, Stop>
     ensures { spec.one A.reads arguments.now result }
 {
     A::read(alloc, argument_at(arguments, 1))
 }
 
-/// The two arguments after a subcommand\'s name.
+/// The two arguments after a subcommand's name.
 #[tactic(auto, unfolding(crate::specs::Readings::two))]
 pub(crate) fn two<A: FromArgument + Drop, B: FromArgument + Drop>(
     alloc: Global,
@@ -46,7 +46,7 @@ pub(crate) fn two<A: FromArgument + Drop, B: FromArgument + Drop>(
     Ok((left, right))
 }
 
-/// The three arguments after a subcommand\'s name.
+/// The three arguments after a subcommand's name.
 #[tactic(auto, unfolding(crate::specs::Readings::three))]
 pub(crate) fn three<A: FromArgument + Drop, B: FromArgument + Drop, C: FromArgument + Drop>(
     alloc: Global,
@@ -60,7 +60,7 @@ pub(crate) fn three<A: FromArgument + Drop, B: FromArgument + Drop, C: FromArgum
     Ok((first, second, third))
 }
 
-/// The four arguments after a subcommand\'s name.
+/// The four arguments after a subcommand's name.
 #[tactic(auto, unfolding(crate::specs::Readings::four))]
 pub(crate) fn four<
     A: FromArgument + Drop,

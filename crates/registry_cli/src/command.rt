@@ -22,11 +22,11 @@ const LAST_SECOND: i64 = 253_402_300_799;
 /// What the program is, with its version.
 const ABOUT: &str = "registry 0.1.0, a package registry for one house, in npm's manner";
 
-/// What stands at the end of the help: an example, and the commands that ask for no request.
+/// The end of the help: an example, and the commands that ask for no request.
 const MORE: &str =
     "Example: registry --db registry.db --operator user-add ann\n\nFor whoever runs it there are token-new, check, backup and stop, too: registry check --help";
 
-// The argument that an argument is.
+// The argument of `clap` for a parameter.
 fn argument<'a>(alloc: Global, parameter: &Parameter) -> Arg<'a>
     ensures rule { rule_of result ≡ rule_of_parameter parameter.now }
     ensures local { result.global ≡ false }
@@ -43,7 +43,10 @@ fn argument<'a>(alloc: Global, parameter: &Parameter) -> Arg<'a>
             .long(option)
             .value_parser(ValueParser::Signed(1, i64::from(greatest)))
             .default_value(default),
-        Need::Word { option } => argument.long(option).required(true),
+        Need::NumberIfSaid { option, greatest } => argument
+            .long(option)
+            .value_parser(ValueParser::Signed(1, i64::from(greatest))),
+        Need::WordIfSaid { option } => argument.long(option),
     }
 }
 

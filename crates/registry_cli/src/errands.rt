@@ -6,12 +6,12 @@ ghost use Rattle.clap.specs.Matches.{found_of};
 ghost use Rattle.clap.specs.Simple.{matches_of, subcommand_rows_of};
 ghost use Rattle.clap.specs.Takes.{takes};
 ghost use Rattle.clap.specs.Values.{kind_of};
-ghost use Rattle.clap.specs.Walk.{rows_of};
+ghost use Rattle.clap.specs.Walk.{first_of, rows_of};
 ghost use Rattle.clap.specs.declared.error.kind.ErrorKind.TheVariants as kind;
 ghost use Rattle.registry_names.specs.Moments.{last_second};
 ghost use Rattle.registry_cli.specs.Errands as spec;
 ghost use Rattle.registry_cli.specs.Errands.{AddsTokenOf, MeansTokenAdd, errand_of, house, token_add, token_add_arguments};
-ghost use Rattle.registry_cli.specs.Lines.{IsWhole, are_both_in, asks_to_serve, at_in, value_in};
+ghost use Rattle.registry_cli.specs.Lines.{IsWhole, are_both_in, asks_to_serve};
 ghost use Rattle.registry_cli.specs.Subcommands.{registry};
 ghost use Rattle.registry_cli.specs.Usages.{IsMemoryOrBoth};
 ghost use Rattle.registry_cli.specs.declared.usage.Usage.TheVariants as usage;
@@ -19,7 +19,7 @@ ghost use Rattle.registry_cli.specs.declared.usage.Usage.TheVariants as usage;
 use crate::arguments::{Arguments, push_text, push_word};
 use crate::command::{house, registry};
 use crate::meaning::{Line, Who};
-use crate::reading::{at, caller, line_by, named, parameters_of, texts, value};
+use crate::reading::{at, caller, given, line_by, texts, value};
 use crate::usage::Usage;
 use clap::error::ErrorKind;
 use clap::{ArgMatches, Error};
@@ -31,7 +31,7 @@ use std::alloc::{AllocError, Global};
 pub enum Errand {
     /// A token that is made for a user.
     TokenNew(NewToken),
-    /// Whether all that a file holds is as requests suppose it.
+    /// A check that everything in a file is as requests suppose it.
     Check {
         /// The path of the file that keeps the registry.
         db: Text,
@@ -48,13 +48,21 @@ pub enum Errand {
         /// The path of the file that keeps the registry.
         db: Text,
     },
-    /// A server that keeps a log.
-    Serve {
-        /// The line that serves without one.
-        line: Line,
-        /// The path of the log.
-        log: Text,
-    },
+    /// A server that listens at a Unix socket, keeps a log, or both.
+    Serve(Serving),
+}
+
+/// A server that listens at a Unix socket, keeps a log, or both.
+#[derive(Debug, Drop)]
+pub struct Serving {
+    /// The line that serves without these. Its port is 8080 where none is given.
+    pub line: Line,
+    /// Whether it listens at that port: a port is given, or no socket is.
+    pub has_port: bool,
+    /// The path of the socket, if it listens at one.
+    pub socket: Option<Text>,
+    /// The path of the log, if it keeps one.
+    pub log: Option<Text>,
 }
 
 /// A token that is to be made for a user.
@@ -64,15 +72,15 @@ pub struct NewToken {
     pub db: Text,
     /// Who asks.
     pub who: Who,
-    /// When it is asked. None where the machine's clock says so.
+    /// When it is asked. `None` where the machine's clock says it.
     pub at: Option<Moment>,
     /// The user.
     pub user: Text,
 }
 
 impl NewToken {
-    /// The line that adds this token: `token-add` with the user and the token. What it asks for
-    /// has the token's digest, and nothing else of the token.
+    /// The line that adds this token: `token-add` with the user and the token. What it asks for has
+    /// only the token's digest, and nothing else of the token.
     pub fn line(self, alloc: Global, token: Text) -> Result<Line, AllocError>
         ensures line { IfOk result (λ l. l ≡ token_add self token) }
         ensures whole { IfOk result (λ l. IsWhole l.what) }
@@ -84,8 +92,8 @@ impl NewToken {
         Ok(Line { db, who, at, what })
     }
 
-    /// The arguments by which a server of the file is asked for the same as by
-    /// [`line`](NewToken::line). They name no file: a server has its own.
+    /// The arguments that ask a server of the file to do the same as [`line`](NewToken::line). They
+    /// name no file, since a server has its own.
     pub fn arguments(&self, alloc: Global, token: &str) -> Result<Vec<Text>, AllocError>
         ensures words { IfOk result (λ words. words.items ≡ token_add_arguments self.now token.now) }
         ensures asked { IfOk result (λ words. MeansTokenAdd self.now token.now words.items) }
@@ -98,7 +106,7 @@ impl NewToken {
     }
 }
 
-// Puts the argument that says who asks at the end, if it is anybody that is known.
+// Adds the argument that says who asks to the words, if it is known who does.
 fn push_who(alloc: Global, words: &mut Vec<Text>, who: &Who) -> Result<(), AllocError>
     ensures { OnOk result (words.new.items ≡ words.old.items ++ spec.listed (spec.who_word who.now)) }
 {
@@ -109,7 +117,7 @@ fn push_who(alloc: Global, words: &mut Vec<Text>, who: &Who) -> Result<(), Alloc
     }
 }
 
-// Puts the argument that says when it is asked at the end, if it is said.
+// Adds the argument that says when it is asked to the words, if a moment is given.
 fn push_at(alloc: Global, words: &mut Vec<Text>, at: Option<Moment>) -> Result<(), AllocError>
     ensures word { OnOk result (words.new.items ≡ words.old.items ++ spec.listed (spec.at_word at)) }
     ensures within { IfSome at (λ seconds. seconds ≤ last_second) }
@@ -120,7 +128,7 @@ fn push_at(alloc: Global, words: &mut Vec<Text>, at: Option<Moment>) -> Result<(
     }
 }
 
-// Puts the subcommand and its arguments at the end.
+// Adds the subcommand and its arguments to the words.
 fn push_token_add(
     alloc: Global,
     words: &mut Vec<Text>,
@@ -146,13 +154,13 @@ fn token_add_words(alloc: Global, user: Text, token: Text) -> Result<Arguments, 
     Ok(Arguments::from(what))
 }
 
-/// The errand that the arguments after the program's name ask for. None where they name none: then
-/// [`line`](crate::line) says what they mean, and what is to be said of them. What `line` takes is
-/// no errand.
+/// The errand that the arguments after the program's name ask for. `None` where they name no
+/// errand: then [`line`](crate::line) says what they mean, or why they mean nothing. Arguments that
+/// `line` takes are never an errand.
 ///
-/// `Memory` comes where no memory is left. Arguments that name an errand and that the program
-/// doesn't take, or that ask for help on it, are `Usage::Words` with what is to be said of them: the
-/// text of `clap`, which ends in a newline, or `--as excludes --operator` where they have both.
+/// `Memory` is returned where no memory is left. Arguments that name an errand but that the program
+/// doesn't take, or that ask for help on it, are `Usage::Words` with the message: the text of
+/// `clap`, which ends in a newline, or `--as excludes --operator` where they have both.
 pub fn errand_of(alloc: Global, arguments: &[Text]) -> Result<Option<Errand>, Usage>
     ensures ok { IfOk result (λ found. IfSome found (λ _. found ≡ errand_of arguments.now)) }
     ensures one { IfOk result (λ found. IfSome found (λ _.
@@ -170,7 +178,7 @@ pub fn errand_of(alloc: Global, arguments: &[Text]) -> Result<Option<Errand>, Us
     errand_in_texts(alloc, texts.as_slice())
 }
 
-// The same of the texts as `clap` takes them.
+// The same for the texts as `clap` takes them.
 fn errand_in_texts(alloc: Global, texts: &[&str]) -> Result<Option<Errand>, Usage>
     ensures ok { IfOk result (λ found. IfSome found (λ _.
         found ≡ errand_of (map (λ s. s.now) texts.now))) }
@@ -192,7 +200,7 @@ fn errand_in_texts(alloc: Global, texts: &[&str]) -> Result<Option<Errand>, Usag
     }
 }
 
-// The errand that texts ask for which are refused so where they are read as a line.
+// The errand that texts ask for which were refused with this error as a line.
 fn read_beside(alloc: Global, texts: &[&str], refused: &Error) -> Result<Option<Errand>, Usage>
     ensures ok { IfOk result (λ found. IfSome found (λ _.
         found ≡ errand_of (map (λ s. s.now) texts.now))) }
@@ -214,7 +222,7 @@ fn read_beside(alloc: Global, texts: &[&str], refused: &Error) -> Result<Option<
     }
 }
 
-// The errand that texts ask for which are no line, since they are refused so there.
+// The errand that texts ask for which aren't a line, since they were refused with this error.
 fn read(alloc: Global, texts: &[&str], refused: &Error) -> Result<Option<Errand>, Usage>
     ensures ok { IfOk result (λ found. IfSome found (λ _.
         found ≡ errand_of (map (λ s. s.now) texts.now))) }
@@ -233,8 +241,8 @@ fn read(alloc: Global, texts: &[&str], refused: &Error) -> Result<Option<Errand>
     }
 }
 
-// Texts that are neither a line nor an errand. Of an errand's it is said why they aren't taken, and
-// of others nothing: those name no errand.
+// Texts that are neither a line nor an errand. Where they name an errand, the message says why they
+// aren't taken; other texts name no errand, and nothing is said of them.
 fn unread(alloc: Global, refused: &Error, error: &Error) -> Result<Option<Errand>, Usage>
     ensures none { IfOk result (λ found. found ≡ None) }
     ensures memory { kind_of error.now ≡ kind.OutOfMemory
@@ -247,8 +255,8 @@ fn unread(alloc: Global, refused: &Error, error: &Error) -> Result<Option<Errand
     }
 }
 
-// Whether texts name an errand that are refused so as a line, and so as an errand: their subcommand
-// is an errand's alone, or an argument of it is.
+// Whether texts name an errand that were refused with the first error as a line, and with the
+// second as an errand: their subcommand, or one of its arguments, is only an errand's.
 fn name_errand(refused: &Error, error: &Error) -> bool {
     match refused.kind() {
         ErrorKind::InvalidSubcommand => !is_unknown(error),
@@ -264,7 +272,7 @@ fn is_unknown(error: &Error) -> bool {
     error.kind() == ErrorKind::InvalidSubcommand
 }
 
-// Whether the error is want of memory.
+// Whether the error is a lack of memory.
 fn is_memory(error: &Error) -> bool
     ensures { kind_of error.now ≡ kind.OutOfMemory → result ≡ true }
 {
@@ -282,7 +290,7 @@ fn errand_in(alloc: Global, matches: &ArgMatches<'_>) -> Result<Option<Errand>, 
     Ok(errand_by(alloc, matches, who)?)
 }
 
-// The errand, of which it is known who asks for it.
+// The errand, once it is known who asks for it.
 fn errand_by(
     alloc: Global,
     matches: &ArgMatches<'_>,
@@ -297,7 +305,7 @@ fn errand_by(
     }
 }
 
-// The errand that is called so.
+// The errand with this name.
 fn errand_called(
     alloc: Global,
     matches: &ArgMatches<'_>,
@@ -374,26 +382,61 @@ fn serve(
     ensures { IfOk result (λ e. e ≡ spec.serve who (rows_of (found_of matches.now))
         (rows_of (found_of found.now))) }
 {
-    let log = Text::from_str(alloc, value(found, "LOG"))?;
-    let line = serving_line(alloc, matches, who, found)?;
-    Ok(Some(Errand::Serve { line, log }))
+    Ok(Some(Errand::Serve(Serving {
+        line: serving_line(alloc, matches, who, found)?,
+        has_port: listens_at_port(found),
+        socket: given_text(alloc, found, "SOCKET")?,
+        log: given_text(alloc, found, "LOG")?,
+    })))
 }
 
-// The line that serves without a log.
+// The line that serves, without a socket or a log.
 fn serving_line(
     alloc: Global,
     matches: &ArgMatches<'_>,
     who: Who,
     found: &ArgMatches<'_>,
 ) -> Result<Line, AllocError>
-    ensures { IfOk result (λ l. l ≡ record {
-      db = value_in (rows_of (found_of matches.now)) (codes "PATH");
-      who = who;
-      at = at_in (rows_of (found_of matches.now));
-      what = codes "serve" ∷ value_in (rows_of (found_of found.now)) (codes "PORT")
-          ∷ value_in (rows_of (found_of found.now)) (codes "CONNECTIONS") ∷ [];
-    }) }
+    ensures { IfOk result (λ l. l ≡ spec.serving_line who (rows_of (found_of matches.now))
+        (rows_of (found_of found.now))) }
 {
-    let what = named(alloc, "serve", found, parameters_of("serve"))?;
-    line_by(alloc, matches, who, Arguments::from(what))
+    let what = serving_words(alloc, port(found), value(found, "CONNECTIONS"))?;
+    line_by(alloc, matches, who, what)
+}
+
+fn serving_words(alloc: Global, port: &str, connections: &str) -> Result<Arguments, AllocError>
+    ensures { IfOk result (λ what. what ≡ codes "serve" ∷ port.now ∷ connections.now ∷ []) }
+{
+    let mut what = Vec::new(alloc);
+    push_text(alloc, &mut what, "serve")?;
+    push_text(alloc, &mut what, port)?;
+    push_text(alloc, &mut what, connections)?;
+    Ok(Arguments::from(what))
+}
+
+// The port that is given, or 8080.
+fn port<'a>(found: &ArgMatches<'a>) -> &'a str
+    ensures { result.now ≡ spec.port_in (rows_of (found_of found.now)) }
+{
+    match given(found, "PORT") {
+        Some(port) => port,
+        None => "8080",
+    }
+}
+
+// Whether a server listens at its port: a port is given, or no socket is.
+fn listens_at_port(found: &ArgMatches<'_>) -> bool
+    ensures { result ≡ spec.listens_at_port (rows_of (found_of found.now)) }
+{
+    given(found, "PORT").is_some() || given(found, "SOCKET").is_none()
+}
+
+// The text of the argument with this name, if it is there.
+fn given_text(alloc: Global, found: &ArgMatches<'_>, id: &str) -> Result<Option<Text>, AllocError>
+    ensures { IfOk result (λ text. text ≡ first_of id.now (rows_of (found_of found.now))) }
+{
+    match given(found, id) {
+        Some(text) => Ok(Some(Text::from_str(alloc, text)?)),
+        None => Ok(None),
+    }
 }

@@ -1,4 +1,4 @@
-//! The program's arguments and what it prints: what a command line means and asks for, and what is
+//! The program's arguments and its output: what a command line means and asks for, and what is
 //! printed of an answer.
 #![tactic(auto)]
 
@@ -18,7 +18,7 @@ mod usage;
 
 pub use crate::action::action_of;
 pub use crate::arguments::Arguments;
-pub use crate::errands::{Errand, NewToken, errand_of};
+pub use crate::errands::{Errand, NewToken, Serving, errand_of};
 pub use crate::meaning::{Line, Who};
 pub use crate::printed::{Printed, render};
 pub use crate::printing::{print_reply, print_token};

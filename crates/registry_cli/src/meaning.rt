@@ -25,10 +25,10 @@ pub struct Line {
     pub db: Text,
     /// Who asks.
     pub who: Who,
-    /// When it is asked. None where the machine's clock says so.
+    /// When it is asked. `None` where the machine's clock says it.
     pub at: Option<Moment>,
     /// The subcommand's name and its arguments in their order, with the defaults of those that were
-    /// left out. Of `serve` these are the port and the number of connections.
+    /// left out. For `serve` these are the port and the number of connections.
     pub what: Arguments,
 }
 
@@ -40,8 +40,8 @@ impl Line {
         is_same(argument_at(self.what.as_slice(), 0), "serve")
     }
 
-    /// The path of the file that the line names, of which an action is read. None for every other
-    /// subcommand than `publish`.
+    /// The path of the file that the line names, from which an action is read. `None` for every
+    /// subcommand except `publish`.
     pub fn file(&self) -> Option<&str>
         ensures { option_map (λ path. path.now) result ≡ spec.file_of self.now.what }
     {

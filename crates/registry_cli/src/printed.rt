@@ -20,12 +20,12 @@ pub struct Printed {
     pub status: u8,
 }
 
-/// What is printed of an answer: on standard output, with status 0, a document and a newline, the
-/// bytes of an archive as they are, `{"ok":true}` and a newline for a command that was done, or
-/// `{"count":2,"ok":true}` and a newline for a deprecation of 2 versions; on standard error, with
-/// status 1, `refused: ` and the refusal, and a newline.
+/// What is printed of an answer. On standard output, with status 0: a document and a newline; the
+/// bytes of an archive as they are; `{"ok":true}` and a newline for a command that was done; or,
+/// for example, `{"count":2,"ok":true}` and a newline for a deprecation of 2 versions. On standard
+/// error, with status 1: `refused: `, the refusal, and a newline.
 ///
-/// `Memory` comes where no memory is left.
+/// `Memory` is returned where no memory is left.
 pub fn render(alloc: Global, reply: &Reply) -> Result<Printed, Fault>
     ensures ok { IfOk result (λ p. p ≡ printed reply.now) }
     ensures err { IfErr result (λ fault. fault ≡ Memory) }
@@ -40,7 +40,7 @@ pub fn render(alloc: Global, reply: &Reply) -> Result<Printed, Fault>
     Ok(rendered?)
 }
 
-// An answer, which is these bytes and what ends them.
+// An answer of these bytes and this end.
 fn answer(alloc: Global, bytes: &[u8], end: &str) -> Result<Printed, AllocError>
     ensures { IfOk result (λ p. p ≡ on_output (bytes.now ++ end.now)) }
 {
@@ -53,7 +53,7 @@ fn answer(alloc: Global, bytes: &[u8], end: &str) -> Result<Printed, AllocError>
     })
 }
 
-// An answer of so many.
+// An answer with this count.
 fn counted(alloc: Global, count: u64) -> Result<Printed, AllocError>
     ensures { IfOk result (λ p. p ≡ on_output
         (codes "{\"count\":" ++ decimal count ++ codes ",\"ok\":true}" ++ newline)) }

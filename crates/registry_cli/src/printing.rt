@@ -14,8 +14,8 @@ const DONE: &str = "{\"ok\":true}\n";
 /// Prints an answer, and gives the status with which the program ends.
 ///
 /// What [`render`](crate::render) gives goes to the output, and then to the errors as far as they
-/// take it. No memory is taken. An error comes where a write on the output fails, which may have
-/// taken a prefix of the answer then; the errors get nothing.
+/// take it. No memory is taken. An error is returned where a write on the output fails; it may have
+/// taken a prefix of the answer, and nothing is written to the errors.
 pub fn print_reply<O: ByteOut, E: ByteOut>(
     reply: &Reply,
     output: &mut O,
@@ -36,12 +36,13 @@ pub fn print_reply<O: ByteOut, E: ByteOut>(
     Ok(status_of(reply))
 }
 
-/// Prints the answer to a line that adds a token which was made, and gives the status with which the
-/// program ends.
+/// Prints the answer to a line that adds a token which was made, and gives the status with which
+/// the program ends.
 ///
-/// The token and a newline go to the output where the token was added. Else it is printed nowhere:
-/// what [`print_reply`] prints of the reply is printed. No memory is taken. An error comes where a
-/// write on the output fails; the token may have been added then, and nobody has it.
+/// The token and a newline go to the output where the token was added. Otherwise the token isn't
+/// printed, and the reply is printed as [`print_reply`] does. No memory is taken. An error is
+/// returned where a write on the output fails; the token may have been added then, and nobody has
+/// it.
 pub fn print_token<O: ByteOut, E: ByteOut>(
     token: &str,
     reply: &Reply,
@@ -63,7 +64,8 @@ pub fn print_token<O: ByteOut, E: ByteOut>(
     Ok(status_of(reply))
 }
 
-// Writes the token where it was added, and else what of the answer goes to standard output.
+// Writes the token where it was added, and otherwise the part of the answer that goes to standard
+// output.
 fn write_token<W: ByteOut>(token: &str, reply: &Reply, writer: &mut W) -> Result<(), WriteFailed>
     ensures ok { OnOk result (Writes (W.bytes writer.old) (W.bytes writer.new)
         (W.is_unknown writer.new) (token_out token.now reply.now)) }
@@ -86,7 +88,7 @@ fn status_of(reply: &Reply) -> u8
     }
 }
 
-// Writes what of an answer goes to standard output.
+// Writes the part of an answer that goes to standard output.
 fn write_answer<W: ByteOut>(reply: &Reply, writer: &mut W) -> Result<(), WriteFailed>
     ensures ok { OnOk result (Writes (W.bytes writer.old) (W.bytes writer.new)
         (W.is_unknown writer.new) (printed reply.now).out) }
@@ -103,7 +105,7 @@ fn write_answer<W: ByteOut>(reply: &Reply, writer: &mut W) -> Result<(), WriteFa
     }
 }
 
-// Writes what of an answer goes to standard error.
+// Writes the part of an answer that goes to standard error.
 fn write_refusal<W: ByteOut>(reply: &Reply, writer: &mut W) -> Result<(), WriteFailed>
     ensures ok { OnOk result (Writes (W.bytes writer.old) (W.bytes writer.new)
         (W.is_unknown writer.new) (printed reply.now).err) }
@@ -123,7 +125,7 @@ fn write_refusal<W: ByteOut>(reply: &Reply, writer: &mut W) -> Result<(), WriteF
     }
 }
 
-// Writes the answer of so many.
+// Writes the answer with this count.
 fn write_count<W: ByteOut>(count: u64, writer: &mut W) -> Result<(), WriteFailed>
     ensures ok { OnOk result (Writes (W.bytes writer.old) (W.bytes writer.new)
         (W.is_unknown writer.new)

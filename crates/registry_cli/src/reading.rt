@@ -23,9 +23,9 @@ use std::alloc::{AllocError, Global};
 
 /// What the arguments after the program's name mean.
 ///
-/// `Memory` comes where no memory is left. Arguments that the program doesn't take, or that ask for
-/// help, are `Usage::Words` with what is to be said of them: the text of `clap`, which ends in a
-/// newline, or `--as excludes --operator` where they have both.
+/// `Memory` is returned where no memory is left. Arguments that the program doesn't take, or that
+/// ask for help, are `Usage::Words` with the message: the text of `clap`, which ends in a newline,
+/// or `--as excludes --operator` where they have both.
 pub fn line(alloc: Global, arguments: &[Text]) -> Result<Line, Usage>
     ensures ok { IfOk result (λ l. (l ≡ line_of arguments.now) × (has_both arguments.now ≡ false)) }
     ensures whole { IfOk result (λ l. IsWhole l.what) }
@@ -37,7 +37,7 @@ pub fn line(alloc: Global, arguments: &[Text]) -> Result<Line, Usage>
     line_in_texts(alloc, texts.as_slice())
 }
 
-// The same of the texts as `clap` takes them.
+// The same for the texts as `clap` takes them.
 fn line_in_texts(alloc: Global, texts: &[&str]) -> Result<Line, Usage>
     ensures ok { IfOk result (λ l. (l ≡ line_of (map (λ s. s.now) texts.now))
         × (has_both (map (λ s. s.now) texts.now) ≡ false)) }
@@ -75,7 +75,7 @@ fn line_in(alloc: Global, matches: &ArgMatches<'_>) -> Result<Line, Usage>
     Ok(line_by(alloc, matches, who, what)?)
 }
 
-// The line, of which it is known who asks for what.
+// The line, once it is known who asks.
 pub(crate) fn line_by(
     alloc: Global,
     matches: &ArgMatches<'_>,
@@ -99,13 +99,13 @@ pub(crate) fn line_by(
 
 // The value of the argument with this name, if it is there.
 #[tactic(auto, using(crate::proofs::RowFacts::given_is))]
-fn given<'a>(matches: &ArgMatches<'a>, id: &str) -> Option<&'a str>
+pub(crate) fn given<'a>(matches: &ArgMatches<'a>, id: &str) -> Option<&'a str>
     ensures { option_map (λ s. s.now) result ≡ first_of id.now (rows_of (found_of matches.now)) }
 {
     matches.get_str(id)
 }
 
-// The value of the argument with this name, and the empty text where it was left out.
+// The value of the argument with this name, or the empty text where it was left out.
 #[tactic(auto, using(crate::proofs::RowFacts::value_is))]
 pub(crate) fn value<'a>(matches: &ArgMatches<'a>, id: &str) -> &'a str
     ensures { result.now ≡ value_in (rows_of (found_of matches.now)) id.now }
@@ -122,7 +122,7 @@ fn is_operator(matches: &ArgMatches<'_>) -> bool
     is_same(value(matches, "operator"), "true")
 }
 
-// What is said where both are asked for.
+// The message where both are given.
 fn both(alloc: Global) -> Result<Text, AllocError>
     ensures { IfOk result (λ t. t ≡ said_of_both) }
 {
@@ -178,7 +178,7 @@ pub(crate) fn at(matches: &ArgMatches<'_>) -> Option<Moment>
     moment_of(given(matches, "SECONDS"))
 }
 
-// The arguments of the subcommand that is called so.
+// The arguments of the subcommand with this name.
 pub(crate) fn parameters_of(name: &str) -> &'static [Parameter]
     ensures { map (λ w. w.id.now) result.now ≡ spec.parameters_of name.now }
 {

@@ -11,19 +11,26 @@ ghost use Rattle.registry_cli.specs.Tables.{row_of};
 pub(crate) enum Need {
     /// It has to be there.
     Required,
-    /// Where it is left out, it is this text.
+    /// Where it is left out, this text is its value.
     Default(&'static str),
-    /// It is an option, and a number from 1 on.
+    /// It is an option whose value is a number from 1 on.
     Number {
         /// The option's name, without its hyphens.
         option: &'static str,
         /// The greatest number.
         greatest: u32,
-        /// What it is where it is left out.
+        /// Its value where it is left out.
         default: &'static str,
     },
-    /// It is an option, and has to be there.
-    Word {
+    /// It is an option, and a number from 1 on, or may be left out.
+    NumberIfSaid {
+        /// The option's name, without its hyphens.
+        option: &'static str,
+        /// The greatest number.
+        greatest: u32,
+    },
+    /// It is an option, and may be left out.
+    WordIfSaid {
         /// The option's name, without its hyphens.
         option: &'static str,
     },
@@ -34,7 +41,7 @@ pub(crate) enum Need {
 pub(crate) struct Parameter {
     /// What it is called.
     pub(crate) id: &'static str,
-    /// What is said of it in the subcommand's help.
+    /// What the subcommand's help says of it.
     pub(crate) help: &'static str,
     /// Whether it has to be there.
     pub(crate) need: Need,
@@ -47,7 +54,7 @@ pub(crate) struct Subcommand {
     pub(crate) name: &'static str,
     /// Its arguments, in their order.
     pub(crate) parameters: &'static [Parameter],
-    /// What it does, in a line.
+    /// What it does, in one line.
     pub(crate) about: &'static str,
     /// An example of how it is called.
     pub(crate) example: &'static str,
@@ -341,13 +348,28 @@ static SERVE: [Subcommand; 1] = [Subcommand {
     name: "serve",
     parameters: &[PORT, CONNECTIONS],
     about: "Serve npm over HTTP on 127.0.0.1: up to 512 connections at once, a request at a time",
-    example: "Example: registry serve --port 8080\n\nWith --log FILE a line is written to the end of FILE for each request, too",
+    example: "Example: registry serve --port 8080\n\nWith --log FILE a line is written to the end of FILE for each request, too. With --socket PATH it\nlistens at a Unix socket: registry serve --socket PATH --help",
 }];
+
+const PORT_BESIDE: Parameter = Parameter {
+    id: "PORT",
+    help: "The port of 127.0.0.1, from 1 to 65535; 8080 where neither it nor --socket is said",
+    need: Need::NumberIfSaid {
+        option: "port",
+        greatest: 65_535,
+    },
+};
+
+const SOCKET: Parameter = Parameter {
+    id: "SOCKET",
+    help: "The path of a Unix socket, to which the owner and the group may connect",
+    need: Need::WordIfSaid { option: "socket" },
+};
 
 const LOG: Parameter = Parameter {
     id: "LOG",
     help: "The file to whose end a line is written for each request",
-    need: Need::Word { option: "log" },
+    need: Need::WordIfSaid { option: "log" },
 };
 
 static ERRANDS: [Subcommand; 5] = [
@@ -377,9 +399,9 @@ static ERRANDS: [Subcommand; 5] = [
     },
     Subcommand {
         name: "serve",
-        parameters: &[PORT, CONNECTIONS, LOG],
-        about: "Serve npm over HTTP, and keep a log of the requests",
-        example: "Example: registry serve --port 8080 --log requests.log",
+        parameters: &[PORT_BESIDE, SOCKET, CONNECTIONS, LOG],
+        about: "Serve npm over HTTP, and keep a log of the requests or listen at a Unix socket",
+        example: "Example: registry serve --socket http.socket --log requests.log",
     },
 ];
 
@@ -437,7 +459,7 @@ pub(crate) fn called(name: &str) -> Option<&'static Subcommand>
         .or(called_in(serving(), name))
 }
 
-// The one of these that has this name, if there is one.
+// The subcommand of these that has this name, if there is one.
 fn called_in<'a>(rows: &'a [Subcommand], name: &str) -> Option<&'a Subcommand>
     ensures { option_map (λ row. row_of row.now) result
         ≡ find (λ row. bytes_eq row.0 name.now) (map row_of rows.now) }

@@ -10,7 +10,7 @@ use std::alloc::{AllocError, Global};
 /// How many random bytes a token is made of: 160 bits.
 pub const TOKEN_BYTES: usize = 20;
 
-/// The token that these bytes make: `npm_`, and their 40 digits in base 16.
+/// The token that these bytes make: `npm_`, and their 40 hexadecimal digits.
 pub fn token_of(alloc: Global, random: [u8; TOKEN_BYTES]) -> Result<Text, AllocError>
     ensures text { IfOk result (λ t. t ≡ token_text random) }
     ensures form { IfOk result (λ t. is_token t ≡ true) }

@@ -13,7 +13,7 @@ use std::alloc::{AllocError, AllocFailed, Global};
 /// Why a line means nothing.
 #[derive(Debug, Drop)]
 pub enum Usage {
-    /// The arguments are none that the program takes, or ask for help. What is to be printed.
+    /// The program doesn't take the arguments, or they ask for help. The text is to be printed.
     Words(Text),
     /// No memory was left.
     Memory,

@@ -25,13 +25,13 @@ abbrev pub IsSettled : Shown → Type 0
 IsSettled s = IsTrue s.is_open → s.now ≡ s.committed
 
 module _ (old new : Shown) where
-  -- a registry is made of an open connection alone, and holds what is made of what that saw
+  -- a registry is made only of an open connection, and holds what is made of what that saw
   abbrev pub IsMade : Type 0
   IsMade = HasCleanDisk new → HasCleanDisk old × IsTrue old.is_open × IsMadeOf old.now (stored new)
 
-  -- A crash leaves what it could have left before or, of an open connection alone, what that saw or,
-  -- where there was no table, a fresh registry. No fault is forgotten, a limit of steps stays, and so
-  -- do tests of what is read
+  -- A crash leaves what it could have left before or, of an open connection alone, what that saw
+  -- or, where there was no table, a fresh registry. No fault is forgotten, a limit of steps stays,
+  -- and so do tests of what is read
   abbrev pub SurvivesAdoption : Type 0
   SurvivesAdoption = Survives old new (λ db. IsTrue old.is_open × IsLeftOf old.now db)
 
@@ -48,7 +48,7 @@ module _ (old new : Shown) where
   IsHandedBack = (new.in_transaction ≡ old.in_transaction) × (HasCleanDisk new → IsTrue new.is_open → IsTrue old.is_open × (new.now ≡ old.now))
 
 -- The files of what is left after an open that failed. Those of a database are its store's after a
--- close, of which a crash leaves nothing that it couldn't have left before
+-- close, and a crash then leaves nothing that it couldn't have left before
 module _ {D : Type 0} {g : disk.Ghosts D} where
   abbrev pub AreFilesOf : Unopened D g → Files D → Type 0
   AreFilesOf (unopened.Files rest) given = (given.log, given.db) ≡ files_left rest

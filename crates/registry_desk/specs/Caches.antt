@@ -1,5 +1,5 @@
--- What a registry keeps of its answers, and what that has to do with what is stored. `old` and `new`
--- are what is kept at the entry and at the exit.
+-- What a registry keeps of its answers, and what that has to do with what is stored. `old` and
+-- `new` are what is kept at the entry and at the exit.
 use Rattle.std.specs.Prelude.{◌≡◌, ◌⊎◌, ◌^◌, ℕ, Bool, false, not, if◌then◌else◌, List, ◌∷◌, ◌++◌, IfNone, IfSome, IsTrue, Option, None, Some}
 use Rattle.std.specs.List.{list_any}
 use Rattle.sqlite.specs.State.{State as Shown, HasCleanDisk}
@@ -32,7 +32,7 @@ live_packument S p = if has_live S p then Some (packument_in S p) else None
 abbrev pub ArePackuments : Contents → Cache → Type 0
 ArePackuments c cache = AreRight (λ p text. live_packument (registry_of c) p ≡ Some text) cache
 
--- that is so of an open connection whose disk is clean
+-- this holds of an open connection whose disk is clean
 abbrev pub HasPackuments : Shown → Cache → Type 0
 HasPackuments s cache = HasCleanDisk s → IsTrue s.is_open → ArePackuments (stored s) cache
 
@@ -53,12 +53,11 @@ pub record AreAnswers (c : Contents) (caches : Caches) : Type 0 where
   pub packuments : ArePackuments c caches.packuments
   pub archives : AreArchives c caches.archives
 
--- that is so of an open connection whose disk is clean
+-- this holds of an open connection whose disk is clean
 abbrev pub HasAnswers : Shown → Caches → Type 0
 HasAnswers s caches = HasCleanDisk s → IsTrue s.is_open → AreAnswers (stored s) caches
 
--- the most bytes that the texts which a registry keeps have together, without the one text that
--- alone has more
+-- the most bytes that the kept texts have together, without the one text that alone has more
 abbrev pub text_limit : ℕ
 text_limit = 2 ^ 26
 
@@ -130,7 +129,7 @@ pub record HaveSameLimits (old new : Caches) : Type 0 where
   pub packuments : new.packuments.limit ≡ old.packuments.limit
   pub archives : new.archives.limit ≡ old.archives.limit
 
--- the change is about this package alone, and about none
+-- whether the change is about this package alone, or about none
 module _ (change : Change) where
   abbrev pub IsAbout : Text → Type 0
   IsAbout name = (p : Text) → is_about change p ≡ is name p
@@ -138,7 +137,7 @@ module _ (change : Change) where
   abbrev pub IsAboutNone : Type 0
   IsAboutNone = (p : Text) → is_about change p ≡ false
 
-  -- by the change this version alone comes or goes, and none
+  -- whether this version alone comes or goes by the change, or none does
   abbrev pub Moves : Text → Text → Type 0
   Moves p v = (key : Text) → moves change key ≡ is (archive_key p v) key
 
@@ -163,7 +162,7 @@ abbrev pub KeepsArchive : Text → Text → List ℕ → Cache → Cache → Typ
 KeepsArchive p v bytes old new =
     (IsName p × KeepsLatest (archive_key p v) bytes old new) ⊎ (new ≡ old)
 
--- of replies a packument and an archive alone are kept
+-- only a reply that is a packument or an archive is kept
 abbrev pub KeepsReply : Action → Reply → Caches → Caches → Type 0
 KeepsReply (Packument name) (Doc text) old new =
     KeepsLatest name text old.packuments new.packuments × (new.archives ≡ old.archives)
@@ -171,14 +170,14 @@ KeepsReply (Archive p v) (Bytes bytes) old new =
     (new.packuments ≡ old.packuments) × KeepsArchive p (text_of_version v) bytes old.archives new.archives
 KeepsReply _ _ old new = new ≡ old
 
--- nothing else is kept of an answered request than what was kept before, and then its reply
+-- after an answered request, nothing is kept but what was kept before, and then its reply
 abbrev pub KeepsAnswer : Action → Caches → Caches → Reply → Type 0
 KeepsAnswer what old new given = (still : Caches) × KeepNoMore old still × KeepsReply what given still new
 
 -- ---- a request
 
--- What is stored and kept is sound for an action: for an archive the archives that are kept, and for
--- what a team is granted the teams
+-- What is stored and kept is sound for an action: for an archive the archives that are kept, and
+-- for what a team is granted the teams
 abbrev pub IsSoundFor : Action → Contents → Caches → Type 0
 IsSoundFor (Archive p v) c caches = AreArchives c caches.archives
 IsSoundFor (TeamPackages o t) c caches = AreTeamsSound c

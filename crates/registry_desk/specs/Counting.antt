@@ -1,4 +1,4 @@
--- For what SQLite counts in a registry's tables: the archives alone, for good.
+-- What SQLite counts for in a registry's tables: only the archives, for good.
 use Rattle.std.specs.Prelude.{◌≡◌}
 use Rattle.sqlite_trees.specs.Tree.{Trees}
 use Rattle.registry_rules.specs.declared.request.Request.{Request}

@@ -1,4 +1,4 @@
--- What is refused before all that decides it is loaded. What is dear to load is the needs of all
+-- What is refused before all that decides it is loaded. What is costly to load is the needs of all
 -- packages, and lists: the versions of a package, those that were withdrawn, its maintainers, the
 -- members of an organisation
 use Rattle.std.specs.Prelude.{◌≡◌, ℕ, false, Option, Some, None, Result, Ok, Err}
@@ -31,8 +31,8 @@ use Rattle.registry_desk.specs.declared.policy.Found.TheVariants as found
 abbrev pub denial : Access → Caller → Action → Option Refusal
 denial A who what = unless_allowed (permission A who what)
 
--- Why an action is refused before what is dear to load is loaded. The policy is asked first of
--- each that needs something dear; of a withdrawal then whether the version lives, and whether it
+-- Why an action is refused before what is costly to load is loaded. The policy is asked first of
+-- each that needs something costly; of a withdrawal then whether the version lives, and whether it
 -- is too old, whoever needs it
 abbrev pub early_refusal : State → ℕ → Caller → Action → Option Refusal
 early_refusal S now who (OrgSet o u role) = denial S.access who (OrgSet o u role)
@@ -56,8 +56,7 @@ EarlyRefusalsStand = (S : State) (now : ℕ) (who : Caller) (what : Action) (why
 
 -- ---- the policy alone
 
--- the standing of a caller to a package whom the policy allows what they ask of it, or why it
--- doesn't
+-- a caller's standing to a package where the policy allows what they ask of it, or why it doesn't
 abbrev pub IsPlaced : Result Standing Refusal → Access → Caller → Ask → Text → Type 0
 IsPlaced (Ok standing) A who ask p = (unless_allowed (allowed_in A who ask) ≡ None) × StandingTells standing A who p
 IsPlaced (Err why) A who ask p = unless_allowed (allowed_in A who ask) ≡ Some why

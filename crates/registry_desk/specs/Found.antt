@@ -40,8 +40,8 @@ pub record AreTimesOf (times : PackTimes) (S : State) (p : Text) : Type 0 where
   pub created : created_at (of S.live p) (of S.spent p) ≡ Some times.created
   pub modified : modified_at (of S.live p) (of S.spent p) ≡ Some times.modified
 
--- The rows are those that answer the caller's action. A command is answered by none, but a
--- deprecation by the live versions; and no rows answer a query for a packument
+-- The rows are those that answer the caller's action. No rows answer a command, except that the
+-- live versions answer a deprecation; and no rows answer a query for a packument
 abbrev pub AreRowsOf : Rows → State → Caller → Action → Type 0
 AreRowsOf (rows.Document found) S who (VersionDoc p asked) = option_map document_entry found ≡ option_map document (asked_release S p asked)
 AreRowsOf (rows.KnownArchive archive) S who (Archive p v) = archive ≡ archive_in S p (text_of_version v)
@@ -60,7 +60,7 @@ AreRowsOf _ S who _ = ⊥
 abbrev pub IsCallerIn : Contents → Request → Caller → Type 0
 IsCallerIn c r who = Some who ≡ caller_of (registry_of c) r.who
 
--- a withdrawal alone is decided by the needs that are stored, so for it they are those of live
+-- only a withdrawal is decided by the needs that are stored, so for it they are those of live
 -- versions
 abbrev pub NeedsFor : Action → Contents → Type 0
 NeedsFor (Withdraw p v) c = HoldsNeeds c
@@ -68,29 +68,29 @@ NeedsFor _ c = Unit {0}
 
 -- ---- parts of what decides
 
--- the user is there or not, is a member in this role or none, and another member is an owner or
--- none is
+-- it says whether the user is there, what role they have, if any, and whether another member is an
+-- owner
 pub record IsCandidate (candidate : Candidate) (S : State) (o u : Text) : Type 0 where
   pub user_exists : candidate.user_exists ≡ has_user S u
   pub role : candidate.role ≡ at S.access.roles (o, u)
   pub other_owner : candidate.other_owner ≡ has_other_owner S o u
 
--- the team is there or not, and the user is a member of the organisation or not, and in the team or
--- not
+-- it says whether the team is there, whether the user is a member of the organisation, and whether
+-- they are in the team
 pub record IsPlace (place : Place) (S : State) (o t u : Text) : Type 0 where
   pub team_exists : place.team_exists ≡ has_team S o t
   pub is_member : place.is_member ≡ is_member S o u
   pub is_in_team : place.is_in_team ≡ is_in_team S o t u
 
--- the team is there or not, the package was published or never, and the team is granted something
--- on it or nothing
+-- it says whether the team is there, whether the package was ever published, and whether the team
+-- is granted something on it
 pub record IsGrantable (grantable : Grantable) (S : State) (o t p : Text) : Type 0 where
   pub team_exists : grantable.team_exists ≡ has_team S o t
   pub is_published : grantable.is_published ≡ is_published S p
   pub stands : grantable.stands ≡ has_grant S o t p
 
--- the version lives or not, was withdrawn or not, its tag and `latest` are there or not, a version
--- of its package lives or none, and one was withdrawn last or none
+-- it says whether the version lives, whether it was withdrawn, whether its tag and `latest` are
+-- there, whether a version of its package lives, and when one was withdrawn last, if one was
 pub record AreTaken (taken : Taken) (S : State) (f : FormParts) : Type 0 where
   pub version_lives : taken.version_lives ≡ is_live S f.name (version_of f)
   pub version_spent : taken.version_spent ≡ is_spent S f.name (version_of f)
@@ -99,18 +99,18 @@ pub record AreTaken (taken : Taken) (S : State) (f : FormParts) : Type 0 where
   pub lives : taken.lives ≡ has_live S f.name
   pub last_withdrawal : taken.last_withdrawal ≡ last_withdrawal S f.name
 
--- whether another package needs the version, the tags that name it, and the live versions
+-- it says whether another package needs the version, which tags name it, and which versions live
 pub record IsLife (life : Life) (S : State) (p : Text) (v : VersionParts) : Type 0 where
   pub depended : life.depended ≡ is_depended S p v
   pub tags : life.tags.items ≡ tags_of S p (text_of_version v)
   pub live : map text_of_version life.live.items ≡ live_versions S p
 
--- the user is there or not, and a maintainer already or not
+-- it says whether the user is there, and whether they are a maintainer already
 pub record IsNewcomer (newcomer : Newcomer) (S : State) (p u : Text) : Type 0 where
   pub user_exists : newcomer.user_exists ≡ has_user S u
   pub is_maintainer : newcomer.is_maintainer ≡ has_maintainer S p u
 
--- the user is a maintainer or not, and another is or none
+-- it says whether the user is a maintainer, and whether another user is one
 pub record IsLeaver (leaver : Leaver) (S : State) (p u : Text) : Type 0 where
   pub is_maintainer : leaver.is_maintainer ≡ has_maintainer S p u
   pub other_maintainer : leaver.other_maintainer ≡ has_other_maintainer S p u

@@ -73,8 +73,9 @@ AreFaults (Ok reply ∷ os) = ⊥
 AreFaults (Err fault ∷ os) = AreFaults os
 
 -- What was done, with its replies: each request that was answered, with its reply, in their order.
--- What met a fault wasn't done, as long as the registry is open at the end. Where a fault of the disk
--- has shut it, of the requests that met a fault when nothing was answered any more one may be done
+-- What met a fault wasn't done, as long as the registry is open at the end. Where a fault of the
+-- disk has shut it, one of the requests that met a fault when nothing was answered any more may be
+-- done
 abbrev pub Did : Bool → List Request → List Outcome → List Request → List Outcome → Type 0
 Did is_open [] os ds ps = (ds ≡ []) × (ps ≡ [])
 Did is_open (r ∷ rs) [] ds ps = (ds ≡ []) × (ps ≡ [])
@@ -103,8 +104,9 @@ pub record HasLived (first last : Shown) (life : Life) : Type 0 where
   pub stays : StaysSure last
   pub ends : life.is_open ≡ last.is_open
 
--- It ends wherever it is stopped: a crash leaves one of the databases that it may leave there, opens
--- that are stopped again leave another, and the next registry is opened from files that hold that
+-- It ends wherever it is stopped: a crash leaves one of the databases that it may leave there,
+-- opens that are stopped again leave another, and the next registry is opened from files that hold
+-- that
 pub record IsOpenedAgain (last next : Shown) : Type 0 where
   pub was_clean : HasCleanDisk last
   pub db : Trees
@@ -121,7 +123,8 @@ pub record IsHandedOn (last next : Shown) : Type 0 where
   pub rests : Rests last
   pub made : IsMade last next
 
--- or it is open, and is asked on: nothing that is stored has changed, as by a look whether it is open
+-- or it is open, and is asked on: nothing that is stored has changed, as by a look whether it is
+-- open
 pub record IsAskedOn (last next : Shown) : Type 0 where
   pub was_clean : HasCleanDisk last
   pub was_open : IsTrue last.is_open
@@ -136,8 +139,8 @@ pub record IsInOrder (c : Contents) : Type 0 where
   pub needs : HoldsNeeds c
   pub archives : HoldsArchives c
 
--- What a life comes to, from what was stored before it to what the next registry holds: a run of what
--- was done in it, in which every request is answered
+-- What a life comes to, from what was stored before it to what the next registry holds: a run of
+-- what was done in it, in which every request is answered
 pub record ComesTo (life : Life) (before last : Contents) : Type 0 where
   pub requests : List Request
   pub replies : List Outcome
@@ -153,7 +156,7 @@ AreLives [] first last = last ≡ first
 AreLives (life ∷ lives) first last = (next : Contents) × (IsInOrder first → ComesTo life first next) × AreLives lives next last
 
 -- What a list of lives comes to: one run of what was done in them, in which every request is
--- answered. So at last that is stored which a registry in memory stores that is asked the same
+-- answered. So at last the same is stored as by a registry in memory that is asked the same
 pub record AreOneRun (lives : List Life) (first last : Contents) : Type 0 where
   pub requests : List Request
   pub replies : List Outcome
@@ -187,9 +190,9 @@ module _ {C : Type 0} (show : C → Shown) where
 -- The next registry may be over another store: the files that another run of the program opens have
 -- another type
 module _ {C D : Type 0} (show : C → Shown) (show_next : D → Shown) where
-  -- A request is asked of a registry of which a crash leaves what it holds and nothing else. Wherever
-  -- it is stopped, the registry that is opened from what a crash leaves holds what was held before
-  -- the request, or what all of it makes. So nothing that was answered before is lost
+  -- A request is asked of a registry of which a crash leaves what it holds and nothing else.
+  -- Wherever it is stopped, the registry that is opened from what a crash leaves holds what was
+  -- held before the request, or what all of it makes. So nothing that was answered before is lost
   abbrev pub StopsLeaveAllOrNothing : Type 0
   StopsLeaveAllOrNothing = (first last : C) (next : D) (r : Request) → HoldsSoundFor r (show first) → IsSure (show first) → SurvivesOne (show first) (show last) r
       → IsOpenedAgain (show last) (show_next next) → HasCleanDisk (show_next next)

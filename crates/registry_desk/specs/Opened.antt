@@ -46,12 +46,12 @@ pub record LeavesMigrated (older : Older) (db left : Trees) : Type 0 where
   pub is : IsRegistryOf left held
 
 -- the tables of a registry give what they hold, a database without tables a fresh registry, and
--- tables of an older schema what is made of them. Any other gives none
+-- tables of an older schema what is made of them. Any other database gives nothing
 abbrev pub IsMadeOf : Database → Contents → Type 0
 IsMadeOf db c = ((db.schema ≡ schema) × IsOurs (contents db.trees) × (c ≡ contents db.trees)) ⊎ (((db.schema ≡ no_tables) × (c ≡ fresh)) ⊎ ((older : Older) × (db.schema ≡ schema_of older) × IsMigrated older db.trees c))
 
--- a crash leaves the database as it was, or, where it had no tables, a fresh registry, or, where its
--- tables were those of an older schema, what is made of them
+-- a crash leaves the database as it was, or, where it had no tables, a fresh registry, or, where
+-- its tables were those of an older schema, what is made of them
 abbrev pub IsLeftOf : Database → Trees → Type 0
 IsLeftOf db left = (left ≡ db.trees) ⊎ (((db.schema ≡ no_tables) × IsRegistryOf left fresh) ⊎ ((older : Older) × (db.schema ≡ schema_of older) × LeavesMigrated older db.trees left))
 
@@ -81,9 +81,9 @@ module _ (image : Image) where
 
 -- After an open of these files that failed, a crash leaves what it could have left before. Where a
 -- database was opened, it was each one that the files hold. As long as the connection is open, a
--- crash leaves that and nothing else. Where a fault of the disk has shut it, a crash leaves that or,
--- where no table was found, those of a fresh registry, and, where tables of an older schema were,
--- what is made of them
+-- crash leaves that and nothing else. Where a fault of the disk has shut it, a crash leaves that
+-- or, where no table was found, those of a fresh registry, and, where tables of an older schema
+-- were, what is made of them
 module _ {D : Type 0} {g : disk.Ghosts D} (files : Files D) where
   abbrev pub LeavesAtMost : Unopened D g → Type 0
   LeavesAtMost (unopened.Files rest) = IsCleanLeft rest → LeavesFiles files rest
@@ -99,12 +99,12 @@ IsGuarded s = HasCleanDisk s → s.IsShielded
 abbrev pub IsUnlimited : Shown → Type 0
 IsUnlimited s = s.step_limit ≡ None
 
--- the files hold something that is no database
+-- the files hold something that isn't a database
 abbrev pub HoldNone : Image → Type 0
 HoldNone image = ¬ (((db : Trees) × HoldsDatabase image db) ⊎ IsNothing image)
 
--- why files aren't opened: memory was short; or they hold no database, or failed meanwhile, or are at
--- their limit
+-- why files aren't opened: memory was short; or they hold no database, or failed meanwhile, or are
+-- at their limit
 module _ {D : Type 0} {g : disk.Ghosts D} (files : Files D) where
   abbrev pub FailsToConnect : Leftover D g → Fault → Type 0
   FailsToConnect rest fault = (fault ≡ faults.Memory)

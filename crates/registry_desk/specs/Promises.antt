@@ -30,7 +30,7 @@
 --         withdrawal is asked for, the needs that are stored are those of live versions
 --         (`HoldsSoundFor`, `HoldsSoundForEach`): what decides a request is read from them;
 --   N     the second alone (`NeedsFor`, `NeedsForEach`): a legal history led to the state, nothing
---         was asked, or it is in form, of each of which grants are in scope;
+--         was asked, or it is in form, and in each of these grants are in scope;
 --   open  the registry is open at the exit: a fault of the disk may have shut it.
 -- A new registry has S and N of every request (`HoldsSound`), and every request keeps that by
 -- `grants` and `needs`.
@@ -67,7 +67,7 @@ use Rattle.registry_desk.specs.Resting.{IsRegistryOf, Serves, end_stored, left_b
 abbrev pub IsSure : Shown → Type 0
 IsSure s = (db : Trees) → s.may_leave db → IsRegistryOf db (stored s)
 
--- that is so as long as the registry is open
+-- this holds as long as the registry is open
 abbrev pub StaysSure : Shown → Type 0
 StaysSure s = HasCleanDisk s → IsTrue s.is_open → IsSure s
 
@@ -87,17 +87,17 @@ pub record HoldsSoundFor (r : Request) (s : Shown) : Type 0 where
   pub grants : GrantsInScope (stored s)
   pub needs : NeedsFor r.what (stored s)
 
--- so it is for each of the requests
+-- this holds for each of the requests
 pub record HoldsSoundForEach (rs : List Request) (s : Shown) : Type 0 where
   pub grants : GrantsInScope (stored s)
   pub needs : NeedsForEach rs (stored s)
 
--- so it is for every request
+-- this holds for every request
 pub record HoldsSound (s : Shown) : Type 0 where
   pub grants : GrantsInScope (stored s)
   pub needs : HoldsNeeds (stored s)
 
--- what an error says of whether a registry is open: a shut one alone is closed
+-- what an error says of whether a registry is open: only a shut one is closed
 abbrev pub seen_by : Error → Result Bool Fault
 seen_by (SqliteFailure Closed) = Ok false
 seen_by e = Err (as_fault e)
@@ -113,7 +113,7 @@ module _ (old new : Shown) where
   abbrev pub Answered : Request → Outcome → Type 0
   Answered r o = HoldsSoundFor r old → HasCleanDisk new → IsAnswer (registry_in old) r o
 
-  -- a reply comes from an open registry alone, and leaves it open
+  -- a reply comes only from an open registry, and leaves it open
   abbrev pub Served : Outcome → Type 0
   Served o = HasCleanDisk new → OnOk o (IsTrue old.is_open × IsTrue new.is_open)
 
@@ -134,8 +134,8 @@ module _ (old new : Shown) where
   GrowsHistory r o = NeedsFor r.what (stored old) → HasCleanDisk new → IsTrue new.is_open → (h : List Entry) → Legal h → registry_in old ≡ after h
       → Says (grown h (registry_in old) r o) (registry_in new)
 
-  -- of what a legal history led to: who has no level on a package, and nobody, is answered as on the
-  -- registry without it, except by the two replies that show it
+  -- of what a legal history led to: a caller who has no level on a package, or nobody, is answered
+  -- as on the registry without it, except by the two replies that show it
   abbrev pub HidesUnread : Request → Outcome → Type 0
   HidesUnread r o = NeedsFor r.what (stored old) → HasCleanDisk new → (h : List Entry) → Legal h → registry_in old ≡ after h
       → (p : Text) → IsStranger (after h) r.who p → is_shown (after h) r p ≡ false → IsAnswer (state_without (after h) p) r o
@@ -185,7 +185,7 @@ module _ (old new : Shown) where
   WritesHistory rs os = NeedsForEach rs (stored old) → HasCleanDisk new → IsTrue new.is_open → (h : List Entry) → Legal h → registry_in old ≡ after h
       → Says (history h (registry_in old) rs os) (registry_in new)
 
-  -- an open registry answers, until a fault shuts it, and a shut one answers by faults alone
+  -- an open registry answers, until a fault shuts it, and a shut one answers only by faults
   abbrev pub ServedRun : List Outcome → Type 0
   ServedRun os = HasCleanDisk new → Serves old.is_open os new.is_open
 

@@ -58,7 +58,7 @@ pub record AnswersAsApply (old new : Shown) (r : Request) (o : Outcome) : Type 0
   pub survives : SurvivesOne old new r
   pub stays : StaysSure new
 
--- so it is of the connections at the entry and at the exit
+-- this holds of the connections at the entry and at the exit
 abbrev pub answers_as_apply : {S : Type 0} → Ghosts S → Held S → Request → Outcome → Held S → Type 0
 answers_as_apply store M r o N = AnswersAsApply (state store M) (state store N) r o
 
@@ -86,13 +86,13 @@ IsOutcomeOf Whole o = (text : Text) × (o ≡ Ok (Doc text))
 IsOutcomeOf WriteFault o = (text : Text) × (o ≡ Ok (Doc text))
 IsOutcomeOf (Broken fault has_started) o = o ≡ Err fault
 
--- A packument that was sent is a request that was asked, with the outcome that it came to: so it may
--- stand anywhere among requests that are asked by `apply`, and they are a run (`TurnsAreRuns`)
+-- A packument that was sent is a request that was asked, with the outcome that it came to: so it
+-- may stand anywhere among requests that are asked by `apply`, and they are a run (`TurnsAreRuns`)
 abbrev pub SentAreAsked : {S : Type 0} → Ghosts S → Type 0
 SentAreAsked {S} store = (opens : ℕ → List ℕ) (M N : Held S) (r : Request) (sent : Sent) (out out2 : Option (List ℕ)) (unknown : Bool)
     → Sends (answers_as_apply store) opens M r sent N out out2 unknown → (o : Outcome) × IsOutcomeOf sent o × HasAnswered (state store M) (state store N) r o
 
--- Of a packument that the machine broke off behind its first byte, over a disk that is clean, what
+-- Of a packument that the machine broke off after its first byte, over a disk that is clean, what
 -- was written is a part of what opens the answer to the query, and of the answer
 abbrev pub BrokenBeginTheAnswer : {S : Type 0} → Ghosts S → Type 0
 BrokenBeginTheAnswer {S} store = (opens : ℕ → List ℕ) (M N : Held S) (r : Request) (fault : Fault) (out out2 : Option (List ℕ)) (unknown : Bool)
@@ -141,7 +141,7 @@ ShowsAlone S p given = (text : Text) → given ≡ Doc text → live_packument S
 
 -- ---- what a query leaves
 
--- Whatever it comes to: the connection between requests, with all that was stored
+-- Whatever a query comes to, it leaves the connection between requests, with all that was stored
 pub record LeavesAll (old new : Shown) : Type 0 where
   pub rests : Rests new
   pub opened : WasOpen old new

@@ -20,7 +20,7 @@ use Rattle.registry_desk.specs.Promises.{HoldsReferences, HoldsSound, IsSure}
 use Rattle.registry_desk.specs.Resting.{Rests}
 
 -- the next life begins with all that the last one stored. So what a request supposes of a registry
--- is so again, and the history goes on
+-- holds again, and the history goes on
 pub record GoesOn (last next : Shown) : Type 0 where
   pub same : stored next ≡ stored last
   pub sound : HoldsSound last → HoldsSound next
@@ -35,8 +35,8 @@ AdoptionsAreOpens {D} show = (seen next : D) (image : Image) → (HasCleanDisk (
     → IsMade (show seen) (show next) → HoldsEach image (show next)
 
 module _ {C D : Type 0} (show : C → Shown) (show_next : D → Shown) where
-  -- a crash leaves what was stored and nothing else, the files hold one of the databases that it may
-  -- leave, and these files are opened
+  -- a crash leaves what was stored and nothing else, the files hold one of the databases that it
+  -- may leave, and these files are opened
   abbrev pub StopsLoseNothing : Type 0
   StopsLoseNothing = (last : C) (next : D) (image : Image) (db : Trees) → IsSure (show last) → (show last).may_leave db → HoldsDatabase image db
       → HoldsEach image (show_next next) → HasCleanDisk (show_next next) → GoesOn (show last) (show_next next)
@@ -47,8 +47,8 @@ module _ {C D : Type 0} (show : C → Shown) (show_next : D → Shown) where
       → (HasCleanDisk (show_next seen) → Opens (show_next seen) × IsLive (show_next seen)) → (HasCleanDisk (show_next seen) → FindsIn image (show_next seen))
       → IsMade (show_next seen) (show_next next) → HasCleanDisk (show_next next) → GoesOn (show last) (show_next next)
 
-  -- What one registry gives back the next one takes over. Of a connection that a fault has shut there
-  -- is no next one
+  -- What one registry gives back the next one takes over. No registry takes over a connection that
+  -- a fault has shut
   abbrev pub ReleasesAreAdopted : Type 0
   ReleasesAreAdopted = (last : C) (next : D) → Rests (show last) → IsMade (show last) (show_next next) → HasCleanDisk (show_next next) → GoesOn (show last) (show_next next)
 
@@ -75,6 +75,6 @@ AreLeft db (left ∷ more) last = LeavesFound db left × AreLeft left more last
 abbrev pub StoppedOpensLoseNothing : Type 0
 StoppedOpensLoseNothing = (db left : Trees) (c : Contents) → LeavesFound db left → GivesFound left c → GivesFound db c
 
--- so it is of any number of stops
+-- this holds of any number of stops
 abbrev pub StopsInARowLoseNothing : Type 0
 StopsInARowLoseNothing = (db last : Trees) (stops : List Trees) (c : Contents) → AreLeft db stops last → GivesFound last c → GivesFound db c

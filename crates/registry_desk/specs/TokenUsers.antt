@@ -16,6 +16,6 @@ module _ (old new : Shown) where
   abbrev pub NamesUser : List ℕ → Result (Option Text) Fault → Type 0
   NamesUser digest look = HasCleanDisk new → IfOk look (λ user. user ≡ token_user (stored old) digest)
 
-  -- an answer comes from an open registry alone
+  -- an answer comes only from an open registry
   abbrev pub IsAskedOpen : Result (Option Text) Fault → Type 0
   IsAskedOpen look = HasCleanDisk new → OnOk look (IsTrue old.is_open)

@@ -14,12 +14,11 @@ use registry_names::{Name, Ver};
 use registry_rules::{Action, Change, Reply};
 use std::alloc::{AllocError, Global};
 
-/// The most bytes that the texts of packuments have together which a registry keeps, beside one
-/// text that alone has more.
+/// The most bytes that the kept texts of packuments have together, without one text that alone has
+/// more.
 pub(crate) const TEXT_LIMIT: usize = 64 << 20;
 
-/// The most bytes that the archives have together which a registry keeps, beside one that alone has
-/// more.
+/// The most bytes that the kept archives have together, without one that alone has more.
 pub(crate) const ARCHIVE_LIMIT: usize = 64 << 20;
 
 /// What a registry keeps of its answers.
@@ -34,7 +33,7 @@ pub(crate) struct Caches {
 impl Caches {
     /// Caches that keep nothing.
     ///
-    /// An error comes where no memory is left.
+    /// An error is returned where no memory is left.
     pub(crate) fn new(alloc: Global) -> Result<Caches, AllocError>
         ensures packuments { IfOk result (λ c. c.packuments
             ≡ spec.cache [] None promises.text_limit) }
@@ -52,8 +51,8 @@ impl Caches {
 
 // ---- what is kept of a reply
 
-/// Keeps what is replied to the query of a packument or of an archive, as the latest asked. It is no
-/// fault where no memory is left for that.
+/// Keeps what is replied to the query of a packument or of an archive, as the latest asked. It
+/// isn't a fault where no memory is left for that.
 pub(crate) fn keep_reply(alloc: Global, caches: &mut Caches, what: &Action, reply: &Reply)
     ensures { KeepsReply what.now reply.now caches.old caches.new }
 {
@@ -97,7 +96,8 @@ fn put<V: Shared>(cache: &mut SharedCache<V>, name: &str, value: &V)
 
 // ---- archives
 
-// The name under which the archive of a version is kept.
+// The name under which the archive of a version is kept. No package name has a space, so a key is
+// unambiguous.
 fn archive_key(alloc: Global, name: &str, version: &str) -> Result<String, AllocError>
     ensures { IfOk result (λ key. string_bytes key ≡ promises.archive_key name.now version.now) }
 {
@@ -122,8 +122,8 @@ fn keep_archive(
     }
 }
 
-/// The archive that is kept of a version. None where there is no memory to look for it, or it can't
-/// be shared.
+/// The archive that is kept of a version. `None` where there is no memory to look for it, or it
+/// can't be shared.
 pub(crate) fn cached_archive(
     alloc: Global,
     cache: &BlobCache,
@@ -140,10 +140,10 @@ pub(crate) fn cached_archive(
 
 // ---- what is forgotten
 
-/// Forgets the archive of each version that comes or goes. A version that comes has none yet, so a
-/// withdrawal alone lets one go.
+/// Forgets the archive of each version that comes or goes. A version that comes has none yet, so
+/// only a withdrawal lets one go.
 ///
-/// An error comes where no memory is left to look for one.
+/// An error is returned where no memory is left to look for one.
 pub(crate) fn forget_archives(
     alloc: Global,
     cache: &mut BlobCache,
@@ -176,7 +176,7 @@ fn forget_archive(
     }
 }
 
-// The version that comes or goes by the change. None where none does.
+// The version that comes or goes by the change. `None` where none does.
 fn moved_version<'a>(change: &Change<'a>) -> Option<(&'a Name, &'a Ver)>
     ensures some { IfSome result (λ moved. Moves (change_of change.now) moved.0.now
         (text_of_version moved.1.now)) }
@@ -227,7 +227,7 @@ fn forget_packument(cache: &mut TextCache, change: &Change<'_>)
     }
 }
 
-// The package of which it changes a version or a tag. None where it changes neither.
+// The package of which it changes a version or a tag. `None` where it changes neither.
 fn changed_package<'a>(change: &Change<'a>) -> Option<&'a Name>
     ensures some { IfSome result (λ name. IsAbout (change_of change.now) name.now) }
     ensures none { IfNone result (IsAboutNone (change_of change.now)) }

@@ -24,7 +24,7 @@ use sqlite::{Alter, Transaction};
 use std::alloc::Global;
 
 /// Loads what decides a caller's request, and no more; or answers why it is refused before what is
-/// dear to load is loaded.
+/// costly to load is loaded.
 pub(crate) fn facts<S: Alter>(
     alloc: Global,
     tx: &mut Transaction<'_, S>,

@@ -1,14 +1,14 @@
-//! The registry itself: each request is one transaction, whose reply is made before its commit. Only
-//! the text of a packument that isn't kept is made after it, in one walk over the versions, or in two
-//! where it is long.
+//! The registry itself: each request is one transaction, whose reply is made before its commit.
+//! Only the text of a packument that isn't kept is made after it, in one walk over the versions, or
+//! in two where it is long.
 //!
 //! A request that is refused changes nothing. A fault may come instead of any reply, and changes
-//! nothing as long as the registry is open. Where a fault of the disk has shut it, its last request
-//! was done, or nothing of it: an open of its files tells which.
+//! nothing as long as the registry is open. Where a fault of the disk has shut it, the request that
+//! met that fault was done, or nothing of it: an open of its files tells which.
 //!
-//! The texts of packuments that were asked for are kept until a change of a version or a tag of the
-//! package: those asked for last, of at most 64 MiB together, and beside them one that alone has
-//! more.
+//! The texts of packuments and the archives that were asked for are kept: a text until a change of
+//! a version or a tag of its package, an archive until its version is withdrawn. Of each kind those
+//! asked for last are kept, of at most 64 MiB together, and beside them one that alone has more.
 #![tactic(auto)]
 
 mod answer;

@@ -40,7 +40,7 @@ pub(crate) fn new_maintainer<S: Alter>(
     })
 }
 
-// What a user is who is to be a maintainer.
+// What is known of a user who is to be a maintainer.
 #[derive(Drop)]
 struct Newcomer {
     user_exists: bool,
@@ -63,7 +63,7 @@ fn find_newcomer<S: Alter>(
     })
 }
 
-/// Of a maintainer who is to be none, by a caller whom the policy allows it.
+/// Of a maintainer who is to be removed, by a caller whom the policy allows it.
 pub(crate) fn old_maintainer<S: Alter>(
     alloc: Global,
     tx: &mut Transaction<'_, S>,
@@ -88,7 +88,7 @@ pub(crate) fn old_maintainer<S: Alter>(
     }))
 }
 
-// What a user is who is to be a maintainer no more.
+// What is known of a user who is to be removed as a maintainer.
 #[derive(Drop)]
 struct Leaver {
     is_maintainer: bool,

@@ -40,7 +40,7 @@ use std::io::ErrorKind;
 use std::os::unix::fs::OpenOptionsExt;
 
 /// The number of the schema that a registry's tables have. A program that knows other tables gives
-/// them a greater number.
+/// them a greater number. The head of the file has no application id.
 pub const SCHEMA: u32 = 3;
 
 /// How many of the file's pages are kept in memory. Room for all of them is made when it is opened:
@@ -58,7 +58,7 @@ const MODE: u32 = 0o600;
 pub enum Unopened<D: Disk> {
     /// They hold no database that can be opened.
     Files(Leftover<D>),
-    /// They hold a database, and it is no registry or a fault came.
+    /// They hold a database, but it isn't a registry, or a fault came.
     Database(Connection<FileStore<D>>),
 }
 
@@ -255,7 +255,8 @@ impl<S: Alter> Registry<S> {
     }
 }
 
-// How a registry's file is read and written.
+// How a registry's file is read and written. The connection has no clock, which no statement of
+// ours reads.
 fn options(rt: &HostRuntime) -> Result<Options, Fault>
     ensures ok { IfOk result (λ options. options.cache_pages ≡ CACHE_PAGES) }
     ensures err { IfErr result (λ fault. fault ≡ Fault.Database) }
@@ -269,7 +270,8 @@ fn options(rt: &HostRuntime) -> Result<Options, Fault>
 }
 
 // The files at the path, which are made if they are missing. To SQLite ":memory:" is no file and
-// what begins with "file:" is a URI, so no file of such a name is made.
+// what begins with "file:" is a URI, so no file of such a name is made. An empty log may remain
+// beside a file that is refused.
 fn files_at<S: Start>(rt: &HostRuntime, path: &str, start: S) -> Result<Files<FileFrom<S>>, Fault>
     ensures memory { path.now ≡ codes ":memory:"
         → IsErrAnd result (λ fault. fault ≡ Fault.Database) }
@@ -307,8 +309,8 @@ fn fault_of_open(error: OpenError) -> Fault
     }
 }
 
-// Makes the tables where the database has none, and ours of those of an older schema. Else tests
-// that they are ours.
+// Makes the tables where the database has none, and ours of those of an older schema. Otherwise
+// tests that they are ours.
 fn settle<S: Alter>(alloc: Global, conn: &mut Connection<S>) -> Result<(), Fault>
     requires idle { conn.old.in_transaction ≡ false }
     requires settled { IsSettled (state S.Store conn.old) }
@@ -379,7 +381,8 @@ fn migrate_tables<S: Alter>(
     commit(tx)
 }
 
-// Another number of the schema is `Database`, and so is a counter besides that of the archives.
+// `Database` is returned for another number of the schema, and for a counter besides that of the
+// archives.
 fn check_contents<S: Alter>(conn: &mut Connection<S>) -> Result<(), Fault>
     requires idle { conn.old.in_transaction ≡ false }
     requires ready { Ready tables.schema (state S.Store conn.old) }

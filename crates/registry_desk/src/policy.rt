@@ -1,4 +1,4 @@
-//! The policy, asked before what is dear to load is loaded.
+//! The policy, asked before what is costly to load is loaded.
 
 ghost use Rattle.std.specs.Prelude.{◌≡◌, IfOk, Some};
 ghost use Rattle.registry_access.specs.RowsFor.{asked_package};

@@ -166,12 +166,12 @@ impl<S: Alter> Registry<S> {
     /// length, then its text. Unless the text is kept already, none of the whole is made, and of the
     /// versions' documents one is held at a time. No text is kept that wasn't.
     ///
-    /// It is one request that is answered: of the outcome holds all that is said of that of
-    /// [`apply`](Registry::apply). The outcome of a packument that was written whole is its text,
-    /// and so it is of one that a failed write broke off. The outcome of one that is broken is the
-    /// fault; then a prefix was written of what opens a document that might have been answered, and
-    /// of the document. A refusal is handed back, and nothing is written of it. Whatever is said,
-    /// nothing that is stored is changed.
+    /// It is one request that is answered: all that is said of an outcome of
+    /// [`apply`](Registry::apply) holds of its outcome. The outcome of a packument that was written
+    /// whole is its text, and so it is of one that a failed write broke off. The outcome of one
+    /// that is broken is the fault; then a prefix was written of what opens a document that might
+    /// have been answered, and of the document. A refusal is handed back, and nothing is written of
+    /// it. In every case nothing that is stored is changed.
     ///
     /// The query is decided in a transaction. Where the text isn't kept, the packument is counted
     /// after it, in a walk over the versions, and written in a second one. What the second one gives

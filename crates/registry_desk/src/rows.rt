@@ -49,9 +49,9 @@ pub(crate) enum Rows {
     Tags(Vec<DistTag>),
     /// The members of an organisation, in byte order of their names.
     Members(Vec<Member>),
-    /// The teams of an organisation, or who is in a team, in byte order.
+    /// The teams of an organisation, or the members of a team, in byte order.
     Names(Vec<Text>),
-    /// What a team is granted, in byte order of the packages: of those alone that the caller reads.
+    /// What a team is granted, in byte order of the packages: only of those that the caller reads.
     Grants(Vec<Granted>),
 }
 
@@ -121,7 +121,7 @@ fn live_rows<S: Alter>(
     Ok(Rows::Live(load_live(alloc, tx, name)?))
 }
 
-/// The text that is kept of a packument. None where it can't be shared.
+/// The text that is kept of a packument. `None` where it can't be shared.
 pub(crate) fn cached_text(cache: &TextCache, name: &Name) -> Option<SharedText>
     ensures { IfSome result (λ text. kept cache.now name.now ≡ Some text) }
 {

@@ -43,8 +43,8 @@ use registry_tables::{
 use sqlite::{Alter, Connection, Transaction};
 use std::alloc::Global;
 
-/// A packument of no more bytes would be gathered, and sent as one text. None is: of all that are
-/// sent, the first walk only counts the bytes.
+/// A packument of no more bytes would be gathered, and sent as one text. No packument is that
+/// short, so the first walk only counts the bytes.
 const SENT_AS_TEXT: u64 = 0;
 
 /// What a query for a packument comes to, before a byte of it is written.
@@ -77,7 +77,7 @@ fn head_of(
     }
 }
 
-// The head of a package's packument. None of its manifests is read.
+// The head of a package's packument. Its manifests aren't read.
 fn loaded_head<S: Alter>(
     alloc: Global,
     tx: &mut Transaction<'_, S>,
@@ -255,7 +255,7 @@ pub(crate) fn stored_within<S: Alter>(
 }
 
 // Sends the packument with this head, and the versions that a walk has left, which was counted to
-// have so many bytes.
+// have this many bytes.
 fn send_walk<R: LiveRows, W: ByteOut, O: Opener>(
     alloc: Global,
     head: &PackHead,
@@ -284,7 +284,7 @@ fn send_walk<R: LiveRows, W: ByteOut, O: Opener>(
 }
 
 // Sends the packument with this head, and the versions that were asked for, which was counted to
-// have so many bytes.
+// have this many bytes.
 fn send_rows<R: LiveRows, W: ByteOut, O: Opener>(
     alloc: Global,
     name: &Name,
@@ -316,7 +316,7 @@ fn send_rows<R: LiveRows, W: ByteOut, O: Opener>(
     send_walk(alloc, head, &mut walk, len, writer, opener)
 }
 
-/// Sends the packument with this head, which was counted to have so many bytes.
+/// Sends the packument with this head, which was counted to have this many bytes.
 pub(crate) fn send_again<S: Alter, W: ByteOut, O: Opener>(
     alloc: Global,
     conn: &mut Connection<S>,

@@ -1,6 +1,6 @@
 //! Packuments that are answered as one text. A text that isn't kept is made in one walk over the
 //! versions where it is short. Where it is long, that walk only counts its bytes, and a second one
-//! writes them, once, into room for so many. No list of versions is held.
+//! writes them, once, into room for exactly these. No list of versions is held.
 
 ghost use Rattle.std.specs.Prelude.{◌≡◌, [], IfOk, IsTrue, OnErr, OnOk, Some, vec_capacity};
 ghost use Rattle.sqlite.specs.Held.{state};
@@ -25,9 +25,9 @@ use registry_rules::{Reply, Request};
 use sqlite::{Alter, Connection};
 use std::alloc::{AllocError, Global};
 
-/// A packument of no more bytes is made in one walk over its versions, into a text that grows: there
-/// a second walk would cost more than the room that such a text takes beyond its bytes. Of a longer
-/// one no more bytes than these are gathered before they are only counted.
+/// A packument of no more bytes is made in one walk over its versions, into a text that grows:
+/// there a second walk would cost more than the room that such a text takes beyond its bytes. Of a
+/// longer one no more bytes than these are gathered before they are only counted.
 const ONE_WALK: u64 = 2 << 20;
 
 // ---- bytes
@@ -70,7 +70,7 @@ impl ByteOut for TextRoom {
     }
 }
 
-// Room for so many bytes, and no more.
+// Room for this many bytes, and no more.
 fn room_for(alloc: Global, len: u64) -> Result<Vec<u8>, AllocError>
     ensures empty { IfOk result (λ room. room.items ≡ []) }
     ensures exact { IfOk result (λ room. vec_capacity room ≡ len) }
@@ -102,8 +102,8 @@ fn text_sent(sent: Sent, bytes: Vec<u8>) -> Result<Text, Fault>
 
 // ---- the text
 
-// Writes the packument with this head, which was counted to have so many bytes, into room for just
-// these.
+// Writes the packument with this head, which was counted to have this many bytes, into room for
+// exactly these.
 fn written_text<S: Alter>(
     alloc: Global,
     conn: &mut Connection<S>,
@@ -134,8 +134,8 @@ fn written_text<S: Alter>(
     text_sent(sent, room.bytes)
 }
 
-// A copy of the text in room for just its bytes: a text that grew has room for up to twice as many,
-// and what is cached is to take no more memory than it counts for.
+// A copy of the text in room for exactly its bytes: a text that grew has room for up to twice as
+// many, and what is cached is to take no more memory than it counts for.
 fn exact(alloc: Global, text: Text) -> Result<Text, Fault>
     ensures { IfOk result (λ copy. copy ≡ text) }
 {

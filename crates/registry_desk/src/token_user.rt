@@ -14,10 +14,10 @@ use sqlite::{Alter, Connection};
 use std::alloc::Global;
 
 impl<S: Alter> Registry<S> {
-    /// The user of the token with this digest. None where no token has it. Nothing that is stored
+    /// The user of the token with this digest. `None` where no token has it. Nothing that is stored
     /// is changed.
     ///
-    /// `Memory` is answered where there was no memory to look, and `Database` where the tables or
+    /// `Memory` is returned where there was no memory to look, and `Database` where the tables or
     /// the disk failed at the look, or had shut the registry before.
     pub fn user_of(&mut self, alloc: Global, digest: &TokenDigest) -> Result<Option<Ident>, Fault>
         ensures names { NamesUser (state S.Store self.old) (state S.Store self.new)

@@ -49,8 +49,8 @@ pub(crate) fn old_version<S: Alter>(
     }
 }
 
-// The same where the policy allows it. Nobody who needs the version is asked for if it doesn't
-// live, or is too old.
+// The same where the policy allows it. The needs aren't asked for if the version doesn't live, or
+// is too old.
 fn young_version<S: Alter>(
     alloc: Global,
     tx: &mut Transaction<'_, S>,
@@ -92,14 +92,14 @@ fn refusal_by_age(published: &Option<Moment>, now: &Moment) -> Option<Refusal>
     }
 }
 
-// After a clock that went back the age of a version is 0.
+// Where the clock went back the age of a version is 0.
 fn is_too_old(now: &Moment, published: &Moment) -> bool
     ensures { result ≡ withdrawals.is_too_old now.now published.now }
 {
     published.seconds() + OLDEST <= now.seconds()
 }
 
-// What there is about a version that may go unless somebody needs it.
+// What is known of a version that may go unless somebody needs it.
 #[derive(Drop)]
 struct Life {
     depended: bool,

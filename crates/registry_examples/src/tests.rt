@@ -1,7 +1,7 @@
-//! Registries in memory, in files, and behind the program.
+//! Registries in memory, in files, and in the program.
 //!
-//! A registry over a store of its own, as `Registry::open` gives it, is named by one function alone,
-//! which hands it on to one over any store: its check takes a quarter of a minute for each call that
+//! Only one function names a registry over a store of its own, as `Registry::open` gives it, and
+//! hands it to a function over any store: its check takes a quarter of a minute for each call that
 //! takes or gives such a registry.
 
 mod archives;

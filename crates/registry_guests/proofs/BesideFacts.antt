@@ -11,8 +11,8 @@ use Rattle.registry_server.specs.ConnectionStates.{Pending, TakesTurn}
 use Rattle.registry_guests.specs.Beside.{AnswersAll, AnswersOnce, Beside, GuestTurn, GuestsFollow, GuestsGoOn, GuestsLead, GuestsTurn, MakeOneHistory, ShowsGuest, TakesNone, TakesOne, VisitsFollow, beside, beside_guests}
 use Rattle.registry_guests.specs.GuestTurns.{on_memory}
 use Rattle.registry_guests.specs.Guests as guests
-use Rattle.registry_guests.specs.Guests.{Begins, Hears, Listens, OpenGuest, Starves, VisitsIn}
-use Rattle.registry_guests.specs.Saying.{Spoken, prints, sent_as}
+use Rattle.registry_guests.specs.Guests.{Begins, Receives, ReceivesMore, OpenGuest, Starves, VisitsIn}
+use Rattle.registry_guests.specs.Outputs.{Output, prints, ready_byte, sent_as}
 
 -- ---- connections
 
@@ -120,80 +120,80 @@ sent-more (Some xs) now all put left due is parts took =
     subst (λ (k : Option (List ℕ)). IfSome k (λ bytes. all ≡ bytes ++ left)) (sym took)
     (is ∙ ap (λ (d : List ℕ). xs ++ d) parts ∙ sym (append_assoc xs put left))
 
--- nothing was sent, and so all is left
-none-sent : (known now : Option (List ℕ)) (due : List ℕ) → now ≡ known → IfSome known (λ bytes. bytes ≡ []) → IfSome now (λ bytes. due ≡ bytes ++ due)
-none-sent None now due same is = subst (λ (k : Option (List ℕ)). IfSome k (λ bytes. due ≡ bytes ++ due)) (sym same) tt
-none-sent (Some xs) now due same is = subst (λ (k : Option (List ℕ)). IfSome k (λ bytes. due ≡ bytes ++ due)) (sym same) (ap (λ (b : List ℕ). b ++ due) (sym is))
+-- nothing was sent but that the server is ready, and so all is left
+none-sent : (known now : Option (List ℕ)) (due : List ℕ) → now ≡ known → IfSome known (λ bytes. bytes ≡ ready_byte ∷ []) → IfSome now (λ bytes. ready_byte ∷ due ≡ bytes ++ due)
+none-sent None now due same is = subst (λ (k : Option (List ℕ)). IfSome k (λ bytes. ready_byte ∷ due ≡ bytes ++ due)) (sym same) tt
+none-sent (Some xs) now due same is = subst (λ (k : Option (List ℕ)). IfSome k (λ bytes. ready_byte ∷ due ≡ bytes ++ due)) (sym same) (ap (λ (b : List ℕ). b ++ due) (sym is))
 
-still-none : (known now : Option (List ℕ)) → now ≡ known → IfSome known (λ bytes. bytes ≡ []) → IfSome now (λ bytes. bytes ≡ [])
-still-none known now same is = subst (λ (k : Option (List ℕ)). IfSome k (λ bytes. bytes ≡ [])) (sym same) is
+still-none : (known now : Option (List ℕ)) → now ≡ known → IfSome known (λ bytes. bytes ≡ ready_byte ∷ []) → IfSome now (λ bytes. bytes ≡ ready_byte ∷ [])
+still-none known now same is = subst (λ (k : Option (List ℕ)). IfSome k (λ bytes. bytes ≡ ready_byte ∷ [])) (sym same) is
 
-module _ {S : Type 0} (received sent : S → Option (List ℕ)) {D : Type 0} (answers : Answering D) (is_ended : S → Bool) where
-  heard-all : (most : ℕ) (old new : S) (held heard : List ℕ) → Hears received sent most old new held heard → IfSome (received old) (λ bytes. bytes ≡ held) → IfSome (received new) (λ bytes. bytes ≡ heard)
-  heard-all most old new held heard h is = subst (λ (l : List ℕ). IfSome (received new) (λ bytes. bytes ≡ l)) (sym h.keeps) (known-more (received old) (received new) held h.got is h.gave)
+module _ {S : Type 0} (received sent : S → Option (List ℕ)) {D : Type 0} (answers : Answering D) (has_none : S → Bool) where
+  received-all : (most : ℕ) (old new : S) (held gathered : List ℕ) → Receives received sent most old new held gathered → IfSome (received old) (λ bytes. bytes ≡ held) → IfSome (received new) (λ bytes. bytes ≡ gathered)
+  received-all most old new held gathered h is = subst (λ (l : List ℕ). IfSome (received new) (λ bytes. bytes ≡ l)) (sym h.keeps) (known-more (received old) (received new) held h.got is h.gave)
 
-  shows-listening : (most : ℕ) (old new : OpenGuest S) (M N : D) (r r2 : Option (List ℕ)) → ShowsGuest received sent answers None old → Listens received sent is_ended answers most old new M N r r2
+  shows-listening : (most : ℕ) (old new : OpenGuest S) (M N : D) (r r2 : Option (List ℕ)) → ShowsGuest received sent answers None old → ReceivesMore received sent has_none answers most old new M N r r2
       → ShowsGuest received sent answers None new
   shows-listening most old new M N r r2 s l = (
     l.unanswered,
-    heard-all most old.socket new.socket old.held new.held l.hears s.1,
-    still-none (sent old.socket) (sent new.socket) l.hears.unsent s.2,
+    received-all most old.socket new.socket old.held new.held l.receives s.1,
+    still-none (sent old.socket) (sent new.socket) l.receives.unsent s.2,
   )
 
-  shows-begun : (most : ℕ) (old new : OpenGuest S) (M N : D) (r r2 : Option (List ℕ)) → ShowsGuest received sent answers None old → (b : Begins received sent is_ended answers most old new M N r r2)
-      → ShowsGuest received sent answers (Some b.said) new
+  shows-begun : (most : ℕ) (old new : OpenGuest S) (M N : D) (r r2 : Option (List ℕ)) → ShowsGuest received sent answers None old → (b : Begins received sent has_none answers most old new M N r r2)
+      → ShowsGuest received sent answers (Some b.output) new
   shows-begun most old new M N r r2 s b =
-      let before = none-sent (sent old.socket) (sent b.between) (sent_as b.said) b.hears.unsent s.2 in
-      (b.left, b.begun, sent-more (sent b.between) (sent new.socket) (sent_as b.said) b.sends.put b.left (sent_as b.said) before b.sends.parts b.sends.took)
+      let before = none-sent (sent old.socket) (sent b.between) (sent_as b.output) b.receives.unsent s.2 in
+      (b.left, b.begun, sent-more (sent b.between) (sent new.socket) (ready_byte ∷ sent_as b.output) b.sends.put b.left (sent_as b.output) before b.sends.parts b.sends.took)
 
-  answers-all : (most : ℕ) (old new : OpenGuest S) (M N : D) (r r2 : Option (List ℕ)) → ShowsGuest received sent answers None old → (b : Begins received sent is_ended answers most old new M N r r2)
-      → AnswersAll received sent answers is_ended old.held new b.said M N r r2 ⊎ Starves answers b.said M N r r2
+  answers-all : (most : ℕ) (old new : OpenGuest S) (M N : D) (r r2 : Option (List ℕ)) → ShowsGuest received sent answers None old → (b : Begins received sent has_none answers most old new M N r r2)
+      → AnswersAll received sent answers has_none old.held new b.output M N r r2 ⊎ Starves answers b.output M N r r2
   answers-all most old new M N r r2 s b =
-      let came = heard-all most old.socket b.between old.held b.heard b.hears s.1 in
-      let still = subst (λ (k : Option (List ℕ)). IfSome k (λ bytes. bytes ≡ b.heard)) (sym b.sends.unread) came in
+      let came = received-all most old.socket b.between old.held b.gathered b.receives s.1 in
+      let still = subst (λ (k : Option (List ℕ)). IfSome k (λ bytes. bytes ≡ b.gathered)) (sym b.sends.unread) came in
       elim b.due [
         | inr starves ↦ inr starves.1
         | inl d ↦
             elim d.answered [
               | inr starves ↦ inr starves
-              | inl turn ↦ inl (record { ended = d.ended; whole = subst (λ (l : List ℕ). IfSome (received new.socket) (λ bytes. bytes ≡ l)) d.all still; turn = turn })
+              | inl turn ↦ inl (record { asked = b.between; waits = d.waits; unread = b.sends.unread; whole = subst (λ (l : List ℕ). IfSome (received new.socket) (λ bytes. bytes ≡ l)) d.all still; turn = turn })
             ]
       ]
 
-  pub answers-once : AnswersOnce received sent answers is_ended
+  pub answers-once : AnswersOnce received sent answers has_none
   answers-once most old new M N r r2 None s v =
-      elim (subst (λ (l : Option (List ℕ)). VisitsIn received sent is_ended answers most l old new M N r r2) s.0 v.does) [
+      elim (subst (λ (l : Option (List ℕ)). VisitsIn received sent has_none answers most l old new M N r r2) s.0 v.does) [
         | inl l ↦ inl (shows-listening most old new M N r r2 s l, l.service, l.unasked)
-        | inr b ↦ inr (refl, b.said, shows-begun most old new M N r r2 s b, answers-all most old new M N r r2 s b)
+        | inr b ↦ inr (refl, b.output, shows-begun most old new M N r r2 s b, answers-all most old new M N r r2 s b)
       ]
-  answers-once most old new M N r r2 (Some said) s v =
-      let g = subst (λ (l : Option (List ℕ)). VisitsIn received sent is_ended answers most l old new M N r r2) s.1 v.does in
-      inl ((g.left, g.begun, sent-more (sent old.socket) (sent new.socket) (sent_as said) g.sends.put g.left s.0 s.2 g.sends.parts g.sends.took), g.service, g.unasked)
+  answers-once most old new M N r r2 (Some output) s v =
+      let g = subst (λ (l : Option (List ℕ)). VisitsIn received sent has_none answers most l old new M N r r2) s.1 v.does in
+      inl ((g.left, g.begun, sent-more (sent old.socket) (sent new.socket) (ready_byte ∷ sent_as output) g.sends.put g.left s.0 s.2 g.sends.parts g.sends.took), g.service, g.unasked)
 
   -- ---- which turns they are
 
-  none-taken : (M N : Beside D) (P : D) (new : OpenGuest S) (answered : Option Spoken) → GuestsLead answers M N → P ≡ N.service
-      → ShowsGuest received sent answers answered new ⊎ ((answered ≡ None) × (said : Spoken) × (prints said ≡ on_memory) × ShowsGuest received sent answers (Some said) new)
+  none-taken : (M N : Beside D) (P : D) (new : OpenGuest S) (answered : Option Output) → GuestsLead answers M N → P ≡ N.service
+      → ShowsGuest received sent answers answered new ⊎ ((answered ≡ None) × (output : Output) × (prints output ≡ on_memory) × ShowsGuest received sent answers (Some output) new)
       → TakesNone received sent answers answered new M N P
   none-taken M N P new answered lead same answer = record { service = same; answer = answer; lead = lead-same answers M N P lead same }
 
-  one-taken : (M N : Beside D) (P : D) (old new : OpenGuest S) (said : Spoken) (r r2 : Option (List ℕ)) → GuestsLead answers M N → ShowsGuest received sent answers (Some said) new
-      → guests.TakesTurn answers old.held said N.service P r r2 → TakesOne received sent answers old new M N P
-  one-taken M N P old new said r r2 lead shows t = record {
-    turn = record { words = t.0; body = t.1; at = t.2; said = said };
+  one-taken : (M N : Beside D) (P : D) (old new : OpenGuest S) (output : Output) (r r2 : Option (List ℕ)) → GuestsLead answers M N → ShowsGuest received sent answers (Some output) new
+      → guests.TakesTurn answers old.held output N.service P r r2 → TakesOne received sent answers old new M N P
+  one-taken M N P old new output r r2 lead shows t = record {
+    turn = record { arguments = t.0; body = t.1; at = t.2; output = output };
     words = t.3;
     message = t.4;
     answer = shows;
-    lead = go-on answers M N P (record { words = t.0; body = t.1; at = t.2; said = said }) lead t.5;
+    lead = go-on answers M N P (record { arguments = t.0; body = t.1; at = t.2; output = output }) lead t.5;
   }
 
-  pub guests-follow : GuestsFollow received sent answers is_ended
+  pub guests-follow : GuestsFollow received sent answers has_none
   guests-follow M N P most old new r r2 answered lead s v =
       elim (answers-once most old new N.service P r r2 answered s v) [
         | inl (shows, same, unasked) ↦ inr (none-taken M N P new answered lead same (inl shows))
-        | inr (none, said, shows, why) ↦
+        | inr (none, output, shows, why) ↦
             elim why [
-              | inl all ↦ inl (none, one-taken M N P old new said r r2 lead shows all.turn)
-              | inr starves ↦ inr (none-taken M N P new answered lead starves.1 (inr (none, said, starves.0, shows)))
+              | inl all ↦ inl (none, one-taken M N P old new output r r2 lead shows all.turn)
+              | inr starves ↦ inr (none-taken M N P new answered lead starves.1 (inr (none, output, starves.0, shows)))
             ]
       ]

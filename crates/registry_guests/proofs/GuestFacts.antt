@@ -7,8 +7,8 @@ use Rattle.registry_server.specs.Sockets.{moved}
 use Rattle.registry_server.specs.declared.socket.Flow.{Flow}
 use Rattle.registry_server.specs.declared.socket.Flow.TheVariants.{Moved, Waits, Ended, Broken}
 use Rattle.registry_service.specs.Turns.{Answering}
-use Rattle.registry_guests.specs.Guests.{Hears, IsDue, OpenGuest, SendsDue, Visits, VisitsIn}
-use Rattle.registry_guests.specs.Saying.{Spoken, sent_as}
+use Rattle.registry_guests.specs.Guests.{Receives, IsDue, OpenGuest, SendsDue, Visits, VisitsIn}
+use Rattle.registry_guests.specs.Outputs.{Output, sent_as}
 
 -- nothing more is known of the same bytes
 none-added : (known : Option (List ℕ)) → known ≡ append_known known []
@@ -35,9 +35,9 @@ more-held held got some = omega (arith, length-append held got, some)
 
 module _ {S : Type 0} (received sent : S → Option (List ℕ)) where
   -- bytes came
-  pub hears-moved : (most : ℕ) (flow : Flow) (bytes before : List ℕ) (old new : S) (held held2 : List ℕ) → length bytes ≡ length before → most ≡ length before
-      → received new ≡ append_known (received old) (moved flow bytes) → sent new ≡ sent old → held2 ≡ held ++ moved flow bytes → Hears received sent most old new held held2
-  hears-moved most flow bytes before old new held held2 len is gave unsent keeps = record {
+  pub receives-moved : (most : ℕ) (flow : Flow) (bytes before : List ℕ) (old new : S) (held held2 : List ℕ) → length bytes ≡ length before → most ≡ length before
+      → received new ≡ append_known (received old) (moved flow bytes) → sent new ≡ sent old → held2 ≡ held ++ moved flow bytes → Receives received sent most old new held held2
+  receives-moved most flow bytes before old new held held2 len is gave unsent keeps = record {
     got = moved flow bytes;
     few = subst (λ (m : ℕ). length (moved flow bytes) ≤ m) (sym is) (few-moved flow bytes before len);
     gave = gave;
@@ -59,31 +59,31 @@ module _ {S : Type 0} (received sent : S → Option (List ℕ)) where
   pub sends-none : (due : List ℕ) (old new : S) → sent new ≡ append_known (sent old) [] → received new ≡ received old → SendsDue received sent old new due due
   sends-none due old new took unread = record { put = []; took = took; unread = unread; parts = refl }
 
-module _ {S : Type 0} (received sent : S → Option (List ℕ)) (is_ended : S → Bool) {D : Type 0} (answers : Answering D) where
-  visits-in : (most : ℕ) (old new : OpenGuest S) (M N : D) (r r2 : Option (List ℕ)) (left : Option (List ℕ)) → old.left ≡ left → VisitsIn received sent is_ended answers most left old new M N r r2
-      → new.until ≡ old.until → Visits received sent is_ended answers most old new M N r r2
+module _ {S : Type 0} (received sent : S → Option (List ℕ)) (has_none : S → Bool) {D : Type 0} (answers : Answering D) where
+  visits-in : (most : ℕ) (old new : OpenGuest S) (M N : D) (r r2 : Option (List ℕ)) (left : Option (List ℕ)) → old.left ≡ left → VisitsIn received sent has_none answers most left old new M N r r2
+      → new.until ≡ old.until → Visits received sent has_none answers most old new M N r r2
   visits-in most old new M N r r2 left is does same = record {
-    does = subst (λ (l : Option (List ℕ)). VisitsIn received sent is_ended answers most l old new M N r r2) (sym is) does;
+    does = subst (λ (l : Option (List ℕ)). VisitsIn received sent has_none answers most l old new M N r r2) (sym is) does;
     until = same;
   }
 
   -- some more of its answer was sent
   pub visits-sent : (most : ℕ) (old new : OpenGuest S) (M : D) (r : Option (List ℕ)) (due left : List ℕ) → old.left ≡ Some due → SendsDue received sent old.socket new.socket due left
-      → new.left ≡ Some left → new.held ≡ old.held → new.until ≡ old.until → Visits received sent is_ended answers most old new M M r r
+      → new.left ≡ Some left → new.held ≡ old.held → new.until ≡ old.until → Visits received sent has_none answers most old new M M r r
   visits-sent most old new M r due left is sends begun held same =
       visits-in most old new M M r r (Some due) is (record { left = left; sends = sends; begun = begun; held = held; service = refl; unasked = refl }) same
 
   -- more of its message came, or none
-  pub visits-heard : (most : ℕ) (old new : OpenGuest S) (M N : D) (r r2 : Option (List ℕ)) → old.left ≡ None → Hears received sent most old.socket new.socket old.held new.held
-      → new.left ≡ None → N ≡ M → r2 ≡ r → new.until ≡ old.until → Visits received sent is_ended answers most old new M N r r2
-  visits-heard most old new M N r r2 is hears unanswered service unasked same =
-      visits-in most old new M N r r2 None is (inl (record { hears = hears; unanswered = unanswered; service = service; unasked = unasked })) same
+  pub visits-received : (most : ℕ) (old new : OpenGuest S) (M N : D) (r r2 : Option (List ℕ)) → old.left ≡ None → Receives received sent most old.socket new.socket old.held new.held
+      → new.left ≡ None → N ≡ M → r2 ≡ r → new.until ≡ old.until → Visits received sent has_none answers most old new M N r r2
+  visits-received most old new M N r r2 is receives unanswered service unasked same =
+      visits-in most old new M N r r2 None is (inl (record { receives = receives; unanswered = unanswered; service = service; unasked = unasked })) same
 
   -- its answer was begun
-  pub visits-begun : (most : ℕ) (old new : OpenGuest S) (M N : D) (r r2 : Option (List ℕ)) (between : S) (heard : List ℕ) (said : Spoken) (left : List ℕ) → old.left ≡ None
-      → Hears received sent most old.socket between old.held heard → IsDue received sent is_ended answers old.held heard new.socket said M N r r2
-      → SendsDue received sent between new.socket (sent_as said) left
-      → new.left ≡ Some left → new.held ≡ old.held → new.until ≡ old.until → Visits received sent is_ended answers most old new M N r r2
-  visits-begun most old new M N r r2 between heard said left is hears due sends begun held same =
+  pub visits-begun : (most : ℕ) (old new : OpenGuest S) (M N : D) (r r2 : Option (List ℕ)) (between : S) (gathered : List ℕ) (output : Output) (left : List ℕ) → old.left ≡ None
+      → Receives received sent most old.socket between old.held gathered → IsDue received sent has_none answers old.held gathered between output M N r r2
+      → SendsDue received sent between new.socket (sent_as output) left
+      → new.left ≡ Some left → new.held ≡ old.held → new.until ≡ old.until → Visits received sent has_none answers most old new M N r r2
+  visits-begun most old new M N r r2 between gathered output left is receives due sends begun held same =
       visits-in most old new M N r r2 None is
-      (inr (record { between = between; heard = heard; hears = hears; said = said; due = due; left = left; sends = sends; begun = begun; held = held })) same
+      (inr (record { between = between; gathered = gathered; receives = receives; output = output; due = due; left = left; sends = sends; begun = begun; held = held })) same

@@ -1,7 +1,7 @@
 pub mod Fields
 pub mod Messages
 pub mod Loop
-pub mod HallFacts
+pub mod GuestPoolFacts
 pub mod BesideFacts
 pub mod TurnFacts
 pub mod GuestFacts

@@ -7,7 +7,7 @@ use Rattle.std.specs.Int.{w32, w64, to_be_bytes}
 use Rattle.std.proofs.lemmas.List.Concat.{flat_map-cons}
 use Rattle.registry_guests.specs.Spelling.{AreWords, long_word, spelled, spelling, view, word}
 use Rattle.registry_guests.specs.declared.fault.ReadError.{ReadError}
-use Rattle.registry_guests.specs.declared.reading.Message.{Message}
+use Rattle.registry_guests.specs.declared.reading.CommandMessage.{CommandMessage}
 use Rattle.registry_guests.specs.Reading.{◌>>=◌, Gives, all_of, body_at, malformed, number_at, whole_of, word_at, words_at}
 use Rattle.registry_guests.proofs.Fields.{IsBytes, bind_ok, ok_is, Takes, Takes-then, wide32, wide64, guard_ok, number_takes, number_again, word_takes, word_again}
 
@@ -82,6 +82,6 @@ pub whole_again : (ws : List (List ℕ)) (body : List ℕ) → AreWords ws → l
 unfolding whole_of
 whole_again ws body fits lt = rw (all_again ws (long_word body) fits, body_again body lt) refl
 
-pub is_found : (bytes : List ℕ) (r : Result Message ReadError) → IsBytes bytes → Gives view r (whole_of bytes) → IfOk r (λ m. AreWords (view m).0 × (bytes ≡ spelling (view m).0 (view m).1))
+pub is_found : (bytes : List ℕ) (r : Result CommandMessage ReadError) → IsBytes bytes → Gives view r (whole_of bytes) → IfOk r (λ m. AreWords (view m).0 × (bytes ≡ spelling (view m).0 (view m).1))
 is_found bytes (Ok m) fits given = whole_takes bytes (view m) fits given
 is_found bytes (Err e) fits given = tt

@@ -1,22 +1,22 @@
--- A guest: what is received of it, what it is answered, and what of that is sent.
-use Rattle.std.specs.Prelude.{◌≡◌, ◌⊎◌, ◌+◌, ◌-◌, ◌<◌, ◌≤◌, ◌++◌, ◌∷◌, ◌^◌, min, nat_le, ℕ, Bool, true, List, [], Option, Some, None, length}
+-- A guest: what is received from it, what it is answered, and what of that is sent.
+use Rattle.std.specs.Prelude.{◌≡◌, ◌⊎◌, ◌+◌, ◌-◌, ◌<◌, ◌≤◌, ◌++◌, ◌∷◌, ◌^◌, min, nat_le, ℕ, Bool, true, List, [], Option, Some, None, IfNone, length}
 use Rattle.std.specs.Io.KnownBytes.{append_known}
 use Rattle.registry_service.specs.Courses.{Gave}
 use Rattle.registry_service.specs.Turns.{Answering}
 use Rattle.registry_guests.specs.GuestTurns.{IsGuestTurn, on_memory}
-use Rattle.registry_guests.specs.Saying.{Spoken, prints, sent_as}
+use Rattle.registry_guests.specs.Outputs.{Output, prints, sent_as}
 use Rattle.registry_guests.specs.Spelling.{AreWords, spelling}
 
 -- the most bytes of a message: a body, one byte more to see that it is too large, and 8 MiB of words
 abbrev pub message_limit : ℕ
 message_limit = 12_582_913
 
--- so many milliseconds a guest has in all
+-- how many milliseconds a guest has in all
 abbrev pub time_limit : ℕ
 time_limit = 8_000
 
--- its socket, what of its message came, what isn't sent of its answer once it has one, and until when
--- it has time
+-- its socket, the part of its message that came, the part of its answer that isn't sent (once it
+-- has one), and until when it has time
 pub record OpenGuest (S : Type 0) : Type 0 where
   pub socket : S
   pub held : List ℕ
@@ -26,8 +26,9 @@ pub record OpenGuest (S : Type 0) : Type 0 where
 abbrev pub guest_at : {S : Type 0} → S → List ℕ → Option (List ℕ) → ℕ → OpenGuest S
 guest_at socket held left until = record { socket = socket; held = held; left = left; until = until }
 
--- What a guest waits for: that its socket gives more of its message, and once that is answered that its
--- socket takes some of the answer. So it has to wait where that has none, or is full.
+-- What a guest waits for: that its socket gives more of its message, or, once that is answered,
+-- that its socket takes some of the answer. So it has to wait where the socket has nothing, or is
+-- full.
 abbrev pub must_wait_in : Option (List ℕ) → Bool → Bool → Bool
 must_wait_in None has_none is_full = has_none
 must_wait_in (Some left) has_none is_full = is_full
@@ -47,13 +48,17 @@ is_late g now = nat_le g.until now
 abbrev pub IsWithin : {S : Type 0} → OpenGuest S → Type 0
 IsWithin g = length g.held ≤ message_limit
 
--- bytes that are no message
+-- bytes that aren't a message
 abbrev pub IsNoMessage : List ℕ → Type 0
 IsNoMessage bytes = (ws : List (List ℕ)) (body : List ℕ) → AreWords ws → length body < 2 ^ 64 → bytes ≡ spelling ws body → ⊥
 
+-- no answer to it has begun, and what came of it is no message; or its answer has begun
+abbrev pub HasNoMessage : {S : Type 0} → OpenGuest S → Type 0
+HasNoMessage g = IfNone g.left (IsNoMessage g.held)
+
 module _ {S : Type 0} (received sent : S → Option (List ℕ)) where
-  -- So many bytes at most were received, and are held behind the others. Nothing was sent.
-  pub record Hears (most : ℕ) (old new : S) (held held2 : List ℕ) : Type 0 where
+  -- At most this many bytes were received, and are held after the others. Nothing was sent.
+  pub record Receives (most : ℕ) (old new : S) (held held2 : List ℕ) : Type 0 where
     pub got : List ℕ
     pub few : length got ≤ most
     pub gave : received new ≡ append_known (received old) got
@@ -69,50 +74,50 @@ module _ {S : Type 0} (received sent : S → Option (List ℕ)) where
     pub parts : due ≡ put ++ left
 
 module _ {D : Type 0} (answers : Answering D) where
-  -- these bytes are a message, and a turn is taken for it at the clock's moment, in which this is said
-  abbrev pub TakesTurn : List ℕ → Spoken → D → D → Option (List ℕ) → Option (List ℕ) → Type 0
-  TakesTurn bytes said M N readings readings2 =
+  -- these bytes are a message, and a turn is taken for it at the clock's moment, with this output
+  abbrev pub TakesTurn : List ℕ → Output → D → D → Option (List ℕ) → Option (List ℕ) → Type 0
+  TakesTurn bytes output M N readings readings2 =
       (ws : List (List ℕ)) × (body : List ℕ) × (now : ℕ) × AreWords ws × (bytes ≡ spelling ws body)
-      × IsGuestTurn answers M ws body now (prints said) N × Gave readings readings2 (now ∷ [])
+      × IsGuestTurn answers M ws body now (prints output) N × Gave readings readings2 (now ∷ [])
 
-  -- there is no memory, which is said, and neither the service nor the clock is asked
-  abbrev pub Starves : Spoken → D → D → Option (List ℕ) → Option (List ℕ) → Type 0
-  Starves said M N readings readings2 = (prints said ≡ on_memory) × (N ≡ M) × (readings2 ≡ readings)
+  -- there is no memory, as the output says, and neither the service nor the clock is asked
+  abbrev pub Starves : Output → D → D → Option (List ℕ) → Option (List ℕ) → Type 0
+  Starves output M N readings readings2 = (prints output ≡ on_memory) × (N ≡ M) × (readings2 ≡ readings)
 
   -- the answer to a message: its turn is taken, or there is no memory to read it
-  abbrev pub AnswersMessage : List ℕ → Spoken → D → D → Option (List ℕ) → Option (List ℕ) → Type 0
-  AnswersMessage bytes said M N readings readings2 = TakesTurn bytes said M N readings readings2 ⊎ Starves said M N readings readings2
+  abbrev pub AnswersMessage : List ℕ → Output → D → D → Option (List ℕ) → Option (List ℕ) → Type 0
+  AnswersMessage bytes output M N readings readings2 = TakesTurn bytes output M N readings readings2 ⊎ Starves output M N readings readings2
 
-module _ {S : Type 0} (received sent : S → Option (List ℕ)) (is_ended : S → Bool) {D : Type 0} (answers : Answering D) where
+module _ {S : Type 0} (received sent : S → Option (List ℕ)) (has_none : S → Bool) {D : Type 0} (answers : Answering D) where
   -- More of its message came. Neither the service nor the clock is asked.
-  pub record Listens (most : ℕ) (old new : OpenGuest S) (M N : D) (readings readings2 : Option (List ℕ)) : Type 0 where
-    pub hears : Hears received sent most old.socket new.socket old.held new.held
+  pub record ReceivesMore (most : ℕ) (old new : OpenGuest S) (M N : D) (readings readings2 : Option (List ℕ)) : Type 0 where
+    pub receives : Receives received sent most old.socket new.socket old.held new.held
     pub unanswered : new.left ≡ None
     pub service : N ≡ M
     pub unasked : readings2 ≡ readings
 
-  -- No more comes, and nothing came in this visit: what is held is all that was received, and is
-  -- answered as a message.
-  pub record IsComplete (held heard : List ℕ) (socket : S) (said : Spoken) (M N : D) (readings readings2 : Option (List ℕ)) : Type 0 where
-    pub ended : is_ended socket ≡ true
-    pub all : heard ≡ held
-    pub answered : AnswersMessage answers held said M N readings readings2
+  -- The other side is still there, and nothing came in this visit: what is held is all that was
+  -- received, and is answered as a message.
+  pub record IsComplete (held gathered : List ℕ) (socket : S) (output : Output) (M N : D) (readings readings2 : Option (List ℕ)) : Type 0 where
+    pub waits : has_none socket ≡ true
+    pub all : gathered ≡ held
+    pub answered : AnswersMessage answers held output M N readings readings2
 
   -- why an answer begins: the message is complete, or there is no memory to hold what came
-  abbrev pub IsDue : List ℕ → List ℕ → S → Spoken → D → D → Option (List ℕ) → Option (List ℕ) → Type 0
-  IsDue held heard socket said M N readings readings2 =
-      IsComplete held heard socket said M N readings readings2
-      ⊎ ((length held < length heard) × Starves answers said M N readings readings2)
+  abbrev pub IsDue : List ℕ → List ℕ → S → Output → D → D → Option (List ℕ) → Option (List ℕ) → Type 0
+  IsDue held gathered socket output M N readings readings2 =
+      IsComplete held gathered socket output M N readings readings2
+      ⊎ ((length held < length gathered) × Starves answers output M N readings readings2)
 
   -- Its answer begins, and some of it is sent. What was held stays.
   pub record Begins (most : ℕ) (old new : OpenGuest S) (M N : D) (readings readings2 : Option (List ℕ)) : Type 0 where
     pub between : S
-    pub heard : List ℕ
-    pub hears : Hears received sent most old.socket between old.held heard
-    pub said : Spoken
-    pub due : IsDue old.held heard new.socket said M N readings readings2
+    pub gathered : List ℕ
+    pub receives : Receives received sent most old.socket between old.held gathered
+    pub output : Output
+    pub due : IsDue old.held gathered between output M N readings readings2
     pub left : List ℕ
-    pub sends : SendsDue received sent between new.socket (sent_as said) left
+    pub sends : SendsDue received sent between new.socket (sent_as output) left
     pub begun : new.left ≡ Some left
     pub held : new.held ≡ old.held
 
@@ -127,19 +132,20 @@ module _ {S : Type 0} (received sent : S → Option (List ℕ)) (is_ended : S �
     pub unasked : readings2 ≡ readings
 
   abbrev pub VisitsIn : ℕ → Option (List ℕ) → OpenGuest S → OpenGuest S → D → D → Option (List ℕ) → Option (List ℕ) → Type 0
-  VisitsIn most None old new M N readings readings2 = Listens most old new M N readings readings2 ⊎ Begins most old new M N readings readings2
+  VisitsIn most None old new M N readings readings2 = ReceivesMore most old new M N readings readings2 ⊎ Begins most old new M N readings readings2
   VisitsIn most (Some due) old new M N readings readings2 = GoesOn old new due M N readings readings2
 
-  -- A visit of a guest: before its answer begins it is listened to, and its message answered once;
-  -- then the answer is sent. So many bytes are received at most, and its time stays.
+  -- A visit of a guest: before its answer begins, more of its message is received, and the message
+  -- is answered once; then the answer is sent. At most this many bytes are received, and its time
+  -- doesn't change.
   pub record Visits (most : ℕ) (old new : OpenGuest S) (M N : D) (readings readings2 : Option (List ℕ)) : Type 0 where
     pub does : VisitsIn most old.left old new M N readings readings2
     pub until : new.until ≡ old.until
 
--- Before it is answered: its socket is broken; what it sent is too long; or no more comes, and that
--- is no message. Then: its whole answer was sent, or its socket is broken.
+-- Before it is answered: its socket is broken; what it sent is too long; or it sends no more, and so
+-- has gone. Then: its whole answer was sent, or its socket is broken.
 abbrev pub IsOverIn : List ℕ → Option (List ℕ) → Bool → Bool → Type 0
-IsOverIn held None ended broken = (broken ≡ true) ⊎ (message_limit < length held) ⊎ ((ended ≡ true) × IsNoMessage held)
+IsOverIn held None ended broken = (broken ≡ true) ⊎ (message_limit < length held) ⊎ (ended ≡ true)
 IsOverIn held (Some left) ended broken = (left ≡ []) ⊎ (broken ≡ true)
 
 -- why a guest is over

@@ -13,7 +13,7 @@ abbrev pub ◌>>=◌ : {A B : Type 0} → Result A Malformed → (A → Result B
 abbrev pub malformed : Malformed
 malformed = record {}
 
--- What a function returned, seen by view, is what reading gives, unless memory ran out.
+-- What a function returned, seen through `view`, is what reading gives, unless memory ran out.
 abbrev pub Fails : {Y : Type 0} → ReadError → Result Y Malformed → Type 0
 Fails errors.Memory read = Unit {0}
 Fails (errors.Malformed f) read = read ≡ Err f
@@ -38,13 +38,13 @@ words_at (suc n) bytes = do
   others ← words_at n first.1
   Ok (first.0 ∷ others.0, others.1)
 
--- the words, and what is behind them
+-- the words, and what follows them
 unfoldable pub all_of : List ℕ → Result (List (List ℕ) × List ℕ) Malformed
 all_of bytes = do
   n ← number_at w32 bytes
   words_at n.0 n.1
 
--- the body, and nothing is behind it
+-- the body, which nothing follows
 unfoldable pub body_at : List ℕ → Result (List ℕ) Malformed
 body_at bytes = do
   n ← number_at w64 bytes

@@ -1,83 +1,83 @@
-//! Who holds or stops a server.
+//! Control of a server: what holds or stops it.
 
 ghost use Rattle.std.specs.Prelude.{◌≡◌, ◌≢◌, ◌⊎◌, ◌||◌, true};
 ghost use Rattle.std.specs.Io.KnownBytes.{append_known};
 ghost use Rattle.registry_guests.specs.Controls as spec;
 ghost use Rattle.registry_guests.specs.Controls.{Answers, Obeys, Visits, VisitsControl, after, bytes_in, came, kept_at, nobody, woken};
-ghost use Rattle.registry_guests.specs.declared.control.Heard.TheVariants as heard;
+ghost use Rattle.registry_guests.specs.declared.control.ControlInput.TheVariants as inputs;
 ghost use Rattle.registry_server.specs.declared.connection.Visit.TheVariants as visits;
 
-use crate::post::Post;
+use crate::control_session::ControlSession;
 use registry_server::{Flow, Socket, Visit};
 
-/// What was heard of a visitor.
+/// What a control connection sent.
 #[derive(Clone, Copy, Debug, PartialEq, Eq)]
-enum Heard {
+enum ControlInput {
     /// A byte.
     Byte(u8),
-    /// Nothing, as it was interrupted.
+    /// Nothing, because the call was interrupted.
     Nothing,
     /// Nothing has come yet.
     Waits,
-    /// It says no more, or its socket is broken.
+    /// It sends no more, or its socket is broken.
     Over,
 }
 
-/// A visitor of the control socket.
+/// A connection of the control socket.
 #[derive(Drop)]
-struct Visitor<S: Socket> {
+struct ControlConnection<S: Socket> {
     socket: S,
-    post: Post,
+    session: ControlSession,
 }
 
-impl<S: Socket> Visitor<S> {
-    // Goes on with it: hears one byte at most, and does what that asks for.
+impl<S: Socket> ControlConnection<S> {
+    // Goes on with it: receives one byte at most, and does what that asks for.
     fn visit(&mut self, is_stopping: bool, now: u64) -> Visit
         ensures visits { Visits S.received S.sent S.is_ended S.is_broken is_stopping now self.old self.new result }
         ensures waits { result ≡ visits.Rests → S.has_none self.new.socket ≡ true }
     {
-        match hear(&mut self.socket) {
-            Heard::Byte(byte) => self.obey(byte, is_stopping, now),
-            Heard::Nothing => Visit::Again,
-            Heard::Waits => Visit::Rests,
-            Heard::Over => Visit::Over,
+        match receive_byte(&mut self.socket) {
+            ControlInput::Byte(byte) => self.obey(byte, is_stopping, now),
+            ControlInput::Nothing => Visit::Again,
+            ControlInput::Waits => Visit::Rests,
+            ControlInput::Over => Visit::Over,
         }
     }
 
     // Does what a byte asks for.
     fn obey(&mut self, byte: u8, is_stopping: bool, now: u64) -> Visit
-        ensures obeys { Obeys (after self.old.post byte is_stopping now) byte
-            self.old.post self.new.post (S.sent self.old.socket) (S.sent self.new.socket) result }
+        ensures obeys { Obeys (after self.old.session byte is_stopping now) byte
+            self.old.session self.new.session (S.sent self.old.socket) (S.sent self.new.socket) result }
         ensures received { S.received self.new.socket ≡ S.received self.old.socket }
         ensures goes_on { result ≢ visits.Rests }
     {
-        match self.post.after(byte, is_stopping, now) {
-            Some(post) => {
-                self.post = post;
-                answer(&mut self.socket, post.holds(), byte)
+        match self.session.after(byte, is_stopping, now) {
+            Some(session) => {
+                self.session = session;
+                answer(&mut self.socket, session.holds(), byte)
             }
             None => Visit::Over,
         }
     }
 }
 
-// Hears one byte at most.
-fn hear<S: Socket>(socket: &mut S) -> Heard
+// Receives one byte at most.
+fn receive_byte<S: Socket>(socket: &mut S) -> ControlInput
     ensures received { S.received socket.new ≡ append_known (S.received socket.old) (bytes_in result) }
     ensures sent { S.sent socket.new ≡ S.sent socket.old }
-    ensures waits { result ≡ heard.Waits → S.has_none socket.new ≡ true }
-    ensures over { result ≡ heard.Over → (S.is_ended socket.new ≡ true) ⊎ (S.is_broken socket.new ≡ true) }
+    ensures waits { result ≡ inputs.Waits → S.has_none socket.new ≡ true }
+    ensures over { result ≡ inputs.Over → (S.is_ended socket.new ≡ true) ⊎ (S.is_broken socket.new ≡ true) }
 {
     let mut byte = [0; 1];
     match socket.receive(&mut byte) {
-        Flow::Moved(0) => Heard::Nothing,
-        Flow::Moved(_) => Heard::Byte(byte[0]),
-        Flow::Waits => Heard::Waits,
-        Flow::Ended | Flow::Broken => Heard::Over,
+        Flow::Moved(0) => ControlInput::Nothing,
+        Flow::Moved(_) => ControlInput::Byte(byte[0]),
+        Flow::Waits => ControlInput::Waits,
+        Flow::Ended | Flow::Broken => ControlInput::Over,
     }
 }
 
-// Sends a byte back to who holds the server.
+// Sends a byte back to a connection that holds the server.
 fn answer<S: Socket>(socket: &mut S, holds: bool, byte: u8) -> Visit
     ensures answers { Answers holds byte (S.sent socket.old) (S.sent socket.new) result }
     ensures received { S.received socket.new ≡ S.received socket.old }
@@ -93,17 +93,17 @@ fn answer<S: Socket>(socket: &mut S, holds: bool, byte: u8) -> Visit
 }
 
 // Whether the server is to end after a visit: once one has asked for it.
-fn stops_after(was: bool, post: Post) -> bool
-    ensures { result ≡ (was || spec.stops_at post) }
+fn is_stopping_after(was: bool, session: ControlSession) -> bool
+    ensures { result ≡ (was || spec.stops_at session) }
 {
-    was || post.stops()
+    was || session.stops()
 }
 
-/// Who holds or stops a server: one visitor at a time, and whether the server is to end. It asks a
+/// What holds or stops a server: one connection at a time, and whether the server is to end. It asks a
 /// service nothing.
 #[derive(Drop)]
 pub struct Control<S: Socket> {
-    visitor: Option<Visitor<S>>,
+    connection: Option<ControlConnection<S>>,
     is_ready: bool,
     is_stopping: bool,
 }
@@ -114,7 +114,7 @@ impl<S: Socket> Control<S> {
         ensures { result ≡ nobody }
     {
         Control {
-            visitor: None,
+            connection: None,
             is_ready: false,
             is_stopping: false,
         }
@@ -124,22 +124,22 @@ impl<S: Socket> Control<S> {
     pub fn is_free(&self) -> bool
         ensures { result ≡ spec.is_free self.now }
     {
-        self.visitor.is_none()
+        self.connection.is_none()
     }
 
     /// Whether somebody is there who is to be visited.
     pub fn is_busy(&self) -> bool
         ensures { result ≡ spec.is_due self.now }
     {
-        self.is_ready && self.visitor.is_some()
+        self.is_ready && self.connection.is_some()
     }
 
     /// Whether somebody holds the server.
     pub fn holds(&self) -> bool
         ensures { result ≡ spec.holds self.now }
     {
-        match &self.visitor {
-            Some(visitor) => visitor.post.holds(),
+        match &self.connection {
+            Some(connection) => connection.session.holds(),
             None => false,
         }
     }
@@ -151,27 +151,26 @@ impl<S: Socket> Control<S> {
         self.is_stopping
     }
 
-    /// A new visitor comes, at this time in milliseconds, and is to be visited. Who was there is let
-    /// go.
+    /// A new connection, from this time in milliseconds on, is to be visited. One that was there ends.
     pub fn add(&mut self, socket: S, now: u64)
         ensures { self.new ≡ came now socket self.old }
     {
-        self.visitor = Some(Visitor {
+        self.connection = Some(ControlConnection {
             socket,
-            post: Post::new(now),
+            session: ControlSession::new(now),
         });
         self.is_ready = true;
     }
 
-    /// The visitor is to be visited.
+    /// The connection is to be visited.
     pub fn wake(&mut self)
         ensures { self.new ≡ woken self.old }
     {
         self.is_ready = true;
     }
 
-    /// Goes on with the visitor where it is to be visited: hears one byte at most, and does what that
-    /// asks for.
+    /// Goes on with the connection where it is to be visited: receives one byte at most, and does what
+    /// that asks for.
     pub fn visit(&mut self, now: u64)
         ensures { VisitsControl S.received S.sent S.has_none S.is_ended S.is_broken now self.old self.new }
     {
@@ -179,42 +178,42 @@ impl<S: Socket> Control<S> {
             return;
         }
         self.is_ready = false;
-        let Some(visitor) = &mut self.visitor else {
+        let Some(connection) = &mut self.connection else {
             return;
         };
-        let visit = visitor.visit(self.is_stopping, now);
-        self.is_stopping = stops_after(self.is_stopping, visitor.post);
+        let visit = connection.visit(self.is_stopping, now);
+        self.is_stopping = is_stopping_after(self.is_stopping, connection.session);
         match visit {
             Visit::Again => self.is_ready = true,
             Visit::Rests => {}
-            Visit::Over => self.visitor = None,
+            Visit::Over => self.connection = None,
         }
     }
 
-    /// The visitor is let go if its time is up.
+    /// The connection ends if its time is up.
     pub fn end_late(&mut self, now: u64)
         ensures { self.new ≡ kept_at now self.old }
     {
-        let is_late = match &self.visitor {
-            Some(visitor) => visitor.post.is_late(now),
+        let is_late = match &self.connection {
+            Some(connection) => connection.session.is_late(now),
             None => false,
         };
         if is_late {
-            self.visitor = None;
+            self.connection = None;
         }
     }
 
-    /// The socket of who is there.
+    /// The socket of the connection, if one is there.
     pub fn into_socket(self) -> Option<S>
         ensures { result ≡ spec.socket_in self }
     {
         let Control {
-            visitor,
+            connection,
             is_ready: _,
             is_stopping: _,
         } = self;
-        match visitor {
-            Some(Visitor { socket, post: _ }) => Some(socket),
+        match connection {
+            Some(ControlConnection { socket, session: _ }) => Some(socket),
             None => None,
         }
     }

@@ -5,7 +5,7 @@ ghost use Rattle.registry_guests.specs.declared.fault.ReadError.TheVariants.{Mem
 
 use std::alloc::{AllocError, AllocFailed};
 
-/// What came is no message: it ends before a word does.
+/// What came isn't a message: it ends before a word does.
 #[derive(Clone, Copy, Debug, PartialEq, Eq)]
 pub struct Malformed;
 
@@ -14,7 +14,7 @@ pub struct Malformed;
 pub enum ReadError {
     /// No memory was left.
     Memory,
-    /// It is none.
+    /// It isn't a message.
     Malformed(Malformed),
 }
 

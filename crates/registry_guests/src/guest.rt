@@ -2,14 +2,14 @@
 
 ghost use Rattle.std.specs.Prelude.{◌≡◌, ◌≢◌, ◌<◌, ◌++◌, [], ℕ, List, true, Some, IfOk, IfSome, IfNone, OnOk, OnErr, length};
 ghost use Rattle.registry_guests.specs.Guests as spec;
-ghost use Rattle.registry_guests.specs.Guests.{AnswersMessage, Hears, IsNoMessage, IsOver, IsOverIn, IsWithin, SendsDue, Visits, first_guest, must_wait};
-ghost use Rattle.registry_guests.specs.Saying.{sent_as};
+ghost use Rattle.registry_guests.specs.Guests.{AnswersMessage, HasNoMessage, Receives, IsNoMessage, IsOver, IsOverIn, IsWithin, SendsDue, Visits, first_guest, must_wait};
+ghost use Rattle.registry_guests.specs.Outputs.{sent_as};
 ghost use Rattle.registry_server.specs.declared.connection.Visit.TheVariants as visits;
 ghost use Rattle.registry_server.specs.declared.socket.Flow.TheVariants as flows;
 
+use crate::command_output::CommandOutput;
 use crate::fault::ReadError;
 use crate::reading::read;
-use crate::said::Said;
 use crate::turning::turn;
 use crate::unsent::Unsent;
 use registry_names::{BODY_LIMIT, Fault};
@@ -18,15 +18,15 @@ use registry_service::{Clock, Service};
 use std::alloc::{AllocError, Global};
 use std::marker::Model;
 
-/// The most bytes of a message: those of a body, one more to see that it is too large, and 8 MiB for
-/// the words, which is more than the system gives a program.
+/// The most bytes of a message: those of a body, one more to see that it is too large, and 8 MiB
+/// for the words, which is more than the system passes to a program.
 pub const MESSAGE_LIMIT: usize = BODY_LIMIT + 1 + 8_388_608;
 
-/// So many milliseconds a guest has in all.
+/// How many milliseconds a guest has in all.
 pub const GUEST_TIME_LIMIT: u64 = 8_000;
 
-/// A guest: its socket, what of its message came, what isn't sent of its answer once it has one, and
-/// until when it has time.
+/// A guest: its socket, the part of its message that came, the part of its answer that isn't sent
+/// (once it has one), and until when it has time.
 #[derive(Drop)]
 pub struct Guest<S: Socket> {
     socket: S,
@@ -76,8 +76,9 @@ impl<S: Socket> Guest<S> {
         socket
     }
 
-    /// Goes on with the guest. Before its answer begins it receives once; where no more comes it
-    /// answers what came, if that is a message. It sends once where an answer has begun.
+    /// Goes on with the guest. Before its answer begins it receives once. Where nothing comes it answers
+    /// what came before, if that is a message: so the other side is still there. Where that sends no
+    /// more it has gone, and isn't answered. It sends once where an answer has begun.
     pub fn visit<D: Service, C: Clock>(
         &mut self,
         alloc: Global,
@@ -85,10 +86,11 @@ impl<S: Socket> Guest<S> {
         clock: &mut C,
         buffer: &mut [u8],
     ) -> Visit
-        ensures visits { Visits S.received S.sent S.is_ended D.answers (length buffer.old) self.old self.new
+        ensures visits { Visits S.received S.sent S.has_none D.answers (length buffer.old) self.old self.new
             service.old service.new (C.readings clock.old) (C.readings clock.new) }
         ensures within { result ≢ visits.Over → IsWithin self.old → IsWithin self.new }
         ensures waits { result ≡ visits.Rests → must_wait S.has_none S.is_full self.new ≡ true }
+        ensures no_message { result ≡ visits.Rests → HasNoMessage self.new }
         ensures over { result ≡ visits.Over → IsOver S.is_ended S.is_broken self.new }
     {
         match &mut self.unsent {
@@ -96,46 +98,46 @@ impl<S: Socket> Guest<S> {
             None => match receive(&mut self.socket, &mut self.held, buffer) {
                 Ok(Flow::Moved(_)) if self.held.len() > MESSAGE_LIMIT => Visit::Over,
                 Ok(Flow::Moved(_)) => Visit::Again,
-                Ok(Flow::Waits) => Visit::Rests,
-                Ok(Flow::Broken) => Visit::Over,
-                Ok(Flow::Ended) => match answer(alloc, service, clock, &self.held) {
-                    Some(said) => self.begin(said),
-                    None => Visit::Over,
+                Ok(Flow::Waits) => match answer(alloc, service, clock, &self.held) {
+                    Some(output) => self.begin(output),
+                    None => Visit::Rests,
                 },
-                Err(_) => self.begin(Said::of(Err(Fault::Memory))),
+                Ok(Flow::Ended) => Visit::Over,
+                Ok(Flow::Broken) => Visit::Over,
+                Err(_) => self.begin(CommandOutput::of(Err(Fault::Memory))),
             },
         }
     }
 
-    // Begins to send what is said.
-    fn begin(&mut self, said: Said) -> Visit
-        ensures sends { (left : List ℕ) × SendsDue S.received S.sent self.old.socket self.new.socket (sent_as said) left
+    // Begins to send the output.
+    fn begin(&mut self, output: CommandOutput) -> Visit
+        ensures sends { (left : List ℕ) × SendsDue S.received S.sent self.old.socket self.new.socket (sent_as output) left
             × (self.new.left ≡ Some left) }
-        ensures still_ended { S.is_ended self.old.socket ≡ true → S.is_ended self.new.socket ≡ true }
+        ensures no_message { HasNoMessage self.new }
         ensures held { self.new.held ≡ self.old.held }
         ensures until { self.new.until ≡ self.old.until }
         ensures waits { result ≡ visits.Rests → must_wait S.has_none S.is_full self.new ≡ true }
         ensures over { result ≡ visits.Over → IsOver S.is_ended S.is_broken self.new }
     {
-        let mut unsent = Unsent::of(said);
+        let mut unsent = Unsent::of(output);
         let visit = send(&mut self.socket, &mut unsent);
         self.unsent = Some(unsent);
         visit
     }
 }
 
-// Receives what has come, and holds it. After an error what came isn't held, and what was stays.
+// Receives what has come, and holds it. After an error, what came isn't held, and what was held
+// before still is.
 fn receive<S: Socket>(
     socket: &mut S,
     held: &mut Vec<u8>,
     buffer: &mut [u8],
 ) -> Result<Flow, AllocError>
-    ensures kept { OnOk result (Hears S.received S.sent (length buffer.old) socket.old socket.new
+    ensures kept { OnOk result (Receives S.received S.sent (length buffer.old) socket.old socket.new
         held.old.items held.new.items) }
-    ensures lost { OnErr result ((got : List ℕ) × (0 < length got) × Hears S.received S.sent (length buffer.old)
+    ensures lost { OnErr result ((got : List ℕ) × (0 < length got) × Receives S.received S.sent (length buffer.old)
         socket.old socket.new held.old.items (held.old.items ++ got)) }
     ensures stays { OnErr result (held.new.items ≡ held.old.items) }
-    ensures none { IfOk result (λ flow. flow ≡ flows.Ended → held.new.items ≡ held.old.items) }
     ensures none_yet { IfOk result (λ flow. flow ≡ flows.Waits → held.new.items ≡ held.old.items) }
     ensures waits { IfOk result (λ flow. flow ≡ flows.Waits → S.has_none socket.new ≡ true) }
     ensures ended { IfOk result (λ flow. flow ≡ flows.Ended → S.is_ended socket.new ≡ true) }
@@ -148,14 +150,14 @@ fn receive<S: Socket>(
     Ok(flow)
 }
 
-// Answers a message. None where the bytes are none.
+// Answers a message. `None` where the bytes aren't a message.
 fn answer<D: Service, C: Clock>(
     alloc: Global,
     service: &mut D,
     clock: &mut C,
     bytes: &[u8],
-) -> Option<Said>
-    ensures some { IfSome result (λ said. AnswersMessage D.answers bytes.now said
+) -> Option<CommandOutput>
+    ensures some { IfSome result (λ output. AnswersMessage D.answers bytes.now output
         service.old service.new (C.readings clock.old) (C.readings clock.new)) }
     ensures none { IfNone result (IsNoMessage bytes.now) }
     ensures service { IfNone result (service.new ≡ service.old) }
@@ -163,7 +165,7 @@ fn answer<D: Service, C: Clock>(
 {
     match read(alloc, bytes) {
         Ok(message) => Some(turn(alloc, service, &message, clock.now())),
-        Err(ReadError::Memory) => Some(Said::of(Err(Fault::Memory))),
+        Err(ReadError::Memory) => Some(CommandOutput::of(Err(Fault::Memory))),
         Err(ReadError::Malformed(_)) => None,
     }
 }
@@ -171,7 +173,6 @@ fn answer<D: Service, C: Clock>(
 // Sends once.
 fn send<S: Socket>(socket: &mut S, unsent: &mut Unsent) -> Visit
     ensures sends { SendsDue S.received S.sent socket.old socket.new unsent.old unsent.new }
-    ensures still_ended { S.is_ended socket.old ≡ true → S.is_ended socket.new ≡ true }
     ensures waits { result ≡ visits.Rests → S.is_full socket.new ≡ true }
     ensures over { result ≡ visits.Over → IsOverIn [] (Some unsent.new) (S.is_ended socket.new) (S.is_broken socket.new) }
 {

@@ -11,6 +11,9 @@ use std::io;
 use std::io::{ErrorKind, IoSlice, Read};
 use std::net::Shutdown;
 
+/// The byte by which a server says that it is ready for a command.
+pub(crate) const READY: u8 = b'r';
+
 /// A Unix socket whose calls never wait.
 #[derive(Drop)]
 pub struct GuestSocket {
@@ -21,6 +24,14 @@ impl GuestSocket {
     /// The socket of a stream that was accepted.
     pub fn of(stream: UnixStream) -> GuestSocket {
         GuestSocket { stream }
+    }
+
+    /// Says to the other side that the server is ready for its command. False where that fails.
+    pub(crate) fn greet(&mut self) -> bool {
+        match self.send(&[READY], &[]) {
+            Flow::Moved(count) => count == 1,
+            _ => false,
+        }
     }
 
     /// The system is to report on it under a token.
@@ -58,7 +69,8 @@ impl Socket for GuestSocket {
         }
     }
 
-    // The system tells only by a read what has come here. So more may always have.
+    // The system tells only by a read whether something has come here. So more may always have
+    // come.
     fn look(&mut self) -> Flow {
         Flow::Moved(0)
     }

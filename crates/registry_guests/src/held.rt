@@ -1,6 +1,7 @@
-//! A server that is held, and what is said to one.
+//! A server that is held, and the bytes that go to one and come back.
 
-use crate::post::KEPT;
+use crate::asking::{PATIENCE, set_patience};
+use crate::control_session::KEPT;
 use std::io;
 use std::io::{ErrorKind, Read, Write};
 use std::os::unix::net::UnixStream;
@@ -9,34 +10,42 @@ use std::os::unix::net::UnixStream;
 /// [`HOLD_LIMIT`](crate::HOLD_LIMIT) at most.
 #[derive(Drop)]
 pub struct Hold {
-    pub(crate) stream: UnixStream,
+    stream: UnixStream,
 }
 
 impl Hold {
+    /// The hold of a connection to which the server has answered that it is held. An error is the
+    /// system's.
+    pub fn of(stream: UnixStream) -> io::Result<Hold> {
+        set_patience(&stream, PATIENCE)?;
+        Ok(Hold { stream })
+    }
+
     /// Asks the server whether it was held all the time, and is still. False where it isn't any more,
     /// as after [`HOLD_LIMIT`](crate::HOLD_LIMIT), or it has ended.
     ///
-    /// `TimedOut` comes where the server gives no answer for ten seconds, and else what the system
-    /// says.
-    pub fn is_kept(&mut self) -> io::Result<bool> {
-        is_answered(&self.stream, KEPT)
+    /// `TimedOut` is returned where the server gives no answer for ten seconds; any other error is
+    /// the system's.
+    pub fn confirm(&mut self) -> io::Result<bool> {
+        is_echoed(&self.stream, KEPT)
     }
 }
 
-/// Whether a byte comes back that is said to the server. It doesn't where that has ended.
-pub(crate) fn is_answered(stream: &UnixStream, byte: u8) -> io::Result<bool> {
-    if !say(stream, byte)? {
+/// Sends a byte to the server, and returns whether it comes back. It doesn't where the server has
+/// ended.
+pub(crate) fn is_echoed(stream: &UnixStream, byte: u8) -> io::Result<bool> {
+    if !send_byte(stream, byte)? {
         return Ok(false);
     }
-    match next(stream) {
+    match next_byte(stream) {
         Ok(answer) => Ok(answer == Some(byte)),
         Err(error) if is_end(&error) => Ok(false),
         Err(error) => Err(error),
     }
 }
 
-/// Says a byte to the server. False where that has ended.
-pub(crate) fn say(mut stream: &UnixStream, byte: u8) -> io::Result<bool> {
+/// Sends a byte to the server. False where the server has ended.
+pub(crate) fn send_byte(mut stream: &UnixStream, byte: u8) -> io::Result<bool> {
     match stream.write_all(&[byte]) {
         Ok(()) => Ok(true),
         Err(error) if is_end(&error) => Ok(false),
@@ -44,8 +53,9 @@ pub(crate) fn say(mut stream: &UnixStream, byte: u8) -> io::Result<bool> {
     }
 }
 
-/// The next byte that the server says. None where it has ended, and heard all that was said to it.
-pub(crate) fn next(mut stream: &UnixStream) -> io::Result<Option<u8>> {
+/// The next byte that the server sends. `None` where the server has ended, and received everything
+/// that was sent to it.
+pub(crate) fn next_byte(mut stream: &UnixStream) -> io::Result<Option<u8>> {
     let mut byte = [0; 1];
     for _ in 0..u64::MAX {
         match stream.read(&mut byte) {

@@ -3,22 +3,23 @@
 ghost use Rattle.std.specs.Prelude.{ℕ};
 ghost use Rattle.registry_guests.specs.Beside.{AnswersOnce, GuestsFollow, GuestsGoOn, MakeOneHistory, VisitsFollow, beside_guests};
 ghost use Rattle.registry_guests.specs.Controls.{HoldersAskFirst, HoldersHaveAsked, StopsStay};
-ghost use Rattle.registry_guests.specs.Halls.{IsWithinAt, StayWithin, new_at};
+ghost use Rattle.registry_guests.specs.GuestPools.{IsWithinAt, StayWithin, new_at};
 ghost use Rattle.registry_server.specs.Worlds.{VisitsLead};
 
 use registry_server::Socket;
 use registry_service::Service;
 
 /// A guest is answered once. Before it is, all that was received of it is held, and nothing was sent
-/// to it. Where its turn is taken it sends no more, and its message is all that was received of it.
+/// to it but that the server is ready. Where its turn is taken it is still there, and its message is
+/// all that was received of it: the turn of one that has gone before is never taken.
 /// From then on what was sent to it, and what isn't yet, is that one answer. In no other visit of it
 /// the service or the clock is asked.
 pub fn guests_are_answered_once<S: Socket, D: Service>()
-    ensures { AnswersOnce S.received S.sent D.answers S.is_ended }
+    ensures { AnswersOnce S.received S.sent D.answers S.has_none }
 {}
 
-/// Of each guest no more is held than a message may have: of one that comes nothing is, and visits keep
-/// it so.
+/// No more is held of a guest than a message may have: nothing is held of a new guest, and visits
+/// keep to the limit.
 pub fn guests_hold_little<S: Socket, D: Service>()
     ensures first { (now : ℕ) (socket : S) → IsWithinAt (new_at now socket) }
     ensures stay { StayWithin S.received S.sent S.has_none S.is_full S.is_ended S.is_broken D.answers D.over }
@@ -28,19 +29,20 @@ pub fn guests_hold_little<S: Socket, D: Service>()
 /// service that lets guests take turns before a request; by such visits each connection's world is
 /// reached; and in it there is one list of turns such that the service is what they leave, each
 /// taken at what all older ones and the guests' turns before it left. The turns of guests are kept
-/// beside the service, and are those that guests are answered by: a visit of a guest adds the turn that
-/// is taken in it, if one is, and nothing else adds any.
+/// beside the service, and are those that guests are answered by: a visit of a guest adds the turn
+/// that is taken in it, if one is, and nothing else adds a turn.
 pub fn guests_share_one_history<S: Socket, D: Service>()
     ensures guests { GuestsGoOn D.answers }
-    ensures answered { GuestsFollow S.received S.sent D.answers S.is_ended }
+    ensures answered { GuestsFollow S.received S.sent D.answers S.has_none }
     ensures follows { VisitsFollow S.received S.sent D.answers }
     ensures leads { VisitsLead S.received S.sent (beside_guests D.answers) }
     ensures one { MakeOneHistory D.answers }
 {}
 
-/// Whoever holds a server, whatever has come about before, has asked to by its first byte, and was told
-/// so by the first that was sent to it. In the visit in which it begins to hold the server it asks, is
-/// told so, and the server isn't to end. A server that is to end stays so in a visit.
+/// Whoever holds a server, whatever has happened before, asked to by its first byte, and was told
+/// so by the first byte that was sent to it. In the visit in which it begins to hold the server, it
+/// asks, is told so, and the server isn't about to end. A server that is about to end still is
+/// after a visit.
 pub fn holders_have_asked<S: Socket>()
     ensures first { HoldersAskFirst S.received S.sent S.has_none S.is_ended S.is_broken }
     ensures asked { HoldersHaveAsked S.received S.sent S.has_none S.is_ended S.is_broken }

@@ -8,12 +8,12 @@ ghost use Rattle.registry_guests.specs.Spelling.{AreWords, spelling, words, view
 use crate::fault::{Malformed, ReadError};
 use std::alloc::Global;
 
-/// What is sent in one go: words, and a body.
+/// What is sent at once: words, and a body.
 #[derive(Debug, Drop)]
-pub struct Message<'m> {
-    /// The words, which are any bytes. Of a guest they are the arguments after the program's name.
-    pub words: Vec<Vec<u8>>,
-    /// The body. Of a guest it is the file that the words name, and empty where they name none.
+pub struct CommandMessage<'m> {
+    /// The words, which are any bytes. A guest's words are the arguments after the program's name.
+    pub arguments: Vec<Vec<u8>>,
+    /// The body. A guest's body is the file that the words name, and is empty where they name none.
     pub body: &'m [u8],
 }
 
@@ -87,22 +87,25 @@ fn body(bytes: &[u8]) -> Result<&[u8], ReadError>
 }
 
 #[tactic(auto, unfolding(crate::specs::Reading::whole_of))]
-fn whole(alloc: Global, bytes: &[u8]) -> Result<Message<'_>, ReadError>
+fn whole(alloc: Global, bytes: &[u8]) -> Result<CommandMessage<'_>, ReadError>
     ensures { Gives view result (whole_of bytes.now) }
 {
     let (words, rest) = all(alloc, bytes)?;
     let body = body(rest)?;
-    Ok(Message { words, body })
+    Ok(CommandMessage {
+        arguments: words,
+        body,
+    })
 }
 
 /// The message that the bytes spell, all of them.
 ///
-/// `Malformed` comes where they spell none, as where their end is missing.
-pub fn read(alloc: Global, bytes: &[u8]) -> Result<Message<'_>, ReadError>
-    // What is read is spelled so.
+/// `Malformed` is returned where they spell no message, such as where their end is missing.
+pub fn read(alloc: Global, bytes: &[u8]) -> Result<CommandMessage<'_>, ReadError>
+    // What is read has this spelling.
     ensures found { IfOk result (λ m. AreWords (view m).0
         × (bytes.now ≡ spelling (view m).0 (view m).1)) }
-    // What is spelled so is read, unless memory runs out.
+    // Whatever has this spelling is read, unless memory runs out.
     ensures only { (ws : List (List ℕ)) (body : List ℕ) → AreWords ws → length body < 2 ^ 64
         → bytes.now ≡ spelling ws body → Gives view result (Ok (ws, body)) }
 {

@@ -1,27 +1,28 @@
-//! What isn't sent yet of an answer.
+//! The part of an answer that isn't sent yet.
 
 ghost use Rattle.std.specs.Prelude.{◌≡◌, ◌≤◌, ◌+◌, ◌++◌, ◌==◌, length, drop};
 ghost use Rattle.registry_guests.specs.Spelling.{word};
-ghost use Rattle.registry_guests.specs.Saying.{sent_as};
+ghost use Rattle.registry_guests.specs.Outputs.{sent_as};
 
-use crate::said::Said;
+use crate::command_output::CommandOutput;
 use registry_wire::ShortText;
 use std::marker::Model;
 
-/// An answer as far as it isn't sent: what is before its text lies in the value itself, and the text
-/// is where the reply holds it. No memory is taken for it. Contracts see the bytes that are left.
+/// The part of an answer that isn't sent: what is before its text lies in the value itself, and the
+/// text is where the reply holds it. No memory is taken for it. Contracts see the bytes that are
+/// left.
 pub struct Unsent {
     front: ShortText,
-    said: Said,
+    output: CommandOutput,
     sent: usize,
 }
 
-// Written out, so that to drop it is one call and not one for each part.
+// Written out, so that dropping it is one call, not one for each part.
 impl Drop for Unsent {
     fn drop(self) {
         let Unsent {
             front: _,
-            said: _,
+            output: _,
             sent: _,
         } = self;
     }
@@ -32,20 +33,20 @@ impl Model for Unsent {
 
     ghost Value = { List ℕ };
 
-    ghost view = { λ u. drop u.sent (u.front ++ u.said.text) };
+    ghost view = { λ u. drop u.sent (u.front ++ u.output.text) };
 
-    ghost invariant = { λ u. u.sent ≤ length (u.front ++ u.said.text) };
+    ghost invariant = { λ u. u.sent ≤ length (u.front ++ u.output.text) };
 }
 
 impl Unsent {
     /// The whole answer.
-    pub fn of(said: Said) -> Unsent
-        ensures { result ≡ sent_as said }
+    pub fn of(output: CommandOutput) -> Unsent
+        ensures { result ≡ sent_as output }
     {
-        let front = front_of(&said);
+        let front = front_of(&output);
         Unsent {
             front,
-            said,
+            output,
             sent: 0,
         }
     }
@@ -58,12 +59,12 @@ impl Unsent {
         front.is_empty() && text.is_empty()
     }
 
-    /// What is left of what is before the text, and what is left of the text.
+    /// What is left before the text, and what is left of the text.
     pub fn parts(&self) -> (&[u8], &[u8])
         ensures { result.0.now ++ result.1.now ≡ self.now }
     {
         let front = self.front.as_slice();
-        let text = self.said.text();
+        let text = self.output.text();
         if self.sent < front.len() {
             let (_, rest) = front.split_at(self.sent);
             (rest, text)
@@ -73,26 +74,26 @@ impl Unsent {
         }
     }
 
-    /// So many more bytes were sent.
+    /// This many more bytes were sent.
     pub fn advance(&mut self, count: usize)
         requires { count ≤ length self.old }
         ensures { self.new ≡ drop count self.old }
     {
-        // The sum is at most this.
-        let _total = total(&self.front, &self.said);
+        // The new sum is at most this, so it doesn't overflow.
+        let _total = total(&self.front, &self.output);
         self.sent += count;
     }
 }
 
 // What is before the text.
-fn front_of(said: &Said) -> ShortText
-    ensures { result ++ said.now.text ≡ sent_as said.now }
+fn front_of(output: &CommandOutput) -> ShortText
+    ensures { result ++ output.now.text ≡ sent_as output.now }
 {
     let mut front = ShortText::new();
     front.push(&2u32.to_be_bytes());
-    put_word(&mut front, &[said.status()]);
-    put_word(&mut front, said.end());
-    front.push(&(said.text().len() as u64).to_be_bytes());
+    put_word(&mut front, &[output.status()]);
+    put_word(&mut front, output.end());
+    front.push(&(output.text().len() as u64).to_be_bytes());
     front
 }
 
@@ -107,8 +108,8 @@ fn put_word(front: &mut ShortText, bytes: &[u8])
 }
 
 // How many bytes the answer has.
-fn total(front: &ShortText, said: &Said) -> usize
-    ensures { result ≡ length (front.now ++ said.now.text) }
+fn total(front: &ShortText, output: &CommandOutput) -> usize
+    ensures { result ≡ length (front.now ++ output.now.text) }
 {
-    front.as_slice().len() + said.text().len()
+    front.as_slice().len() + output.text().len()
 }

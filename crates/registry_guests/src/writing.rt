@@ -6,8 +6,8 @@ ghost use Rattle.registry_guests.specs.Spelling.{AreWords, long_word, spelling, 
 use registry_names::Text;
 use std::alloc::{AllocError, Global};
 
-/// Whether these can be the words of a message: each has fewer than 2^32 bytes, and there are fewer
-/// than 2^32.
+/// Whether these can be the words of a message: there are fewer than 2^32 of them, and each has
+/// fewer than 2^32 bytes.
 pub fn fits(words: &[Text]) -> bool
     ensures { IsTrue result ↔ AreWords words.now }
 {
@@ -35,7 +35,7 @@ fn put_body(out: &mut Vec<u8>, body: &[u8]) -> Result<(), AllocError>
 
 /// The one spelling of a message.
 ///
-/// An error comes where no memory is left.
+/// An error is returned where no memory is left.
 pub fn write(alloc: Global, words: &[Text], body: &[u8]) -> Result<Vec<u8>, AllocError>
     requires { AreWords words.now }
     ensures { IfOk result (λ v. v.items ≡ spelling words.now body.now) }

@@ -1,4 +1,4 @@
--- What the registry replies to one who doesn't read a package, of all else: the same with the
+-- What the registry replies to somebody who doesn't read a package, of all else: the same with the
 -- package and without it.
 use Rattle.std.proofs.Common.{◌≡◌, Bool, true, false, cond, not, refl, sym, ap, ap₂, ◌∙◌, true≢false, Some, None, Option, option_map, List, [], ◌∷◌, length, map, filter, if◌then◌else◌}
 use Rattle.std.specs.Prelude.{option_and_then, unwrap_or}

@@ -48,7 +48,7 @@ second_outcomes (in_second r q ∷ xs) = q ∷ second_outcomes xs
 abbrev pub leaves_the_rest : Request → Outcome → Text → Bool
 leaves_the_rest r o p = names_package r.what p || not (enters r o)
 
--- what arrives in one run alone is such
+-- what arrives in one run alone leaves the rest
 abbrev pub DifferIn : Text → List Arrival → Type 0
 DifferIn p [] = Unit {0}
 DifferIn p (in_both r o q ∷ xs) = DifferIn p xs
@@ -63,8 +63,9 @@ pub record AreRuns (S T : State) (p : Text) (xs : List Arrival) : Type 0 where
 
 -- ---- what strangers see
 
--- Whoever has no level on the package when they ask, in both runs, or is nobody, gets one reply in
--- both, except where the request shows the package in one of them alone. Of faults nothing is said
+-- A caller who has no level on the package when they ask, in both runs, or nobody, gets the same
+-- reply in both, except where the request shows the package in only one of them. Nothing is said of
+-- faults
 abbrev pub IsAnsweredAlike : Text → State → State → Request → Outcome → Outcome → Type 0
 IsAnsweredAlike p S T r (Ok a) (Ok b) = IsStranger S r.who p → IsStranger T r.who p → is_shown S r p ≡ is_shown T r p → a ≡ b
 IsAnsweredAlike p S T r _ _ = Unit {0}

@@ -36,7 +36,7 @@ is_taken S who _ p = false
 abbrev pub shows : State → ℕ → Caller → Action → Text → Bool
 shows S now who what p = is_kept_by S now who what p || is_taken S who what p
 
--- ---- of requests. Nobody is refused, and shown nothing
+-- ---- of requests. One of nobody is refused, and shows nothing
 
 abbrev pub keeps_from : State → ℕ → Option Caller → Action → Text → Bool
 keeps_from S now None what p = false

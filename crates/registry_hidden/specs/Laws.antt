@@ -22,7 +22,7 @@ use Rattle.registry_hidden.specs.Histories.{untouched}
 use Rattle.registry_hidden.specs.Levels.{IsStranger}
 use Rattle.registry_hidden.specs.Without.{state_without}
 
--- what a request leaves that is answered
+-- what an answered request leaves
 abbrev pub left_by : State → Request → State
 left_by S r = next S r (Ok (answer S r))
 
@@ -51,8 +51,8 @@ UntouchedLeaveTheRest = (h : List Entry) (p : Text) → Legal h → Legal (untou
 
 -- ---- one request of a caller who has no level on the package, or of nobody
 
--- where it is none of the two that show the package, its reply is that of the registry without the
--- package
+-- where it isn't one of the two that show the package, its reply is that of the registry without
+-- the package
 abbrev pub RepliesAreAlike : Type 0
 RepliesAreAlike = (h : List Entry) (p : Text) (r : Request) → Legal h → IsStranger (after h) r.who p → is_shown (after h) r p ≡ false → answer (after h) r ≡ answer (state_without (after h) p) r
 

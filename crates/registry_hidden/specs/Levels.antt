@@ -8,11 +8,11 @@ use Rattle.registry_rules.specs.Callers.{caller_of}
 use Rattle.registry_rules.specs.State.{State}
 use Rattle.registry_rules.specs.declared.request.Credential.{Credential}
 
--- the caller has no level on the package, if there is one; nobody has none
+-- the caller, if there is one, has no level on the package
 abbrev pub HasNoLevel : State → Option Caller → Text → Type 0
 HasNoLevel S None p = Unit {0}
 HasNoLevel S (Some who) p = level_in S.access who p ≡ Nothing
 
--- a credential names nobody, or a caller without a level on the package, by whichever token or name
+-- a credential names nobody, or a caller without a level on the package, by any token or name
 abbrev pub IsStranger : State → Credential → Text → Type 0
 IsStranger S shown p = HasNoLevel S (caller_of S shown) p

@@ -33,17 +33,17 @@ exchanges p S (r ∷ rs) (o ∷ os) = if is_dropped r o p then exchanges p (next
     else record { met = S; request = r; outcome = o } ∷ exchanges p (next S r o) rs os
 exchanges p S _ _ = []
 
--- Side by side, they are of the same requests, and whoever has no level on the package at that point
--- of both runs is answered alike, up to the first request after which the runs may differ in more
--- than the package
+-- Side by side, they are of the same requests, and a caller who has no level on the package at that
+-- point of both runs is answered alike, up to the first request after which the runs may differ in
+-- more than the package
 abbrev pub AreAnsweredAlike : Text → List Exchange → List Exchange → Type 0
 AreAnsweredAlike p [] [] = Unit {0}
 AreAnsweredAlike p (m ∷ ms) (n ∷ ns) = (m.request ≡ n.request) × IsAnsweredAlike p m.met n.met m.request m.outcome n.outcome
     × (StaysClose p m.met n.met m.request m.outcome n.outcome → AreAnsweredAlike p ms ns)
 AreAnsweredAlike p _ _ = ⊥
 
--- Two runs, after legal histories that differ in what named the package, whose requests are one list
--- once the accepted commands that name the package are dropped from both
+-- Two runs, after legal histories that differ in what named the package, whose requests are one
+-- list once the accepted commands that name the package are dropped from both
 abbrev pub ListsAreAnsweredAlike : Type 0
 ListsAreAnsweredAlike = (g h : List Entry) (p : Text) → DifferInPackage g h p → (rs qs : List Request) (os ps : List Outcome) → HaveOutcomes (after g) rs os → HaveOutcomes (after h) qs ps
     → except_accepted p rs os ≡ except_accepted p qs ps → AreAnsweredAlike p (exchanges p (after g) rs os) (exchanges p (after h) qs ps)

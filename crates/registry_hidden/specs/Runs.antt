@@ -1,4 +1,4 @@
--- Two runs of one caller's requests, of whom nobody else asks anything meanwhile, after histories
+-- Two runs of one caller's requests, while nobody else asks anything, after histories
 -- that differ in what named a package.
 use Rattle.std.specs.Prelude.{◌≡◌, List, ◌∷◌, Option, Some, None, Ok}
 use Rattle.registry_names.specs.Texts.{Text}
@@ -13,13 +13,13 @@ use Rattle.registry_history.specs.Runs.{Outcome, HaveOutcomes, next}
 use Rattle.registry_hidden.specs.Concerns.{is_shown}
 use Rattle.registry_hidden.specs.Histories.{untouched}
 
--- two legal histories that are one list once the entries that name the package are dropped
+-- two legal histories that are the same list once the entries that name the package are dropped
 pub record DifferInPackage (g h : List Entry) (p : Text) : Type 0 where
   pub legal : Legal g
   pub other_legal : Legal h
   pub untouched : untouched g p ≡ untouched h p
 
--- whom a credential names is the caller, by whichever token or name, or nobody
+-- the credential names the caller, by any token or name, or nobody
 abbrev pub IsTheirs : Caller → Option Caller → Type 0
 IsTheirs who None = Unit {0}
 IsTheirs who (Some c) = c ≡ who
@@ -32,7 +32,7 @@ AreAlikeTo who p S T (r ∷ rs) (Ok a ∷ os) (Ok b ∷ qs) = IsTheirs who (call
     → (a ≡ b) × AreAlikeTo who p (next S r (Ok a)) (next T r (Ok b)) rs os qs
 AreAlikeTo who p S T _ _ _ = Unit {0}
 
--- who has no level on the package after either history can't distinguish them
+-- a caller who has no level on the package after either history can't distinguish them
 abbrev pub RunsAreAlike : Type 0
 RunsAreAlike = (g h : List Entry) (p : Text) (who : Caller) → DifferInPackage g h p → level_in (after g).access who p ≡ Nothing → level_in (after h).access who p ≡ Nothing
     → (rs : List Request) (os qs : List Outcome) → HaveOutcomes (after g) rs os → HaveOutcomes (after h) rs qs → AreAlikeTo who p (after g) (after h) rs os qs

@@ -1,6 +1,7 @@
--- What a history says of who is there, in what, and of what they may do, by the last entry that
--- speaks of it, and a state of which it says so. No reading uses a definition of what a step makes:
--- each is a recursion over the entries, and an entry that speaks of something else says nothing.
+-- What a history says of users, of what they are members of, and of what they may do, by the last
+-- entry that speaks of it, and a state for which this holds. No reading uses a definition of what a
+-- step makes: each is a recursion over the entries, and an entry that speaks of something else says
+-- nothing.
 --
 -- | Reading       | Given by                                       | Ended by                    |
 -- |---------------|------------------------------------------------|-----------------------------|
@@ -70,7 +71,7 @@ created (e ∷ h) o = creates e.what o || created h o
 
 -- ---- roles
 
--- The role that a command gives a user in an organisation: with whom it is created is its owner
+-- The role that a command gives a user in an organisation: the user it is created with is its owner
 abbrev pub gives_role : Action → Text → Text → Option Role
 gives_role (OrgCreate q v) o u = if is q o && is v u then Some Owner else None
 gives_role (OrgSet q v r) o u = if is q o && is v u then Some r else None
@@ -99,13 +100,13 @@ abbrev pub destroys : Action → Text → Text → Bool
 destroys (TeamDestroy q s) o t = is q o && is s t
 destroys _ o t = false
 
--- a team exists that was created, unless it was destroyed since
+-- a team exists if it was created, unless it was destroyed since
 abbrev pub team_exists : List Entry → Text → Text → Bool
 team_exists [] o t = false
 team_exists (e ∷ h) o t = creates_team e.what o t || (not (destroys e.what o t) && team_exists h o t)
 
 -- Whether a command brings a user into a team: the owner with whom an organisation is created, and
--- who is given a role in it and had none before, come into the first one
+-- a user who is given a role in it and had none before, come into the first one
 abbrev pub joins : Action → Option Role → Text → Text → Text → Bool
 joins (OrgCreate q v) before o t u = is q o && (is developers t && is v u)
 joins (OrgSet q v r) before o t u = is q o && (is developers t && is v u) && is_none before
@@ -120,7 +121,7 @@ leaves (OrgRemove q v) o t u = is q o && is v u
 leaves (TeamDestroy q s) o t u = is q o && is s t
 leaves _ o t u = false
 
--- a user is in a team whom a command brought into it, unless one took them out since
+-- a user is in a team if a command brought them into it, unless one took them out since
 abbrev pub in_team : List Entry → Text → Text → Text → Bool
 in_team [] o t u = false
 in_team (e ∷ h) o t u = joins e.what (role h o u) o t u || (not (leaves e.what o t u) && in_team h o t u)
@@ -170,7 +171,7 @@ abbrev pub ends_maintainer : Action → Text → Text → Bool
 ends_maintainer (OwnerRemove q v) p u = is q p && is v u
 ends_maintainer _ p u = false
 
--- a user is a maintainer whom a command made one, unless one ended that since
+-- a user is a maintainer if a command made them one, unless one ended that since
 abbrev pub maintains : List Entry → Text → Text → Bool
 maintains [] p u = false
 maintains (e ∷ h) p u = makes_maintainer e.who e.what (was_published h p) p u || (not (ends_maintainer e.what p u) && maintains h p u)

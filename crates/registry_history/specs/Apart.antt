@@ -40,7 +40,7 @@ abbrev pub ChangesOfOthers : Type 0
 ChangesOfOthers = (S : State) (changes : List Change) (p : Text)
     → are_about changes p ≡ false → packument_in (all_made S changes) p ≡ packument_in S p
 
--- a request that is no command about the package
+-- a request that isn't a command about the package
 abbrev pub StepsOfOthers : Type 0
 StepsOfOthers = (S : State) (r : Request) (p : Text)
     → names_package r.what p ≡ false → packument_in (step S r) p ≡ packument_in S p

@@ -19,8 +19,8 @@ abbrev pub LivesOrWasWithdrawn : State → Pair → Release → Type 0
 LivesOrWasWithdrawn T k old = ((new : Release) × (at T.live k ≡ Some new) × IsSameRelease old new) ⊎ ((gone : Withdrawal) × (at T.spent k ≡ Some gone) × (gone.published ≡ old.at))
 
 -- T comes later than S: a version that is live in both has the same moment, manifest and archive in
--- both. One that is live in S may be withdrawn in T, and isn't gone otherwise. One that is withdrawn
--- in S is in T too, with the same moments, and not live.
+-- both. One that is live in S may be withdrawn in T, and isn't gone otherwise. One that is
+-- withdrawn in S is in T too, with the same moments, and not live.
 pub record Lasts (S T : State) : Type 0 where
   pub same : (k : Pair) (old new : Release) → at S.live k ≡ Some old → at T.live k ≡ Some new → IsSameRelease old new
   pub live : (k : Pair) → IfSome (at S.live k) (LivesOrWasWithdrawn T k)

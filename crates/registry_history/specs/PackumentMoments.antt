@@ -21,7 +21,8 @@ CreatedAtFirst = (S : State) (p : Text) → MatchOption (created_at (of S.live p
     ((n : ℕ) → ¬ IsPublication S p n)
     (λ created. IsPublication S p created × ((n : ℕ) → IsPublication S p n → created ≤ n))
 
--- the package was modified at its last publication or withdrawal; where there was none, at no moment
+-- the package was modified at its last publication or withdrawal; where there was none, at no
+-- moment
 abbrev pub ModifiedAtLast : Type 0
 ModifiedAtLast = (S : State) (p : Text) → MatchOption (modified_at (of S.live p) (of S.spent p))
     ((n : ℕ) → ¬ (IsPublication S p n ⊎ IsWithdrawal S p n))

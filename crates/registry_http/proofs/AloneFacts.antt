@@ -48,10 +48,10 @@ module _ (who : Caller) (p : Text) where
     abbrev AreOneAfter : List Meeting → Type 0
     AreOneAfter ms = AreOneTo who p (first_left S ms) (second_left T ms)
 
-    their-turn : (ms : List Meeting) (k : ℕ) (r : Option Request) (t u : Turn) → HaveFirst S T (in_both k r t u ∷ ms) → HaveSecond S T (in_both k r t u ∷ ms) → AreOneAfter ms
-        → IsTheirTurn who p (first_left S ms) (second_left T ms) r t u → IsOneTurn t u × AreOneAfter (in_both k r t u ∷ ms)
-    their-turn ms k None t u first second near same = ((ap (λ (x : Turn). x.cause) same, ap (λ (x : Turn). x.outcome) same), near)
-    their-turn ms k (Some r) t u first second near (cause, theirs, shown, replies) =
+    their-turn : (ms : List Meeting) (k : ℕ) (stops : Bool) (r : Option Request) (t u : Turn) → HaveFirst S T (in_both k stops r t u ∷ ms) → HaveSecond S T (in_both k stops r t u ∷ ms) → AreOneAfter ms
+        → IsTheirTurn who p (first_left S ms) (second_left T ms) r t u → IsOneTurn t u × AreOneAfter (in_both k stops r t u ∷ ms)
+    their-turn ms k stops None t u first second near same = ((ap (λ (x : Turn). x.cause) same, ap (λ (x : Turn). x.outcome) same), near)
+    their-turn ms k stops (Some r) t u first second near (cause, theirs, shown, replies) =
         let a = have-split S (first_requests ms) (first_outcomes ms) r t.outcome first in
         let b = have-split T (second_requests ms) (second_outcomes ms) r u.outcome second in
         let both = same-outcome (first_left S ms) (second_left T ms) r t.outcome u.outcome near theirs shown replies a.1 b.1 in (
@@ -63,12 +63,12 @@ module _ (who : Caller) (p : Text) where
     -- each is one turn, on whichever connection, and the registries stay so
     their-turns : (ms : List Meeting) → HaveFirst S T ms → HaveSecond S T ms → IsAlone who p S T ms → ((k : ℕ) → AreOneTurns k ms) × AreOneAfter ms
     their-turns [] first second alone = (λ k. tt, start)
-    their-turns (in_both j r t u ∷ ms) first second alone =
+    their-turns (in_both j stops r t u ∷ ms) first second alone =
         let rest = their-turns ms (older S (first_requests ms) (first_outcomes ms) r t.outcome first) (older T (second_requests ms) (second_outcomes ms) r u.outcome second) alone.1 in
-        let turn = their-turn ms j r t u first second rest.1 alone.0 in
+        let turn = their-turn ms j stops r t u first second rest.1 alone.0 in
         (λ k. (λ here. turn.0, rest.0 k), turn.1)
-    their-turns (in_first j r t ∷ ms) first second alone = absurd alone
-    their-turns (in_second j r u ∷ ms) first second alone = absurd alone
+    their-turns (in_first j stops r t ∷ ms) first second alone = absurd alone
+    their-turns (in_second j stops r u ∷ ms) first second alone = absurd alone
 
 pub one-answered_the_same : {D : Type 0} (show : D → Shown) → OneIsAnsweredTheSame show
 one-answered_the_same show M N w v g h p who ms differ nothing nothing' first second alone k =

@@ -1,5 +1,5 @@
 -- What strangers are sent in two worlds whose turns differ in requests on a package.
-use Rattle.std.proofs.Common.{◌≡◌, ◌==◌, ◌++◌, ◌+◌, ◌∙◌, ℕ, suc, Bool, true, false, List, [], ◌∷◌, length, Option, Some, None, Ok, Err, is_some, refl, sym, ap, ap₂, arith, subst, if◌then◌else◌}
+use Rattle.std.proofs.Common.{◌≡◌, ◌==◌, ◌||◌, ◌++◌, ◌+◌, ◌∙◌, ℕ, suc, Bool, true, false, List, [], ◌∷◌, length, Option, Some, None, Ok, Err, is_some, refl, sym, ap, ap₂, arith, subst, if◌then◌else◌}
 use Rattle.std.proofs.lemmas.Bool.Decides.{nat_tests}
 use Rattle.sqlite.specs.State.{State as Shown}
 use Rattle.registry_names.specs.Texts.{Text}
@@ -54,23 +54,23 @@ IsOneTurn t u = (t.cause ≡ u.cause) × (t.outcome ≡ u.outcome)
 -- each turn of this connection is such
 abbrev pub AreOneTurns : ℕ → List Meeting → Type 0
 AreOneTurns k [] = Unit {0}
-AreOneTurns k (in_both j r t u ∷ ms) = ((k == j) ≡ true → IsOneTurn t u) × AreOneTurns k ms
-AreOneTurns k (in_first j r t ∷ ms) = ((k == j) ≡ false) × AreOneTurns k ms
-AreOneTurns k (in_second j r u ∷ ms) = ((k == j) ≡ false) × AreOneTurns k ms
+AreOneTurns k (in_both j stops r t u ∷ ms) = ((k == j) ≡ true → IsOneTurn t u) × AreOneTurns k ms
+AreOneTurns k (in_first j stops r t ∷ ms) = ((k == j) ≡ false) × AreOneTurns k ms
+AreOneTurns k (in_second j stops r u ∷ ms) = ((k == j) ≡ false) × AreOneTurns k ms
 
 -- as many turns, and the same written
 record AreSame (ts us : List Turn) : Type 0 where
   count : length ts ≡ length us
   bytes : written ts ≡ written us
 
-lasts : (ts us : List Turn) → length ts ≡ length us → is_last ts ≡ is_last us
-lasts ts us count = ap (λ n. n + 1 == request_limit) count
+lasts : (stops : Bool) (ts us : List Turn) → length ts ≡ length us → is_last stops ts ≡ is_last stops us
+lasts stops ts us count = ap (λ n. stops || (n + 1 == request_limit)) count
 
 module _ {D : Type 0} (answers : Answering D) where
   same-turns : (k : ℕ) (ms : List Meeting) (K L M N : D) → FollowAll answers K (first_log ms) L → FollowAll answers M (second_log ms) N → AreOneTurns k ms
       → AreSame (turns_of k (first_log ms)) (turns_of k (second_log ms))
   same-turns k [] K L M N follow follow' one = record { count = refl; bytes = refl }
-  same-turns k (in_both j r t u ∷ ms) K L M N follow follow' one = by (same-turns k ms K follow.0 M follow'.0 follow.1 follow'.1 one.1) (k == j) refl
+  same-turns k (in_both j stops r t u ∷ ms) K L M N follow follow' one = by (same-turns k ms K follow.0 M follow'.0 follow.1 follow'.1 one.1) (k == j) refl
     where
       by : AreSame (turns_of k (first_log ms)) (turns_of k (second_log ms)) → (b : Bool) → (k == j) ≡ b
           → AreSame (if b then t ∷ turns_of k (first_log ms) else turns_of k (first_log ms)) (if b then u ∷ turns_of k (second_log ms) else turns_of k (second_log ms))
@@ -78,13 +78,13 @@ module _ {D : Type 0} (answers : Answering D) where
       by rest true here = record {
         count = ap suc rest.count;
         bytes = ap₂ (λ x y. x ++ y) rest.bytes
-            (same-response answers t u follow.0 L follow'.0 N (is_last (turns_of j (first_log ms))) (is_last (turns_of j (second_log ms))) (one.0 here).0 (one.0 here).1
-            (lasts (turns_of j (first_log ms)) (turns_of j (second_log ms)) (subst (λ i. length (turns_of i (first_log ms)) ≡ length (turns_of i (second_log ms))) (same-number k j here) rest.count)) follow.2 follow'.2);
+            (same-response answers t u follow.0 L follow'.0 N (is_last stops (turns_of j (first_log ms))) (is_last stops (turns_of j (second_log ms))) (one.0 here).0 (one.0 here).1
+            (lasts stops (turns_of j (first_log ms)) (turns_of j (second_log ms)) (subst (λ i. length (turns_of i (first_log ms)) ≡ length (turns_of i (second_log ms))) (same-number k j here) rest.count)) follow.2 follow'.2);
       }
-  same-turns k (in_first j r t ∷ ms) K L M N follow follow' one =
+  same-turns k (in_first j stops r t ∷ ms) K L M N follow follow' one =
       subst (λ b. AreSame (if b then t ∷ turns_of k (first_log ms) else turns_of k (first_log ms)) (turns_of k (second_log ms))) (sym one.0)
       (same-turns k ms K follow.0 M N follow.1 follow' one.1)
-  same-turns k (in_second j r u ∷ ms) K L M N follow follow' one =
+  same-turns k (in_second j stops r u ∷ ms) K L M N follow follow' one =
       subst (λ b. AreSame (turns_of k (first_log ms)) (if b then u ∷ turns_of k (second_log ms) else turns_of k (second_log ms))) (sym one.0)
       (same-turns k ms K L M follow'.0 follow follow'.1 one.1)
 
@@ -106,36 +106,36 @@ module _ (p : Text) (S T : State) (start : AreNear p S T) where
   abbrev AreNearAfter : List Meeting → Type 0
   AreNearAfter ms = AreNear p (first_left S ms) (second_left T ms)
 
-  near-one : (ms : List Meeting) (k : ℕ) (r : Option Request) (t u : Turn) → HaveFirst S T (in_both k r t u ∷ ms) → HaveSecond S T (in_both k r t u ∷ ms) → AreNearAfter ms → IsSameTurn p (first_left S ms) (second_left T ms) r t u → AreNearAfter (in_both k r t u ∷ ms)
-  near-one ms k None t u first second near same = near
-  near-one ms k (Some r) t u first second near same =
+  near-one : (ms : List Meeting) (k : ℕ) (stops : Bool) (r : Option Request) (t u : Turn) → HaveFirst S T (in_both k stops r t u ∷ ms) → HaveSecond S T (in_both k stops r t u ∷ ms) → AreNearAfter ms → IsSameTurn p (first_left S ms) (second_left T ms) r t u → AreNearAfter (in_both k stops r t u ∷ ms)
+  near-one ms k stops None t u first second near same = near
+  near-one ms k stops (Some r) t u first second near same =
       let a = have-split S (first_requests ms) (first_outcomes ms) r t.outcome first in
       let b = have-split T (second_requests ms) (second_outcomes ms) r u.outcome second in
       subst (λ U. AreNear p U (end_of T (second_requests ms ++ r ∷ []) (second_outcomes ms ++ u.outcome ∷ []))) (sym (end_push S (first_requests ms) (first_outcomes ms) r t.outcome a.0))
       (subst (λ U. AreNear p (next (first_left S ms) r t.outcome) U) (sym (end_push T (second_requests ms) (second_outcomes ms) r u.outcome b.0))
       (near_both p (first_left S ms) (second_left T ms) r t.outcome u.outcome near a.1 b.1 same.1))
 
-  near-alone : (ms : List Meeting) (k : ℕ) (r : Option Request) (t : Turn) → HaveFirst S T (in_first k r t ∷ ms) → AreNearAfter ms → LeavesRest p r t.outcome → AreNearAfter (in_first k r t ∷ ms)
-  near-alone ms k None t first near leaves = near
-  near-alone ms k (Some r) t first near leaves =
+  near-alone : (ms : List Meeting) (k : ℕ) (stops : Bool) (r : Option Request) (t : Turn) → HaveFirst S T (in_first k stops r t ∷ ms) → AreNearAfter ms → LeavesRest p r t.outcome → AreNearAfter (in_first k stops r t ∷ ms)
+  near-alone ms k stops None t first near leaves = near
+  near-alone ms k stops (Some r) t first near leaves =
       let a = have-split S (first_requests ms) (first_outcomes ms) r t.outcome first in
       subst (λ U. AreNear p U (second_left T ms)) (sym (end_push S (first_requests ms) (first_outcomes ms) r t.outcome a.0))
       (near_first p (first_left S ms) (second_left T ms) r t.outcome near a.1 leaves)
 
-  near-other : (ms : List Meeting) (k : ℕ) (r : Option Request) (u : Turn) → HaveSecond S T (in_second k r u ∷ ms) → AreNearAfter ms → LeavesRest p r u.outcome → AreNearAfter (in_second k r u ∷ ms)
-  near-other ms k None u second near leaves = near
-  near-other ms k (Some r) u second near leaves =
+  near-other : (ms : List Meeting) (k : ℕ) (stops : Bool) (r : Option Request) (u : Turn) → HaveSecond S T (in_second k stops r u ∷ ms) → AreNearAfter ms → LeavesRest p r u.outcome → AreNearAfter (in_second k stops r u ∷ ms)
+  near-other ms k stops None u second near leaves = near
+  near-other ms k stops (Some r) u second near leaves =
       let b = have-split T (second_requests ms) (second_outcomes ms) r u.outcome second in
       subst (λ U. AreNear p (first_left S ms) U) (sym (end_push T (second_requests ms) (second_outcomes ms) r u.outcome b.0))
       (near_second p (first_left S ms) (second_left T ms) r u.outcome near b.1 leaves)
 
   near-after : (ms : List Meeting) → HaveFirst S T ms → HaveSecond S T ms → DifferIn p S T ms → AreNearAfter ms
   near-after [] first second differ = start
-  near-after (in_both k r t u ∷ ms) first second differ =
-      near-one ms k r t u first second
+  near-after (in_both k stops r t u ∷ ms) first second differ =
+      near-one ms k stops r t u first second
       (near-after ms (older S (first_requests ms) (first_outcomes ms) r t.outcome first) (older T (second_requests ms) (second_outcomes ms) r u.outcome second) differ.1) differ.0
-  near-after (in_first k r t ∷ ms) first second differ = near-alone ms k r t first (near-after ms (older S (first_requests ms) (first_outcomes ms) r t.outcome first) second differ.1) differ.0
-  near-after (in_second k r u ∷ ms) first second differ = near-other ms k r u second (near-after ms first (older T (second_requests ms) (second_outcomes ms) r u.outcome second) differ.1) differ.0
+  near-after (in_first k stops r t ∷ ms) first second differ = near-alone ms k stops r t first (near-after ms (older S (first_requests ms) (first_outcomes ms) r t.outcome first) second differ.1) differ.0
+  near-after (in_second k stops r u ∷ ms) first second differ = near-other ms k stops r u second (near-after ms first (older T (second_requests ms) (second_outcomes ms) r u.outcome second) differ.1) differ.0
 
   -- ---- the turns of a stranger's connection
 
@@ -145,23 +145,23 @@ module _ (p : Text) (S T : State) (start : AreNear p S T) where
   same-outcome U V r (Err f) (Ok b) near answered answered' unseen = absurd unseen.3
   same-outcome U V r (Err f) (Err g) near answered answered' unseen = absurd unseen.3
 
-  stranger-turn : (ms : List Meeting) (k : ℕ) (r : Option Request) (t u : Turn) → HaveFirst S T (in_both k r t u ∷ ms) → HaveSecond S T (in_both k r t u ∷ ms) → AreNearAfter ms
+  stranger-turn : (ms : List Meeting) (k : ℕ) (stops : Bool) (r : Option Request) (t u : Turn) → HaveFirst S T (in_both k stops r t u ∷ ms) → HaveSecond S T (in_both k stops r t u ∷ ms) → AreNearAfter ms
       → IsSameTurn p (first_left S ms) (second_left T ms) r t u → IsUnseen p (first_left S ms) (second_left T ms) r t.outcome u.outcome → IsOneTurn t u
-  stranger-turn ms k None t u first second near same unseen = (ap (λ (x : Turn). x.cause) same, ap (λ (x : Turn). x.outcome) same)
-  stranger-turn ms k (Some r) t u first second near same unseen =
+  stranger-turn ms k stops None t u first second near same unseen = (ap (λ (x : Turn). x.cause) same, ap (λ (x : Turn). x.outcome) same)
+  stranger-turn ms k stops (Some r) t u first second near same unseen =
       let x = have-split S (first_requests ms) (first_outcomes ms) r t.outcome first in
       let y = have-split T (second_requests ms) (second_outcomes ms) r u.outcome second in
       (same.0, same-outcome (first_left S ms) (second_left T ms) r t.outcome u.outcome near x.1 y.1 unseen)
 
   strangers-turns : (k : ℕ) (ms : List Meeting) → HaveFirst S T ms → HaveSecond S T ms → DifferIn p S T ms → IsStrangers k p S T ms → AreOneTurns k ms
   strangers-turns k [] first second differ strangers = tt
-  strangers-turns k (in_both j r t u ∷ ms) first second differ strangers =
+  strangers-turns k (in_both j stops r t u ∷ ms) first second differ strangers =
       let have = older S (first_requests ms) (first_outcomes ms) r t.outcome first in
       let have' = older T (second_requests ms) (second_outcomes ms) r u.outcome second in
-      (λ here. stranger-turn ms j r t u first second (near-after ms have have' differ.1) differ.0 (strangers.0 here), strangers-turns k ms have have' differ.1 strangers.1)
-  strangers-turns k (in_first j r t ∷ ms) first second differ strangers =
+      (λ here. stranger-turn ms j stops r t u first second (near-after ms have have' differ.1) differ.0 (strangers.0 here), strangers-turns k ms have have' differ.1 strangers.1)
+  strangers-turns k (in_first j stops r t ∷ ms) first second differ strangers =
       (strangers.0, strangers-turns k ms (older S (first_requests ms) (first_outcomes ms) r t.outcome first) second differ.1 strangers.1)
-  strangers-turns k (in_second j r u ∷ ms) first second differ strangers =
+  strangers-turns k (in_second j stops r u ∷ ms) first second differ strangers =
       (strangers.0, strangers-turns k ms first (older T (second_requests ms) (second_outcomes ms) r u.outcome second) differ.1 strangers.1)
 
 -- ---- two worlds

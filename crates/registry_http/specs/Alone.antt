@@ -1,5 +1,5 @@
--- What one caller is sent, while nobody else asks anything, after histories that differ in what named
--- a package.
+-- What one caller is sent while nobody else asks anything, after two histories that differ only in
+-- entries that name a package.
 use Rattle.std.specs.Prelude.{◌≡◌, ℕ, Bool, List, [], ◌∷◌, Option, Some, None, Ok}
 use Rattle.sqlite.specs.State.{State as Shown}
 use Rattle.registry_names.specs.Texts.{Text}
@@ -20,36 +20,38 @@ use Rattle.registry_http.specs.Unseen.{AreReplies, IsWorldOf, Meeting, first_lef
 
 -- ---- by responses
 
--- As long as the caller alone asks, with any credentials of theirs or of nobody, the responses are
--- the same in both runs, byte for byte, where each ends its connection and where it doesn't, up to
--- the first fault in either, and up to the first request that shows the package in one of them alone
+-- As long as the caller alone asks, with credentials that are theirs or nobody's, the responses in
+-- both runs are the same, byte for byte, whether or not they end their connections. This holds up
+-- to the first fault in either run, and up to the first request that shows the package in only one
+-- of them
 abbrev pub AreAnsweredAlikeTo : Caller → Text → State → State → List Request → List Outcome → List Outcome → Type 0
 AreAnsweredAlikeTo who p S T (r ∷ rs) (Ok a ∷ os) (Ok b ∷ qs) = IsTheirs who (caller_of S r.who) → is_shown S r p ≡ is_shown T r p
     → ((closes : Bool) → response_to (Ok a) closes ≡ response_to (Ok b) closes) × AreAnsweredAlikeTo who p (next S r (Ok a)) (next T r (Ok b)) rs os qs
 AreAnsweredAlikeTo who p S T _ _ _ = Unit {0}
 
--- who has no level on the package after either history can't distinguish them by a byte
+-- a caller who has no level on the package after either history can't distinguish the two by a byte
 abbrev pub RunsAreAnsweredAlike : Type 0
 RunsAreAnsweredAlike = (g h : List Entry) (p : Text) (who : Caller) → DifferInPackage g h p → level_in (after g).access who p ≡ Nothing → level_in (after h).access who p ≡ Nothing
     → (rs : List Request) (os qs : List Outcome) → HaveOutcomes (after g) rs os → HaveOutcomes (after h) rs qs → AreAnsweredAlikeTo who p (after g) (after h) rs os qs
 
 -- ---- by connections
 
--- The turn is taken for the same in both worlds. Where it asks something of the registry, it is a
--- request of the caller or of nobody, it shows the package in both or in neither, and it met no
--- fault; where it doesn't, it is the same
+-- The turn has the same cause in both worlds. Where it asks something of the registry, the request
+-- is the caller's or nobody's, it shows the package in both worlds or in neither, and it met no
+-- fault; where it asks nothing, the turn is the same
 abbrev pub IsTheirTurn : Caller → Text → State → State → Option Request → Turn → Turn → Type 0
 IsTheirTurn who p S T None t u = t ≡ u
 IsTheirTurn who p S T (Some r) t u = (t.cause ≡ u.cause) × IsTheirs who (caller_of S r.who) × (is_shown S r p ≡ is_shown T r p) × AreReplies t.outcome u.outcome
 
--- so is each, and none is taken in one world alone
+-- each turn is like this, and none is taken in only one of the worlds
 abbrev pub IsAlone : Caller → Text → State → State → List Meeting → Type 0
 IsAlone who p S T [] = Unit {0}
-IsAlone who p S T (in_both k r t u ∷ ms) = IsTheirTurn who p (first_left S ms) (second_left T ms) r t u × IsAlone who p S T ms
-IsAlone who p S T (in_first k r t ∷ ms) = ⊥
-IsAlone who p S T (in_second k r u ∷ ms) = ⊥
+IsAlone who p S T (in_both k stops r t u ∷ ms) = IsTheirTurn who p (first_left S ms) (second_left T ms) r t u × IsAlone who p S T ms
+IsAlone who p S T (in_first k stops r t ∷ ms) = ⊥
+IsAlone who p S T (in_second k stops r u ∷ ms) = ⊥
 
--- who has no level on the package after either history is sent the same bytes, on each connection
+-- a caller who has no level on the package after either history is sent the same bytes, on each
+-- connection
 abbrev pub OneIsAnsweredTheSame : {D : Type 0} → (D → Shown) → Type 0
 OneIsAnsweredTheSame {D = D} show = (M N : D) (w v : World D) (g h : List Entry) (p : Text) (who : Caller) (ms : List Meeting) → DifferInPackage g h p
     → level_in (after g).access who p ≡ Nothing → level_in (after h).access who p ≡ Nothing

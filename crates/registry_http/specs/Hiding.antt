@@ -30,8 +30,8 @@ IsUnread S who p = (c : Caller) × (caller_of S who ≡ Some c) × (reads (level
 abbrev pub IsUnheardOf : State → Credential → Text → Type 0
 IsUnheardOf S who p = (c : Caller) × (caller_of S who ≡ Some c) × (at S.access.statuses p ≡ None)
 
--- Whatever query a caller makes on a package that they don't read, they get the response, byte for
--- byte, of any query on one that was never published, in the same registry or another
+-- Whatever query a caller makes on a package that they don't read, the response is, byte for byte,
+-- that to any query on a package that was never published, in the same registry or in another
 abbrev pub HiddenAreUnheardOf : Type 0
 HiddenAreUnheardOf = (S T : State) (r s : Request) (p q : Text) (closes : Bool) → IsQueryOf p r.what → IsQueryOf q s.what → IsUnread S r.who p → IsUnheardOf T s.who q
     → response_to (Ok (answer S r)) closes ≡ response_to (Ok (answer T s)) closes

@@ -39,7 +39,7 @@ pub record Applies (old new : Shown) (r : Request) (o : Outcome) : Type 0 where
   pub survives : SurvivesOne old new r
   pub stays : StaysSure new
 
--- so it is of the connections at the entry and at the exit
+-- the same, of the connections at the entry and at the exit
 abbrev pub applies_over : {S : Type 0} → Ghosts S → Answering (Held S)
 applies_over store M r o N = Applies (state store M) (state store N) r o
 
@@ -57,7 +57,7 @@ serving_code {S} store = code_by (Held S × Bool) (coded× (held_code store) cod
 abbrev pub shown : {S : Type 0} → Ghosts S → Serving S → Shown
 shown store s = state store s.registry
 
--- the fault of the tables, met in a registry that the disk has shut, ends its service
+-- the fault of the tables ends the service, where it was met in a registry that the disk has shut
 abbrev pub EndsShut : Shown → Bool → Fault → Type 0
 EndsShut new is_over fault = HasCleanDisk new → fault ≡ Database → new.is_open ≡ false → is_over ≡ true
 
@@ -70,7 +70,7 @@ module _ {S : Type 0} (store : Ghosts S) where
   abbrev pub EndsIfShut : Serving S → Outcome → Type 0
   EndsIfShut new o = IfErr o (EndsShut (shown store new) new.is_over)
 
-  -- no reply ends it, and no want of memory
+  -- neither a reply nor a lack of memory ends it
   abbrev pub EndsByFault : Serving S → Serving S → Outcome → Type 0
   EndsByFault old new (Ok reply) = new.is_over ≡ old.is_over
   EndsByFault old new (Err fault) = EndsBy (shown store old) (shown store new) old.is_over new.is_over fault
@@ -108,7 +108,7 @@ abbrev pub AskAll : List Turn → List Request → List Outcome → Type 0
 AskAll [] rs os = (rs ≡ []) × (os ≡ [])
 AskAll (t ∷ ts) rs os = (qs : List Request) × (ps : List Outcome) × AskAll ts qs ps × AsksNext t qs ps rs os
 
--- the turns are one run of the registry: of it all holds that `run` says
+-- the turns are one run of the registry, of which everything holds that `run` says
 pub record IsOneRun (old new : Shown) (ts : List Turn) : Type 0 where
   pub requests : List Request
   pub outcomes : List Outcome
@@ -129,7 +129,7 @@ pub record IsOneRun (old new : Shown) (ts : List Turn) : Type 0 where
   pub closes : ShutByFaults old new
 
 module _ {D : Type 0} (show : D → Shown) where
-  -- what a service answers where it shows a registry
+  -- what a service answers, where it shows a registry
   abbrev pub applied : Answering D
   applied M r o N = Applies (show M) (show N) r o
 

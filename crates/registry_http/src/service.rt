@@ -20,14 +20,14 @@ use sqlite::Alter;
 use std::alloc::Global;
 use std::marker::Model;
 
-/// A registry that is asked over HTTP, until a fault of the disk has shut it: then the service is
-/// over. Contracts see its connection to the tables, and whether it is over.
+/// A registry that answers HTTP requests, until a fault of the disk has shut it: then the service
+/// is over. Contracts see its connection to the tables, and whether it is over.
 pub struct RegistryService<S: Alter> {
     registry: Registry<S>,
     is_over: bool,
 }
 
-// Written out, so that to drop a service is one call and not one for each part.
+// Written out, so that dropping a service is one call, not one for each part.
 impl<S: Alter + Drop> Drop for RegistryService<S> {
     fn drop(self) {
         let RegistryService {
@@ -58,7 +58,7 @@ impl<S: Alter> RegistryService<S> {
         }
     }
 
-    /// The user of the token with this digest, as `Registry::user_of` looks it up. None where no
+    /// The user of the token with this digest, as `Registry::user_of` looks it up. `None` where no
     /// token has it. Nothing that is stored is changed.
     pub fn user_of(&mut self, alloc: Global, digest: &TokenDigest) -> Result<Option<Ident>, Fault>
         ensures names { NamesUser (shown S.Store self.old) (shown S.Store self.new)
@@ -89,9 +89,9 @@ impl<S: Alter> Service for RegistryService<S> {
     ghost over = { λ s. s.is_over };
 
     /// Answers one request in one transaction, as `Registry::apply` does. After the fault
-    /// `Database` it looks whether the registry is still open: the service is over where it isn't,
-    /// and where the disk fails at the look, too. If there is no memory to look, `Memory` is
-    /// answered, and the service goes on. A service that is over stays so.
+    /// `Database` it checks whether the registry is still open: if it isn't, or if the disk fails
+    /// during the check, the service is over. If there is no memory for the check, `Memory` is
+    /// returned, and the service goes on. A service that is over stays over.
     fn answer(&mut self, alloc: Global, request: &Request) -> Result<Reply, Fault>
         ensures answers { applied (shown S.Store) self.old request.now result self.new }
         ensures shut { EndsIfShut S.Store self.new result }
@@ -111,9 +111,9 @@ impl<S: Alter> Service for RegistryService<S> {
 }
 
 impl<S: Alter> PackumentService for RegistryService<S> {
-    /// Answers a query for a packument, and writes that, as `Registry::send_packument` does. After
-    /// the fault `Database` it looks whether the registry is still open, as after that of an answer:
-    /// the service is over where it isn't.
+    /// Answers a query for a packument, and writes the packument, as `Registry::send_packument`
+    /// does. After the fault `Database` it checks whether the registry is still open, as `answer`
+    /// does: if it isn't, the service is over.
     fn send_packument<W: ByteOut, O: Opener>(
         &mut self,
         alloc: Global,
@@ -183,8 +183,8 @@ fn asked<S: Alter>(
     registry.apply(alloc, request)
 }
 
-// Looks whether a registry that has answered `Database` is still open, and gives the fault to
-// answer. The service is over where it is shut or the disk fails now, and stays over.
+// Checks whether a registry that returned `Database` is still open, and gives the fault to return.
+// The service is over where the registry is shut or the disk fails now, and stays over.
 fn look<S: Alter>(registry: &mut Registry<S>, is_over: &mut bool) -> Fault
     ensures opened { WasOpen (state S.Store registry.old) (state S.Store registry.new) }
     ensures stored { KeepsStored (state S.Store registry.old) (state S.Store registry.new) }

@@ -24,20 +24,20 @@ columns_in (b ∷ bs) = if ends_column b then [] ∷ columns_in bs else beginnin
 abbrev pub columns_of : Entry → List (List ℕ)
 columns_of e = column (utc_text e.at) ∷ column e.user.now ∷ column (method_text e.method) ∷ column (masked e.target.now) ∷ column (decimal e.status) ∷ column (decimal e.length) ∷ column (time_text e.micros) ∷ []
 
--- a reader finds the seven columns of a line, and nothing behind its newline
+-- a reader finds the seven columns of a line, and nothing after its newline
 abbrev pub LinesHaveColumns : Type 0
 LinesHaveColumns = (e : Entry) → columns_in (line_of e) ≡ columns_of e ++ [] ∷ []
 
--- one line ends in it
+-- a line of a request is one line
 abbrev pub LinesAreSingle : Type 0
 LinesAreSingle = (e : Entry) → lines_in (line_of e) ≡ 1
 
 -- ---- tokens
 
--- behind these a token may stand
+-- a token may follow these
 abbrev pub IsTokenWord : List ℕ → Type 0
 IsTokenWord w = (w ≡ codes "/npm_") ⊎ ((w ≡ codes "=npm_") ⊎ ((w ≡ codes "/user/token/") ⊎ (w ≡ codes "/tokens/token/")))
 
--- whatever stands there, and behind it, the same is put in the log
+-- whatever stands there, and after it, the log is the same
 abbrev pub TokensAreHidden : Type 0
 TokensAreHidden = (front w s t : List ℕ) → IsTokenWord w → masked (front ++ (w ++ s)) ≡ masked (front ++ (w ++ t))

@@ -9,11 +9,11 @@ use Rattle.registry_log.specs.declared.entry.Entry.{Entry}
 
 -- ---- columns
 
--- a byte that can be seen stands for itself, and `?` for each other, a space among them
+-- a byte that can be seen stands for itself, and `?` for every other byte, also for a space
 abbrev pub seen_byte : ℕ → ℕ
 seen_byte b = if is_ascii_graphic b then b else 63
 
--- a text as a column: `-` where there is none
+-- a text as a column: `-` where it is empty
 abbrev pub column : List ℕ → List ℕ
 column [] = codes "-"
 column (b ∷ bs) = map seen_byte (b ∷ bs)
@@ -30,11 +30,11 @@ last_cell text = column text ++ codes "\n"
 abbrev pub begins : List ℕ → List ℕ → Bool
 begins text word = starts_with nat_eq text word
 
--- a token may stand behind the first byte
+-- a token may stand after the first byte
 abbrev pub hides : List ℕ → Bool
 hides text = begins text (codes "/npm_") || (begins text (codes "=npm_") || (begins text (codes "/user/token/") || begins text (codes "/tokens/token/")))
 
--- a target up to where a token may stand, and `***` for all that is behind
+-- a target up to where a token may stand, and `***` for everything after that
 abbrev pub masked : List ℕ → List ℕ
 masked [] = []
 masked (b ∷ bs) = b ∷ (if hides (b ∷ bs) then codes "***" else masked bs)

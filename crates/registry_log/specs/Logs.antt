@@ -1,4 +1,4 @@
--- A log: which line is put for a turn, and what becomes of it.
+-- A log: the line that is put for a turn, and what happens to it.
 use Rattle.std.specs.Prelude.{◌≡◌, ◌≤◌, ◌⊎◌, ◌-◌, ℕ, Bool, true, false, List, [], ◌++◌, Option, Some, None, IfSome, codes, decimal, length, if◌then◌else◌}
 use Rattle.std.specs.Borrow.{Bor}
 use Rattle.registry_names.specs.Texts.{Text}
@@ -11,7 +11,7 @@ use Rattle.registry_log.specs.Lines.{line_with}
 use Rattle.registry_log.specs.Waitings.{Queue, adding, has_room, losing, queue, settling}
 use Rattle.registry_log.specs.declared.log.Answered.{Answered}
 
--- what waits to be written, and what the registry answered and wasn't noted yet
+-- what waits to be written, and what the registry answered that wasn't noted yet
 pub record Logging : Type 0 where
   pub waiting : Queue
   pub answered : Option Answered
@@ -31,12 +31,12 @@ abbrev pub user_in : Option Answered → Text
 user_in None = []
 user_in (Some a) = name_in a.user
 
--- for how long it was asked, if it was
+-- for how long it was asked, if it was asked
 abbrev pub micros_in : Option Answered → Option ℕ
 micros_in None = None
 micros_in (Some a) = Some a.micros
 
--- what the request asks for, if one was read
+-- the method of the request, if one was read
 abbrev pub method_in : Option (Bor Wanted) → Option Method
 method_in None = None
 method_in (Some w) = Some w.now.method
@@ -45,24 +45,24 @@ abbrev pub target_in : Option (Bor Wanted) → List ℕ
 target_in None = []
 target_in (Some w) = w.now.target
 
--- The line of a turn at this moment: of who asked, what was asked for, and what was answered.
+-- The line of a turn at this moment: who asked, what was asked for, and what was answered.
 abbrev pub turn_line : ℕ → Option Answered → Option (Bor Wanted) → Turned → List ℕ
 turn_line at answered wanted turned =
     line_with at (user_in answered) (method_in wanted) (target_in wanted) turned.answer.status (length (body_bytes turned.answer.body)) (micros_in answered)
 
--- ---- lines that are no request's
+-- ---- lines that aren't a request's
 
 abbrev pub said_line : ℕ → Text → List ℕ
 said_line at text = utc_text at ++ codes " # " ++ text ++ codes "\n"
 
--- so many lines were lost; where what is written ends within a line that is ended first
+-- this many lines were lost; where what is written ends within a line, that line is ended first
 abbrev pub lost_line : ℕ → ℕ → Bool → List ℕ
 lost_line at lost cut = (if cut then codes "\n" else []) ++ utc_text at ++ codes " # lost lines: " ++ decimal lost ++ codes "\n"
 
--- ---- what becomes of a line
+-- ---- what happens to a line
 
--- What waits was written, up to some byte, once it was said how many lines were lost, if some were. Where
--- that can't be said nothing is written, and what waits is lost, too.
+-- What waits was written, up to some byte, after a line that says how many lines were lost, if some
+-- were. Where that line can't be written, nothing is written, and what waits is lost, too.
 pub record IsWritten (old new : Queue) : Type 0 where
   pub told : Bool
   pub written : ℕ
@@ -74,24 +74,24 @@ abbrev pub PutsIf : Bool → List ℕ → Queue → Queue → Type 0
 PutsIf true line old new = new ≡ adding line old
 PutsIf false line old new = (between : Queue) × IsWritten old between × (new ≡ adding line between)
 
--- A line waits behind the others. Where there is no room for it what waits is written first, and where
--- there is none then, either, it is lost.
+-- A line waits after the others. Where there is no room for it, what waits is written first; where
+-- there is still no room, the line is lost.
 abbrev pub IsPut : List ℕ → Queue → Queue → Type 0
 IsPut line old new = PutsIf (has_room (length line) old) line old new
 
--- so it is, or there was no memory for it, and it is lost
+-- it is put, or there was no memory for it, and it is lost
 abbrev pub IsNoted : List ℕ → Queue → Queue → Type 0
 IsNoted line old new = IsPut line old new ⊎ (new ≡ losing 1 old)
 
--- A turn was noted: exactly its line waits, or is lost. Its moment is that at which the registry was
--- asked, where it was.
+-- A turn was noted: exactly its line waits, or is lost. Where the registry was asked, the line has
+-- the moment at which it was.
 pub record NotesTurn (wanted : Option (Bor Wanted)) (turned : Turned) (old new : Logging) : Type 0 where
   pub at : ℕ
   pub asked : IfSome old.answered (λ a. at ≡ a.at)
   pub noted : IsNoted (turn_line at old.answered wanted turned) old.waiting new.waiting
   pub taken : new.answered ≡ None
 
--- a line that is no request's was noted, and what waits was written
+-- a line that isn't a request's was noted, and what waits was written
 pub record SaysLine (text : Text) (old new : Logging) : Type 0 where
   pub at : ℕ
   pub between : Queue
@@ -104,6 +104,6 @@ abbrev pub Remembers : ℕ → Option Text → ℕ → Logging → Logging → T
 Remembers at user begun old new =
     (now : ℕ) × (new ≡ logging old.waiting (Some (record { at = at; user = user; micros = now - begun })))
 
--- what waits was written, and nothing was answered that is to be noted
+-- what waits was written, and no answer is to be noted any more
 abbrev pub Rests : Logging → Logging → Type 0
 Rests old new = IsWritten old.waiting new.waiting × (new.answered ≡ None)

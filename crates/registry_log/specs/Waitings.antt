@@ -2,7 +2,7 @@
 use Rattle.std.specs.Prelude.{ℕ, ◌+◌, ◌-◌, ◌^◌, min, nat_eq, nat_le, Bool, List, [], ◌++◌, drop, length, if◌then◌else◌}
 use Rattle.std.specs.List.{count_by}
 
--- the bytes of the lines, and how many lines were lost since that was said
+-- the bytes of the lines, and how many lines were lost since a line last said how many
 pub record Queue : Type 0 where
   pub bytes : List ℕ
   pub lost : ℕ
@@ -14,15 +14,15 @@ queue bytes lost = record { bytes = bytes; lost = lost }
 abbrev pub waiting_limit : ℕ
 waiting_limit = 65536
 
--- so many more lines are lost, up to the greatest number that is counted
+-- this many more lines are lost, up to the greatest number that is counted
 abbrev pub losing : ℕ → Queue → Queue
 losing count q = queue q.bytes (min (q.lost + count) (2 ^ 64 - 1))
 
--- so many bytes more are no more than may wait
+-- there is room for this many bytes more
 abbrev pub has_room : ℕ → Queue → Bool
 has_room count q = nat_le (length q.bytes + count) waiting_limit
 
--- a line waits behind the others, or is lost where there is no room for it
+-- a line waits after the others, or is lost where there is no room for it
 abbrev pub adding : List ℕ → Queue → Queue
 adding line q = if has_room (length line) q then queue (q.bytes ++ line) q.lost else losing 1 q
 
@@ -30,6 +30,6 @@ adding line q = if has_room (length line) q then queue (q.bytes ++ line) q.lost 
 abbrev pub lines_in : List ℕ → ℕ
 lines_in bytes = count_by (λ b. nat_eq b 10) bytes
 
--- the first so many bytes were written, and the lines that didn't end in them are lost
+-- this many bytes were written, from the first on, and the lines that don't end in them are lost
 abbrev pub settling : ℕ → Queue → Queue
 settling written q = losing (lines_in (drop written q.bytes)) (queue [] q.lost)

@@ -8,8 +8,8 @@ use itoa::Buffer;
 use registry_wire::ShortText;
 use std::alloc::AllocError;
 
-/// Puts a text behind a line as a column, and the space behind it. `-` stands where the text is
-/// empty, and `?` for each byte that can't be seen or is a space.
+/// Adds a text to a line as a column, and a space after it. `-` stands for an empty text, and `?`
+/// for each byte that can't be seen or is a space.
 pub(crate) fn push_cell(line: &mut Vec<u8>, text: &[u8]) -> Result<(), AllocError>
     ensures { OnOk result (line.new.items ≡ line.old.items ++ cell text.now) }
 {
@@ -17,7 +17,7 @@ pub(crate) fn push_cell(line: &mut Vec<u8>, text: &[u8]) -> Result<(), AllocErro
     Ok(line.push(b' ')?)
 }
 
-/// The same of a number, in decimal digits.
+/// The same for a number, in decimal digits.
 pub(crate) fn push_number(line: &mut Vec<u8>, number: u64) -> Result<(), AllocError>
     ensures { OnOk result (line.new.items ≡ line.old.items ++ cell (decimal number)) }
 {
@@ -25,7 +25,7 @@ pub(crate) fn push_number(line: &mut Vec<u8>, number: u64) -> Result<(), AllocEr
     push_cell(line, digits.format(number).as_bytes())
 }
 
-/// The last column: microseconds, in milliseconds with one decimal. A newline is behind it.
+/// The last column: microseconds, in milliseconds with one decimal, and a newline.
 pub(crate) fn push_time(line: &mut Vec<u8>, micros: Option<u64>) -> Result<(), AllocError>
     ensures { OnOk result (line.new.items ≡ line.old.items ++ last_cell (time_text micros)) }
 {
@@ -46,7 +46,7 @@ fn time(micros: Option<u64>) -> ShortText
     text
 }
 
-// Puts a text behind a line as a column.
+// Adds a text to a line as a column.
 fn push_column(line: &mut Vec<u8>, text: &[u8]) -> Result<(), AllocError>
     ensures { OnOk result (line.new.items ≡ line.old.items ++ column text.now) }
 {

@@ -10,17 +10,17 @@ use registry_names::{Fault, Method, Moment};
 use registry_packument::moment_text;
 use std::alloc::Global;
 
-/// The room that is taken for a line at first.
+/// The room that is reserved for a line at first.
 const LINE_ROOM: usize = 256;
 
-/// What is known of a request, or of what was none, once it was answered.
+/// What is known of a request, or of input that isn't one, once it was answered.
 #[derive(Clone, Copy)]
 pub struct Entry<'a> {
     /// When it was asked.
     pub at: Moment,
-    /// The user whose token it had. Empty where it had none that is somebody's.
+    /// The user whose token it had. Empty where it had no token, or one that isn't a user's.
     pub user: &'a str,
-    /// Its method. None where no request was read.
+    /// Its method. `None` where no request was read.
     pub method: Option<Method>,
     /// Its target, escapes and query included. Empty where no request was read.
     pub target: &'a [u8],
@@ -28,16 +28,16 @@ pub struct Entry<'a> {
     pub status: u16,
     /// How many bytes the body of the response has.
     pub length: u64,
-    /// For how many microseconds the registry was asked. None where it wasn't asked.
+    /// For how many microseconds the registry was asked. `None` where it wasn't asked.
     pub micros: Option<u64>,
 }
 
 impl Entry<'_> {
     /// Its line: the moment, the user, the method, the target, the status, the length and the time
-    /// in milliseconds, with a space between each two and a newline at the end. `-` stands for what
-    /// isn't known, and `***` for all of a target that may be a token.
+    /// in milliseconds, with a space between them and a newline at the end. `-` stands for what
+    /// isn't known, and `***` for every part of a target that may be a token.
     ///
-    /// `Memory` comes where no memory is left.
+    /// `Memory` is returned where no memory is left.
     pub fn line(&self, alloc: Global) -> Result<Vec<u8>, Fault>
         ensures ok { IfOk result (λ line. line.items ≡ line_of self.now) }
         ensures err { IfErr result (λ fault. fault ≡ Fault.Memory) }

@@ -1,10 +1,10 @@
-//! A log of the requests that a registry answered over HTTP: a line a request.
+//! A log of the requests that a registry answered over HTTP, with one line for each request.
 //!
-//! A [`LoggedService`] is a registry as a service, with or without a log. Contracts see the registry
-//! alone, so all that is promised of it is promised with a log, too. What a turn answered is an
-//! [`Entry`], whose line has seven columns whatever a client sent ([`laws`]). Lines wait in a room of
-//! fixed size, and are written once in each round of turns. Those that can't be written are lost,
-//! and that is said in the log once it can be written again.
+//! A [`LoggedService`] is a registry as a service, with or without a log. Contracts see the
+//! registry alone, so everything that is promised of it is promised with a log, too. What a turn
+//! answered is an [`Entry`], whose line has seven columns whatever a client sent ([`laws`]). Lines
+//! wait in a buffer of fixed size, and are written once in each round of turns. Lines that can't be
+//! written are lost, and the log says so once it can be written again.
 #![tactic(auto)]
 
 mod column;

@@ -24,9 +24,9 @@ struct Answered {
     micros: u64,
 }
 
-/// A log: lines that wait, and where they are written. No call of it fails: where there is no memory
-/// for a line, or it can't be written, it is lost, and how many were is said in the log once it can
-/// be written. Contracts see what waits, and what was answered and wasn't noted yet.
+/// A log: lines that wait, and where they are written. No call of it fails: where there is no
+/// memory for a line, or it can't be written, it is lost, and the log says how many were lost once
+/// it can be written. Contracts see what waits, and what was answered and wasn't noted yet.
 #[derive(Drop)]
 pub struct Log<K: LogClock, W: LineSink> {
     alloc: Global,
@@ -47,7 +47,7 @@ impl<K: LogClock, W: LineSink> Model for Log<K, W> {
 }
 
 impl<K: LogClock + Drop, W: LineSink + Drop> Log<K, W> {
-    /// A log in which nothing was written. An error comes where no memory is left.
+    /// A log in which nothing was written. An error is returned where no memory is left.
     pub fn new(alloc: Global, clock: K, sink: W) -> Result<Log<K, W>, AllocError>
         ensures { IfOk result (λ log. log ≡ logging (queue [] 0) None) }
     {
@@ -63,8 +63,8 @@ impl<K: LogClock + Drop, W: LineSink + Drop> Log<K, W> {
 }
 
 impl<K: LogClock, W: LineSink> Log<K, W> {
-    /// Writes a line that is no request's, as `2026-11-26T10:00:00.000Z # ended`, and what waits
-    /// before it.
+    /// Writes a line that isn't a request's, such as `2026-11-26T10:00:00.000Z # ended`, after what
+    /// waits.
     pub fn say(&mut self, text: &str)
         ensures { SaysLine text.now self.old self.new }
     {
@@ -83,8 +83,8 @@ impl<K: LogClock, W: LineSink> Log<K, W> {
         self.clock.micros()
     }
 
-    /// The registry has answered a request, which was asked at this moment, by this user if it was
-    /// one, and which it began to answer then.
+    /// The registry has answered a request, which was asked at `at`, by `user` if a user asked, and
+    /// which it began to answer at `begun`.
     pub fn answered(&mut self, at: Moment, user: Option<Ident>, begun: u64)
         ensures { Remembers at user begun self.old self.new }
     {
@@ -92,9 +92,9 @@ impl<K: LogClock, W: LineSink> Log<K, W> {
         self.answered = Some(Answered { at, user, micros });
     }
 
-    /// A turn was taken for this request, or for what is none. Its line waits: where the registry was
-    /// asked it has the moment of that, and its user and time, and else the moment that it is. A line
-    /// is lost where there is no memory or no room for it.
+    /// A turn was taken for this request, or for input that isn't one. Its line waits. Where the
+    /// registry was asked, the line has the moment of that, the user and the time; otherwise it has
+    /// the present moment. A line is lost where there is no memory or no room for it.
     pub fn note(&mut self, wanted: Option<&Wanted>, turned: &Turned)
         ensures { NotesTurn wanted.entry turned.now self.old self.new }
     {
@@ -115,7 +115,7 @@ impl<K: LogClock, W: LineSink> Log<K, W> {
         self.write();
     }
 
-    // The moment at which the registry was asked, or that it is, where it wasn't.
+    // The moment at which the registry was asked, or the present one where it wasn't.
     fn moment(&mut self, answered: &Option<Answered>) -> Moment
         ensures asked { IfSome answered.now (λ a. result ≡ a.at) }
         ensures keeps { self.new ≡ self.old }
@@ -126,7 +126,7 @@ impl<K: LogClock, W: LineSink> Log<K, W> {
         }
     }
 
-    // A line waits. Where there is no room for it what waits is written first.
+    // A line waits. Where there is no room for it, what waits is written first.
     fn add(&mut self, line: &[u8])
         ensures put { IsPut line.now self.old.waiting self.new.waiting }
         ensures keeps { self.new.answered ≡ self.old.answered }
@@ -174,7 +174,7 @@ impl<K: LogClock, W: LineSink> Log<K, W> {
     }
 }
 
-// Puts bytes behind what is written, if there are some, and sees whether that ends within a line then.
+// Writes bytes after what is written, if there are some, and sees whether that ends within a line.
 fn put<W: LineSink>(sink: &mut W, is_cut: &mut bool, bytes: &[u8]) -> usize
     ensures { result ≤ length bytes.now }
 {
@@ -212,7 +212,7 @@ fn line(
     entry.line(alloc)
 }
 
-// The user who asked. Empty where the registry wasn't asked, or by none.
+// The user who asked. Empty where the registry wasn't asked, or not by a user.
 fn user_in(answered: &Option<Answered>) -> &str
     ensures { result.now ≡ spec.user_in answered.now }
 {
@@ -262,7 +262,7 @@ fn target_in<'a>(wanted: Option<&'a Wanted>) -> &'a [u8]
     }
 }
 
-// A line that is no request's.
+// A line that isn't a request's.
 fn said(alloc: Global, at: Moment, text: &str) -> Result<String, Fault>
     ensures { IfOk result (λ line. string_bytes line ≡ spec.said_line at text.now) }
 {
@@ -270,8 +270,8 @@ fn said(alloc: Global, at: Moment, text: &str) -> Result<String, Fault>
     Ok(format!(in alloc; "{} # {}\n", at.as_str(), text)?)
 }
 
-// The line that says how many lines were lost. Where what is written ends within a line, that is
-// ended first.
+// The line that says how many lines were lost. Where what is written ends within a line, that line
+// is ended first.
 fn lost_line(alloc: Global, at: Moment, lost: u64, is_cut: bool) -> Result<String, Fault>
     ensures { IfOk result (λ line. string_bytes line ≡ spec.lost_line at lost is_cut) }
 {

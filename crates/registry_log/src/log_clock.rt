@@ -4,9 +4,9 @@ use registry_names::Moment;
 
 /// What time it is.
 pub trait LogClock {
-    /// The moment that it is.
+    /// The present moment.
     fn moment(&mut self) -> Moment;
 
-    /// The microseconds that have passed since some moment that stays the same. They never go back.
+    /// The microseconds since a fixed moment. They never decrease.
     fn micros(&mut self) -> u64;
 }

@@ -77,9 +77,9 @@ impl<S: Alter, K: LogClock, W: LineSink> Service for LoggedService<S, K, W> {
 
     ghost over = { λ s. s.is_over };
 
-    /// Answers one request as a [`RegistryService`] does. Where a log is kept it is looked up before
-    /// who asks. It is over as a [`RegistryService`] is: where the registry was seen to be shut, by
-    /// that fault alone, and then for good.
+    /// Answers one request as a [`RegistryService`] does. Where a log is kept, it is looked up
+    /// first who asks. The service is over exactly as a [`RegistryService`] is: where the registry
+    /// was seen to be shut, only by that fault, and then for good.
     fn answer(&mut self, alloc: Global, request: &Request) -> Result<Reply, Fault>
         ensures answers { applied (shown S.Store) self.old request.now result self.new }
         ensures shut { EndsIfShut S.Store self.new result }
@@ -130,7 +130,7 @@ fn asked<S: Alter, K: LogClock, W: LineSink>(
     outcome
 }
 
-// The user whose token is shown. None where it is nobody's, or that can't be seen.
+// The user whose token is shown. `None` where it isn't a user's, or that can't be looked up.
 fn user_of<S: Alter>(
     alloc: Global,
     inner: &mut RegistryService<S>,

@@ -2,10 +2,10 @@
 
 ghost use Rattle.std.specs.Prelude.{◌≤◌, length};
 
-/// A place for lines, as a file.
+/// A place for lines, such as a file.
 pub trait LineSink {
-    /// Puts these bytes behind those that are there, and says how many were put: a prefix of them,
-    /// or none. It may not wait.
+    /// Writes these bytes after those that are there, and returns how many were written: a prefix
+    /// of them, which may be empty. It must not wait.
     fn append(&mut self, bytes: &[u8]) -> usize
         ensures { result ≤ length bytes.now };
 }

@@ -7,11 +7,11 @@ ghost use Rattle.registry_log.specs.Lines.{cell, column, masked};
 use crate::column::seen_byte;
 use std::alloc::AllocError;
 
-/// What stands for all that may be a token.
+/// What stands for everything that may be a token.
 const MASK: &[u8] = b"***";
 
-/// Puts a target behind a line as a column, and the space behind it. Behind the first place at which
-/// a token may stand `***` is put for all that follows.
+/// Adds a target to a line as a column, and a space after it. After the first byte that a token may
+/// follow, `***` stands for the rest.
 pub(crate) fn push_target(line: &mut Vec<u8>, target: &[u8]) -> Result<(), AllocError>
     ensures { OnOk result (line.new.items ≡ line.old.items ++ cell (masked target.now)) }
 {
@@ -43,8 +43,8 @@ fn push_masked(line: &mut Vec<u8>, target: &[u8]) -> Result<(), AllocError>
     Ok(())
 }
 
-// Whether a token may stand behind the first byte: npm's tokens begin with `npm_`, and npm puts one
-// of any form into the path where it revokes it.
+// Whether a token may stand after the first byte: npm's tokens begin with `npm_`, and npm puts a
+// token of any form into the path where it revokes it.
 fn hides(text: &[u8]) -> bool
     ensures { result ≡ spec.hides text.now }
 {

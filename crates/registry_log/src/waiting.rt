@@ -7,11 +7,11 @@ ghost use Rattle.registry_log.specs.Waitings.{adding, losing, queue, settling};
 use std::alloc::{AllocError, Global};
 use std::marker::Model;
 
-/// The most bytes that wait.
+/// The most bytes that may wait.
 pub const WAITING_LIMIT: usize = 65_536;
 
-/// Lines that wait to be written, and how many were lost since it was said how many. The room for
-/// them is taken once. Contracts see the bytes, and the number.
+/// Lines that wait to be written, and how many were lost since a line last said how many. The
+/// memory for them is reserved once. Contracts see the bytes, and the number.
 #[derive(Drop)]
 pub struct Waiting {
     bytes: Vec<u8>,
@@ -32,7 +32,7 @@ impl Model for Waiting {
 }
 
 impl Waiting {
-    /// No lines. An error comes where no memory is left.
+    /// No lines. An error is returned where no memory is left.
     pub fn new(alloc: Global) -> Result<Waiting, AllocError>
         ensures { IfOk result (λ w. w ≡ queue [] 0) }
     {
@@ -49,14 +49,14 @@ impl Waiting {
         self.bytes.as_slice()
     }
 
-    /// How many lines were lost since it was said how many.
+    /// How many lines were lost since a line last said how many.
     pub fn lost(&self) -> u64
         ensures { result ≡ self.now.lost }
     {
         self.lost
     }
 
-    /// Whether there is room for so many bytes more.
+    /// Whether there is room for this many bytes more.
     pub fn has_room(&self, count: usize) -> bool
         ensures { result ≡ spec.has_room count self.now }
     {
@@ -72,15 +72,15 @@ impl Waiting {
         }
     }
 
-    /// So many more lines are lost.
+    /// This many more lines are lost.
     pub fn lose(&mut self, count: u64)
         ensures { self.new ≡ losing count self.old }
     {
         self.lost = self.lost.saturating_add(count);
     }
 
-    /// The first so many bytes were written. The lines that don't end in them are lost, and nothing
-    /// waits any more.
+    /// This many bytes were written. The lines that don't end in them are lost, and nothing waits
+    /// any more.
     pub fn settle(&mut self, written: usize)
         requires { written ≤ length self.old.bytes }
         ensures { self.new ≡ settling written self.old }
@@ -90,7 +90,7 @@ impl Waiting {
         self.lose(lost);
     }
 
-    /// It was said how many lines were lost.
+    /// A line has said how many lines were lost.
     pub fn tell(&mut self)
         ensures { self.new ≡ queue self.old.bytes 0 }
     {

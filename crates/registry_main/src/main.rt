@@ -1,6 +1,6 @@
-//! The registry as a program: without arguments it publishes the body on standard input to an empty
-//! registry in memory, and prints the packument of the package on standard output; with arguments
-//! it answers what they ask for of the registry in a file, or serves that over HTTP.
+//! The registry as a program, which answers what its arguments ask for of the registry in a file,
+//! or serves that registry over HTTP. Without arguments it publishes the body on standard input to
+//! an empty registry in memory, and prints the packument of the package on standard output.
 #![tactic(auto)]
 
 use registry_names::{Fault, FromRead, Text, ToWrite};
@@ -11,7 +11,7 @@ use std::io::ErrorKind;
 use std::process::ExitCode;
 use std::rt::Env;
 
-/// What is printed of arguments that are no texts, as `clap` says it.
+/// The message for arguments that aren't texts, in the words of `clap`.
 const NO_TEXTS: &str = "error: invalid UTF-8 was detected in one or more arguments";
 
 fn main(rt: HostRuntime) -> ExitCode {

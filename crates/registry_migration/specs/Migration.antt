@@ -25,7 +25,7 @@ pub record MayMigrate (older : Older) (c : Contents) : Type 0 where
   pub readable : NeedsAreReadable c
   pub counted : CountsArchivesAlone c
 
--- what SQLite keeps as the count of so many archives
+-- what SQLite keeps as the count of this many archives
 abbrev pub counted_to : ℕ → Option Value
 counted_to zero = None
 counted_to (suc n) = Some (Int (pos (suc n)))
@@ -37,8 +37,8 @@ pub record AreNumberedInARow (c : Contents) : Type 0 where
   pub each : (k : ℕ) → k < count → is_some (at c.archives (pos (suc k))) ≡ true
   pub last : c.last_archive ≡ counted_to count
 
--- archives of the rows are stored each once now, and are numbered in a row; those that were stored so
--- are as they were
+-- archives that were in rows of versions are stored now, each once, and are numbered in a row;
+-- those that were stored already are as they were
 abbrev pub KeepsArchives : Older → Contents → Contents → Type 0
 KeepsArchives First before after = HoldsArchives after × AreNumberedInARow after
 KeepsArchives Second before after = (after.versions ≡ before.versions) × (after.held ≡ before.held) × (after.archives ≡ before.archives) × (after.last_archive ≡ before.last_archive)
@@ -48,7 +48,7 @@ pub record Migrates (older : Older) (before after : Contents) : Type 0 where
   pub same : registry_of after ≡ registry_of_older older before
   -- the needs that are stored are those of live manifests, with their ranges
   pub needs : HoldsNeeds after
-  -- and none without
+  -- and none is stored without its range
   pub targets : after.needs ≡ empty
   pub archives : KeepsArchives older before after
   pub numbered : after.meta ≡ put before.meta schema_key schema_number

@@ -19,12 +19,12 @@ use registry_names::Fault;
 use sqlite::{Alter, Transaction};
 use std::alloc::Global;
 
-/// Makes a registry of schema 3 of one of an older schema, with all that it holds.
+/// Makes a registry of an older schema one of schema 3, with all that it holds.
 ///
-/// It stands in the caller's transaction: where that isn't committed, the registry of the older
+/// It runs in the caller's transaction: where that isn't committed, the registry of the older
 /// schema is there as before. So a caller drops the transaction after a fault.
 ///
-/// `Database` comes where the number in `meta` isn't that of the schema, where the needs of a
+/// `Database` is returned where the number in `meta` isn't that of the schema, where the needs of a
 /// manifest can't be read, and where SQLite counts for anything but the archives.
 pub fn migrate<S: Alter>(
     alloc: Global,

@@ -18,8 +18,8 @@ use registry_tables::put_needs;
 use sqlite::{Alter, Error, Row, Transaction, params};
 use std::alloc::Global;
 
-/// Stores what all live versions depend on, and deletes what was stored of that without ranges. A
-/// manifest whose needs can't be read is answered by `Database`.
+/// Stores what all live versions depend on, and deletes what was stored of that without ranges.
+/// `Database` is returned for a manifest whose needs can't be read.
 pub(crate) fn put_ranges<S: Alter>(alloc: Global, tx: &mut Transaction<'_, S>) -> Result<(), Fault>
     requires under_way { IsUnderWay S.Store tx.old }
     requires none { HasCleanDisk (shown S.Store tx.old)
@@ -97,7 +97,7 @@ fn first_manifest(rows: &[Row]) -> Result<Text, Fault>
     }
 }
 
-// The needs of a manifest. One that has none to read is `Database`.
+// The needs of a manifest. `Database` is returned where they can't be read.
 fn needs_in(alloc: Global, manifest: &str) -> Result<Vec<Need>, Fault>
     ensures { IfOk result (λ needs. spec.needs_of manifest.now ≡ Some needs.items) }
 {

@@ -19,8 +19,8 @@ use sqlite::{Alter, Transaction, params};
 /// The number of the schema that a migration makes.
 const SCHEMA: i64 = 3;
 
-/// Another number than that of the older schema is `Database`, and so is a counter besides that of
-/// the archives.
+/// `Database` is returned for another number than that of the older schema, and for a counter
+/// besides that of the archives.
 pub(crate) fn check_number<S: Alter>(tx: &mut Transaction<'_, S>, older: Older) -> Result<(), Fault>
     requires in_form { InForm S.Store tx.old }
     requires going { HasCleanDisk (shown S.Store tx.old) → GoesOn S.Store tx.old }

@@ -39,8 +39,9 @@ impl Older {
     }
 }
 
-/// Which of the older schemas this one is, and `None` where it is none of them: it is compared with
-/// each, as it is made in memory.
+/// Which of the older schemas this one is, or `None` where it isn't one of them. It is compared
+/// with what the first 14 or 17 of the texts make in memory. A registry asks this only where the
+/// tables aren't today's.
 pub fn older_schema(alloc: Global, schema: &Schema) -> Result<Option<Older>, Fault>
     ensures { IfOk result (λ found. (older : Older)
         → (found ≡ Some older) ↔ (schema.now ≡ schema_of older)) }
@@ -86,7 +87,7 @@ fn count_of(older: Older) -> usize
     }
 }
 
-// Runs the first so many of the texts that make the tables.
+// Runs this many of the first texts that make the tables.
 fn make_first<S: Alter>(
     tx: &mut Transaction<'_, S>,
     texts: &[&str],

@@ -4,6 +4,7 @@
 ghost use Rattle.sqlite.specs.Held.{state};
 ghost use Rattle.registry_desk.specs.Resting.{Rests};
 
+mod asked;
 mod faults;
 mod first;
 mod many;
@@ -11,6 +12,7 @@ mod rows;
 mod second;
 mod stops;
 
+use asked::{Asked, answering};
 use registry_check::check;
 use registry_desk::Registry;
 use registry_migration::Older;
@@ -23,10 +25,10 @@ use sqlite_disk::{Disk, Memory};
 use std::alloc::Global;
 use std::test::Fail;
 
-/// How many pages are kept in memory. The memory of all is written when files are opened.
+/// How many pages are kept in memory. All that memory is written when files are opened.
 const CACHE_PAGES: usize = 64;
 
-/// All that a database says of its tables and indexes, with the tree of each.
+/// Everything that a database says of its tables and indexes, with the tree of each.
 const SCHEMA: &str = "SELECT rowid, type, name, tbl_name, sql FROM sqlite_schema";
 
 /// What is asked of a database, and the rows that it shows.
@@ -37,24 +39,43 @@ type Left = (Result<(), Fault>, Files<Memory>);
 
 #[test]
 fn a_registry_of_schema_1_is_migrated(rt: HostRuntime) -> Result<(), Fail> {
-    becomes(rt.alloc(), Older::First, first::rows(), first::shown())
+    becomes(
+        rt.alloc(),
+        Older::First,
+        first::rows(),
+        first::shown(),
+        first::asked(),
+    )
 }
 
 #[test]
 fn a_registry_of_schema_2_is_migrated(rt: HostRuntime) -> Result<(), Fail> {
-    becomes(rt.alloc(), Older::Second, second::rows(), second::shown())
+    becomes(
+        rt.alloc(),
+        Older::Second,
+        second::rows(),
+        second::shown(),
+        second::asked(),
+    )
 }
 
 // A registry of the older schema with these rows opens, shows these rows afterwards, and has the
-// schema of a fresh one. Another open finds nothing to do.
-fn becomes(alloc: Global, older: Older, rows: &[&str], shows: &[Shown]) -> Result<(), Fail> {
+// schema of a fresh one. Another open finds nothing to do, and the registry then gives these
+// answers.
+fn becomes(
+    alloc: Global,
+    older: Older,
+    rows: &[&str],
+    shows: &[Shown],
+    asked: &[Asked],
+) -> Result<(), Fail> {
     let files = migrated(alloc, made(alloc, older, rows)?)?;
     let files = showing(alloc, files, shows)?;
     let fresh = fresh_schema(alloc)?;
     let files = showing(alloc, files, &[(SCHEMA, fresh.as_str())])?;
     let files = migrated(alloc, files)?;
-    let _files = showing(alloc, files, shows)?;
-    Ok(())
+    let files = showing(alloc, files, shows)?;
+    answering(alloc, files, asked)
 }
 
 /// Files with the tables of the older schema, and these rows.
@@ -80,15 +101,15 @@ fn run_all(conn: &mut Connection<FileStore<Memory>>, texts: &[&str]) -> Result<(
     Ok(())
 }
 
-/// The files, from which a registry opened. Nothing is wrong with what it holds.
+/// The files, from which a registry opened, and in which nothing is wrong.
 pub fn migrated(alloc: Global, files: Files<Memory>) -> Result<Files<Memory>, Fail> {
     let (outcome, files) = opened(alloc, files)?;
     same("an open", outcome, Ok(()))?;
     Ok(files)
 }
 
-/// What an open of a registry from these files answers, and what it leaves of them. Where something
-/// is wrong with what the registry holds, that is an error.
+/// What an open of a registry from these files returns, and what it leaves of them. It is an error
+/// if anything is wrong in what the registry holds.
 pub fn opened(alloc: Global, files: Files<Memory>) -> Result<Left, Fail> {
     if !files.may_be_used() {
         return Err(Fail::new(format_args!("the files can't be used")));
@@ -112,7 +133,7 @@ fn has_no_problem<S: Alter>(alloc: Global, conn: &mut Connection<S>) -> Result<(
     same("problems", problems.len(), 0)
 }
 
-/// The files, whose database answers these queries so.
+/// The files, whose database gives these answers to these queries.
 pub fn showing(
     alloc: Global,
     files: Files<Memory>,

@@ -21,7 +21,7 @@ abbrev pub stop_text : Stop → List ℕ
 stop_text (Refused refusal) = refusal_text refusal
 stop_text (Faulted fault) = fault_text fault
 
--- no memory is left, or what was to be read is refused so, of which this holds
+-- no memory is left, or what was to be read gets this refusal, and this holds
 abbrev pub IsMemoryOr : Refusal → Type 0 → Stop → Type 0
 IsMemoryOr refusal P e = (e ≡ Faulted Memory) ⊎ ((e ≡ Refused refusal) × P)
 

@@ -10,7 +10,7 @@ pub record IsGreatest (m : Text) (vs : List Text) : Type 0 where
   pub member : IsTrue (among is vs m)
   pub above : (v : Text) → IsTrue (among is vs v) → IsFalse (is_gt (text_precedence v m))
 
--- the one with precedence, of a text and another that may be there
+-- of a text and another, if there is one, the one with precedence
 abbrev pub greater : Text → Option Text → Text
 greater v None = v
 greater v (Some m) = cond (is_lt (text_precedence v m)) m v

@@ -16,7 +16,7 @@ Triple = Text × Pair
 unfoldable pub by_first : {R : Type 0} → (R → R → Ordering) → Text × R → Text × R → Ordering
 by_first cmp a b = ordering_then (text_cmp a.0 b.0) (cmp a.1 b.1)
 
--- whether the first texts are one, and the rests too
+-- whether the first texts are the same, and the rests too
 abbrev pub both : {R : Type 0} → (R → R → Bool) → Text × R → Text × R → Bool
 both same a b = is a.0 b.0 && same a.1 b.1
 
@@ -32,7 +32,7 @@ triple_cmp = by_first pair_cmp
 abbrev pub triple_is : Triple → Triple → Bool
 triple_is = both pair_is
 
--- what a key needs: a total order, which ties equal keys alone, and a test that holds just where
+-- what a key needs: a total order, which ties only equal keys, and a test that holds exactly where
 -- the order ties
 pub record IsKey {K : Type 0} (cmp : K → K → Ordering) (same : K → K → Bool) : Type 0 where
   pub total : IsTotalOrder cmp

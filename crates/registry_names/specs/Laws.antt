@@ -32,7 +32,7 @@ module _ (X : Type 0) {K : Type 0} (cmp : K → K → Ordering) (same : K → K 
   abbrev pub ReviseAnswers : Type 0
   ReviseAnswers = (m : MapBy cmp X) (f : K → X → X) (k : K) → at (revise m f) k ≡ option_map (f k) (at m k)
 
-  -- maps that answer alike are one
+  -- maps that answer alike are equal
   abbrev pub AnswersTell : Type 0
   AnswersTell = (m n : MapBy cmp X) → ((k : K) → at m k ≡ at n k) → m ≡ n
 
@@ -41,15 +41,15 @@ module _ (X : Type 0) {K : Type 0} (cmp : K → K → Ordering) (same : K → K 
   abbrev pub RowsAnswer : Type 0
   RowsAnswer = (es : List (K × X)) (k : K) → at (rows cmp es) k ≡ first_at same es k
 
-  -- a row more, whose key is new, is put
+  -- one more row, whose key is new, is a put
   abbrev pub RowsPush : Type 0
   RowsPush = (es : List (K × X)) (q : K) (x : X) → at (rows cmp es) q ≡ None → rows cmp (es ++ (q, x) ∷ []) ≡ put (rows cmp es) q x
 
-  -- fewer rows, by a test of their keys, are kept
+  -- rows chosen by a test of their keys give the entries that the test keeps
   abbrev pub RowsKeep : Type 0
   RowsKeep = (es : List (K × X)) (test : K → Bool) → rows cmp (filter (λ (e : K × X). test e.0) es) ≡ keep (rows cmp es) test
 
-  -- rows changed in their values are revised
+  -- rows with changed values give the revised map
   abbrev pub RowsRevise : Type 0
   RowsRevise = (es : List (K × X)) (f : K → X → X) → rows cmp (map (λ (e : K × X). (e.0, f e.0 e.1)) es) ≡ revise (rows cmp es) f
 
@@ -90,17 +90,17 @@ VersionsBelow = (a b : VersionParts) → (precedence a b ≡ Less) ↔ IsBelow a
 abbrev pub ReleaseAbove : Type 0
 ReleaseAbove = (v : VersionParts) → v.pre ≢ [] → precedence v (release_of v) ≡ Less
 
--- versions of one precedence are one
+-- versions of the same precedence are equal
 abbrev pub VersionsTie : Type 0
 VersionsTie = (a b : VersionParts) → (precedence a b ≡ Equal) ↔ (a ≡ b)
 
--- the test holds of one version alone
+-- the test holds exactly of equal versions
 abbrev pub SameVersions : Type 0
 SameVersions = (a b : VersionParts) → (same_version a b ≡ true) ↔ (a ≡ b)
 
 -- ---- precedence of texts
 
--- texts of one precedence are one
+-- texts of the same precedence are equal
 abbrev pub PrecedenceTells : Type 0
 PrecedenceTells = (a b : Text) → text_precedence a b ≡ Equal → a ≡ b
 
@@ -108,11 +108,11 @@ PrecedenceTells = (a b : Text) → text_precedence a b ≡ Equal → a ≡ b
 abbrev pub VersionsAreRead : Type 0
 VersionsAreRead = (t : Text) (v : VersionParts) → IsVersionOf t v → version_in t ≡ Some v
 
--- of two versions it is SemVer's
+-- the precedence of two versions is SemVer's
 abbrev pub PrecedenceOfVersions : Type 0
 PrecedenceOfVersions = (a b : Text) (x y : VersionParts) → IsVersionOf a x → IsVersionOf b y → text_precedence a b ≡ precedence x y
 
--- a text that is no version by SemVer is below each version
+-- a text that isn't a version by SemVer is below each version
 abbrev pub OthersBelow : Type 0
 OthersBelow = (a b : Text) (y : VersionParts) → ¬ (IsSemVer a) → IsVersionOf b y → text_precedence a b ≡ Less
 
@@ -124,6 +124,6 @@ GreatestIs = (vs : List Text) (m : Text) → (greatest vs ≡ Some m) ↔ IsGrea
 abbrev pub GreatestStands : Type 0
 GreatestStands = (vs : List Text) → (greatest vs ≡ None) ↔ (vs ≡ [])
 
--- lists with the same members have one greatest
+-- lists with the same members have the same greatest
 abbrev pub GreatestOfMembers : Type 0
 GreatestOfMembers = (xs ys : List Text) → ((v : Text) → among is xs v ≡ among is ys v) → greatest xs ≡ greatest ys

@@ -84,6 +84,6 @@ among same ks k = list_any (λ q. same q k) ks
 abbrev pub keys : {K X : Type 0} → List (K × X) → List K
 keys es = map (λ e. e.0) es
 
--- a row with its value seen by `g`
+-- a row with `g` of its value
 abbrev pub seen : {K X Y : Type 0} → (X → Y) → K × X → K × Y
 seen g e = (e.0, g e.1)

@@ -4,12 +4,12 @@ use Rattle.std.specs.Prelude.{◌≡◌, ◌≤ℤ◌, ℕ, ℤ, pos, negsuc, mi
 abbrev pub last_second : ℕ
 last_second = 253402300799
 
--- the moment of so many seconds, if there is one
+-- the moment of this many seconds, if there is one
 abbrev pub moment_of : ℤ → Option ℕ
 moment_of (pos n) = if nat_le n last_second then Some n else None
 moment_of (negsuc n) = None
 
--- the moment nearest to so many seconds
+-- the moment nearest to this many seconds
 abbrev pub nearest_moment : ℤ → ℕ
 nearest_moment (pos n) = min n last_second
 nearest_moment (negsuc n) = 0

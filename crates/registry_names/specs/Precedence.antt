@@ -23,7 +23,7 @@ version_in t = numbers_of (version_parts t)
 abbrev pub IsSemVer : Text → Type 0
 IsSemVer t = (p : Parts) × IsValid p × (t ≡ parts_text p)
 
--- SemVer's precedence of the versions that the texts are, a text that is none below each that is
--- one; where these tie, by bytes
+-- SemVer's precedence of texts that are versions, with every other text below each of them; where
+-- these tie, by bytes
 unfoldable pub text_precedence : Text → Text → Ordering
 text_precedence a b = ordering_then (option_cmp precedence (version_in a) (version_in b)) (text_cmp a b)

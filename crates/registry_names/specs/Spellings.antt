@@ -1,4 +1,4 @@
--- How values of a few are spelled, and how a status is.
+-- How the values of a short list are spelled, and how a status is.
 use Rattle.std.specs.Prelude.{◌≡◌, ◌↔◌, List, [], ◌∷◌, codes, Option, Some}
 use Rattle.std.specs.List.{find}
 use Rattle.std.specs.Str.{bytes_eq}

@@ -1,4 +1,4 @@
--- The order of versions in words, and the test whether two are one.
+-- The order of versions in words, and the test whether two are equal.
 use Rattle.std.specs.Prelude.{◌≡◌, ℕ, ◌<◌, ◌⊎◌, ◌&&◌, ◌==◌, Bool, [], bytes_eq}
 use Rattle.std.specs.declared.cmp.Ordering.TheVariants.{Less}
 use Rattle.semver.specs.Order.{pre_cmp}
@@ -17,6 +17,6 @@ IsBelow a b = IsLessOr a.major b.major (IsLessOr a.minor b.minor (IsLessOr a.pat
 abbrev pub release_of : VersionParts → VersionParts
 release_of v = record v { pre = [] }
 
--- whether two versions are one
+-- whether two versions are equal
 abbrev pub same_version : VersionParts → VersionParts → Bool
 same_version a b = a.major == b.major && a.minor == b.minor && a.patch == b.patch && bytes_eq a.pre b.pre

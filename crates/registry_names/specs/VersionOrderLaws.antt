@@ -1,4 +1,4 @@
--- Precedence orders all versions and ties none but equal ones. The laws of `Ver`'s `Eq` and `Ord`
+-- Precedence orders all versions and ties only equal ones. The laws of `Ver`'s `Eq` and `Ord`
 -- cite these.
 use Rattle.std.proofs.Common.{◌≡◌, Some, refl, sym, ap, ◌∙◌, Ordering, Less, Equal, Greater, nat_cmp}
 use Rattle.std.proofs.lemmas.Bool.Decides.{Decides-and, Decides-eqb, Decides-like, same_from_decides}
@@ -11,7 +11,7 @@ use Rattle.semver.specs.OrderLaws.{pre_total, pre-anti}
 use Rattle.registry_names.specs.Versions.{VersionParts, precedence}
 use Rattle.registry_names.specs.VersionOrder.{same_version}
 
--- what two comparisons, one after the other, say of each
+-- where two comparisons in turn tie, each of them ties
 pub first_tie : (o r : Ordering) → ordering_then o r ≡ Equal → o ≡ Equal
 first_tie Less r e = cc
 first_tie Equal r e = refl
@@ -28,7 +28,7 @@ pub precedence_total : IsTotalOrder precedence
 precedence_total = then_total (on_total (λ (v : VersionParts). v.major) nat_cmp_total) (then_total (on_total (λ (v : VersionParts). v.minor) nat_cmp_total)
     (then_total (on_total (λ (v : VersionParts). v.patch) nat_cmp_total) (on_total (λ (v : VersionParts). v.pre) pre_total)))
 
--- versions of one precedence are one
+-- versions of the same precedence are equal
 pub precedence_exact : (x y : VersionParts) → precedence x y ≡ Equal → x ≡ y
 precedence_exact x y e =
     let majors = nat_cmp-IsAntisymmetric x.major y.major (first_tie (nat_cmp x.major y.major) _ e) in

@@ -1,4 +1,4 @@
--- What the registry asks of a version beyond the grammar of SemVer, of the parts that are read.
+-- What the registry asks, beyond SemVer's grammar, of the parts of a version that are read.
 use Rattle.std.specs.Prelude.{Bool, ◌&&◌, ◌==◌, nat_le, length}
 use Rattle.semver.specs.Parse.{Parts}
 use Rattle.registry_names.specs.Versions.{greatest_number}

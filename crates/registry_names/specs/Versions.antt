@@ -39,8 +39,8 @@ IsVersionOf t v = (t ≡ text_of_version v) × (length t ≤ longest_version) ×
 abbrev pub IsVersion : List ℕ → Type 0
 IsVersion t = (v : VersionParts) × IsVersionOf t v
 
--- Precedence (SemVer 2.0.0, item 11): by the numbers in turn, then by the prerelease, which a
--- version without one is above.
+-- Precedence (SemVer 2.0.0, item 11): by the numbers in turn, then by the prerelease. A version
+-- without a prerelease is above those with one.
 abbrev pub precedence : VersionParts → VersionParts → Ordering
 precedence a b = ordering_then (nat_cmp a.major b.major) (ordering_then (nat_cmp a.minor b.minor)
     (ordering_then (nat_cmp a.patch b.patch) (pre_cmp a.pre b.pre)))

@@ -8,7 +8,7 @@ ghost use Rattle.std.proofs.Common.{rules};
 use std::alloc::{AllocError, Global};
 use std::marker::Model;
 
-/// Bytes of any kind, as an archive's. Contracts see them as a list.
+/// Bytes of any kind, such as an archive's. Contracts see them as a list.
 #[derive(Debug, Drop)]
 pub struct Blob {
     bytes: Vec<u8>,
@@ -23,7 +23,7 @@ impl Model for Blob {
 impl Blob {
     /// A copy of the bytes.
     ///
-    /// An error comes where no memory is left.
+    /// An error is returned when no memory is left.
     pub fn from_slice(alloc: Global, bytes: &[u8]) -> Result<Blob, AllocError>
         ensures { IfOk result (λ b. b ≡ bytes.now) }
     {
@@ -37,7 +37,7 @@ impl Blob {
         self.bytes.as_slice()
     }
 
-    /// The bytes as the vector that they were made of.
+    /// The vector that the bytes were made from.
     pub fn into_vec(self) -> Vec<u8>
         ensures { result.items ≡ self }
     {

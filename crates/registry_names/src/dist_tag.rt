@@ -5,8 +5,8 @@ use crate::text::Text;
 /// A dist-tag of a package, and the version that it names.
 #[derive(Debug, PartialEq, Eq, Drop)]
 pub struct DistTag {
-    /// The tag, as `latest`.
+    /// The tag, such as `latest`.
     pub tag: Text,
-    /// The version, as `1.0.0`.
+    /// The version, such as `1.0.0`.
     pub version: Text,
 }

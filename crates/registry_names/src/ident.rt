@@ -73,7 +73,8 @@ impl Model for Ident {
 impl Ident {
     /// Reads a name.
     ///
-    /// `BadName` comes exactly for a text that is none, and `Memory` where no memory is left.
+    /// `BadName` is returned exactly for a text that isn't one, and `Memory` when no memory is
+    /// left.
     pub fn parse(alloc: Global, text: &str) -> Result<Ident, Stop>
         ensures ok { IfOk result (λ i. (i ≡ text.now) × (spec.is_ident text.now ≡ true)) }
         ensures err { IfErr result (IsMemoryOr Refusal.BadName (spec.is_ident text.now ≡ false)) }

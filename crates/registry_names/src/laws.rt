@@ -13,7 +13,7 @@ ghost use Rattle.registry_names.specs.Laws.{VersionsBelow, ReleaseAbove, Version
 ghost use Rattle.registry_names.specs.Laws.{PrecedenceTells, PrecedenceOfVersions, VersionsAreRead, OthersBelow, GreatestIs, GreatestStands, GreatestOfMembers};
 ghost use Rattle.registry_names.specs.Spellings.{IsReadBack, status_named, status_text};
 
-/// One, two and three texts are keys: their orders are total and tie equal keys alone.
+/// One, two and three texts are keys: their orders are total and tie only equal keys.
 pub fn texts_are_keys()
     ensures one { IsKey text_cmp is }
     ensures two { IsKey pair_cmp pair_is }
@@ -50,8 +50,8 @@ pub fn parts_answer<R, X>()
     ensures told { UnderKeys R (PartTold X) }
 {}
 
-/// Precedence is a total order of versions, by their numbers in turn and then by the prerelease,
-/// which a release is above; and it ties no two versions.
+/// Precedence is a total order of versions, by their numbers in turn and then by the prerelease. A
+/// release is above its prereleases, and no two versions tie.
 pub fn versions_are_ordered()
     ensures total { IsTotalOrder precedence }
     ensures below { VersionsBelow }
@@ -60,7 +60,7 @@ pub fn versions_are_ordered()
     ensures same { SameVersions }
 {}
 
-/// Precedence is a total order of all texts, by SemVer where they are versions, of which each is
+/// Precedence is a total order of all texts, by SemVer where they are versions. Each version is
 /// read to its own parts. The greatest of a list is the member that none of the others has
 /// precedence over.
 pub fn precedence_orders_texts()

@@ -38,7 +38,7 @@ impl Model for Message {
 impl Message {
     /// Reads a message.
     ///
-    /// `BadBody` comes exactly for a text of more bytes, and `Memory` where no memory is left.
+    /// `BadBody` is returned exactly for a longer text, and `Memory` when no memory is left.
     pub fn parse(alloc: Global, text: &str) -> Result<Message, Stop>
         ensures ok { IfOk result (λ m. (m ≡ text.now) × (is_message text.now ≡ true)) }
         ensures err { IfErr result (IsMemoryOr Refusal.BadBody (is_message text.now ≡ false)) }

@@ -7,6 +7,6 @@ pub enum Method {
     Put,
     Post,
     Delete,
-    /// Any other, which no route has and which is never served.
+    /// Any other method. No route has it, and it is never served.
     Other,
 }

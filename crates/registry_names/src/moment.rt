@@ -31,7 +31,8 @@ impl Model for Moment {
 }
 
 impl Moment {
-    /// The moment of this many seconds. None before the first moment and after the last.
+    /// The moment of this many seconds. `None` is returned before the first moment and after the
+    /// last.
     pub fn new(seconds: i64) -> Option<Moment>
         ensures { result ≡ moment_of seconds }
     {

@@ -119,7 +119,8 @@ impl Model for Name {
 impl Name {
     /// Reads a name.
     ///
-    /// `BadName` comes exactly for a text that is none, and `Memory` where no memory is left.
+    /// `BadName` is returned exactly for a text that isn't one, and `Memory` when no memory is
+    /// left.
     pub fn parse(alloc: Global, text: &str) -> Result<Name, Stop>
         ensures ok { IfOk result (λ n. (n ≡ text.now) × IsName text.now) }
         ensures err { IfErr result (IsMemoryOr Refusal.BadName (¬ IsName text.now)) }
@@ -137,7 +138,8 @@ impl Name {
         self.text.as_str()
     }
 
-    /// The scope without its `@`, which is an organisation's name. None where the name has none.
+    /// The scope without its `@`, which is an organisation's name. `None` where the name has no
+    /// scope.
     pub fn scope(&self) -> Option<&str>
         ensures scope { option_map (λ s. s.now) result ≡ scope_of self.now }
         ensures form { (p : List ℕ) × IsNameOf self.now (option_map (λ s. s.now) result) p }

@@ -20,12 +20,12 @@ pub enum Rule {
     A4,
     /// Any user publishes a new name that has no scope.
     A5,
-    /// Whoever may write a package publishes its further versions, and changes its status, its
+    /// Anyone who may write a package publishes its further versions, and changes its status, its
     /// tags and its deprecations, and withdraws its versions.
     A6,
     /// A maintainer of a package manages its maintainers.
     A7,
-    /// Whoever may read a package sees it.
+    /// Anyone who may read a package sees it.
     A8,
     /// A member of an organisation sees its members, its teams and their grants.
     A9,
@@ -38,13 +38,13 @@ pub enum Rule {
 /// registry holds, and these reasons are tested in the order in which they come here.
 #[derive(Clone, Copy, Debug, PartialEq, Eq)]
 pub enum Refusal {
-    /// A text is no name of a package, a user, an organisation or a team.
+    /// A text isn't the name of a package, a user, an organisation or a team.
     BadName,
-    /// A text is no version.
+    /// A text isn't a version.
     BadVersion,
     /// A tag could be read as a range of versions.
     RangeTag,
-    /// A text is no tag.
+    /// A text isn't a tag.
     BadTag,
     /// A body, or a value in it, isn't what is asked for.
     BadBody,
@@ -52,11 +52,11 @@ pub enum Refusal {
     BadIntegrity,
     /// A body has more bytes than are read.
     TooLarge,
-    /// Nobody is known by the credential, or a request needs a user and has none.
+    /// The credential names nobody, or an anonymous caller asks for anything but to see a package.
     NoCaller,
     /// What is named isn't there, or the caller may not see it.
     NotFound,
-    /// Access rule A1 to A9 doesn't let the caller do it.
+    /// The rule of access that would allow it, one of A1 to A9, doesn't.
     Denied(Rule),
     /// The version is published already.
     Published,
@@ -68,13 +68,13 @@ pub enum Refusal {
     Depended,
     /// `latest` can't be removed while a version lives.
     KeepsLatest,
-    /// A text is no selector.
+    /// A text isn't a selector.
     BadSelector,
-    /// The last owner of an organisation, or the last maintainer of a package, would go.
+    /// The last owner of an organisation, or the last maintainer of a package, would be removed.
     LastOwner,
     /// The team `developers` can't be destroyed.
     KeepsDevelopers,
-    /// What would be made is there already.
+    /// What would be created is already there.
     Exists,
     /// A package of another scope can't be granted.
     OtherScope,
@@ -85,7 +85,7 @@ pub enum Refusal {
 }
 
 impl Refusal {
-    /// The name that is printed, as `BadName`; after `Denied` the rule's, as `Denied A6`.
+    /// The name that is printed, such as `BadName`; after `Denied` the rule's, such as `Denied A6`.
     pub fn text(self) -> &'static str
         ensures { result.now ≡ refusal_text self }
     {

@@ -16,7 +16,8 @@ pub enum Status {
 }
 
 impl Status {
-    /// The status that a text spells: `public` or `restricted`. `None` comes for any other text.
+    /// The status that a text spells: `public` or `restricted`. `None` is returned for any other
+    /// text.
     pub fn parse(text: &str) -> Option<Status>
         ensures { result ≡ status_named text.now }
     {
@@ -27,7 +28,7 @@ impl Status {
         }
     }
 
-    /// The text that spells it, as `public`.
+    /// The text that spells it, such as `public`.
     pub fn text(self) -> &'static str
         ensures { result.now ≡ status_text self }
     {

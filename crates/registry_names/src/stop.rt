@@ -11,8 +11,8 @@ use std::error::Error;
 use std::fmt;
 
 /// What went wrong in the machine. A fault may come at any place instead of an answer. What was
-/// asked for is then not done, with one exception: where a fault of the disk has shut a registry for
-/// good, the last request that it was asked may have been done, all of it.
+/// asked for is then not done, with one exception: where a fault of the disk has shut a registry
+/// for good, the request that met that fault may have been done, all of it.
 #[derive(Clone, Copy, Debug, PartialEq, Eq)]
 pub enum Fault {
     /// No memory was left.
@@ -22,7 +22,7 @@ pub enum Fault {
 }
 
 impl Fault {
-    /// The name that is printed, as `Memory`.
+    /// The name that is printed, such as `Memory`.
     pub fn text(self) -> &'static str
         ensures { result.now ≡ fault_text self }
     {
@@ -53,7 +53,7 @@ impl fmt::Display for Fault {
 
 impl Error for Fault {}
 
-/// Why a call answers nothing. It hands out nothing then.
+/// Why a call answers nothing. Such a call hands out nothing.
 #[derive(Clone, Copy, Debug, PartialEq, Eq)]
 pub enum Stop {
     /// The request is refused.

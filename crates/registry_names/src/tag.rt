@@ -43,10 +43,10 @@ fn is_tag(text: &str) -> bool
     1 <= text.len() && text.len() <= LONGEST && all_tag_bytes(text.as_bytes())
 }
 
-/// The text of a dist-tag: 1 to 214 characters of `A-Z a-z 0-9 - _ . ! ~ * ' ( )`, which mean
+/// The text of a dist-tag: 1 to 214 characters of `A-Z a-z 0-9 - _ . ! ~ * ' ( )`, which stand for
 /// themselves in a URL. Contracts see its text.
 ///
-/// That a tag is no range of versions is tested apart from its characters, and before them.
+/// Whether a text is a range of versions is tested elsewhere, before its characters are.
 #[derive(Debug, Drop)]
 pub struct TagText {
     text: String,
@@ -63,7 +63,8 @@ impl Model for TagText {
 impl TagText {
     /// Reads a text that has the characters and the length of a tag.
     ///
-    /// `BadTag` comes exactly for a text that hasn't, and `Memory` where no memory is left.
+    /// `BadTag` is returned exactly for a text that doesn't have them, and `Memory` when no memory
+    /// is left.
     pub fn shape(alloc: Global, text: &str) -> Result<TagText, Stop>
         ensures ok { IfOk result (λ t. (t ≡ text.now) × (spec.is_tag text.now ≡ true)) }
         ensures err { IfErr result (IsMemoryOr Refusal.BadTag (spec.is_tag text.now ≡ false)) }

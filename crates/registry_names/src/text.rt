@@ -23,7 +23,7 @@ impl Model for Text {
 impl Text {
     /// A copy of the text.
     ///
-    /// An error comes where no memory is left.
+    /// An error is returned when no memory is left.
     pub fn from_str(alloc: Global, text: &str) -> Result<Text, AllocError>
         ensures { IfOk result (λ t. t ≡ text.now) }
     {
@@ -38,7 +38,7 @@ impl Text {
         self.string.as_str()
     }
 
-    /// The text as the string that it was made of.
+    /// The string that the text was made from.
     pub fn into_string(self) -> String
         ensures { string_bytes result ≡ self }
     {

@@ -26,7 +26,7 @@ const LONGEST: usize = 256;
 /// The greatest number of a version, 2^53 - 1, which every JavaScript client reads as it is.
 pub const GREATEST_NUMBER: u64 = 9_007_199_254_740_991;
 
-// Whether reading stopped for want of memory.
+// Whether reading stopped for lack of memory.
 fn is_memory(error: Error) -> bool
     ensures { result ≡ false → error ≢ memory_error }
 {
@@ -43,15 +43,15 @@ fn in_profile(version: &Version) -> bool
 }
 
 /// A version of [SemVer 2.0.0](https://semver.org/spec/v2.0.0.html) without build metadata, of at
-/// most 256 characters, its numbers at most [`GREATEST_NUMBER`]. So two versions of one precedence
-/// are one version. Contracts see its parts.
+/// most 256 characters, its numbers at most [`GREATEST_NUMBER`]. So two versions of the same
+/// precedence are equal. Contracts see its parts.
 #[derive(Debug)]
 pub struct Ver {
     text: String,
     version: Version,
 }
 
-// Written out, so that to drop a version is one call and not one for each part.
+// Written out, so that dropping a version is one call, not one for each part.
 impl Drop for Ver {
     fn drop(self) {
         let Ver {
@@ -77,8 +77,8 @@ impl Model for Ver {
 impl Ver {
     /// Reads a version.
     ///
-    /// `BadVersion` comes for no other text than one that is no version, and `Memory` where no
-    /// memory is left, which may be before such a text is read to its end.
+    /// `BadVersion` is returned only for a text that isn't a version, and `Memory` when no memory
+    /// is left, which may be before such a text is read to its end.
     pub fn parse(alloc: Global, text: &str) -> Result<Ver, Stop>
         ensures ok { IfOk result (λ v. IsVersionOf text.now v) }
         ensures err { IfErr result (IsMemoryOr Refusal.BadVersion (¬ IsVersion text.now)) }

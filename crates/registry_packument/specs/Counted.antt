@@ -14,8 +14,8 @@ use Rattle.registry_packument.specs.declared.stream.PackFault.{PackFault}
 use Rattle.registry_packument.specs.declared.stream.PackFault.TheVariants.{Write, Source}
 
 module _ (opens : ℕ → List ℕ) (IsText : List ℕ → Type 0) (old new : Option (List ℕ)) (unknown : Bool) where
-  -- Of some text for which `IsText` holds, the stream took what opens it and the text, or a prefix of
-  -- these
+  -- Of some text for which `IsText` holds, the stream took what opens it and the text, or a prefix
+  -- of these
   abbrev pub Takes : Sent → Type 0
   Takes (Refused refusal) = ⊥
   Takes Whole = (text : List ℕ) × (IsText text × Writes old new unknown (opened opens text))
@@ -30,16 +30,16 @@ IsUnbroken Whole = ⊤
 IsUnbroken WriteFault = ⊤
 IsUnbroken (Broken fault has_started) = ⊥
 
--- where it is broken off, it is by such a fault
+-- where it is broken off, this holds of the fault
 abbrev pub IfBroken : Sent → (Fault → Type 0) → Type 0
 IfBroken (Refused refusal) IsSuch = ⊤
 IfBroken Whole IsSuch = ⊤
 IfBroken WriteFault IsSuch = ⊤
 IfBroken (Broken fault has_started) IsSuch = IsSuch fault
 
--- So many bytes were counted, and the packument of the rows has so many, where the rows make one.
--- Memory may run out in any case. The database is at fault only where the packument's bytes aren't
--- those that were counted
+-- The first number of bytes was counted, and the second is what the packument of the rows has,
+-- where the rows make one. Memory may run out in any case. The database is at fault only where the
+-- packument's bytes aren't those that were counted
 abbrev pub IsFaultOfLen : ℕ → Option ℕ → Fault → Type 0
 IsFaultOfLen counted has Memory = ⊤
 IsFaultOfLen counted has Database = has ≢ Some counted
@@ -54,13 +54,13 @@ IsUnstopped (Ok done) = ⊤
 IsUnstopped (Err Write) = ⊤
 IsUnstopped (Err (Source fault)) = ⊥
 
--- how a packument ends whose first bytes were written, by how the writing of its versions ended
+-- how a packument was sent whose first bytes were written, by how the writing of its versions ended
 abbrev pub end_of : {A : Type 0} → Result A PackFault → Sent
 end_of (Ok done) = Whole
 end_of (Err Write) = WriteFault
 end_of (Err (Source fault)) = Broken fault true
 
--- the stream took so many bytes, or fewer where it ends in a fault
+-- the stream took this many bytes, or fewer where it ends in a fault
 abbrev pub WritesWithin : {A E : Type 0} → ℕ → Result A E → Option (List ℕ) → Option (List ℕ) → Bool → Type 0
 WritesWithin len (Ok done) old new unknown = (bytes : List ℕ) × ((length bytes ≡ len) × Writes old new unknown bytes)
 WritesWithin len (Err fault) old new unknown = (bytes : List ℕ) × ((length bytes < len) × Writes old new unknown bytes)

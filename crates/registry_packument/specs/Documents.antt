@@ -46,12 +46,12 @@ abbrev pub deprecated_text : List ℕ → List ℕ → List ℕ
 deprecated_text manifest message =
     let key = codes "deprecated" in print (json_tokens (object (placed key (string message) (members_without key (written_members manifest)))))
 
--- The text of a manifest and a message, of which the empty one says that nothing is deprecated.
+-- The text of a manifest and a message. The empty message says that nothing is deprecated.
 abbrev pub documented : List ℕ → List ℕ → List ℕ
 documented manifest [] = manifest
 documented manifest (c ∷ message) = deprecated_text manifest (c ∷ message)
 
--- the document of a manifest and a message, and none where the manifest is none
+-- the document of a manifest and a message, if the manifest is one
 abbrev pub document_text : List ℕ → List ℕ → Option (List ℕ)
 document_text manifest message = option_map (λ _. documented manifest message) (manifest_members manifest)
 

@@ -25,8 +25,8 @@ abbrev pub version_pairs : List VersionRow → Option (List Pair)
 version_pairs [] = Some []
 version_pairs (r ∷ rs) = option_and_then (λ p. option_map (λ ps. p ∷ ps) (version_pairs rs)) (version_pair r)
 
--- the moments under `time`: of each version its publication, and then those at which the package was
--- created and modified
+-- the moments under `time`: of each version its publication, and then those at which the package
+-- was created and modified
 abbrev pub moments_of : List VersionTime → ℕ → ℕ → List (List ℕ × ℕ)
 moments_of times created modified = map time_entry times ++ (codes "created", created) ∷ (codes "modified", modified) ∷ []
 

@@ -26,7 +26,7 @@ abbrev mutual
 abbrev pub behind : {A : Type 0} → (A → Bool) → Option (A × List Token) → Option (List Token)
 behind test read = option_and_then (λ p. if test p.0 then Some p.1 else None) read
 
--- after a value that nests so deep at most
+-- after a value that nests at most this deep
 abbrev pub behind_value : ℕ → List Token → Option (List Token)
 behind_value depth ts = behind is_held (value depth ts)
 

@@ -12,6 +12,6 @@ abbrev pub text_members : {A : Type 0} → (A → List ℕ × List ℕ) → List
 text_members pair [] = no_members
 text_members pair (r ∷ rs) = member (pair r).0 (string (pair r).1) (text_members pair rs)
 
--- the byte stands for itself in a JSON string: it is no control character, no quote and no backslash
+-- the byte stands for itself in a JSON string: it isn't a control character, a quote or a backslash
 abbrev pub is_plain_char : ℕ → Bool
 is_plain_char x = not (nat_lt x 32) && (not (x == 34) && not (x == 92))

@@ -8,15 +8,16 @@ use Rattle.registry_packument.specs.declared.within.Gathered.TheVariants.{Bytes,
 use Rattle.registry_packument.specs.declared.within.PackumentWithin.{PackumentWithin}
 use Rattle.registry_packument.specs.declared.within.PackumentWithin.TheVariants.{Text, Longer}
 
--- the packument of a package's head and its versions: its text, which is no longer than the limit, or
--- its length, which is more than that
+-- the packument of a package's head and its versions: its text, which is no longer than the limit,
+-- or its length, which is more than that
 abbrev pub IsWithin : ℕ → HeadParts → List VersionRow → PackumentWithin → Type 0
 IsWithin limit head versions (Text text) = (pack_text head versions ≡ Some text) × (length text ≤ limit)
 IsWithin limit head versions (Longer len) = (pack_len head versions ≡ Some len) × (limit < len)
 
 -- ---- what is gathered of it
 
--- these bytes, where they are no more than the limit, and else their number, which is below 2^64
+-- these bytes, where they are no more than the limit, and otherwise their number, which is below
+-- 2^64
 abbrev pub HasGathered : ℕ → List ℕ → Gathered → Type 0
 HasGathered limit bytes (Bytes text) = (string_bytes text ≡ bytes) × (length bytes ≤ limit)
 HasGathered limit bytes (Count count) = (count ≡ length bytes) × ((limit < count) × (count < 2 ^ 64))

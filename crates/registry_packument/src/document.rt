@@ -112,8 +112,8 @@ fn deprecated(alloc: Global, manifest: &str, message: &str) -> Result<String, Fa
     Ok(text_of(alloc, &Value::Object(members))?)
 }
 
-/// The document of a version whose manifest is known to be one. Where the message is empty it is the
-/// manifest, which isn't read.
+/// The document of a version whose manifest is known to be one. Where the message is empty it is
+/// the manifest, which isn't read.
 pub(crate) fn documented(alloc: Global, manifest: Text, message: &str) -> Result<Text, Fault>
     ensures ok { IfOk result (λ text. text ≡ documents.documented manifest message.now) }
     ensures err { IfErr result (IsFaultOf (manifest_members manifest)) }
@@ -125,7 +125,8 @@ pub(crate) fn documented(alloc: Global, manifest: Text, message: &str) -> Result
     Ok(Text::from(text))
 }
 
-/// The document of a version, made of its manifest, which it is itself where the message is empty.
+/// The document of a version, made from its manifest: the manifest itself where the message is
+/// empty.
 pub(crate) fn document_of(alloc: Global, manifest: Text, message: &str) -> Result<Text, Fault>
     ensures ok { IfOk result (λ text. document_text manifest message.now ≡ Some text) }
     ensures err { IfErr result (IsFaultOf (document_text manifest message.now)) }
@@ -136,14 +137,14 @@ pub(crate) fn document_of(alloc: Global, manifest: Text, message: &str) -> Resul
     documented(alloc, manifest, message)
 }
 
-/// The document of a version: the manifest itself where the message is empty; else the manifest as
-/// it is written, without spaces, with the member `deprecated`, whose value is the message, in its
-/// place by key and instead of what was under it.
+/// The document of a version: the manifest itself where the message is empty; otherwise the
+/// manifest as it is written, without spaces, with the member `deprecated`, whose value is the
+/// message, in its place by key and instead of what was under it.
 ///
-/// A manifest is the compact JSON of an object, and so is its document then. Of any other text that
-/// `serde_json` reads into an object the members and the numbers stay as they are written.
-/// `Database` comes exactly where `serde_json` reads the text into no object, and `Memory` where no
-/// memory is left.
+/// A manifest is the compact JSON of an object, and so is its document then. In any other text that
+/// `serde_json` reads into an object, the members and the numbers stay as they are written.
+/// `Database` is returned exactly where `serde_json` doesn't read the text into an object, and
+/// `Memory` when no memory is left.
 pub fn version_text(alloc: Global, manifest: &str, message: &str) -> Result<Text, Fault>
     ensures ok { IfOk result (λ text. document_text manifest.now message.now ≡ Some text) }
     ensures err { IfErr result (IsFaultOf (manifest_members manifest.now)) }

@@ -37,8 +37,8 @@ impl Model for PackHead {
 }
 
 impl PackHead {
-    /// The head with the package's name, its dist-tags and its moments. None exactly where the tags
-    /// or the versions aren't in byte order, each once.
+    /// The head with the package's name, its dist-tags and its moments. `None` is returned exactly
+    /// where the tags or the versions aren't in byte order, each once.
     pub fn new(name: Text, tags: Vec<DistTag>, times: PackTimes) -> Option<PackHead>
         ensures order { IsSome result
             ↔ (AreTagsInOrder tags.items × AreTimesInOrder times.versions.items) }

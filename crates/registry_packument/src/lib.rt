@@ -2,16 +2,16 @@
 //! names of a list, in byte order.
 //!
 //! A version's document is its manifest as it is stored, with the message of a deprecation put in
-//! where there is one. A manifest is a text that `serde_json` reads into an object: each is read
-//! for that, and nothing of it is kept. Where the manifests are compact JSON, as they are stored,
-//! so are the documents and the packument ([`laws`]). A call fails where no memory is left, and
-//! exactly where a manifest is none.
+//! where there is one. A manifest is a text that `serde_json` reads into an object: each is read to
+//! test that, and nothing of it is kept. Where the manifests are compact JSON, as they are stored,
+//! so are the documents and the packument ([`laws`]). A call fails where a manifest isn't one, and
+//! when no memory is left.
 //!
-//! The versions of a packument come from a source, which gives them one after the other. Its text is
-//! made whole, once, into exact room: for that all its documents are held. Or it is written version
-//! by version, or its bytes are counted: for that one version is held at a time. A fault leaves a
-//! prefix of what is written, and nothing else. In one walk it is also made whole where it has no
-//! more bytes than a limit, and else only counted.
+//! The versions of a packument come from a source, which gives them one after the other. Its text
+//! is made whole, once, into exact room: for that all its documents are held. Or it is written
+//! version by version, or its bytes are counted: for that one version is held at a time. A fault
+//! leaves a prefix of what is written, and nothing else. In one walk it is also made whole where it
+//! has no more bytes than a limit, and otherwise only counted.
 #![tactic(auto)]
 
 mod document;

@@ -80,8 +80,8 @@ impl TextMember for Granted {
 /// A list in compact JSON: an object of tags to versions, of users to `developer`, `admin` or
 /// `owner`, or of packages to `read-only` or `read-write`; or an array of names.
 ///
-/// The rows are written as they come, in byte order and each once. `Memory` comes where no memory
-/// is left, and no other fault comes.
+/// The rows are written as they come, in byte order and each once. `Memory` is returned when no
+/// memory is left, and no other fault is returned.
 pub fn list_text(alloc: Global, list: &List) -> Result<Text, Fault>
     ensures ok { IfOk result (λ text. text ≡ compact_text (list_value list.now)) }
     ensures err { IfErr result (λ fault. fault ≡ Fault.Memory) }

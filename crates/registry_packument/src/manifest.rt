@@ -1,4 +1,4 @@
-//! What is a manifest: a text that `serde_json` reads into an object.
+//! What a manifest is: a text that `serde_json` reads into an object.
 
 ghost use Rattle.std.specs.Prelude.{◌≡◌, ◌<◌, ◌∷◌, true, false, length, is_some, Some, None, IfOk, OnOk, MatchResult};
 ghost use Rattle.std.specs.Bool.{MatchBool};
@@ -36,7 +36,7 @@ fn begins_object(reader: &mut Reader<'_>) -> bool
     }
 }
 
-// Passes the next value, in which arrays and objects nest so deep at most.
+// Passes the next value, in which arrays and objects nest at most this deep.
 #[cycle(pass)]
 fn pass_value(reader: &mut Reader<'_>, depth: usize) -> Result<(), Invalid>
     ensures value { MatchResult result (λ _. behind_value depth reader.old ≡ Some reader.new)

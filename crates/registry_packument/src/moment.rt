@@ -18,7 +18,7 @@ const TEXT_LEN: usize = 24;
 /// A moment in UTC, as `1970-01-01T00:00:00.000Z`: its date in the Gregorian calendar, and its time
 /// of day.
 ///
-/// `Memory` comes where no memory is left, and no other fault comes.
+/// `Memory` is returned when no memory is left, and no other fault is returned.
 pub fn moment_text(alloc: Global, moment: Moment) -> Result<Text, Fault>
     ensures ok { IfOk result (λ text. text ≡ utc_text moment) }
     ensures err { IfErr result (λ fault. fault ≡ Fault.Memory) }
@@ -42,7 +42,7 @@ pub(crate) fn moment_string(alloc: Global, moment: Moment) -> Result<String, All
     Ok(out)
 }
 
-// The date so many days after 1 January 1970.
+// The date this many days after 1 January 1970.
 fn date_on(days: u64) -> Date
     requires { days ≤ last_day }
     ensures { IsDateOn days result }
@@ -53,7 +53,7 @@ fn date_on(days: u64) -> Date
     }
 }
 
-// The time so many seconds after midnight.
+// The time this many seconds after midnight.
 fn time_at(seconds: u64) -> Time
     requires { seconds ≤ 86_399 }
     ensures { IsTimeAt seconds result }

@@ -6,13 +6,13 @@ ghost use Rattle.registry_names.specs.declared.stop.Fault.TheVariants.{Memory};
 use registry_names::{Fault, Refusal, Text};
 use std::alloc::Global;
 
-/// What opens a packument that is sent: a text by its length alone, as the head of a response.
+/// What opens a packument that is sent: a text by its length alone, such as the head of a response.
 pub trait Opener {
-    // The text that stands before so many bytes.
+    // The text that stands before this many bytes.
     ghost opens: { Self → ℕ → List ℕ };
 
-    /// The text that stands before a packument of so many bytes. `Memory` comes where no memory is
-    /// left.
+    /// The text that stands before a packument of this many bytes. `Memory` is returned when no
+    /// memory is left.
     fn opening(&self, alloc: Global, len: u64) -> Result<Text, Fault>
         ensures ok { IfOk result (λ text. text ≡ opens self.now len) }
         ensures err { IfErr result (λ fault. fault ≡ Memory) };
@@ -27,7 +27,8 @@ pub enum Sent {
     Whole,
     /// A write failed. A prefix of these was written.
     WriteFault,
-    /// The machine failed. A prefix of these was written, of a byte at least where it has started.
+    /// The machine failed. A prefix of these was written, of at least one byte where it has
+    /// started.
     Broken {
         /// What failed.
         fault: Fault,

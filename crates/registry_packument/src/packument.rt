@@ -24,7 +24,7 @@ const KEY_MARKS: usize = 4;
 
 /// A version of a package, with its document.
 pub struct VersionRow {
-    /// The text of the version, as `1.0.0`.
+    /// The text of the version, such as `1.0.0`.
     pub version: Text,
     /// The manifest as it is stored: the compact JSON of an object.
     pub manifest: Text,
@@ -64,8 +64,8 @@ impl VersionRow {
         })
     }
 
-    /// The version's member in one piece, where its manifest is known to be one. Without a message the
-    /// manifest isn't read.
+    /// The version's member in one piece, where its manifest is known to be one. Without a message
+    /// the manifest isn't read.
     pub(crate) fn into_known_member(self, alloc: Global, later: bool) -> Result<String, Fault>
         ensures ok { IfOk result (λ text. string_bytes text ≡ row_text later self) }
         ensures err { IfErr result (IsFaultOf (version_pair self)) }
@@ -121,7 +121,8 @@ fn version_members<S: VersionSource>(
 
 // ---- the text, in exact room
 
-// A number of bytes, and those of a text. An error comes where memory has fewer places than that.
+// A number of bytes, and those of a text. An error is returned where memory has fewer places than
+// that.
 fn longer(len: usize, text: &str) -> Result<usize, AllocError>
     ensures { IfOk result (λ sum. sum ≡ len + length text.now) }
 {
@@ -168,14 +169,14 @@ fn text_of(alloc: Global, start: &str, members: &[VersionMember]) -> Result<Stri
 /// package's name), `dist-tags` (tag to version), `time` (version to the moment of its publication,
 /// then `created` and `modified`) and `versions` (version to document), in compact JSON.
 ///
-/// The versions are the rows that the source gives. They, the tags and the versions under `time` are
-/// in byte order, each once. The moments are those of [`moment_text`](crate::moment_text).
-/// A version's document is that of [`version_text`](crate::version_text).
-/// `Database` comes where a manifest is none (see there), and else the source's own fault, or
-/// `Memory` where no memory is left. Where it succeeds, the source has given all its rows.
+/// The versions are the rows that the source gives. They, the tags and the versions under `time`
+/// are in byte order, each once. The moments are those of [`moment_text`](crate::moment_text). A
+/// version's document is that of [`version_text`](crate::version_text). `Database` is returned
+/// where a manifest isn't one (see there). Otherwise the source's own fault is returned, or
+/// `Memory` when no memory is left. Where it succeeds, the source has given all its rows.
 ///
-/// The documents are made first, each manifest without a message in its own memory. So the length is
-/// known before the text is written, once, into room for exactly that many bytes.
+/// The documents are made first, each manifest without a message in its own memory. So the length
+/// is known before the text is written, once, into room for exactly that many bytes.
 pub fn packument_text<S: VersionSource>(
     alloc: Global,
     head: &PackHead,

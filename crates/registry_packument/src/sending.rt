@@ -73,7 +73,8 @@ pub fn send_text<W: ByteOut, O: Opener>(
 
 // ---- version by version, where it is known how many bytes there are
 
-// How many bytes the members of the versions have, where all has so many and this comes before them.
+// How many bytes the members of the versions have, where the packument has this many and this text
+// comes before them.
 fn room_after(len: u64, before: &str) -> Result<u64, Fault>
     ensures ok { IfOk result (λ room. length before.now + (room + 2) ≡ len) }
     ensures err { IfErr result (λ _. len < length before.now + 2) }
@@ -95,7 +96,7 @@ struct Start {
     room: u64,
 }
 
-// What is sent before the first version of a packument that has so many bytes.
+// What is sent before the first version of a packument that has this many bytes.
 fn start_of<O: Opener>(alloc: Global, head: &PackHead, len: u64, opener: &O) -> Result<Start, Fault>
     ensures text { IfOk result (λ start. string_bytes start.text
         ≡ O.opens opener.now len ++ opening_text head.now) }
@@ -199,13 +200,13 @@ fn end_of(written: Result<(), PackFault>) -> Sent
     }
 }
 
-/// Sends the packument of the rows that the source gives, of which it is known how many bytes it
-/// has ([`packument_len`](crate::packument_len)): what opens it for so many, and the packument. Of
-/// the versions one is held at a time.
+/// Sends the packument of the rows that the source gives, whose length is known
+/// ([`packument_len`](crate::packument_len)): what opens a packument of that length, and then the
+/// packument. One version is held at a time.
 ///
 /// Whatever the source gives: never more bytes are written of the packument than that many, and it
 /// is whole with exactly as many. Where the rows don't have them it is broken off by `Database`.
-/// Else it is broken off by the source's own fault, or by want of memory.
+/// Otherwise it is broken off by the source's own fault, or where no memory is left.
 ///
 /// The manifests were read when the bytes were counted. Those of versions without a message aren't
 /// read again.

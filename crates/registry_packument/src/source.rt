@@ -29,12 +29,12 @@ pub trait VersionSource {
     // How many rows it gives at most, also where they aren't known.
     ghost most: { Self → ℕ };
 
-    // What stands behind the source is left so by what is read from it.
+    // How reads leave what the source reads from.
     ghost leaves: { Self → Self → Type 0 } = { λ _ _. ⊤ };
 
-    /// The next version. None where none is left.
+    /// The next version. `None` where no version is left.
     ///
-    /// After a fault it answers that fault again, and it stops at a fault alone.
+    /// After a fault it answers that fault again, and it stops only at a fault.
     fn next(&mut self, alloc: Global) -> Result<Option<VersionRow>, Fault>
         ensures gives { is_known self.new
             → IfOk result (λ row. Gives (rows self.old) row (rows self.new)) }
@@ -48,10 +48,10 @@ pub trait VersionSource {
     // The rows are in byte order of their versions, each once.
     ghost ordered: { (source : Self) → IsInOrder (rows source) };
 
-    // Where nothing is read, what stands behind it is as it was.
+    // Where nothing is read, what the source reads from is as it was.
     ghost leaves_itself: { (source : Self) → leaves source source };
 
-    // What is left by one reading after another is left by both.
+    // Two reads, one after the other, leave it as both together do.
     ghost leaves_through: { (a b c : Self) → leaves a b → leaves b c → leaves a c };
 }
 
@@ -63,7 +63,8 @@ pub struct VersionRows {
 }
 
 impl VersionRows {
-    /// None exactly where the rows aren't in byte order of their versions, each once.
+    /// These rows as a source. `None` is returned exactly where the rows aren't in byte order of
+    /// their versions, each once.
     pub fn new(rows: Vec<VersionRow>) -> Option<VersionRows>
         ensures { MatchOption result (¬ IsInOrder rows.items)
             (λ source. ⟦<VersionRows as VersionSource>⟧.rows source ≡ rows.items) }

@@ -1,5 +1,5 @@
-//! Packuments version by version: of the versions' documents one is held at a time, and of the texts
-//! of their moments, too. The moments themselves are in the head.
+//! Packuments version by version: one document of a version is held at a time, and one text of a
+//! moment. The moments themselves are in the head.
 
 ghost use Rattle.std.specs.Prelude.{◌≡◌, ◌≢◌, ◌+◌, ◌≤◌, ◌<◌, ◌^◌, ◌⊎◌, true, false, [], Some, None, length, string_bytes, OnOk, OnErr, IfOk, IfErr, IsErr, IsSome, IsSomeAnd};
 ghost use Rattle.registry_names.specs.ByteStreams.{Writes, WritesPrefix, full_count};
@@ -25,7 +25,7 @@ use std::fmt;
 pub enum PackFault {
     /// A write failed.
     Write,
-    /// The source's fault, or that of a manifest that is none, or want of memory.
+    /// The source's own fault, or that of a manifest that isn't one, or no memory was left.
     Source(Fault),
 }
 
@@ -102,9 +102,9 @@ fn counted_row(alloc: Global, count: u64, later: bool, row: VersionRow) -> Resul
 
 /// How many bytes [`packument_text`](crate::packument_text) has of the rows that the source gives.
 ///
-/// `Database` comes where a manifest is none (see [`version_text`](crate::version_text)), and where
-/// the number isn't below 2^64; else the source's own fault, or `Memory` where no memory is left.
-/// Where it succeeds, the source has given all its rows.
+/// `Database` is returned where a manifest isn't one (see [`version_text`](crate::version_text)),
+/// and where the number isn't below 2^64. Otherwise the source's own fault is returned, or `Memory`
+/// when no memory is left. Where it succeeds, the source has given all its rows.
 pub fn packument_len<S: VersionSource>(
     alloc: Global,
     head: &PackHead,
@@ -189,11 +189,11 @@ fn write_versions<W: ByteOut, S: VersionSource>(
 /// Writes the packument of the rows that the source gives: the bytes of
 /// [`packument_text`](crate::packument_text).
 ///
-/// `Write` comes only where a write failed. `Source` has the source's own fault, or `Database`
-/// where a manifest is none (see [`version_text`](crate::version_text)), or `Memory` where no
-/// memory is left. After a fault a prefix of the packument was written, and not all of it; it ends
-/// before the document that is missing, if one is. No more than one row is held at a time, and of the
-/// versions' moments no more than one as a text.
+/// `Write` is returned only where a write failed. `Source` has the source's own fault, or
+/// `Database` where a manifest isn't one (see [`version_text`](crate::version_text)), or `Memory`
+/// when no memory is left. After a fault a prefix of the packument was written, and not all of it;
+/// it ends before the document that is missing, if one is. No more than one row is held at a time,
+/// and no more than one text of a moment.
 pub fn write_packument<W: ByteOut, S: VersionSource>(
     alloc: Global,
     head: &PackHead,

@@ -13,7 +13,7 @@ use std::alloc::{AllocError, Global};
 /// A version of a package, with the moment of its publication.
 #[derive(Drop)]
 pub struct VersionTime {
-    /// The text of the version, as `1.0.0`.
+    /// The text of the version, such as `1.0.0`.
     pub version: Text,
     /// When it was published.
     pub published: Moment,
@@ -31,9 +31,9 @@ pub struct PackTimes {
 }
 
 impl PackTimes {
-    /// The moments of a package: its live versions, when those were published that were withdrawn
-    /// since, and when one was withdrawn last, if one was. None exactly where no version was ever
-    /// published.
+    /// The moments of a package: its live versions, when the withdrawn ones were published, and
+    /// when one was last withdrawn, if one was. `None` is returned exactly where no version was
+    /// ever published.
     pub fn new(
         versions: Vec<VersionTime>,
         withdrawn: &[Moment],

@@ -1,4 +1,4 @@
-//! A packument as a text where it has no more bytes than a limit, and else how many it has, in one
+//! A packument as a text where it has no more bytes than a limit, and otherwise its length, in one
 //! walk over the versions.
 
 ghost use Rattle.std.specs.Prelude.{◌≡◌, ◌+◌, ◌++◌, ◌≤◌, ◌^◌, ◌⊎◌, ℕ, List, [], None, length, string_bytes, OnOk, IfOk, IfErr};
@@ -16,7 +16,7 @@ use crate::stream::counted;
 use registry_names::{Fault, Text};
 use std::alloc::Global;
 
-/// A packument where it has no more bytes than a limit, and else how many it has.
+/// A packument where it has no more bytes than a limit, and otherwise its length.
 #[derive(Drop)]
 pub enum PackumentWithin {
     /// The packument, which has no more bytes than the limit.
@@ -34,7 +34,7 @@ enum Gathered {
     Count(u64),
 }
 
-// These bytes and a text behind them, or the number of both where they are more than the limit.
+// These bytes and a text after them, or the number of both where they are more than the limit.
 fn pushed(mut bytes: String, text: &str, limit: u64) -> Result<Gathered, Fault>
     ensures ok { IfOk result (HasGathered limit (string_bytes bytes ++ text.now)) }
     ensures err { IfErr result (λ fault. (fault ≡ Fault.Memory)
@@ -62,7 +62,7 @@ impl Gathered {
         }
     }
 
-    // This, and a text behind it.
+    // This, and a text after it.
     fn with(self, text: &str, limit: u64) -> Result<Gathered, Fault>
         ensures ok { IfOk result (λ more. (bytes : List ℕ) → HasGathered limit bytes self
             → HasGathered limit (bytes ++ text.now) more) }
@@ -75,7 +75,7 @@ impl Gathered {
         }
     }
 
-    // This, and the member of a version behind it.
+    // This, and the member of a version after it.
     fn with_member(
         self,
         alloc: Global,
@@ -108,15 +108,17 @@ impl Gathered {
 
 // ---- one walk
 
-/// [`packument_text`](crate::packument_text) of the rows that the source gives, where it has no more
-/// bytes than the limit, and else how many it has.
+/// [`packument_text`](crate::packument_text) of the rows that the source gives, where it has no
+/// more bytes than the limit, and otherwise its length.
 ///
-/// `Database` comes where a manifest is none (see [`version_text`](crate::version_text)), and where
-/// the number of bytes isn't below 2^64; else the source's own fault, or `Memory` where no memory is
-/// left. Where it succeeds, the source has given all its rows.
+/// `Database` is returned where a manifest isn't one (see [`version_text`](crate::version_text)),
+/// and where the number of bytes isn't below 2^64. Otherwise the source's own fault is returned, or
+/// `Memory` when no memory is left. Where it succeeds, the source has given all its rows. A
+/// manifest without a message is parsed in this walk alone: [`send_counted`](crate::send_counted)
+/// doesn't parse it again.
 ///
-/// The bytes are gathered in one text, which grows. As soon as they would be more than the limit, the
-/// text is let go, and from there on they are only counted. Beside that text, and what comes before
+/// The bytes are gathered in one text, which grows. As soon as they would be more than the limit,
+/// the text is dropped, and the bytes are only counted. Apart from that text and what comes before
 /// the first version, one version is held at a time.
 pub fn packument_within<S: VersionSource>(
     alloc: Global,

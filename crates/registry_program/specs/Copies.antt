@@ -12,8 +12,8 @@ use Rattle.registry_tables.specs.Effects.{stored}
 abbrev pub alone : List ℕ → Image
 alone file = record { log = []; db = file }
 
--- A writer took the bytes of one file. Without a log this holds a registry's database with all that
--- was stored, which an open of it finds.
+-- A writer took the bytes of one file. Without a log they hold a registry's database with
+-- everything that was stored, and an open of it finds a registry.
 pub record IsCopy (last : Shown) (old new : Option (List ℕ)) : Type 0 where
   pub file : List ℕ
   pub wrote : Appends old new file

@@ -1,14 +1,14 @@
-//! Asking the registry in a file, whoever has it.
+//! Asking the registry in a file, also where another process has the file.
 
-use crate::beside::{TRIES, ask_server, busy, is_busy, pause};
+use crate::beside::{TRIES, ask_server, busy, is_busy, pause, require_no_other};
 use crate::ending::Ending;
 use crate::registries::Registries;
 use registry_names::Text;
 use registry_rules::{Reply, Request};
 use std::alloc::Global;
 
-/// What the registry in a file is asked: a request, and the arguments and the bytes of the file that
-/// they name by which a server is asked for the same.
+/// What the registry in a file is asked: a request; and what a server is asked instead, which is
+/// the arguments and the bytes of the file that they name.
 #[derive(Clone, Copy)]
 pub struct Question<'a> {
     /// The path of the file that keeps the registry.
@@ -26,12 +26,12 @@ pub struct Question<'a> {
 pub enum Answer {
     /// The reply of the registry, which was opened.
     Reply(Reply),
-    /// What a server sent that has the file.
+    /// What a server of the file sent.
     Sent(Vec<u8>),
 }
 
-/// Asks the registry in a file. Where another process has the file and is a server, that is asked
-/// instead. Where no server is there either, both are asked for once more, for five seconds.
+/// Asks the registry in a file. Where another process has the file and is a server, the server is
+/// asked instead. Where no server is there either, both are tried again, for five seconds.
 pub fn answer_to<R: Registries>(
     rt: &HostRuntime,
     alloc: Global,
@@ -44,6 +44,7 @@ pub fn answer_to<R: Registries>(
         arguments,
         body,
     } = question;
+    require_no_other(rt, alloc, path)?;
     for _ in 0..TRIES {
         let reply = registries.reply(rt, alloc, path, request);
         if !is_busy(&reply) {

@@ -1,7 +1,10 @@
 //! Asking a server that has the registry's file.
 
 use crate::ending::{Ending, Failure, Obstacle, Trouble};
-use registry_guests::{Heard, Hold, ask, fits, hear, hold, knock, stop, write};
+use registry_guests::{
+    CommandReply, Hold, ask, connect_to_server, fits, has_other_file, hold, parse_reply, stop,
+    write,
+};
 use registry_names::{ByteOut, Fault, Text, WriteFailed, write_whole};
 use std::alloc::Global;
 use std::io::ErrorKind;
@@ -9,10 +12,10 @@ use std::os::unix::net::UnixStream;
 use std::time::Duration;
 use std::{io, thread};
 
-/// So often the registry's file is asked for where another process has it, and so its server.
+/// How often the registry's file, and then its server, is tried where another process has the file.
 pub const TRIES: u32 = 100;
 
-/// So many milliseconds pass between two tries: five seconds in all.
+/// How many milliseconds pass between two tries: five seconds in all.
 const PAUSE: u64 = 50;
 
 /// Waits until the next try.
@@ -25,13 +28,27 @@ pub fn busy() -> Ending {
     Ending::Fault(Failure::Opening(Obstacle::Busy))
 }
 
-/// Whether nothing came of it since another process has the registry's file.
+/// Whether nothing was done because another process has the registry's file.
 pub fn is_busy<T>(done: &Result<T, Ending>) -> bool {
     matches!(done, Err(Ending::Fault(Failure::Opening(Obstacle::Busy))))
 }
 
+/// No server has another file open that was at the path before. So it is the file at the path that is
+/// asked, or whose server is.
+pub fn require_no_other(rt: &HostRuntime, alloc: Global, path: &str) -> Result<(), Ending> {
+    match has_other_file(rt, alloc, path) {
+        Ok(false) => Ok(()),
+        Ok(true) => Err(other_file()),
+        Err(error) => Err(barred(&error)),
+    }
+}
+
+fn other_file() -> Ending {
+    Ending::Fault(Failure::Opening(Obstacle::Other))
+}
+
 /// What a server of the file at the path sends for these arguments, with the bytes of the file that
-/// they name. None where no server is there.
+/// they name. `None` where no server is there.
 pub fn ask_server(
     rt: &HostRuntime,
     alloc: Global,
@@ -43,14 +60,17 @@ pub fn ask_server(
         return Ok(None);
     }
     let message = write(alloc, arguments, body)?;
-    match knock(rt, alloc, path) {
+    match connect_to_server(rt, alloc, path) {
         Ok(Some(stream)) => Ok(Some(sent_for(alloc, &stream, &message)?)),
         Ok(None) => Ok(None),
+        Err(error) if error.kind() == ErrorKind::TimedOut => {
+            Err(Ending::Fault(Failure::Server(Trouble::Unready)))
+        }
         Err(error) => Err(barred(&error)),
     }
 }
 
-// What is sent for a message. From here on what was asked may be done.
+// What is sent for a message. From here on the request may have been done.
 fn sent_for(alloc: Global, stream: &UnixStream, message: &[u8]) -> Result<Vec<u8>, Ending> {
     match ask(alloc, stream, message) {
         Ok(bytes) => Ok(bytes),
@@ -58,21 +78,22 @@ fn sent_for(alloc: Global, stream: &UnixStream, message: &[u8]) -> Result<Vec<u8
     }
 }
 
-/// Prints what a server sent, as if the registry had been asked here: on the output where its status
-/// is 0, else on the errors as far as they take it. The exit status is the server's.
+/// Prints what a server sent, as if the registry had been asked here: on the output where its
+/// status is 0, and otherwise on the errors as far as they take it. The exit status is the
+/// server's.
 pub fn print_sent<O: ByteOut, E: ByteOut>(
     alloc: Global,
     bytes: &[u8],
     output: &mut O,
     errors: &mut E,
 ) -> Result<u8, Ending> {
-    match hear(alloc, bytes) {
-        Ok(heard) => Ok(print_heard(&heard, output, errors)?),
+    match parse_reply(alloc, bytes) {
+        Ok(reply) => Ok(print_reply(&reply, output, errors)?),
         Err(_) => Err(unanswered()),
     }
 }
 
-/// Prints a token where a server sent that it was added, and else what it sent.
+/// Prints a token where a server sent that it was added, and otherwise what the server sent.
 pub fn print_sent_token<O: ByteOut, E: ByteOut>(
     alloc: Global,
     bytes: &[u8],
@@ -80,27 +101,27 @@ pub fn print_sent_token<O: ByteOut, E: ByteOut>(
     output: &mut O,
     errors: &mut E,
 ) -> Result<u8, Ending> {
-    match hear(alloc, bytes) {
-        Ok(heard) if heard.status == 0 => {
+    match parse_reply(alloc, bytes) {
+        Ok(reply) if reply.status == 0 => {
             print_two(output, token.as_bytes(), b"\n")?;
             Ok(0)
         }
-        Ok(heard) => Ok(print_heard(&heard, output, errors)?),
+        Ok(reply) => Ok(print_reply(&reply, output, errors)?),
         Err(_) => Err(unanswered()),
     }
 }
 
-fn print_heard<O: ByteOut, E: ByteOut>(
-    heard: &Heard<'_>,
+fn print_reply<O: ByteOut, E: ByteOut>(
+    reply: &CommandReply<'_>,
     output: &mut O,
     errors: &mut E,
 ) -> Result<u8, WriteFailed> {
-    if heard.status == 0 {
-        print_two(output, heard.text, &heard.end)?;
+    if reply.status == 0 {
+        print_two(output, reply.text, &reply.end)?;
     } else {
-        let _ = print_two(errors, heard.text, &heard.end);
+        let _ = print_two(errors, reply.text, &reply.end);
     }
-    Ok(heard.status)
+    Ok(reply.status)
 }
 
 fn print_two<W: ByteOut>(writer: &mut W, first: &[u8], second: &[u8]) -> Result<(), WriteFailed> {
@@ -108,8 +129,8 @@ fn print_two<W: ByteOut>(writer: &mut W, first: &[u8], second: &[u8]) -> Result<
     write_whole(writer, second)
 }
 
-/// Holds the server of the file at the path: it answers nobody until what is given is dropped. None
-/// where no server is there, or it is about to end.
+/// Holds the server of the file at the path: it answers nobody until the returned value is dropped.
+/// `None` where no server is there, or it is about to end.
 pub fn hold_server(rt: &HostRuntime, alloc: Global, path: &str) -> Result<Option<Hold>, Ending> {
     match hold(rt, alloc, path) {
         Ok(held) => Ok(held),
@@ -121,17 +142,17 @@ pub fn hold_server(rt: &HostRuntime, alloc: Global, path: &str) -> Result<Option
     }
 }
 
-/// The server was held all the time, and still is.
+/// An error where the server wasn't held all the time, or no longer is.
 pub fn require_held(held: &mut Hold) -> Result<(), Ending> {
-    match held.is_kept() {
+    match held.confirm() {
         Ok(true) => Ok(()),
         Err(error) if error.kind() == ErrorKind::OutOfMemory => Err(Ending::from(Fault::Memory)),
         _ => Err(Ending::Fault(Failure::Server(Trouble::WentOn))),
     }
 }
 
-/// Ends the server of the file at the path, once what is under way is answered, and waits for it.
-/// Whether one was there.
+/// Ends the server of the file at the path, once everything that is under way is answered, and
+/// waits for it. Returns whether a server was there.
 pub fn end_server(rt: &HostRuntime, alloc: Global, path: &str) -> Result<bool, Ending> {
     match stop(rt, alloc, path) {
         Ok(was_there) => Ok(was_there),
@@ -146,11 +167,11 @@ fn unanswered() -> Ending {
     Ending::Fault(Failure::Server(Trouble::Unanswered))
 }
 
-// Why a server's door can't be reached.
+// Why a server's socket can't be reached.
 fn barred(error: &io::Error) -> Ending {
-    if error.kind() == ErrorKind::OutOfMemory {
-        Ending::from(Fault::Memory)
-    } else {
-        Ending::Fault(Failure::Opening(Obstacle::Barred))
+    match error.kind() {
+        ErrorKind::OutOfMemory => Ending::from(Fault::Memory),
+        ErrorKind::InvalidData => other_file(),
+        _ => Ending::Fault(Failure::Opening(Obstacle::Barred)),
     }
 }

@@ -1,4 +1,4 @@
-//! Checking all that a registry's file holds.
+//! Checking everything that a registry's file holds.
 
 ghost use Rattle.std.specs.Prelude.{IfOk};
 ghost use Rattle.sqlite.specs.Held.{state};
@@ -7,7 +7,7 @@ ghost use Rattle.registry_check.specs.Premises.{TellsPremises};
 ghost use Rattle.registry_desk.specs.Resting.{Rests};
 ghost use Rattle.registry_tables.specs.Effects.{stored};
 
-use crate::beside::{TRIES, busy, hold_server, is_busy, pause};
+use crate::beside::{TRIES, busy, hold_server, is_busy, pause, require_no_other};
 use crate::checking_beside::problems_beside;
 use crate::ending::{Ending, Failure, Obstacle};
 use crate::errands::print_done;
@@ -23,11 +23,12 @@ use std::alloc::{AllocError, Global};
 /// What stands before each thing that is wrong.
 const WRONG: &str = "wrong: ";
 
-/// Checks the registry in the file at the path, which is let go of, and gives the exit status: 0
-/// where nothing is wrong, and else 1, with a line on the errors for each thing that is. A file
-/// that holds no registry, or was changed by another hand so that it doesn't open, is wrong as a
-/// whole. Where a server has the file, a copy is checked that is made in the server's folder. A file
-/// that isn't there, that another process has, or that can't be read or copied is a fault.
+/// Checks the registry in the file at the path, lets go of the file, and gives the exit status: 0
+/// where nothing is wrong, and otherwise 1, with a line on the errors for each thing that is wrong.
+/// A file that holds no registry, or that something else changed so that it doesn't open, is wrong
+/// as a whole. Where a server has the file, a copy is checked, which is made in the server's
+/// folder. A file that isn't there, that another process has, or that can't be read or copied is a
+/// fault.
 pub fn print_check<O: ByteOut, E: ByteOut>(
     rt: &HostRuntime,
     alloc: Global,
@@ -61,9 +62,10 @@ fn print_problems<O: ByteOut, E: ByteOut>(
     Ok(1)
 }
 
-// What is wrong in a file, whoever has it.
+// What is wrong in a file, also where another process has it.
 fn problems_at(rt: &HostRuntime, alloc: Global, path: &str) -> Result<Vec<Problem>, Ending> {
     require_file(rt, path)?;
+    require_no_other(rt, alloc, path)?;
     for _ in 0..TRIES {
         let found = problems_alone(rt, alloc, path);
         if !is_busy(&found) {
@@ -85,7 +87,7 @@ fn problems_alone(rt: &HostRuntime, alloc: Global, path: &str) -> Result<Vec<Pro
     }
 }
 
-/// What is wrong in a registry, which is let go of.
+/// What is wrong in a registry, whose files are let go of.
 pub fn problems_in<D: Disk + Drop>(
     alloc: Global,
     registry: Registry<FileStore<D>>,
@@ -104,8 +106,8 @@ fn problems_within<S: Alter + Drop>(
     problems_of(alloc, &mut conn)
 }
 
-// What is wrong behind a connection that is between requests. Nothing is exactly where all that
-// requests suppose is so.
+// What is wrong in the tables of a connection that is between requests. Nothing is wrong exactly
+// where everything holds that requests suppose.
 fn problems_of<S: Alter>(alloc: Global, conn: &mut Connection<S>) -> Result<Vec<Problem>, Fault>
     requires rests { Rests (state S.Store conn.old) }
     ensures { HasCleanDisk (state S.Store conn.new)
@@ -157,7 +159,7 @@ fn named(alloc: Global, kind: &str, name: &Text) -> Result<String, AllocError> {
     joined(alloc, &[kind, name.as_str()])
 }
 
-// A thing that is one of another.
+// The text of a thing that is part of another.
 fn part(alloc: Global, kind: &str, name: &Text, whole: &Text) -> Result<String, AllocError> {
     joined(alloc, &[kind, name.as_str(), " of ", whole.as_str()])
 }
@@ -207,7 +209,7 @@ fn need_text(
     )
 }
 
-// The pieces as one text.
+// The pieces, joined into one text.
 fn joined(alloc: Global, pieces: &[&str]) -> Result<String, AllocError> {
     let mut text = String::new(alloc);
     for piece in pieces {

@@ -7,21 +7,22 @@ use crate::held::{copy_files, new_file, snag};
 use crate::opening::{obstacle_left, open_obstacle};
 use registry_check::Problem;
 use registry_desk::Registry;
-use registry_guests::Hold;
+use registry_guests::{Hold, folder_of};
 use registry_names::Fault;
 use sqlite::{File, Files, Options, Unknown};
 use sqlite_disk::Disk;
 use std::alloc::Global;
 use std::fs;
 
-/// What the salts of a copy's log are made of. Nobody else has that log, so it needs no randomness.
+/// What the salts of a copy's log are made of. No other process has that log, so it needs no
+/// randomness.
 const SEED: u64 = 1;
 
 /// What is wrong in the registry of a server, which is held until its files are copied.
 ///
-/// The copy lies in the server's folder, which its owner alone enters, and has no name there any
-/// more once it is open. Only who holds the server is at that name, so what is there before was left
-/// by a check that was killed.
+/// The copy lies in the server's folder, which only its owner can enter, and has no name there once
+/// it is open. Only the process that holds the server uses that name, so a file that has it already
+/// was left by a check that was killed.
 pub fn problems_beside(
     rt: &HostRuntime,
     alloc: Global,
@@ -29,8 +30,9 @@ pub fn problems_beside(
     held: Hold,
 ) -> Result<Vec<Problem>, Ending> {
     let mut held = held;
-    let file = format!(in alloc; "{path}-server/check")?;
-    let log = format!(in alloc; "{path}-server/check-wal")?;
+    let folder = folder_of(rt, alloc, path)?;
+    let file = format!(in alloc; "{}/check", folder.as_str())?;
+    let log = format!(in alloc; "{}/check-wal", folder.as_str())?;
     forget(rt, file.as_str(), log.as_str());
     let files = files_of_copy(rt, alloc, path, file.as_str(), log.as_str());
     forget(rt, file.as_str(), log.as_str());
@@ -80,7 +82,7 @@ fn copy_to(
     copy_files(rt, alloc, path, &mut file, &mut log)
 }
 
-// What is wrong in these files, which are let go of.
+// What is wrong in these files, which are let go of afterwards.
 fn problems_in_files<D: Disk + Drop>(
     alloc: Global,
     files: Files<D>,

@@ -1,4 +1,4 @@
-//! What the program does where it is given arguments.
+//! What the program does when it is given arguments.
 
 ghost use Rattle.std.specs.Prelude.{◌≡◌, false};
 ghost use Rattle.registry_cli.specs.Lines.{IsWhole, asks_to_serve};
@@ -19,12 +19,12 @@ use std::fs;
 use std::io::ErrorKind;
 
 /// Answers what the arguments ask for, prints the answer, and gives the exit status: 0, or 1 where
-/// it is refused.
+/// the request is refused.
 ///
-/// The moment is read first, where the arguments say none, then the file of a publish, then the
-/// texts in their order, and last the registry is asked. Where another process has its file and is a
-/// server, that is asked instead. Arguments that ask to serve are answered once the last connection
-/// has ended. Where they mean no line they may name an errand.
+/// The moment is read first, where the arguments give none, then the file of a publish, then the
+/// texts in their order, and last the registry is asked. Where another process has its file and is
+/// a server, the server is asked instead. Arguments that ask to serve are answered once the last
+/// connection has ended. Arguments that mean no line may name an errand.
 pub fn answer_command<R: Registries, O: ByteOut, E: ByteOut>(
     rt: &HostRuntime,
     alloc: Global,
@@ -51,13 +51,13 @@ fn answer_line<R: Registries, O: ByteOut, E: ByteOut>(
     requires whole { IsWhole line.now.what }
 {
     if line.asks_to_serve() {
-        serve(rt, alloc, line, None, output, errors)
+        serve(rt, alloc, line, output, errors)
     } else {
         print_answer(rt, alloc, registries, line, arguments, output, errors)
     }
 }
 
-// Arguments that mean no line, and what is to be said of them where they name no errand.
+// Arguments that mean no line, and the message for them where they name no errand.
 fn answer_errand<R: Registries, O: ByteOut, E: ByteOut>(
     rt: &HostRuntime,
     alloc: Global,
@@ -74,8 +74,8 @@ fn answer_errand<R: Registries, O: ByteOut, E: ByteOut>(
     }
 }
 
-// Prints the answer to what a line asks for. To print it takes no memory, so that a fault of memory
-// says that nothing was done.
+// Prints the answer to what a line asks for. Printing it takes no memory, so a fault of memory says
+// that nothing was done.
 fn print_answer<R: Registries, O: ByteOut, E: ByteOut>(
     rt: &HostRuntime,
     alloc: Global,
@@ -110,9 +110,9 @@ fn print_given<O: ByteOut, E: ByteOut>(
 /// What a line asks with, besides its words.
 #[derive(Drop)]
 pub struct Given {
-    // The moment that it says, or else that of the clock.
+    // The moment that it gives, or else that of the clock.
     at: Moment,
-    // The bytes of the file that it names. Without a file there are none.
+    // The bytes of the file that it names, or no bytes without a file.
     body: Vec<u8>,
 }
 
@@ -123,7 +123,7 @@ pub fn given_to(rt: &HostRuntime, alloc: Global, line: &Line) -> Result<Given, E
     Ok(Given { at, body })
 }
 
-/// Asks for what a line means, with what is given. A server is asked by the arguments.
+/// Asks for what a line means, with what is given. A server is asked with the arguments.
 pub fn ask_line<R: Registries>(
     rt: &HostRuntime,
     alloc: Global,
@@ -155,7 +155,7 @@ fn request(alloc: Global, line: &Line, given: &Given) -> Result<Request, Ending>
     Ok(Request { at, who, what })
 }
 
-// When a line asks: at the moment that it says, or now.
+// When a line asks: at the moment that it gives, or now.
 fn asked_at(rt: &HostRuntime, line: &Line) -> Result<Moment, Ending> {
     match line.at {
         Some(at) => Ok(at),
@@ -166,7 +166,7 @@ fn asked_at(rt: &HostRuntime, line: &Line) -> Result<Moment, Ending> {
     }
 }
 
-// The bytes of the file that a line names. Without a file there are none.
+// The bytes of the file that a line names, or no bytes without a file.
 fn body_of(rt: &HostRuntime, alloc: Global, line: &Line) -> Result<Vec<u8>, Ending> {
     match line.file() {
         Some(path) => file_bytes(rt, alloc, path),
@@ -174,7 +174,7 @@ fn body_of(rt: &HostRuntime, alloc: Global, line: &Line) -> Result<Vec<u8>, Endi
     }
 }
 
-// The bytes of a file, at most one more than a body may have.
+// The bytes of a file, but at most one more than a body may have.
 fn file_bytes(rt: &HostRuntime, alloc: Global, path: &str) -> Result<Vec<u8>, Ending> {
     let file = match fs::open(rt, path) {
         Ok(file) => file,

@@ -6,7 +6,7 @@ ghost use Rattle.sqlite.specs.Files.{file_state};
 ghost use Rattle.sqlite_wal.specs.Reads.{AreClean};
 ghost use Rattle.registry_program.specs.Copies.{IsCopy};
 
-use crate::beside::{TRIES, busy, hold_server, is_busy, pause, require_held};
+use crate::beside::{TRIES, busy, hold_server, is_busy, pause, require_held, require_no_other};
 use crate::ending::{Ending, Failure, Obstacle, Snag};
 use crate::held::{copy_files, new_file, snag, snagged, written};
 use crate::opening::{close_files, open, require_file};
@@ -23,19 +23,21 @@ use std::{fs, io};
 /// How many bytes are copied at once.
 const PIECE: usize = 16_384;
 
-/// Copies the registry in the file at the path to another, which is one file without a log.
+/// Copies the registry in the file at the path to another file, without a log.
 ///
-/// The copy is made under its name and `-part`, opened to see that it is whole, and gets its name
-/// then. Where nobody else has the file, its log is copied into it first. Where a server has it, that
-/// is held while the file and its log are copied, and the log is copied into the copy.
+/// The copy is made in a file whose name is the copy's with `-part`, opened to see that it is
+/// whole, and then gets its own name. Where no other process has the file, its log is copied into
+/// it first. Where a server has it, the server is held while the file and its log are copied, and
+/// the log is copied into the copy.
 ///
-/// A fault comes where the file isn't there or can't be opened; where a file has the name of the
-/// copy already, or that name and `-wal`, `-part` or `-part-wal`, which stays as it is; where the
-/// copy can't be written or doesn't open; and where the server went on meanwhile. Then there is no
-/// copy.
+/// A fault is returned where the file isn't there or can't be opened; where a file already has the
+/// name of the copy, or that name and `-wal`, `-part` or `-part-wal` (that file isn't changed);
+/// where the copy can't be written or doesn't open; and where the server went on meanwhile. Then
+/// there is no copy.
 pub fn back_up(rt: &HostRuntime, alloc: Global, path: &str, copy: &str) -> Result<(), Ending> {
     let names = Names::of(alloc, copy)?;
     require_file(rt, path)?;
+    require_no_other(rt, alloc, path)?;
     names.require_free(rt)?;
     let part = new_file(rt, names.part.as_str())?;
     let made = make_copy(rt, alloc, path, part, &names);
@@ -62,7 +64,7 @@ impl Names<'_> {
         })
     }
 
-    // No file has any of them.
+    // A fault where a file has any of these names.
     fn require_free(&self, rt: &HostRuntime) -> Result<(), Ending> {
         require_none(rt, self.copy)?;
         for name in [&self.log, &self.part, &self.part_log] {
@@ -71,7 +73,7 @@ impl Names<'_> {
         Ok(())
     }
 
-    // Removes what the copy was made under.
+    // Removes the files in which the copy was made.
     fn forget_part(&self, rt: &HostRuntime) {
         for name in [&self.part, &self.part_log] {
             let _ = fs::remove_file(rt, name.as_str());
@@ -79,7 +81,7 @@ impl Names<'_> {
     }
 }
 
-// No file has the name.
+// A fault where a file has the name.
 fn require_none(rt: &HostRuntime, path: &str) -> Result<(), Ending> {
     match fs::symlink_metadata(rt, path) {
         Err(error) if error.kind() == ErrorKind::NotFound => Ok(()),
@@ -88,7 +90,7 @@ fn require_none(rt: &HostRuntime, path: &str) -> Result<(), Ending> {
     }
 }
 
-// Writes the part, sees that it is whole, and gives it the name of the copy.
+// Writes the part, checks that it is whole, and gives it the name of the copy.
 fn make_copy(
     rt: &HostRuntime,
     alloc: Global,
@@ -105,8 +107,8 @@ fn make_copy(
     written(sync_folder(rt, names.copy))
 }
 
-// Writes the registry in a file to the part, whoever has the file. The part has a log only where a
-// server has it.
+// Writes the registry in a file to the part, also where a server has the file. Only then the part
+// has a log.
 fn fill(
     rt: &HostRuntime,
     alloc: Global,
@@ -144,7 +146,7 @@ fn copy_beside(
     written(log.sync_all())
 }
 
-// Has the names in the folder of the file on the disk.
+// Syncs the names in the folder of the file to the disk.
 fn sync_folder(rt: &HostRuntime, path: &str) -> io::Result<()> {
     fs::open(rt, folder_of(path))?.sync_all()
 }
@@ -164,7 +166,7 @@ fn copy_alone(rt: &HostRuntime, path: &str, target: &mut File) -> Result<(), End
     }
 }
 
-// Its files are locked until they are copied.
+// The files of the registry stay locked until they are copied.
 fn copy_registry<D: Disk + Drop>(
     registry: Registry<FileStore<D>>,
     target: &mut File,
@@ -178,11 +180,11 @@ fn copy_registry<D: Disk + Drop>(
     }
 }
 
-/// Copies a registry's log into its file, and the file into the output. The files are given back,
-/// and are locked until they are dropped.
+/// Copies a registry's log into its file, and the file into the output. The files are returned, and
+/// stay locked until they are dropped.
 ///
 /// What is written is one file that holds the registry, as long as the disk returns what was
-/// written to it. A fault comes where a file can't be read or written.
+/// written to it. A fault is returned where a file can't be read or written.
 pub fn write_copy<D: Disk + Drop, W: Write>(
     registry: Registry<FileStore<D>>,
     output: &mut W,
@@ -216,7 +218,7 @@ fn write_files<D: Disk + Drop, W: Write>(
     }
 }
 
-// Writes all that a disk holds, piece by piece.
+// Writes everything that a disk holds, piece by piece.
 fn write_disk<D: Disk, W: Write>(disk: &mut D, output: &mut W) -> io::Result<()>
     requires usable { IsTrue (D.Disk.is_usable disk.old) }
     ensures clean { IsTrue (D.Disk.is_clean disk.new) → IsTrue (D.Disk.is_clean disk.old) }
@@ -235,7 +237,7 @@ fn write_disk<D: Disk, W: Write>(disk: &mut D, output: &mut W) -> io::Result<()>
     Ok(())
 }
 
-// The copy opens as a registry, and is closed again, which copies its log into it.
+// Opens the copy as a registry, and closes it again, which copies its log into it.
 fn see_whole(rt: &HostRuntime, copy: &str) -> Result<(), Ending> {
     match open(rt, copy) {
         Ok(registry) => close_whole(registry),

@@ -11,9 +11,9 @@ use std::io::ErrorKind;
 pub enum Ending {
     /// What is asked is refused.
     Refused(Refusal),
-    /// The arguments are none that the program takes, or ask for help: what is said of them.
+    /// The program doesn't take the arguments, or they ask for help: the message.
     Usage(Text),
-    /// The arguments are none that the program takes: what is said of them.
+    /// The program doesn't take the arguments: the message.
     Wrong(&'static str),
     /// The machine failed.
     Fault(Failure),
@@ -33,6 +33,8 @@ pub enum Failure {
     /// Standard input, the machine's clock or its randomness, or the port where connections are to
     /// come in.
     Read,
+    /// The socket where connections are to come in.
+    Socket(Blockage),
     /// A file that the arguments name.
     File,
     /// The copy that the arguments name.
@@ -41,17 +43,32 @@ pub enum Failure {
     Write,
 }
 
-/// Why nothing comes of a server of the registry's file.
+/// Why a server of the registry's file did nothing.
 #[derive(Clone, Copy)]
 pub enum Trouble {
     /// There is none.
     NoServer,
+    /// It wasn't ready for a command: it is held, or halted. Nothing was asked.
+    Unready,
     /// It gave no answer, and what was asked may be done.
     Unanswered,
-    /// It let itself not be held: another command holds it, or it is halted.
+    /// It couldn't be held: another command holds it, or it is halted.
     Unheld,
-    /// It went on, or ended, before all was copied.
+    /// It went on, or ended, before everything was copied.
     WentOn,
+}
+
+/// Why no server listens at a socket.
+#[derive(Clone, Copy)]
+pub enum Blockage {
+    /// Something else listens there, or may do so.
+    Taken,
+    /// The path names something that isn't a socket.
+    Foreign,
+    /// The path is too long for a socket.
+    Long,
+    /// It can't be made.
+    Unmade,
 }
 
 /// Why there is no copy.
@@ -74,15 +91,17 @@ pub enum Obstacle {
     Missing,
     /// Another process has it.
     Busy,
-    /// Another process has it, and commands can't reach that.
+    /// Another process has it, and commands can't reach that process.
     Barred,
+    /// A server listens there that has another file open, which was at the path before.
+    Other,
     /// It, or its log, can't be opened or written.
     Unreachable,
     /// The disk is full.
     Full,
     /// It holds no registry that can be read.
     Foreign,
-    /// A newer program wrote it: the number of its schema is above ours.
+    /// A newer program wrote it: the number of its schema is greater than this program's.
     Newer,
     /// It has the tables of an older schema, which can't be migrated.
     Older,

@@ -7,7 +7,7 @@ use crate::commands::{ask_line, given_to};
 use crate::copying::back_up;
 use crate::ending::{Ending, Failure};
 use crate::registries::Registries;
-use crate::serving::serve;
+use crate::serving::serve_beside;
 use crate::stopping::stop;
 use registry_cli::{Errand, NewToken, TOKEN_BYTES, print_token, token_of};
 use registry_names::{ByteOut, Text, write_whole};
@@ -17,9 +17,9 @@ use std::random::RandomSource;
 /// What is printed for an errand that was done.
 const DONE: &str = "{\"ok\":true}\n";
 
-/// Runs an errand, prints what comes of it, and gives the exit status. A check, a copy and the end
-/// of a server are of the file at the path all the same. Where a server has the file, it is asked to
-/// add a token, and held while its files are copied.
+/// Runs an errand, prints its result, and gives the exit status. A check, a copy and the end of a
+/// server always concern the file at the path, whatever `registries` are. Where a server has the
+/// file, the server is asked to add a token, and held while its files are copied.
 pub fn run_errand<R: Registries, O: ByteOut, E: ByteOut>(
     rt: &HostRuntime,
     alloc: Global,
@@ -39,9 +39,7 @@ pub fn run_errand<R: Registries, O: ByteOut, E: ByteOut>(
             stop(rt, alloc, db.as_str())?;
             print_done(output)
         }
-        Errand::Serve { line, log } => {
-            serve(rt, alloc, &line, Some(log.as_str()), output, errors)
-        }
+        Errand::Serve(serving) => serve_beside(rt, alloc, &serving, output, errors),
     }
 }
 
@@ -51,8 +49,8 @@ pub fn print_done<O: ByteOut>(output: &mut O) -> Result<u8, Ending> {
     Ok(0)
 }
 
-// Makes a token, adds it, and prints it where it was added. The registry keeps its digest alone, so
-// nobody can print it again. To print it takes no memory.
+// Makes a token, adds it, and prints it where it was added. The registry keeps only its digest, so
+// nobody can print it again. Printing it takes no memory.
 fn make_token<R: Registries, O: ByteOut, E: ByteOut>(
     rt: &HostRuntime,
     alloc: Global,

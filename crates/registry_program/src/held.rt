@@ -11,7 +11,8 @@ use std::{fs, io};
 /// The mode of a copy: its owner reads and writes it, and nobody else.
 const MODE: u32 = 0o600;
 
-/// A new file, which only its owner can read. A fault comes where the path names something already.
+/// A new file, which only its owner can read. A fault is returned where the path already names
+/// something.
 pub fn new_file(rt: &HostRuntime, path: &str) -> Result<File, Ending> {
     let made = OpenOptions::new()
         .write(true)
@@ -25,7 +26,8 @@ pub fn new_file(rt: &HostRuntime, path: &str) -> Result<File, Ending> {
 }
 
 /// Copies the registry's file at the path and its log to two new files, byte by byte, while the
-/// server that has them is held: whether it was so all the time is to be asked afterwards.
+/// server that has them is held. The caller has to check afterwards that the server was held all
+/// the time.
 pub fn copy_files(
     rt: &HostRuntime,
     alloc: Global,
@@ -56,7 +58,7 @@ fn copy_bytes(rt: &HostRuntime, path: &str, target: &mut File) -> Result<(), End
     }
 }
 
-// What it says that a file of the registry can't be read.
+// The fault where a file of the registry can't be read.
 fn unread(error: &io::Error) -> Ending {
     if error.kind() == ErrorKind::OutOfMemory {
         Ending::from(Fault::Memory)
@@ -65,7 +67,7 @@ fn unread(error: &io::Error) -> Ending {
     }
 }
 
-/// What an error of the copy says.
+/// The fault for an error of the copy.
 pub fn snagged(error: &io::Error) -> Ending {
     match error.kind() {
         ErrorKind::OutOfMemory => Ending::from(Fault::Memory),
@@ -80,7 +82,7 @@ pub fn snag(snag: Snag) -> Ending {
     Ending::Fault(Failure::Backup(snag))
 }
 
-/// An error of the copy is a fault of it.
+/// Turns an error of the copy into a fault.
 pub fn written(done: io::Result<()>) -> Result<(), Ending> {
     match done {
         Ok(()) => Ok(()),

@@ -1,4 +1,4 @@
-//! The registry as a program, over any byte streams: `main` calls it, and so do the stories.
+//! The registry as a program, over any byte streams, which `main` and the stories call.
 #![tactic(auto)]
 
 mod asking;
@@ -10,6 +10,8 @@ mod copying;
 mod ending;
 mod errands;
 mod held;
+mod log_output;
+mod log_place;
 mod logging;
 mod moment;
 mod opening;

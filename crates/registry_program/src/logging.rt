@@ -1,86 +1,105 @@
-//! The file of a log, and its clock.
+//! Where a log is kept, and its clock.
 
 ghost use Rattle.std.specs.Prelude.{◌≤◌, length};
 
-use crate::ending::Ending;
+use crate::ending::{Ending, Failure};
+use crate::log_output::LogOutput;
+use crate::log_place::{Named, Place, found_at, may_log};
 use crate::moment::read_moment;
-use registry_log::{LineSink, LogClock};
+use registry_log::{LineSink, Log, LogClock};
 use registry_names::{Moment, Text};
 use std::alloc::Global;
-use std::fs::{File, Metadata, OpenOptions};
-use std::io::Write;
-use std::os::unix::fs::{MetadataExt, OpenOptionsExt};
+use std::fs::{File, OpenOptions};
+use std::io::{Read, Seek, SeekFrom, Write};
+use std::os::unix::fs::OpenOptionsExt;
 use std::time::Instant;
 use std::{fs, io};
 
 /// The mode of a log that is made: its owner reads and writes it, and nobody else.
 const MODE: u32 = 0o600;
 
-/// A file: its device, and its number there.
-#[derive(Clone, Copy, PartialEq, Eq)]
-struct Place {
-    device: u64,
-    number: u64,
+/// The path that stands for standard output.
+const OUTPUT: &str = "-";
+
+/// A log of requests, with the clocks of the machine.
+pub(crate) type RequestLog = Log<MachineClock, LogSink>;
+
+/// The log at the path, if one is to be kept, of a server of the registry in the file `db`. `-` is
+/// standard output.
+pub(crate) fn log_at(
+    rt: &HostRuntime,
+    alloc: Global,
+    path: Option<&str>,
+    db: &str,
+) -> Result<Option<RequestLog>, Ending> {
+    let Some(path) = path else {
+        return Ok(None);
+    };
+    let Some(at) = read_moment(rt) else {
+        return Err(Ending::Fault(Failure::Read));
+    };
+    let clock = MachineClock::new(*rt, at)?;
+    let sink = sink_at(rt, alloc, path, db)?;
+    Ok(Some(Log::new(alloc, clock, sink)?))
 }
 
-impl Place {
-    fn of(metadata: &Metadata) -> Place {
-        Place {
-            device: metadata.dev(),
-            number: metadata.ino(),
+fn sink_at(rt: &HostRuntime, alloc: Global, path: &str, db: &str) -> Result<LogSink, Ending> {
+    if path == OUTPUT {
+        return Ok(LogSink::Output(LogOutput::new(rt, alloc)?));
+    }
+    let path = Text::from_str(alloc, path)?;
+    let db = Text::from_str(alloc, db)?;
+    Ok(LogSink::File(LogFile::at(*rt, path, db)))
+}
+
+/// Whether a log may be kept at the path beside a registry's file, which is open: it is standard
+/// output, or a file that is none of the registry's own, or nothing is there.
+pub(crate) fn is_allowed(
+    rt: &HostRuntime,
+    alloc: Global,
+    path: &str,
+    db: &str,
+) -> io::Result<bool> {
+    if path == OUTPUT {
+        return Ok(true);
+    }
+    may_log(rt, alloc, path, db)
+}
+
+/// Where the lines of a log go.
+#[derive(Drop)]
+pub(crate) enum LogSink {
+    File(LogFile),
+    Output(LogOutput),
+}
+
+impl LineSink for LogSink {
+    fn append(&mut self, bytes: &[u8]) -> usize {
+        match self {
+            LogSink::File(file) => file.append(bytes),
+            LogSink::Output(output) => output.append(bytes),
         }
     }
 }
 
-/// What a path names.
-#[derive(Clone, Copy, PartialEq, Eq)]
-enum Named {
-    /// Nothing that can be seen.
-    Nothing,
-    /// A file.
-    File(Place),
-    /// What is no file, as a folder, or a pipe, to which a write may wait.
-    Other,
-}
-
-// What the path names now, where a link leads.
-fn found_at(rt: &HostRuntime, path: &str) -> Named {
-    match fs::metadata(rt, path) {
-        Ok(found) if found.is_file() => Named::File(Place::of(&found)),
-        Ok(_) => Named::Other,
-        Err(_) => Named::Nothing,
-    }
-}
-
-/// Whether a log may be kept at the path beside a registry's file, which is open: nothing is there, or
-/// a file that is neither the registry's nor the log of that.
-pub fn may_log(rt: &HostRuntime, alloc: Global, path: &str, db: &str) -> Result<bool, Ending> {
-    // The log of a registry lies beside its file, where a link to that leads.
-    let real = fs::canonicalize(rt, db)?;
-    let db_log = format!(in alloc; "{}-wal", real.as_str())?;
-    let found = found_at(rt, path);
-    Ok(match found {
-        Named::Nothing => true,
-        Named::File(_) => found != found_at(rt, db) && found != found_at(rt, db_log.as_str()),
-        Named::Other => false,
-    })
-}
-
 /// The file of a log. It is made where there is none. Where the path names another file than
-/// before, or none, since it was moved away, it is opened anew at the next line.
+/// before, or none, since it was moved away, it is opened anew at the next line, unless that is one of
+/// the registry's own.
 #[derive(Drop)]
-pub struct LogFile {
+pub(crate) struct LogFile {
     rt: HostRuntime,
     path: Text,
+    db: Text,
     opened: Option<(File, Place)>,
 }
 
 impl LogFile {
     /// The file at the path, which is opened at the first line.
-    pub fn at(rt: HostRuntime, path: Text) -> LogFile {
+    fn at(rt: HostRuntime, path: Text, db: Text) -> LogFile {
         LogFile {
             rt,
             path,
+            db,
             opened: None,
         }
     }
@@ -93,10 +112,7 @@ impl LogFile {
             None => false,
         };
         if !is_open {
-            self.opened = match named {
-                Named::Nothing | Named::File(_) => open(&self.rt, self.path.as_str()).ok(),
-                Named::Other => None,
-            };
+            self.opened = open_beside(&self.rt, self.path.as_str(), self.db.as_str());
         }
     }
 }
@@ -113,17 +129,56 @@ impl LineSink for LogFile {
     }
 }
 
+// Opens a log where one may be kept. What a link leads to that named nothing is seen once it is open.
+fn open_beside(rt: &HostRuntime, path: &str, db: &str) -> Option<(File, Place)> {
+    if !is_free(rt, path, db) {
+        return None;
+    }
+    match open(rt, path) {
+        Ok(opened) if is_free(rt, path, db) => Some(opened),
+        _ => None,
+    }
+}
+
+fn is_free(rt: &HostRuntime, path: &str, db: &str) -> bool {
+    match may_log(rt, rt.alloc(), path, db) {
+        Ok(may) => may,
+        Err(_) => false,
+    }
+}
+
+// Opens a file to write at its end. A line that is cut there is ended first.
 fn open(rt: &HostRuntime, path: &str) -> io::Result<(File, Place)> {
-    let file = OpenOptions::new()
+    let mut file = OpenOptions::new()
         .append(true)
         .create(true)
         .mode(MODE)
         .open(rt, path)?;
     let place = Place::of(&file.metadata()?);
+    if is_cut(rt, path) {
+        file.write_all(b"\n")?;
+    }
     Ok((file, place))
 }
 
-// How many of the bytes are written.
+// Whether a file can be seen to end within a line.
+fn is_cut(rt: &HostRuntime, path: &str) -> bool {
+    match last_byte(rt, path) {
+        Ok(last) => last != b'\n',
+        Err(_) => false,
+    }
+}
+
+// The last byte of a file. Where it is empty that is an error.
+fn last_byte(rt: &HostRuntime, path: &str) -> io::Result<u8> {
+    let mut file = fs::open(rt, path)?;
+    file.seek(SeekFrom::End(-1))?;
+    let mut last = [b'\n'];
+    file.read_exact(&mut last)?;
+    Ok(last[0])
+}
+
+// Writes the bytes, and returns how many were written.
 fn put(file: &mut File, bytes: &[u8]) -> usize
     ensures { result ≤ length bytes.now }
 {
@@ -133,7 +188,7 @@ fn put(file: &mut File, bytes: &[u8]) -> usize
     }
 }
 
-/// The clocks of the machine. One that can't be read gives its last reading again.
+/// The clocks of the machine. Where one can't be read, its last reading counts again.
 #[derive(Drop)]
 pub struct MachineClock {
     rt: HostRuntime,
@@ -143,8 +198,8 @@ pub struct MachineClock {
 }
 
 impl MachineClock {
-    /// The clocks, of which one was read: it is this moment. An error comes where the other can't be
-    /// read.
+    /// The clocks, one of which was read and gave this moment. An error is returned where the other
+    /// can't be read.
     pub fn new(rt: HostRuntime, at: Moment) -> io::Result<MachineClock> {
         Ok(MachineClock {
             rt,

@@ -3,8 +3,8 @@
 use registry_names::Moment;
 use std::time::{Clock, SystemTime, UNIX_EPOCH};
 
-/// The moment that a clock has, the last one there is where it is later. None where the clock
-/// can't be read, or is before 1970.
+/// The moment that a clock has, or the last moment there is where the clock is later. `None` where
+/// the clock can't be read, or is before 1970.
 pub fn read_moment<C: Clock>(clock: &C) -> Option<Moment> {
     let now = SystemTime::now(clock).ok()?;
     let since = now.duration_since(UNIX_EPOCH).ok()?;

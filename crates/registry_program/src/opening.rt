@@ -27,7 +27,8 @@ pub fn open(rt: &HostRuntime, path: &str) -> Result<Registry<FileStore<File>>, E
     }
 }
 
-/// A file that isn't empty is at the path. An open would make a registry of none, or of an empty one.
+/// A file that isn't empty has to be at the path. Without this check, an open would make a registry
+/// where there is no file or an empty one.
 pub fn require_file(rt: &HostRuntime, path: &str) -> Result<(), Ending> {
     match fs::metadata(rt, path) {
         Ok(found) if found.len() == 0 => Err(missing()),
@@ -36,7 +37,7 @@ pub fn require_file(rt: &HostRuntime, path: &str) -> Result<(), Ending> {
     }
 }
 
-/// Whether another process has the registry's file at the path, which is there. Nothing of it is
+/// Whether another process has the registry's file at the path, which is there. None of the file is
 /// read.
 pub fn is_taken(rt: &HostRuntime, path: &str) -> Result<bool, Ending> {
     require_file(rt, path)?;
@@ -50,7 +51,7 @@ pub fn is_taken(rt: &HostRuntime, path: &str) -> Result<bool, Ending> {
     }
 }
 
-/// What keeps the files from being opened. None where it is want of memory.
+/// What keeps the files from being opened. `None` where it is a lack of memory.
 pub fn open_obstacle(error: OpenError) -> Option<Obstacle> {
     match error {
         OpenError::OutOfMemory => None,
@@ -65,8 +66,9 @@ fn missing() -> Ending {
     Ending::Fault(Failure::Opening(Obstacle::Missing))
 }
 
-/// Closes a registry, whose log is copied into its file, and gives the files, which are locked until
-/// they are dropped. They come with a fault where the log can't be copied: the next open does that.
+/// Closes a registry, whose log is copied into its file, and returns the files, which stay locked
+/// until they are dropped. They come with a fault where the log can't be copied: then the next open
+/// does that.
 pub fn close_files<D: Disk + Drop>(
     registry: Registry<FileStore<D>>,
 ) -> Result<Files<D>, (Ending, Files<D>)>
@@ -81,7 +83,7 @@ pub fn close_files<D: Disk + Drop>(
     }
 }
 
-// What it says that a registry's log can't be copied into its file.
+// The fault where a registry's log can't be copied into its file.
 fn unclosed(error: Error) -> Ending {
     match error {
         Error::SqliteFailure(ErrorCode::OutOfMemory) => Ending::from(Fault::Memory),
@@ -89,7 +91,7 @@ fn unclosed(error: Error) -> Ending {
     }
 }
 
-// Why the file at the path wasn't opened: it is tried once more, as any database.
+// Why the file at the path wasn't opened: it is tried once more, as any database is.
 fn obstacle(rt: &HostRuntime, path: &str) -> Obstacle {
     match Connection::open_with_sums(rt, path) {
         Ok(conn) => obstacle_left(rt.alloc(), Unopened::Database(conn)),
@@ -97,8 +99,8 @@ fn obstacle(rt: &HostRuntime, path: &str) -> Obstacle {
     }
 }
 
-/// What keeps the files from being opened of which this is left. They are let go of, and nothing is
-/// copied.
+/// What keeps the files from being opened of which this is left. The files are let go of, and
+/// nothing is copied.
 pub fn obstacle_left<D: Disk + Drop>(alloc: Global, left: Unopened<D>) -> Obstacle {
     let mut left = left;
     match obstacle_inside(alloc, &mut left) {
@@ -124,8 +126,8 @@ fn obstacle_met(met: Tally) -> Obstacle {
     }
 }
 
-// What keeps an open database from being a registry. One that has nothing yet is a registry's that
-// couldn't be written.
+// What keeps an open database from being a registry. A database that has nothing yet is that of a
+// registry that couldn't be written.
 fn obstacle_in<S: Alter>(alloc: Global, conn: &mut Connection<S>) -> Obstacle {
     if has_nothing(conn) {
         Obstacle::Unreachable
@@ -138,14 +140,14 @@ fn obstacle_in<S: Alter>(alloc: Global, conn: &mut Connection<S>) -> Obstacle {
     }
 }
 
-// Whether the database has no table, no index and no view. A table that can't be read, as one with a
-// trigger, counts as a view.
+// Whether the database has no table, no index and no view. A table that can't be read, such as one
+// with a trigger, counts as a view.
 fn has_nothing<S: Alter>(conn: &Connection<S>) -> bool {
     let schema = conn.schema();
     schema.tables.is_empty() && schema.indexes.is_empty() && schema.views.is_empty()
 }
 
-// Whether the tables have the number of a schema that only a newer program makes.
+// Whether the tables have a schema number that only a newer program writes.
 fn is_newer<S: Alter>(conn: &mut Connection<S>) -> bool {
     let Ok(row) = conn.query_row("SELECT value FROM meta WHERE name = 'schema'", &[]) else {
         return false;
@@ -161,7 +163,7 @@ fn is_older<S: Alter>(alloc: Global, conn: &Connection<S>) -> bool {
     matches!(older_schema(alloc, conn.schema()), Ok(Some(_)))
 }
 
-// What keeps a database that gives this error from being opened.
+// What keeps a database that returns this error from being opened.
 fn obstacle_of(error: Error) -> Obstacle {
     match error {
         Error::SqliteFailure(ErrorCode::DatabaseBusy) => Obstacle::Busy,

@@ -11,15 +11,16 @@ use std::alloc::Global;
 /// The user who publishes.
 const PUBLISHER: &str = "first";
 
-/// The packument of the one package of an empty registry to which the user `first` publishes the
-/// body. The organisation of the package's scope, if it has one, is theirs.
+/// The packument of the one package of a registry that was empty until the user `first` published
+/// the body. The organisation of the package's scope, if it has one, is theirs.
 pub fn packument_of(alloc: Global, body: &[u8]) -> Result<SharedText, Ending> {
     let requests = requests_of(alloc, body)?;
     let (_registry, outcomes) = Registry::run_in_memory(alloc, &requests)?;
     document_in(outcomes)
 }
 
-// What makes the registry ready for the body, its publish, and the query of the packument.
+// The requests that make the registry ready for the body, its publish, and the query of the
+// packument.
 fn requests_of(alloc: Global, body: &[u8]) -> Result<Vec<Request>, Stop> {
     let form = PublishForm::read(alloc, body)?;
     let package = Name::parse(alloc, form.name().text())?;

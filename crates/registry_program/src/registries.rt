@@ -43,8 +43,8 @@ impl Registries for InFiles {
     }
 }
 
-// The reply of a registry, which is let go of. Its log isn't copied into its file: the next open does
-// what is to be done.
+// The reply of a registry, whose file is let go of. Its log isn't copied into its file: the next
+// open does what is left to do.
 fn reply_in<D: Disk + Drop>(
     alloc: Global,
     registry: Registry<FileStore<D>>,
@@ -65,7 +65,8 @@ fn outcome_in<S: Alter + Drop>(
     service.answer(alloc, request)
 }
 
-/// The reply of a service, which answers as `Registry::apply` does, by a contract of one clause.
+/// The reply of a service, which answers as `Registry::apply` does; its contract has only one
+/// clause.
 pub fn reply_of<S: Alter>(
     alloc: Global,
     service: &mut RegistryService<S>,

@@ -1,7 +1,7 @@
 //! What the program does, over any byte streams.
 
 use crate::commands::answer_command;
-use crate::ending::{Ending, Failure, Obstacle, Snag, Trouble};
+use crate::ending::{Blockage, Ending, Failure, Obstacle, Snag, Trouble};
 use crate::publication::packument_of;
 use crate::registries::{InFiles, Registries};
 use registry_names::{BODY_LIMIT, ByteIn, ByteOut, Fault, Text, read_whole, write_whole};
@@ -10,10 +10,10 @@ use std::alloc::Global;
 /// One byte more than a body may have: enough to see that it is too large.
 pub(crate) const MOST_READ: usize = BODY_LIMIT + 1;
 
-/// What is said where the disk has failed under a server.
+/// The message where the disk has failed under a server.
 const SHUT: &str = "the disk failed while the registry was served";
 
-/// Runs the program on the arguments after its name, and answers its exit status.
+/// Runs the program on the arguments after its name, and returns its exit status.
 ///
 /// Without arguments it reads a publish body from the input. The user `first` publishes it at
 /// moment 0 to an empty registry in memory, where they own the organisation of the package's scope,
@@ -26,8 +26,8 @@ const SHUT: &str = "the disk failed while the registry was served";
 /// - 1: `refused: ` and the refusal, or a line for each thing that a check finds to be wrong;
 /// - 2: what is wrong with the arguments, or the help that they ask for;
 /// - 3: `fault: ` and what failed, with a second line that gives the reason where the registry's
-///   file can't be opened, its disk fails while it is served, its server gives no answer, or a copy
-///   of it can't be made.
+///   file can't be opened, its disk fails while it is served, its server gives no answer, nothing
+///   listens at a socket, or a copy of it can't be made.
 pub fn program<I: ByteIn, O: ByteOut, E: ByteOut>(
     rt: &HostRuntime,
     alloc: Global,
@@ -39,8 +39,8 @@ pub fn program<I: ByteIn, O: ByteOut, E: ByteOut>(
     program_over(rt, alloc, &mut InFiles, arguments, input, output, errors)
 }
 
-/// Runs the program, as [`program`] does, with these registries for those in files. What is served
-/// over HTTP is in a file all the same.
+/// Runs the program, as [`program`] does, with these registries in place of those in files. What is
+/// served over HTTP is still in a file.
 pub fn program_over<R: Registries, I: ByteIn, O: ByteOut, E: ByteOut>(
     rt: &HostRuntime,
     alloc: Global,
@@ -61,7 +61,7 @@ pub fn program_over<R: Registries, I: ByteIn, O: ByteOut, E: ByteOut>(
     }
 }
 
-/// Prints why the program ends so, as far as it can, and answers its exit status.
+/// Prints why the program ends, as far as it can, and returns its exit status.
 pub fn report<E: ByteOut>(errors: &mut E, ending: &Ending) -> u8 {
     let (status, front, text) = match ending {
         Ending::Refused(refusal) => (1, "refused: ", refusal.text()),
@@ -88,18 +88,19 @@ fn failure_text(failure: Failure) -> &'static str {
     match failure {
         Failure::Registry(fault) => fault.text(),
         Failure::Opening(_) | Failure::Shut | Failure::Server(_) => Fault::Database.text(),
-        Failure::Read => "Read",
+        Failure::Read | Failure::Socket(_) => "Read",
         Failure::File | Failure::Backup(_) => "File",
         Failure::Write => "Write",
     }
 }
 
-// What the second line says, where there is one.
+// The text of the second line, if there is one.
 fn reason(ending: &Ending) -> Option<&'static str> {
     match ending {
         Ending::Fault(Failure::Opening(obstacle)) => Some(obstacle_text(*obstacle)),
         Ending::Fault(Failure::Shut) => Some(SHUT),
         Ending::Fault(Failure::Server(trouble)) => Some(trouble_text(*trouble)),
+        Ending::Fault(Failure::Socket(blockage)) => Some(blockage_text(*blockage)),
         Ending::Fault(Failure::Backup(snag)) => Some(snag_text(*snag)),
         _ => None,
     }
@@ -110,6 +111,7 @@ pub(crate) fn obstacle_text(obstacle: Obstacle) -> &'static str {
         Obstacle::Missing => "the registry's file isn't there or is empty",
         Obstacle::Busy => "another process has the registry's file",
         Obstacle::Barred => "another process has the registry's file, and commands can't reach it",
+        Obstacle::Other => "the registry's server has another file open than the one at the path",
         Obstacle::Unreachable => "the registry's file can't be opened or written",
         Obstacle::Full => "the disk is full",
         Obstacle::Foreign => "the file holds no registry, or was changed by another hand",
@@ -121,10 +123,21 @@ pub(crate) fn obstacle_text(obstacle: Obstacle) -> &'static str {
 fn trouble_text(trouble: Trouble) -> &'static str {
     match trouble {
         Trouble::NoServer => "no server has the registry's file",
+        Trouble::Unready =>
+            "the registry's server wasn't ready for a command in ten seconds: nothing was done",
         Trouble::Unanswered => "the registry's server gave no answer: what was asked may be done",
         Trouble::Unheld =>
             "the registry's server can't be held: another command holds it, or it is halted",
         Trouble::WentOn => "the registry's server went on, or ended, before all was copied",
+    }
+}
+
+fn blockage_text(blockage: Blockage) -> &'static str {
+    match blockage {
+        Blockage::Taken => "something listens at the socket",
+        Blockage::Foreign => "what is at the path of the socket is no socket",
+        Blockage::Long => "the path is too long for a socket",
+        Blockage::Unmade => "the socket can't be made",
     }
 }
 

@@ -1,26 +1,27 @@
 //! Serving the registry in a file over HTTP.
 
-use crate::ending::{Ending, Failure};
-use crate::logging::{LogFile, MachineClock, may_log};
+use crate::ending::{Blockage, Ending, Failure};
+use crate::logging::{is_allowed, log_at};
 use crate::moment::read_moment;
 use crate::opening::{close_files, open};
-use registry_cli::Line;
+use registry_cli::{Line, Serving};
 use registry_desk::Registry;
-use registry_guests::{Door, close};
+use registry_guests::CommandListener;
 use registry_http::RegistryService;
 use registry_log::{LineSink, Log, LogClock, LoggedService};
 use registry_names::{ByteOut, Moment, Text, write_whole};
-use registry_server::{Ended, Server};
+use registry_server::{Ended, ListenAt, LocalSocket, Server, SocketFile};
 use sqlite::{Alter, FileStore};
 use sqlite_disk::Disk;
 use std::alloc::{AllocError, Global};
 use std::io;
 use std::io::ErrorKind;
 
-/// What is said of a port or of connections that are no number.
+/// What is said of a port or a number of connections that isn't a number.
 const NO_NUMBER: &str = "error: --port and --connections take whole numbers";
 
-/// What is said of a log that would be kept in what is no file, or in one of the registry's.
+/// What is said of a log that would be kept in something that isn't a file, or in one of the
+/// registry's files.
 const NO_LOG: &str = "error: --log takes a file that isn't one of the registry's";
 
 /// What is said where a server ends since enough connections came.
@@ -32,58 +33,109 @@ const STOPPED: &str = "ended: a command told it to stop\n";
 /// How much room is taken and let go of before the first request, in bytes: that of the largest body.
 const ROOM: usize = 4_194_304;
 
-/// What is said of a door that stays shut.
-const SHUT_DOOR: &str = "no command beside this server is answered: ";
+/// What is printed where commands can't be answered.
+const NO_COMMANDS: &str = "no command beside this server is answered: ";
 
-/// Where connections come in, and how many, the path beside which commands do, and that of a log of
-/// requests, if one is kept.
+/// Where a server listens and for how many connections, the path of its file, and the path of a log
+/// of requests, if one is kept.
 #[derive(Clone, Copy)]
-struct Entrance<'a> {
-    port: u16,
+struct ServeOptions<'a> {
+    port: Option<u16>,
+    socket: Option<&'a str>,
     connections: u64,
     path: &'a str,
     log: Option<&'a str>,
 }
 
-impl<'a> Entrance<'a> {
+impl<'a> ServeOptions<'a> {
     // What a line says that asks to serve: after the name `serve` the port and the connections.
-    fn of(line: &'a Line, log: Option<&'a str>) -> Option<Entrance<'a>> {
+    fn of(line: &'a Line) -> Option<ServeOptions<'a>> {
         let arguments = line.what.as_slice();
         let port = arguments.get(1)?.as_str().parse::<u16>().ok()?;
         let connections = arguments.get(2)?.as_str().parse::<u64>().ok()?;
-        let path = line.db.as_str();
-        Some(Entrance {
-            port,
+        Some(ServeOptions {
+            port: Some(port),
+            socket: None,
             connections,
-            path,
-            log,
+            path: line.db.as_str(),
+            log: None,
+        })
+    }
+
+    // The same with a socket, a log, or both.
+    fn beside(serving: &'a Serving) -> Option<ServeOptions<'a>> {
+        let options = ServeOptions::of(&serving.line)?;
+        Some(ServeOptions {
+            port: if serving.has_port { options.port } else { None },
+            socket: shown(&serving.socket),
+            log: shown(&serving.log),
+            ..options
         })
     }
 }
 
-/// Serves the registry in the line's file to as many connections as it says, and answers the exit
-/// status, 0, once all have ended; the errors then say why it ends. The greatest number is that of
-/// no count: then it serves all that come. Where it listens is printed on the output before the
-/// first one is accepted. Commands beside it are answered, too, and one of them may end it: then its
-/// log is copied into its file, and last of all that command hears of it. A registry that a fault of
-/// its disk has shut is a fault, and so is a log that can't be copied.
-///
-/// Where the path of a log of requests is given, a line is put there for each request, and one for
-/// the begin and the end. A log that can't be written stops nothing. One of the registry's own files,
-/// or what is no file, is wrong.
-pub fn serve<'a, O: ByteOut, E: ByteOut>(
+fn shown(text: &Option<Text>) -> Option<&str> {
+    match text {
+        Some(text) => Some(text.as_str()),
+        None => None,
+    }
+}
+
+/// A server that listens, as its options say.
+#[derive(Drop)]
+struct Bound<'a> {
+    server: Server,
+    options: ServeOptions<'a>,
+}
+
+/// Serves the registry in the line's file to as many connections as it says, and returns the exit
+/// status, 0, once all have ended; the errors then say why the server ends. The greatest number
+/// stands for no limit: then it serves all that come. It listens before the file is opened. The
+/// address is printed on the output before the first connection is accepted. Commands beside the
+/// server are answered, too, and one of them may end it: then its log is copied into its file, and
+/// last of all that command is told. A registry that a fault of its disk has shut is a fault, and
+/// so is a log that can't be copied.
+pub fn serve<O: ByteOut, E: ByteOut>(
     rt: &HostRuntime,
     alloc: Global,
-    line: &'a Line,
-    log: Option<&'a str>,
+    line: &Line,
     output: &mut O,
     errors: &mut E,
 ) -> Result<u8, Ending> {
-    let Some(entrance) = Entrance::of(line, log) else {
+    serve_as(rt, alloc, ServeOptions::of(line), output, errors)
+}
+
+/// Serves as [`serve`] does, at a Unix socket, or at the port of the line, or at both, and keeps a
+/// log of requests, if there is to be one.
+///
+/// A socket is removed at the end. A socket at whose path nothing listens any more is replaced; it
+/// is a fault where something listens there, or where the path names something that isn't a socket.
+///
+/// The log has a line for each request, one for the beginning and one for the end. A log that can't
+/// be written stops nothing. One of the registry's own files, or something that isn't a file, is
+/// `Wrong`.
+pub fn serve_beside<O: ByteOut, E: ByteOut>(
+    rt: &HostRuntime,
+    alloc: Global,
+    serving: &Serving,
+    output: &mut O,
+    errors: &mut E,
+) -> Result<u8, Ending> {
+    serve_as(rt, alloc, ServeOptions::beside(serving), output, errors)
+}
+
+fn serve_as<O: ByteOut, E: ByteOut>(
+    rt: &HostRuntime,
+    alloc: Global,
+    options: Option<ServeOptions<'_>>,
+    output: &mut O,
+    errors: &mut E,
+) -> Result<u8, Ending> {
+    let Some(options) = options else {
         return Err(Ending::Wrong(NO_NUMBER));
     };
-    let log = log_at(rt, alloc, entrance.log)?;
-    serve_behind(rt, alloc, entrance, log, output, errors)
+    let log = log_at(rt, alloc, options.log, options.path)?;
+    serve_with_commands(rt, alloc, options, log, output, errors)
 }
 
 // Has the C library keep the room that a request took for the next one. It gives back what is free
@@ -94,79 +146,104 @@ fn keep_room(alloc: Global) {
     drop(room);
 }
 
-// Serves behind a door. Who asked for the end is behind it until it is dropped: at the end of this
-// function.
-fn serve_behind<K: LogClock + Drop, W: LineSink + Drop, O: ByteOut, E: ByteOut>(
+// Serves beside a listener of commands. It keeps the connection that asked for the end until it is
+// dropped: at the end of this function.
+fn serve_with_commands<K: LogClock + Drop, W: LineSink + Drop, O: ByteOut, E: ByteOut>(
     rt: &HostRuntime,
     alloc: Global,
-    entrance: Entrance<'_>,
+    options: ServeOptions<'_>,
     log: Option<Log<K, W>>,
     output: &mut O,
     errors: &mut E,
 ) -> Result<u8, Ending> {
-    let mut door = Door::shut(alloc)?;
-    let ended = serve_file(rt, alloc, entrance, log, &mut door, output, errors);
+    let mut listener = CommandListener::closed(alloc)?;
+    let (server, file) = listen(rt, alloc, options)?;
+    let bound = Bound { server, options };
+    let ended = serve_file(rt, alloc, bound, log, &mut listener, output, errors);
+    if let Some(file) = file {
+        let _ = file.remove(rt);
+    }
     end(ended?, errors)
+}
+
+// A server that listens as its options say, and the file of its socket, if it has one.
+fn listen(
+    rt: &HostRuntime,
+    alloc: Global,
+    options: ServeOptions<'_>,
+) -> Result<(Server, Option<SocketFile>), Ending> {
+    let Some(path) = options.socket else {
+        let port = options.port.unwrap_or(0);
+        return Ok((Server::bind(rt, alloc, port, options.connections)?, None));
+    };
+    let (socket, file) = LocalSocket::bind(rt, alloc, path).map_err(no_socket)?;
+    let at = match options.port {
+        Some(port) => ListenAt::Both(port, socket),
+        None => ListenAt::Socket(socket),
+    };
+    match Server::bind_at(rt, alloc, at, options.connections) {
+        Ok(server) => Ok((server, Some(file))),
+        Err(error) => {
+            let _ = file.remove(rt);
+            Err(Ending::from(error))
+        }
+    }
+}
+
+// Why the server can't listen at a socket.
+fn no_socket(error: io::Error) -> Ending {
+    let why = match error.kind() {
+        ErrorKind::OutOfMemory => return Ending::from(error),
+        ErrorKind::AddrInUse => Blockage::Taken,
+        ErrorKind::AlreadyExists => Blockage::Foreign,
+        ErrorKind::InvalidInput => Blockage::Long,
+        _ => Blockage::Unmade,
+    };
+    Ending::Fault(Failure::Socket(why))
 }
 
 // Opens the file, and serves its registry.
 fn serve_file<K: LogClock + Drop, W: LineSink + Drop, O: ByteOut, E: ByteOut>(
     rt: &HostRuntime,
     alloc: Global,
-    entrance: Entrance<'_>,
+    bound: Bound<'_>,
     log: Option<Log<K, W>>,
-    door: &mut Door,
+    listener: &mut CommandListener,
     output: &mut O,
     errors: &mut E,
 ) -> Result<Ended, Ending> {
-    match open(rt, entrance.path) {
+    match open(rt, bound.options.path) {
         Ok(registry) => {
             keep_room(alloc);
-            serve_registry(rt, alloc, entrance, log, registry, door, output, errors)
+            serve_registry(rt, alloc, bound, log, registry, listener, output, errors)
         }
         Err(ending) => Err(ending),
     }
 }
 
-// The log at the path, if one is to be kept.
-fn log_at(
-    rt: &HostRuntime,
-    alloc: Global,
-    path: Option<&str>,
-) -> Result<Option<Log<MachineClock, LogFile>>, Ending> {
-    let Some(path) = path else {
-        return Ok(None);
-    };
-    let Some(at) = read_moment(rt) else {
-        return Err(Ending::Fault(Failure::Read));
-    };
-    let clock = MachineClock::new(*rt, at)?;
-    let file = LogFile::at(*rt, Text::from_str(alloc, path)?);
-    Ok(Some(Log::new(alloc, clock, file)?))
-}
-
 // How a server of a registry ended.
 enum Served<S: Alter> {
-    // A command stopped it, and the registry's log is to be copied. The door is still there.
+    // A command stopped it, and the registry's log is to be copied. The sockets are still there.
     Stopped(Registry<S>),
     // It ended otherwise, or wasn't begun. The registry is let go of.
     Otherwise(Result<Ended, Ending>),
 }
 
-// Serves a registry, and lets go of it. After a stop its log is copied into its file, which is a
-// fault where it fails; else the next open does what is to be done.
+// Serves a registry, and lets go of it. After a stop its log is copied into its file; where that
+// fails, it is a fault. Otherwise the next open does what is left to do.
 fn serve_registry<D: Disk + Drop, K: LogClock + Drop, W: LineSink + Drop, O: ByteOut, E: ByteOut>(
     rt: &HostRuntime,
     alloc: Global,
-    entrance: Entrance<'_>,
+    bound: Bound<'_>,
     log: Option<Log<K, W>>,
     registry: Registry<FileStore<D>>,
-    door: &mut Door,
+    listener: &mut CommandListener,
     output: &mut O,
     errors: &mut E,
 ) -> Result<Ended, Ending> {
-    match serve_until_end(rt, alloc, entrance, log, registry, door, output, errors) {
-        Served::Stopped(registry) => close_stopped(rt, alloc, entrance.path, registry, door),
+    let path = bound.options.path;
+    match serve_until_end(rt, alloc, bound, log, registry, listener, output, errors) {
+        Served::Stopped(registry) => close_stopped(rt, alloc, path, registry, listener),
         Served::Otherwise(ended) => ended,
     }
 }
@@ -175,20 +252,21 @@ fn serve_registry<D: Disk + Drop, K: LogClock + Drop, W: LineSink + Drop, O: Byt
 fn serve_until_end<S: Alter + Drop, K: LogClock + Drop, W: LineSink + Drop, O: ByteOut, E: ByteOut>(
     rt: &HostRuntime,
     alloc: Global,
-    entrance: Entrance<'_>,
+    bound: Bound<'_>,
     log: Option<Log<K, W>>,
     registry: Registry<S>,
-    door: &mut Door,
+    listener: &mut CommandListener,
     output: &mut O,
     errors: &mut E,
 ) -> Served<S> {
+    let path = bound.options.path;
     let mut service = LoggedService::new(RegistryService::new(registry), log);
-    let ended = serve_at(rt, alloc, entrance, &mut service, door, output, errors);
+    let ended = serve_bound(rt, alloc, bound, &mut service, listener, output, errors);
     let registry = service.into_inner().into_registry();
     if matches!(ended, Ok(Ended::Stopped)) {
         return Served::Stopped(registry);
     }
-    take_away(rt, alloc, entrance.path, door);
+    close_listener(rt, alloc, path, listener);
     drop(registry);
     Served::Otherwise(ended)
 }
@@ -199,10 +277,10 @@ fn close_stopped<D: Disk + Drop>(
     alloc: Global,
     path: &str,
     registry: Registry<FileStore<D>>,
-    door: &Door,
+    listener: &CommandListener,
 ) -> Result<Ended, Ending> {
     let left = close_files(registry);
-    take_away(rt, alloc, path, door);
+    close_listener(rt, alloc, path, listener);
     match left {
         Ok(files) => {
             drop(files);
@@ -215,57 +293,55 @@ fn close_stopped<D: Disk + Drop>(
     }
 }
 
-// Takes the door away, if it is open. The registry's files are still locked, so no other server has a
-// door there.
-fn take_away(rt: &HostRuntime, alloc: Global, path: &str, door: &Door) {
-    if door.is_open() {
-        let _ = close(rt, alloc, path);
-    }
+// Removes the sockets of commands, if they were opened. The registry's files are still locked, so no
+// other server listens there.
+fn close_listener(rt: &HostRuntime, alloc: Global, path: &str, listener: &CommandListener) {
+    let _ = listener.remove_sockets(rt, alloc, path);
 }
 
-// Serves with the service, from the moment on that it is now. The clock is read before anything is
+// Serves with the service, from the present moment on. The clock is read before anything is
 // printed.
-fn serve_at<S: Alter, K: LogClock, W: LineSink, O: ByteOut, E: ByteOut>(
+fn serve_bound<S: Alter, K: LogClock, W: LineSink, O: ByteOut, E: ByteOut>(
     rt: &HostRuntime,
     alloc: Global,
-    entrance: Entrance<'_>,
+    bound: Bound<'_>,
     service: &mut LoggedService<S, K, W>,
-    door: &mut Door,
+    listener: &mut CommandListener,
     output: &mut O,
     errors: &mut E,
 ) -> Result<Ended, Ending> {
     let Some(at) = read_moment(rt) else {
         return Err(Ending::Fault(Failure::Read));
     };
-    require_log(rt, alloc, entrance)?;
-    let server = Server::bind(rt, alloc, entrance.port, entrance.connections)?;
-    open_door(rt, alloc, &server, entrance.path, door, errors);
-    match announce(alloc, &server, output) {
-        Ok(()) => run(rt, alloc, server, at, service, door),
+    let Bound { server, options } = bound;
+    require_log(rt, alloc, options)?;
+    open_listener(rt, alloc, &server, options.path, listener, errors);
+    match announce(alloc, &server, options.socket, output) {
+        Ok(()) => run(rt, alloc, server, at, service, listener),
         Err(ending) => Err(ending),
     }
 }
 
-// Opens the door of the server, or says that it stays shut.
-fn open_door<E: ByteOut>(
+// Listens for commands, or warns that none is answered.
+fn open_listener<E: ByteOut>(
     rt: &HostRuntime,
     alloc: Global,
     server: &Server,
     path: &str,
-    door: &mut Door,
+    listener: &mut CommandListener,
     errors: &mut E,
 ) {
-    if let Err(error) = door.open(rt, alloc, server.registry(), path) {
+    if let Err(error) = listener.open(rt, alloc, server.registry(), path) {
         warn(&error, errors);
     }
 }
 
 // A log, if one is to be kept, isn't to be written into the registry's own files.
-fn require_log(rt: &HostRuntime, alloc: Global, entrance: Entrance<'_>) -> Result<(), Ending> {
-    let Some(log) = entrance.log else {
+fn require_log(rt: &HostRuntime, alloc: Global, options: ServeOptions<'_>) -> Result<(), Ending> {
+    let Some(log) = options.log else {
         return Ok(());
     };
-    if may_log(rt, alloc, log, entrance.path)? {
+    if is_allowed(rt, alloc, log, options.path)? {
         Ok(())
     } else {
         Err(Ending::Wrong(NO_LOG))
@@ -279,10 +355,10 @@ fn run<S: Alter, K: LogClock, W: LineSink>(
     server: Server,
     at: Moment,
     service: &mut LoggedService<S, K, W>,
-    door: &mut Door,
+    listener: &mut CommandListener,
 ) -> Result<Ended, Ending> {
     service.say("begun");
-    let ended = server.run_beside(rt, alloc, at, service, door);
+    let ended = server.run_beside(rt, alloc, at, service, listener);
     let said = match &ended {
         Ok(ended) => end_text(*ended),
         Err(_) => "ended: a fault",
@@ -305,10 +381,12 @@ fn warn<E: ByteOut>(error: &io::Error, errors: &mut E) {
     let why = match error.kind() {
         ErrorKind::PermissionDenied =>
             "its folder isn't one that the file's owner alone may enter\n",
+        ErrorKind::AddrInUse =>
+            "a server of another file that was at the path still listens there\n",
         ErrorKind::InvalidInput => "the path is too long for a socket\n",
         _ => "its socket can't be made\n",
     };
-    for text in [SHUT_DOOR, why] {
+    for text in [NO_COMMANDS, why] {
         let _ = write_whole(errors, text.as_bytes());
     }
 }
@@ -328,8 +406,18 @@ fn end<E: ByteOut>(ended: Ended, errors: &mut E) -> Result<u8, Ending> {
     }
 }
 
-// Prints where the server listens.
-fn announce<O: ByteOut>(alloc: Global, server: &Server, output: &mut O) -> Result<(), Ending> {
-    let said = format!(in alloc; "listening 127.0.0.1:{}\n", server.port()?)?;
+// Prints where the server listens: at a port, at a socket, or at both.
+fn announce<O: ByteOut>(
+    alloc: Global,
+    server: &Server,
+    socket: Option<&str>,
+    output: &mut O,
+) -> Result<(), Ending> {
+    let said = match (server.port(), socket) {
+        (Ok(port), None) => format!(in alloc; "listening 127.0.0.1:{port}\n")?,
+        (Ok(port), Some(path)) => format!(in alloc; "listening 127.0.0.1:{port} unix:{path}\n")?,
+        (Err(_), Some(path)) => format!(in alloc; "listening unix:{path}\n")?,
+        (Err(error), None) => return Err(Ending::from(error)),
+    };
     Ok(write_whole(output, said.as_bytes())?)
 }

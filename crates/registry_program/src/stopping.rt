@@ -5,10 +5,12 @@ use crate::ending::{Ending, Failure, Trouble};
 use crate::opening::is_taken;
 use std::alloc::Global;
 
-/// Ends the server that has the registry's file at the path, once what is under way is answered, and
-/// comes back when it has ended. A server that is just starting is waited for, for five seconds.
+/// Ends the server that has the registry's file at the path, once everything that is under way is
+/// answered, and returns after it has ended. It waits for a server that is just starting, for five
+/// seconds.
 ///
-/// A fault comes where the file isn't there, or no process has it: then nobody was asked to end.
+/// A fault is returned where the file isn't there, or no process has it: then nobody was asked to
+/// end.
 pub fn stop(rt: &HostRuntime, alloc: Global, path: &str) -> Result<(), Ending> {
     for _ in 0..TRIES {
         if end_server(rt, alloc, path)? {

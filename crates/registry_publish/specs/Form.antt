@@ -1,4 +1,4 @@
--- The form of a publish body, and why a body has none.
+-- The form of a publish body, and why a body isn't in form.
 use Rattle.std.specs.Prelude.{◌≡◌, ◌≤◌, ◌<◌, ℕ, true, false, List, length, Option, Some}
 use Rattle.serde_json.specs.Data.{Data}
 use Rattle.serde_json.specs.Read.{read}
@@ -56,7 +56,7 @@ pub record IsFormOf (b : List ℕ) (f : FormParts) : Type 0 where
   pub needs : f.needs ≡ parts.needs
   pub integrity : (f.integrity ≡ integrity_text parts.archive) × (has_integrity f.integrity parts.manifest ≡ true)
 
--- the body is refused so: of the reasons that hold, this is the first
+-- the body is refused by this: the first of the reasons that hold
 abbrev pub IsRefusedBody : List ℕ → Refusal → Type 0
 IsRefusedBody b TooLarge = body_limit < length b
 IsRefusedBody b BadBody = (length b ≤ body_limit) × ((p : BodyParts) → ¬ (IsBodyOf b p))

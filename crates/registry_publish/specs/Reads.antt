@@ -13,7 +13,7 @@ use Rattle.registry_ranges.specs.Tags.{IsTag}
 use Rattle.registry_publish.specs.Body.{BodyParts, IsBodyOf, tag_of}
 use Rattle.registry_publish.specs.Integrity.{has_integrity, integrity_text}
 
--- the bytes aren't too large, and a body that says this, with a manifest that nests as one that is
+-- the bytes aren't too large, and are a body that says this, whose manifest nests no deeper than is
 -- read
 pub record IsReadBody (b : List ℕ) (p : BodyParts) : Type 0 where
   pub short : length b ≤ body_limit

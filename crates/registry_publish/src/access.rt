@@ -17,7 +17,7 @@ fn status_in(value: &Value) -> Option<Option<Status>>
     }
 }
 
-// The status, if any, that `access` names. None where it isn't in form.
+// The status, if any, that `access` names. `None` where it isn't in form.
 pub(crate) fn access_at(value: &Value) -> Option<Option<Status>>
     ensures { result ≡ spec.access_at (view value.now) }
 {

@@ -86,9 +86,9 @@ pub(crate) fn needs_in(alloc: Global, manifest: &Value) -> Result<Vec<Need>, Sto
 /// members `dependencies`, `optionalDependencies` and `peerDependencies`, in this order, those of
 /// each in byte order of the keys.
 ///
-/// `BadBody` comes for no other text than one that isn't JSON of an object in which each of the
-/// three is absent or an object of texts, and `Memory` where no memory is left. Nothing else is
-/// asked of the manifest, and no other fault comes.
+/// `BadBody` is returned only for a text that isn't JSON of an object in which each of the three is
+/// absent or an object of texts, and `Memory` when no memory is left. Nothing else is asked of the
+/// manifest, and no other fault is returned.
 pub fn needs_of(alloc: Global, manifest: &str) -> Result<Vec<Need>, Stop>
     ensures ok { IfOk result (λ needs. spec.needs_of manifest.now ≡ Some needs.items) }
     ensures err { IfErr result (λ e. (e ≡ Stop.Fault Fault.Memory)

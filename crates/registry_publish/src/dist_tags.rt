@@ -24,7 +24,7 @@ fn tag_in<'v>(members: &'v Map<String, Value>, version: &str) -> Option<Option<&
     }
 }
 
-// The tag, if any, that `dist-tags` gives the version. None where it isn't in form.
+// The tag, if any, that `dist-tags` gives the version. `None` where it isn't in form.
 pub(crate) fn tag_at<'v>(value: &'v Value, version: &str) -> Option<Option<&'v str>>
     ensures { option_map (λ tag. option_map (λ t. t.now) tag) result
         ≡ spec.tag_at version.now (view value.now) }

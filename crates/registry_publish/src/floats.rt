@@ -1,4 +1,4 @@
-//! Whether a JSON value holds a number that is no integer of 64 bits.
+//! Whether a JSON value holds a number that isn't an integer of 64 bits.
 
 ghost use Rattle.std.specs.Prelude.{◌≡◌};
 ghost use Rattle.serde_json.specs.View.{view, items_view, members_view};
@@ -6,8 +6,8 @@ ghost use Rattle.serde_json.specs.Written.{has_float, items_have_float, members_
 
 use serde_json::{Map, Value};
 
-/// Whether a number of the value, at any depth, is held as neither u64 nor i64. No manifest that is
-/// stored has one.
+/// Whether a number of the value, at any depth, is held neither as a u64 nor as an i64. No manifest
+/// that is stored has one.
 #[cycle(has_float)]
 pub fn has_float(value: &Value) -> bool
     ensures { result ≡ has_float (view value.now) }

@@ -35,7 +35,7 @@ pub struct PublishForm {
     integrity: Text,
 }
 
-// Written out, so that to drop a form is one call and not one for each part.
+// Written out, so that dropping a form is one call, not one for each part.
 impl Drop for PublishForm {
     fn drop(self) {
         let PublishForm {
@@ -100,20 +100,20 @@ impl PublishForm {
     /// of texts. All its other members are kept, and the body's other ones aren't read. Of equal
     /// keys the last one counts. Values nest at most 127 deep, the body's own object among them.
     ///
-    /// The first of these that holds is answered:
+    /// The first of these errors that holds is returned:
     ///
     /// 1. `TooLarge`: the body has more than [`BODY_LIMIT`] bytes.
     /// 2. `BadBody`: it isn't JSON of the form above.
-    /// 3. `BadName`: its name is no name of a package ([`Name`]).
-    /// 4. `BadVersion`: its version is no version ([`Ver`]), as one of
-    ///    [SemVer 2.0.0](https://semver.org/spec/v2.0.0.html) with build metadata is none.
-    /// 5. `RangeTag`: its tag, which is `latest` where there is none, is a range of versions.
-    /// 6. `BadTag`: its tag is none otherwise ([`tag`](registry_ranges::tag)).
+    /// 3. `BadName`: its name isn't the name of a package ([`Name`]).
+    /// 4. `BadVersion`: its version isn't one ([`Ver`]), such as a version of
+    ///    [SemVer 2.0.0](https://semver.org/spec/v2.0.0.html) with build metadata.
+    /// 5. `RangeTag`: its tag, which is `latest` where none is named, is a range of versions.
+    /// 6. `BadTag`: its tag isn't one for another reason ([`tag`](registry_ranges::tag)).
     /// 7. `BadIntegrity`: `dist` of the manifest is an object with a member `integrity` that isn't
     ///    the text of the archive's integrity ([`integrity_of`](crate::integrity_of)).
     ///
-    /// `Memory` comes where no memory is left to read a body that isn't too large, and no other
-    /// fault comes.
+    /// `Memory` is returned when no memory is left to read a body that isn't too large, and no
+    /// other fault is returned.
     pub fn read(alloc: Global, body: &[u8]) -> Result<PublishForm, Stop>
         ensures { MatchResult result (IsFormOf body.now) (StopsForm body.now) }
     {
@@ -149,7 +149,7 @@ impl PublishForm {
         &self.tag
     }
 
-    /// The status that is to be set. None leaves it to the registry.
+    /// The status that is to be set. `None` leaves it to the registry.
     pub fn access(&self) -> Option<Status>
         ensures { result ≡ self.now.access }
     {

@@ -15,7 +15,7 @@ use std::alloc::Global;
 /// The integrity of these bytes, as [Subresource Integrity](https://www.w3.org/TR/SRI/) writes
 /// it: `sha512-`, and after it the padded base64 (RFC 4648) of the bytes' SHA-512 (FIPS 180-4).
 ///
-/// `Memory` comes where no memory is left, and no other fault comes.
+/// `Memory` is returned when no memory is left, and no other fault is returned.
 pub fn integrity_of(alloc: Global, bytes: &[u8]) -> Result<Text, Fault>
     ensures ok { IfOk result (λ text. text ≡ integrity_text bytes.now) }
     ensures err { IfErr result (λ fault. fault ≡ Fault.Memory) }

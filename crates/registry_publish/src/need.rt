@@ -7,6 +7,6 @@ use registry_names::Text;
 pub struct Need {
     /// The package, as the manifest names it.
     pub target: Text,
-    /// The versions, as `^1.0.0`. Mostly a range, but npm knows other texts too, as a tag.
+    /// The versions, such as `^1.0.0`. Usually a range, but npm has other texts too, such as a tag.
     pub range: Text,
 }

@@ -30,7 +30,7 @@ fn is_token(text: &str) -> bool
     SHORTEST <= text.len() && text.len() <= LONGEST && all_token_bytes(text.as_bytes())
 }
 
-/// What is kept of a token: the SHA-256 (FIPS 180-4) of its text, from which nobody has the token
+/// What is kept of a token: the SHA-256 (FIPS 180-4) of its text, from which the token can't be got
 /// back. Contracts see its 32 bytes.
 #[derive(Clone, Copy, Debug, PartialEq, Eq)]
 pub struct TokenDigest {
@@ -49,7 +49,7 @@ impl Model for TokenDigest {
 
 impl TokenDigest {
     /// The digest of a token: of a text of 16 to 128 characters of `A-Z a-z 0-9 - _ . ~ + / =`.
-    /// None for any other text. It takes no memory.
+    /// `None` is returned for any other text. It takes no memory.
     pub fn of(token: &str) -> Option<TokenDigest>
         ensures { result ≡ spec.digest_of token.now }
     {

@@ -70,7 +70,7 @@ NamesPrerelease v (major a) = ⊥
 NamesPrerelease v (minor a b) = ⊥
 NamesPrerelease v (full a b c pre) = (pre ≢ []) × (a ≡ v.major) × (b ≡ v.minor) × (c ≡ v.patch)
 
--- who asks by it may get the version: any release, and a prerelease that it names
+-- a request by it may get the version: any release, and a prerelease that it names
 abbrev pub IsOpenTo : VersionParts → Prefix → Type 0
 IsOpenTo v prefix = IsRelease v ⊎ NamesPrerelease v prefix
 
@@ -143,7 +143,7 @@ IsBetween = (low : List ℕ) (l : Prefix) (high : List ℕ) (h : Prefix) → Say
 
 -- ---- what follows at once
 
--- three numbers allow that version alone
+-- three numbers allow only that version
 abbrev pub AllowsItself : Type 0
 AllowsItself = (text : List ℕ) (a b c : ℕ) (pre : List ℕ) (v : VersionParts) → Says text (full a b c pre)
     → Allows text v ↔ (v ≡ version a b c pre)

@@ -39,7 +39,7 @@ ranges_view ends cs = ranges_in ends.items cs.items
 abbrev pub Adds : Vec Code.Comparator.Comparator Global → Vec Code.Comparator.Comparator Global → List Comparator → Type 0
 Adds old new more = comparators_view new.items ≡ comparators_view old.items ++ more
 
--- the comparators of a part are
+-- the comparators of a part are kept after the others
 abbrev pub AddsPart : Vec Code.Comparator.Comparator Global → Vec Code.Comparator.Comparator Global → Part → Type 0
 AddsPart old new part = Adds old new (comparators_of_part part)
 

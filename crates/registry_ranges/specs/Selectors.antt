@@ -1,4 +1,4 @@
--- Selectors: the versions that a deprecation is about, of which prereleases are selected as others
+-- Selectors: the versions that a deprecation is about. Prereleases are selected as other versions
 -- are.
 use Rattle.std.specs.Prelude.{◌≡◌, ◌↔◌, IsTrue, ℕ, Bool, true, ◌==◌, ◌&&◌, List, [], ◌∷◌, Option, Some, None}
 use Rattle.std.specs.List.{list_all, list_any}

@@ -114,7 +114,7 @@ place_steps Before = 1
 place_steps Open = 0
 place_steps Closed = 0
 
--- more steps than this aren't taken
+-- no more steps than this are taken
 abbrev pub steps : Place → List ℕ → ℕ
 steps place xs = 2 * length xs + place_steps place
 

@@ -1,4 +1,4 @@
--- The texts of dist-tags: no text that could be read as a range of versions.
+-- The texts of dist-tags: none of them could be read as a range of versions.
 use Rattle.std.specs.Prelude.{◌≡◌, true, false, List, ℕ}
 use Rattle.registry_names.specs.Tags.{is_tag}
 use Rattle.registry_ranges.specs.Grammar.{IsRangeText}

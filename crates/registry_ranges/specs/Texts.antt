@@ -10,10 +10,10 @@ use Rattle.registry_ranges.specs.Values.{Ranges, IsRangeOf}
 unfoldable pub ranges_in : List ℕ → Option Ranges
 ranges_in text = reading Before text
 
--- the text is no range, or one that allows the version
+-- the text isn't a range, or is one that allows the version
 abbrev pub binds : List ℕ → VersionParts → Bool
 binds text v = unwrap_or (option_map (λ r. set_allows v (comparators_of r)) (ranges_in text)) true
 
--- it is just what the grammar says
+-- it is exactly what the grammar says
 abbrev pub TextsAreRead : Type 0
 TextsAreRead = (text : List ℕ) (r : Ranges) → (ranges_in text ≡ Some r) ↔ IsRangeOf text r

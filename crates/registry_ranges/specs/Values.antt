@@ -37,6 +37,6 @@ parts_of t = (parts_of_range t.first.range, parts_of_others t.others)
 abbrev pub IsRangeOf : List ℕ → Ranges → Type 0
 IsRangeOf text ranges = (t : RangeSet) × IsSet t × (text ≡ print_set t) × (ranges ≡ parts_of t)
 
--- A text has one value at most.
+-- A text has at most one value.
 abbrev pub IsUnambiguous : List ℕ → Type 0
 IsUnambiguous text = (a b : Ranges) → IsRangeOf text a → IsRangeOf text b → a ≡ b

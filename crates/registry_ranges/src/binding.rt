@@ -121,7 +121,7 @@ impl Verdict {
     }
 }
 
-/// Whether the text of a dependency binds a version: it is no range, or one that allows the
+/// Whether the text of a dependency binds a version: it isn't a range, or is one that allows the
 /// version. It answers what [`Range`](crate::range::Range) would, and keeps no range: memory is
 /// taken for one comparator at a time, and only for one with a prerelease.
 #[tactic(auto, using(crate::proofs::BindingFacts::binding))]

@@ -8,12 +8,12 @@ use crate::range_text::is_range;
 use registry_names::{Fault, Refusal, Stop, TagText};
 use std::alloc::Global;
 
-/// Reads the text of a dist-tag: 1 to 214 characters of a tag which are no range of versions, so
-/// that whoever asks for a package by tag or range is understood in one way.
+/// Reads the text of a dist-tag: 1 to 214 characters of a tag that aren't a range of versions. So a
+/// request for a package by tag or range has only one meaning.
 ///
-/// `RangeTag` comes exactly for a range, whatever its characters are; `BadTag` exactly for any
-/// other text that hasn't the characters and the length of a tag; and `Memory` for a tag alone,
-/// where no memory is left.
+/// `RangeTag` is returned exactly for a range, whatever its characters are, `BadTag` exactly for
+/// any other text that doesn't have the characters and the length of a tag, and `Memory` only for a
+/// tag, when no memory is left.
 pub fn tag(alloc: Global, text: &str) -> Result<TagText, Stop>
     ensures ok { IfOk result (λ t. (t ≡ text.now) × IsTag text.now) }
     ensures range { (result ≡ Err (Stop.Refused Refusal.RangeTag)) ↔ IsRangeText text.now }

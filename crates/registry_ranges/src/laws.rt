@@ -9,7 +9,7 @@ ghost use Rattle.registry_ranges.specs.Laws.{BarsAreUnions, EndsAreSpaced, OfSpa
 ghost use Rattle.registry_ranges.specs.Texts.{TextsAreRead};
 
 /// A partial version, alone or after an operator, allows a version by how the version compares
-/// with the numbers that it says; of prereleases those alone that it names.
+/// with the numbers that it says; of prereleases it allows only those that it names.
 pub fn operators_compare()
     ensures alone { OfPartials (AllowsCompared [] is_eq) }
     ensures equal { OfPartials (AllowsCompared (codes "=") is_eq) }
@@ -37,7 +37,7 @@ pub fn hyphens_have_two_ends()
     ensures between { IsBetween }
 {}
 
-/// Three numbers allow their own version alone.
+/// Three numbers allow only their own version.
 pub fn versions_allow_themselves()
     ensures { AllowsItself }
 {}
@@ -51,9 +51,9 @@ pub fn wildcards_allow_releases()
     ensures below { AllowsNothing (codes "<") }
 {}
 
-/// `||` is the union of ranges, and a space the intersection of simples, up to prereleases: what
-/// both sides allow is allowed, and what is allowed is allowed by a side. Spaces at the ends of a
-/// range say nothing.
+/// `||` is the union of ranges, and a space the intersection of simples, except for prereleases:
+/// one that both sides allow is allowed, and one that is allowed is allowed by a side. Spaces at
+/// the ends of a range say nothing.
 pub fn bars_and_spaces_combine()
     ensures bars { BarsAreUnions }
     ensures releases { OfSpaced ReleasesMeet }
@@ -61,7 +61,8 @@ pub fn bars_and_spaces_combine()
     ensures spaces { EndsAreSpaced }
 {}
 
-/// What a text says as a range is a function of the text, which gives just what the grammar does.
+/// What a text says as a range is a function of the text, which gives exactly what the grammar
+/// does.
 pub fn texts_are_read()
     ensures { TextsAreRead }
 {}

@@ -134,7 +134,7 @@ fn set_allows(ends: &[usize], comparators: &[Comparator], version: &Ver) -> bool
 }
 
 impl Range {
-    // Reads a range: `None` for a text that is none, if the memory lasts so far.
+    // Reads a range: `None` for a text that isn't one, if the memory lasts until then.
     fn read(alloc: Global, text: &str) -> Result<Option<Range>, Fault>
         ensures found { IfOk result (λ r. IfSome r (HasComparators text.now)) }
         ensures meaning { IfOk result (λ r. IfSome r (Means text.now)) }
@@ -163,8 +163,8 @@ impl Range {
         }
     }
 
-    /// Reads a range, after the grammar of node-semver: `None` exactly for a text that is none,
-    /// also where no memory is left.
+    /// Reads a range, after the grammar of node-semver. `None` is returned exactly for a text that
+    /// isn't one, also when no memory is left.
     #[tactic(auto, using(crate::proofs::RangeFacts::parse_facts))]
     pub fn parse(alloc: Global, text: &str) -> Result<Option<Range>, Fault>
         ensures found { IfOk result (λ r. IfSome r (HasComparators text.now)) }

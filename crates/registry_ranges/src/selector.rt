@@ -153,8 +153,8 @@ impl Selector {
 
     /// Reads a selector.
     ///
-    /// `BadSelector` comes exactly for a text that is none, and `Memory` for a selector alone,
-    /// where no memory is left.
+    /// `BadSelector` is returned exactly for a text that isn't one, and `Memory` only for a
+    /// selector, when no memory is left.
     #[tactic(auto, using(crate::proofs::SelectorFacts::parse_facts))]
     pub fn parse(alloc: Global, text: &str) -> Result<Selector, Stop>
         ensures ok { IfOk result (HasConditions text.now) }

@@ -8,8 +8,8 @@ abbrev pub behind_spaces : Text → Text
 behind_spaces [] = []
 behind_spaces (b ∷ bs) = if b == 32 then behind_spaces bs else b ∷ bs
 
--- the value is the scheme `Bearer`, its letters in either case, a space, and after all spaces
--- there the token, which is UTF-8
+-- the value is the scheme `Bearer`, in letters of either case, a space, and after all spaces the
+-- token, which is UTF-8
 pub record IsBearer (value token : Text) : Type 0 where
   pub scheme : Text
   pub rest : Text
@@ -18,7 +18,7 @@ pub record IsBearer (value token : Text) : Type 0 where
   pub behind : token ≡ behind_spaces rest
   pub is_text : IsUtf8 token
 
--- the value is no such one
+-- the value isn't of this form
 abbrev pub IsNoBearer : Text → Type 0
 IsNoBearer value = (token : Text) → ¬ (IsBearer value token)
 

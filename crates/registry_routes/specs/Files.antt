@@ -21,7 +21,7 @@ pub record IsFileOf (name : Text) (version : VersionParts) (file : Text) : Type 
   pub is_version : IsVersionOf text version
   pub is_file : file ≡ file_text front text
 
--- the file is no archive of the package
+-- the file isn't an archive of the package
 abbrev pub IsNoFileOf : Text → Text → Type 0
 IsNoFileOf name file = (v : VersionParts) → ¬ (IsFileOf name v file)
 

@@ -1,4 +1,4 @@
--- What holds of every path, in the words of who reads an API page: the laws that the functions of
+-- What holds of every path, in the words of an API page: the laws that the functions of
 -- `src/laws.rt` ensure.
 use Rattle.std.specs.Prelude.{◌≡◌, ◌⊎◌, ◌++◌, ◌∷◌, codes, Bool, true, false, not, List, Option, Some, None, AllPairs, IsNone, IsSome}
 use Rattle.percent_encoding.specs.Percent.{percent_decode}
@@ -15,11 +15,11 @@ use Rattle.registry_routes.specs.declared.endpoint.Endpoint.TheVariants.{Packume
 abbrev pub QueriesChangeNothing : Type 0
 QueriesChangeNothing = (m : Method) (path query : Text) → route_of m (path ++ 63 ∷ query) ≡ route_of m path
 
--- where a row has a method and segments, another hasn't
+-- where a row has a method and segments, the other row doesn't
 abbrev pub Excludes : Row → Row → Type 0
 Excludes r s = (m : Method) (segments : List Text) → IsSome (values_of_row r m segments) → IsNone (values_of_row s m segments)
 
--- at most one row of the table has a method and segments, so their order is no matter
+-- at most one row of the table has a method and segments, so their order doesn't matter
 abbrev pub OneRowTakes : Type 0
 OneRowTakes = AllPairs Excludes table
 
@@ -33,8 +33,8 @@ begins_with_name VersionDoc = true
 begins_with_name Archive = true
 begins_with_name _ = false
 
--- a path whose first segment is `-` has none of the routes that begin with the name of a package,
--- and any other path has none but these
+-- a path whose first segment is `-` has no route that begins with the name of a package, and any
+-- other path has only such routes
 abbrev pub DashIsNoName : Type 0
 DashIsNoName = (m : Method) (target first : Text) (others : List Text) (r : Route)
     → segments_of (path_of target) ≡ Some (first ∷ others) → route_of m target ≡ Some r

@@ -5,7 +5,7 @@ use Rattle.registry_names.specs.Texts.{Text}
 pub data Piece : Type 0 where
   -- this segment
   literal : Text → Piece
-  -- the name of a package: one segment, or a scope and the next one; but `-` is none
+  -- the name of a package: one segment, or a scope and the next one; but `-` isn't one
   name : Piece
   -- a value: one segment
   value : Piece

@@ -43,7 +43,7 @@ abbrev pub file_from : Text → List Text → Text × List Text
 file_from s [] = (s, [])
 file_from s (t ∷ ss) = (joined s t, ss)
 
--- what takes the place of the piece at the prefix of the segments, and the segments after it
+-- what takes the place of the piece at the front of the segments, and the segments after it
 abbrev pub piece_of : Piece → List Text → Option (Text × List Text)
 piece_of p [] = None
 piece_of (literal t) (s ∷ ss) = if bytes_eq s t then Some (s, ss) else None
@@ -53,7 +53,7 @@ piece_of file (s ∷ ss) = Some (file_from s ss)
 
 -- ---- a row
 
--- the values, with what takes the place of a piece in front, where it is none of the route's own
+-- the values, with what takes the place of a piece in front, unless the piece is a literal segment
 abbrev pub with_piece : Piece → Text → Values → Values
 with_piece (literal t) v vs = vs
 with_piece name v vs = before v vs

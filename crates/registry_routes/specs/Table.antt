@@ -16,7 +16,7 @@ row method pieces endpoint = record { method = method; pieces = pieces; endpoint
 
 -- ---- literal segments
 
--- `-`, which no name of a package is
+-- `-`, which isn't the name of a package
 abbrev pub dash : Piece
 dash = literal (codes "-")
 

@@ -14,11 +14,11 @@ use Rattle.registry_ranges.specs.Tags.{IsNeither}
 abbrev pub text_of : Text → Text
 text_of written = percent_decode written
 
--- no memory is left, or the text is no UTF-8
+-- no memory is left, or the text isn't UTF-8
 abbrev pub StopsDecoding : Text → Stop → Type 0
 StopsDecoding written stop = (stop ≡ Faulted Memory) ⊎ ((stop ≡ Refused BadName) × ¬ (IsUtf8 (text_of written)))
 
--- the same, or the text is UTF-8 and refused so, and this holds of it
+-- the same, or the text is UTF-8 and gets this refusal, and this holds of it
 abbrev pub StopsValue : Text → Refusal → (Text → Type 0) → Stop → Type 0
 StopsValue written refusal P stop = StopsDecoding written stop ⊎ ((stop ≡ Refused refusal) × IsUtf8 (text_of written) × P (text_of written))
 

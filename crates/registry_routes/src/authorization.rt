@@ -36,10 +36,10 @@ fn behind_spaces(mut text: &[u8]) -> &[u8]
 }
 
 /// The token that the value of an `authorization` field shows (RFC 6750, section 2.1): the scheme
-/// `Bearer`, its letters in either case, one space or more, and the token. None exactly for another
-/// value. It takes no memory.
+/// `Bearer`, in letters of either case, one space or more, and the token. `None` is returned
+/// exactly for any other value. It takes no memory.
 ///
-/// What follows the spaces is any text in UTF-8, which may be no token in form.
+/// What follows the spaces is any text in UTF-8, and needn't be a token in form.
 pub fn bearer_token(value: &[u8]) -> Option<&str>
     ensures { MatchOption result (IsNoBearer value.now) (λ token. IsBearer value.now token.now) }
 {

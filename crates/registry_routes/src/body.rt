@@ -66,8 +66,8 @@ fn into_string(value: Value) -> Option<String>
 
 /// The version that a body says: a JSON string (RFC 8259) of it.
 ///
-/// `BadBody` comes for no other body than one that is no JSON string, `BadVersion` for no other
-/// than the string of a text that is no version, and `Memory` where no memory is left.
+/// `BadBody` is returned only for a body that isn't a JSON string, `BadVersion` only for the string
+/// of a text that isn't a version, and `Memory` when no memory is left.
 pub fn version_of_body(alloc: Global, body: &[u8]) -> Result<Ver, Stop>
     ensures ok { IfOk result (IsVersionBody body.now) }
     ensures err { IfErr result (StopsVersion body.now) }
@@ -78,7 +78,7 @@ pub fn version_of_body(alloc: Global, body: &[u8]) -> Result<Ver, Stop>
 
 /// The status that a body says: the JSON string `"public"` or `"restricted"`.
 ///
-/// `BadBody` comes for no other body than another one, and `Memory` where no memory is left.
+/// `BadBody` is returned only for any other body, and `Memory` when no memory is left.
 pub fn status_of_body(alloc: Global, body: &[u8]) -> Result<Status, Stop>
     ensures ok { IfOk result (IsWordOf status_named body.now) }
     ensures err { IfErr result (IsMemoryOr Refusal.BadBody (IsNoWord status_named body.now)) }
@@ -92,7 +92,7 @@ pub fn status_of_body(alloc: Global, body: &[u8]) -> Result<Status, Stop>
 
 /// The role that a body says: the JSON string `"developer"`, `"admin"` or `"owner"`.
 ///
-/// `BadBody` comes for no other body than another one, and `Memory` where no memory is left.
+/// `BadBody` is returned only for any other body, and `Memory` when no memory is left.
 pub fn role_of_body(alloc: Global, body: &[u8]) -> Result<Role, Stop>
     ensures ok { IfOk result (IsWordOf role_named body.now) }
     ensures err { IfErr result (IsMemoryOr Refusal.BadBody (IsNoWord role_named body.now)) }
@@ -106,7 +106,7 @@ pub fn role_of_body(alloc: Global, body: &[u8]) -> Result<Role, Stop>
 
 /// The grant that a body says: the JSON string `"read-only"` or `"read-write"`.
 ///
-/// `BadBody` comes for no other body than another one, and `Memory` where no memory is left.
+/// `BadBody` is returned only for any other body, and `Memory` when no memory is left.
 pub fn grant_of_body(alloc: Global, body: &[u8]) -> Result<Grant, Stop>
     ensures ok { IfOk result (IsWordOf grant_named body.now) }
     ensures err { IfErr result (IsMemoryOr Refusal.BadBody (IsNoWord grant_named body.now)) }
@@ -130,9 +130,8 @@ fn text_at<'a>(value: &'a Value, key: &str) -> Option<&'a str>
 /// of versions, and `message`, of at most 1,024 bytes. Its other members aren't read, and of equal
 /// keys the last one counts.
 ///
-/// `BadBody` comes for no other body than one that is no such object or whose message is too long,
-/// `BadSelector` for no other than one whose selector is none, and `Memory` where no memory is
-/// left.
+/// `BadBody` is returned only for a body that isn't such an object or whose message is too long,
+/// `BadSelector` only for one whose selector isn't one, and `Memory` when no memory is left.
 pub fn deprecation_of_body(alloc: Global, body: &[u8]) -> Result<Deprecation, Stop>
     ensures ok { IfOk result (λ d. (text : Text) × IsDeprecationBody body.now text d.message
         × HasConditions text d.selector) }

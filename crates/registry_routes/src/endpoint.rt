@@ -22,7 +22,7 @@ pub enum Endpoint {
     SetAccess,
     /// To make a user a maintainer. Values: the package's name, and the user's.
     OwnerAdd,
-    /// To make a user a maintainer no longer. Values: the package's name, and the user's.
+    /// To remove a maintainer. Values: the package's name, and the user's.
     OwnerRemove,
     /// To deprecate versions. Value: the package's name. The body has the selector and the message.
     Deprecate,

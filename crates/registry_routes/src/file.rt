@@ -55,8 +55,8 @@ fn version_text<'a>(name: &Name, file: &'a str) -> Option<&'a str>
 /// hyphen, the version and `.tgz`. `written` is one segment of a path, or two with the slash
 /// between them.
 ///
-/// `BadName` comes for no other text than one that isn't UTF-8, `NotFound` for no other than one
-/// that is no file of the package, and `Memory` where no memory is left.
+/// `BadName` is returned only for a text that isn't UTF-8, `NotFound` only for one that isn't a
+/// file of the package, and `Memory` when no memory is left.
 pub fn version_of_file(alloc: Global, name: &Name, written: &[u8]) -> Result<Ver, Stop>
     ensures ok { IfOk result (λ v. IsFileOf name.now v (text_of written.now)) }
     ensures err { IfErr result (StopsValue written.now Refusal.NotFound (IsNoFileOf name.now)) }

@@ -1,4 +1,4 @@
-//! Laws of the routes, in the words of who reads an API page. Each is the contract of a
+//! Laws of the routes, in the words of an API page. Each is the contract of a
 //! function that does nothing.
 
 ghost use Rattle.registry_routes.specs.Laws.{DashIsNoName, EscapesAreSlashes, OneRowTakes, QueriesChangeNothing};
@@ -8,13 +8,13 @@ pub fn queries_change_nothing()
     ensures { QueriesChangeNothing }
 {}
 
-/// At most one row of the table has a method and a path, so the order of its rows is no matter.
+/// At most one row of the table has a method and a path, so the order of its rows doesn't matter.
 pub fn one_row_takes()
     ensures { OneRowTakes }
 {}
 
-/// A path whose first segment is `-` has none of the routes that begin with the name of a package,
-/// and any other path has none but these.
+/// A path whose first segment is `-` has no route that begins with the name of a package, and any
+/// other path has only such routes.
 pub fn dash_is_no_name()
     ensures { DashIsNoName }
 {}

@@ -3,7 +3,7 @@
 //!
 //! The routes are one table, which is in `specs/Table` as an API page has it. A route is found
 //! exactly where the table has one, and takes no memory. The values of a path are decoded after
-//! routing. What builds a request of these is above: it reads the values of the path from left to
+//! routing. The crate that builds a request from these reads the values of the path from left to
 //! right, then the body, and then the authorization.
 #![tactic(auto)]
 

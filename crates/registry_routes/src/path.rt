@@ -67,7 +67,7 @@ fn segment_len(text: &[u8]) -> usize
     text.iter().take_while(|byte| **byte != b'/').count()
 }
 
-// The segment after the slash at the front, and what follows it. None where no slash is there, or
+// The segment after the slash at the front, and what follows it. `None` where there is no slash, or
 // the segment is empty.
 pub(crate) fn segment(path: &[u8]) -> Option<(&[u8], &[u8])>
     ensures { split_view result ≡ segment_at path.now }

@@ -70,7 +70,7 @@ fn file(path: &[u8]) -> Option<(&[u8], &[u8])>
     }
 }
 
-// What takes the place of the piece at the prefix of a path, and what follows it.
+// What takes the place of the piece at the front of a path, and what follows it.
 fn piece_at<'a>(piece: Piece, path: &'a [u8]) -> Option<(&'a [u8], &'a [u8])>
     ensures { split_view result ≡ spec.piece_at (piece_view piece) path.entry.now }
 {
@@ -144,8 +144,8 @@ fn route_at<'a>(rows: &[Row], method: Method, path: &'a [u8]) -> Option<Route<'a
     route_at(rows, method, path)
 }
 
-/// The route that a method and a target take, with the values of the target's path. None where the
-/// table has none. It takes no memory.
+/// The route that a method and a target take, with the values of the target's path. `None` where
+/// the table has no such route. It takes no memory.
 ///
 /// The path is the target up to its first `?`. It is a slash and a segment, once or more, and no
 /// segment is empty. Segments are compared as they are written: an escape in one is undone in its

@@ -14,7 +14,7 @@ use registry_names::Method::{Delete, Get, Post, Put};
 pub(crate) enum Piece {
     /// This segment.
     Literal(&'static [u8]),
-    /// The name of a package: one segment, or a scope and the next one; but `-` is none.
+    /// The name of a package: one segment, or a scope and the next one; but `-` isn't one.
     Name,
     /// A value: one segment.
     Value,

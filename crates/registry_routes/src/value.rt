@@ -14,8 +14,7 @@ use std::alloc::Global;
 /// The text that is written in a path, its escapes undone: each `%` with two hexadecimal digits is
 /// their byte (RFC 3986, section 2.1), and every other `%` stays.
 ///
-/// `BadName` comes for no other text than one that isn't UTF-8, and `Memory` where no memory is
-/// left.
+/// `BadName` is returned only for a text that isn't UTF-8, and `Memory` when no memory is left.
 pub fn decoded(alloc: Global, written: &[u8]) -> Result<String, Stop>
     ensures ok { IfOk result (λ text. string_bytes text ≡ text_of written.now) }
     ensures err { IfErr result (StopsDecoding written.now) }
@@ -28,8 +27,8 @@ pub fn decoded(alloc: Global, written: &[u8]) -> Result<String, Stop>
     }
 }
 
-/// The name of a package that is written in a path. `BadName` comes for no other text than one that
-/// is none, and `Memory` where no memory is left.
+/// The name of a package that is written in a path. `BadName` is returned only for a text that
+/// isn't one, and `Memory` when no memory is left.
 pub fn name_in(alloc: Global, written: &[u8]) -> Result<Name, Stop>
     ensures ok { IfOk result (λ n. (n ≡ text_of written.now) × IsName (text_of written.now)) }
     ensures err { IfErr result (StopsValue written.now Refusal.BadName (λ t. ¬ (IsName t))) }
@@ -38,8 +37,8 @@ pub fn name_in(alloc: Global, written: &[u8]) -> Result<Name, Stop>
     Name::parse(alloc, text.as_str())
 }
 
-/// The name of a user, an organisation or a team that is written in a path. `BadName` comes for no
-/// other text than one that is none, and `Memory` where no memory is left.
+/// The name of a user, an organisation or a team that is written in a path. `BadName` is returned
+/// only for a text that isn't one, and `Memory` when no memory is left.
 pub fn ident_in(alloc: Global, written: &[u8]) -> Result<Ident, Stop>
     ensures ok { IfOk result (λ i. (i ≡ text_of written.now) × (is_ident i ≡ true)) }
     ensures err { IfErr result (StopsValue written.now Refusal.BadName (λ t. is_ident t ≡ false)) }
@@ -48,9 +47,8 @@ pub fn ident_in(alloc: Global, written: &[u8]) -> Result<Ident, Stop>
     Ident::parse(alloc, text.as_str())
 }
 
-/// The version that is written in a path. `BadName` comes for no other text than one that isn't
-/// UTF-8, `BadVersion` for no other than one that is no version, and `Memory` where no memory is
-/// left.
+/// The version that is written in a path. `BadName` is returned only for a text that isn't UTF-8,
+/// `BadVersion` only for one that isn't a version, and `Memory` when no memory is left.
 pub fn version_in(alloc: Global, written: &[u8]) -> Result<Ver, Stop>
     ensures ok { IfOk result (IsVersionOf (text_of written.now)) }
     ensures err { IfErr result (StopsValue written.now Refusal.BadVersion (λ t. ¬ (IsVersion t))) }
@@ -59,9 +57,9 @@ pub fn version_in(alloc: Global, written: &[u8]) -> Result<Ver, Stop>
     Ver::parse(alloc, text.as_str())
 }
 
-/// The tag that is written in a path. `BadName` comes for no other text than one that isn't UTF-8,
-/// `RangeTag` for no other than a range of versions, `BadTag` for no other than one that is no tag
-/// otherwise, and `Memory` where no memory is left.
+/// The tag that is written in a path. `BadName` is returned only for a text that isn't UTF-8,
+/// `RangeTag` only for a range of versions, `BadTag` only for one that isn't a tag otherwise, and
+/// `Memory` when no memory is left.
 pub fn tag_in(alloc: Global, written: &[u8]) -> Result<TagText, Stop>
     ensures ok { IfOk result (λ t. (t ≡ text_of written.now) × IsTag t) }
     ensures err { IfErr result (StopsTag written.now) }

@@ -168,7 +168,7 @@ module _ {X : Type 0} where
 
 -- ---- the row of sqlite_sequence
 
--- the row that counts so many for a table of this name
+-- the row that counts this many for a table of this name
 abbrev counter_row : ℤ → List ℕ → ℤ → Row
 counter_row id name n = Int id ∷ Text name ∷ Int n ∷ []
 

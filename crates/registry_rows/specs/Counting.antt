@@ -32,7 +32,7 @@ has_name name r = is_eq (value_cmp (column r 1) (Text name))
 abbrev pub count_value : List ℕ → List Row → Option Value
 count_value name counters = option_map (λ r. column r 2) (find (has_name name) counters)
 
--- the number that SQLite takes a count for: where there is none, 0
+-- the number that SQLite takes a count for, and 0 where there is no count
 abbrev pub counted : Option Value → ℤ
 counted count = id_in (unary ToInt (unwrap_or count Null))
 
@@ -55,8 +55,8 @@ last_number m = fold (λ _ e. e.0) (pos 0) (entries m)
 abbrev pub next_number : {X : Type 0} → ℤ → NumberMap X → ℤ
 next_number count m = int_max count (last_number m) +ℤ pos 1
 
--- The table counts in the rows of this tree, which is that of sqlite_sequence. Rows that differ from
--- those that are there in the table's count alone, a whole number, give the contents with that
+-- The table counts in the rows of this tree, which is that of sqlite_sequence. Rows that differ
+-- from those that are there only in the table's count, a whole number, give the contents with that
 -- count. Where the contents leave it out, `count` changes nothing.
 pub record IsCounted {C : Type 0} (schema : Schema) (contents : Trees → C) (table : Table) (counters : ℕ) (count : C → ℤ → C) : Type 0 where
   pub counts : table.is_counted ≡ true

@@ -13,8 +13,8 @@ use Rattle.registry_rows.specs.Statements.{MeansTable, MeansFirstCounted, MeansI
 use Rattle.registry_rows.specs.Ready.{Blank, Leaves, Executed, DependsOn}
 use Rattle.registry_rows.specs.Laws.{OfEachCall, EachAnswer}
 
--- where the tables that were there have their rows and a new one has none, `after` gives what `before`
--- gave
+-- where the tables that were there have their rows and a new one has none, `after` gives what
+-- `before` gave
 abbrev pub GivesAlike : {C : Type 0} → Schema → (Trees → C) → (Trees → C) → Type 0
 GivesAlike schema before after = (old new : Trees) → KeepsRows schema.tables old new → new (next_tree schema) ≡ [] → after new ≡ before old
 

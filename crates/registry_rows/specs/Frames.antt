@@ -11,7 +11,8 @@ use Rattle.registry_names.specs.declared.stop.Fault.{Fault}
 use Rattle.registry_rows.specs.Faults.{as_fault}
 use Rattle.registry_rows.specs.Ready.{Executed}
 
--- Whatever it answers. `old` and `new` are the transaction at its entry and at its exit
+-- What holds of a call, whatever it answers. `old` and `new` are the transaction at its entry and
+-- at its exit
 pub record Stays {S : Type 0} (store : Ghosts S) (old new : Transaction S) : Type 0 where
   -- it is the transaction of the same connection
   pub same_reference : new.conn.ghost_name ≡ old.conn.ghost_name
@@ -28,6 +29,6 @@ Wrote sql params old new = (n : ℕ) × Executed sql params old new (Ok n)
 abbrev pub IsCommitted : State → State → Type 0
 IsCommitted old new = IsTrue old.in_transaction × Shows old new old.now old.now false × KeepsCounts old new × (new.marks ≡ [])
 
--- it could not be committed, which this fault answers
+-- it could not be committed, and this fault is returned
 abbrev pub CommitFails : State → State → Fault → Type 0
 CommitFails old new fault = (e : Error) × FailsToCommit old new e × (fault ≡ as_fault e)

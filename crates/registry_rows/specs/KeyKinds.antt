@@ -30,7 +30,7 @@ pub record KeyKind : Type 1 where
   -- ORDER BY the key
   pub order : List (Term × SortKey)
 
--- a text and so many more, in the first columns
+-- a text and this many more, in the first columns
 abbrev pub texts : ℕ → KeyKind
 texts more = record {
   Key = Texts more;
@@ -70,7 +70,7 @@ numbers = record {
 abbrev pub map_by : {X : Type 0} (k : KeyKind) → (Row → X) → List Row → MapBy k.cmp X
 map_by k value table = rows k.cmp (map (λ r. (k.of_row r, value (drop 1 r))) table)
 
--- two rows with one key are one row
+-- two rows with the same key are the same row
 abbrev pub OneEach : KeyKind → List Row → Type 0
 OneEach k table = (a b : Row) → Has table a → Has table b → k.of_row a ≡ k.of_row b → a ≡ b
 

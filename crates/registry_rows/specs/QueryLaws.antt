@@ -46,7 +46,7 @@ module _ {S : Type 0} (store : Ghosts S) (Y : Type 0) {C X : Type 0} (schema : S
       → (read : Row → Texts more × Y) (g : X → Y) → ((id : Value) (vs : Row) → read (shown_by project (Stored p ∷ []) (id ∷ vs)) ≡ (texts_from more 1 vs, g (value vs)))
       → EachShows store schema sql (Stored p ∷ []) read (λ db. map (seen g) (part (texts_cmp more) (map_of (suc more) value (db table.tree)) p))
 
-  -- with LIMIT it shows the first so many entries of that part
+  -- with LIMIT it shows this many entries of that part, from the first on
   abbrev pub SelectListsFirst : Type 0
   SelectListsFirst = (count : ℕ) (sql : List ℕ) (project : List Term) (names : List (List ℕ)) → MeansQuery schema sql (select_first count table project (by_texts 0 1 0) (in_order more 2) names) → (p : Text)
       → (read : Row → Texts more × Y) (g : X → Y) → ((id : Value) (vs : Row) → read (shown_by project (Stored p ∷ []) (id ∷ vs)) ≡ (texts_from more 1 vs, g (value vs)))

@@ -29,7 +29,7 @@ module _ {S : Type 0} (store : Ghosts S) {C X : Type 0} (k : KeyKind) (schema : 
   abbrev map_in : Trees → MapBy k.cmp X
   map_in db = map_by k value (db table.tree)
 
-  -- two rows of one key are one row
+  -- two rows with the same key are the same row
   abbrev pub OneRowEach : Type 0
   OneRowEach = OfEachState store (λ s. IsReady schema s → OneEach k (s.now.trees table.tree))
 

@@ -9,8 +9,8 @@ ghost use Rattle.registry_rows.specs.Counting.{InsertNumbers, NextIsNew, NextIsA
 
 use sqlite::Alter;
 
-/// A table that is made is empty and leaves the others' rows, and so all that they give, and the
-/// first that counts makes the table that counts beside it. An index leaves every table's rows.
+/// A new table is empty, and leaves the rows of the others, and so all that they give. The first
+/// that counts makes the table that counts beside it. An index leaves the rows of every table.
 pub fn creations_add_empty_tables<S: Alter, C>()
     ensures create { CreateAddsEmpty S.Store }
     ensures counter { CreateAddsCounter S.Store }
@@ -20,8 +20,8 @@ pub fn creations_add_empty_tables<S: Alter, C>()
     ensures index_rows { IndexKeepsRows S.Store C }
 {}
 
-/// The map that a ready table's rows give has at each key what the row of that key says, and no
-/// two rows have one key.
+/// The map that a ready table's rows give has at each key what the row of that key says, and no two
+/// rows have the same key.
 pub fn rows_give_maps<S: Alter, C, X>()
     ensures once { OfEachTable C X (OneRowEach S.Store) }
     ensures tell { OfEachTable C X (RowsTellMap S.Store) }
@@ -38,7 +38,7 @@ pub fn writes_change_maps<S: Alter, C, X>()
 {}
 
 /// A query by key, by a column or in the order of the key shows exactly what its table's map has,
-/// or the first entries of that, as many as it asks for, and changes nothing.
+/// or as many of its first entries as it asks for, and changes nothing.
 pub fn queries_show_maps<S: Alter, C, X, Y>()
     ensures find { OfEachTable C X (SelectFinds S.Store Y) }
     ensures has { OfEachTable C X (SelectHas S.Store Y) }
@@ -60,7 +60,8 @@ pub fn bytes_are_keys<S: Alter, C, X, Y>()
     ensures all { OfEachBytesTable C X (SelectListsAll S.Store Y) }
 {}
 
-/// The same of a table whose key is the rowid.
+/// The same of a table whose key is the rowid. Such a table has no index of its own, so the place
+/// of a table and that of its index may differ.
 pub fn numbers_are_keys<S: Alter, C, X, Y>()
     ensures once { OfEachNumberedTable C X (OneRowEach S.Store) }
     ensures tell { OfEachNumberedTable C X (RowsTellMap S.Store) }
@@ -72,7 +73,7 @@ pub fn numbers_are_keys<S: Alter, C, X, Y>()
 
 /// AUTOINCREMENT: INSERT puts a row under the next number, counts that and answers it. Every other
 /// row of `sqlite_sequence` stays as it is. The next number is above the count and above each that
-/// a row has, so none is given twice, also where rows were deleted since.
+/// a row has, so none is given twice, even where rows were deleted since.
 pub fn numbers_are_counted<S: Alter, C, X>()
     ensures insert { InsertNumbers S.Store C X }
     ensures new { NextIsNew X }

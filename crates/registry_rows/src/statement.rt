@@ -1,4 +1,4 @@
-//! Statements inside a transaction. An error of the database is answered as a fault.
+//! Statements inside a transaction. An error of the database is returned as a fault.
 
 ghost use Rattle.std.specs.Prelude.{◌≡◌, IfErr, IfOk, OnErr, OnOk, false};
 ghost use Rattle.sqlite.specs.Held.{state};
@@ -12,8 +12,8 @@ use registry_names::Fault;
 use sqlite::types::ValueRef;
 use sqlite::{Alter, Error, ErrorCode, Row, Transaction};
 
-/// The fault that is answered where the database answers this error: `Memory` where it had no
-/// memory left, and else `Database`.
+/// The fault for this error of the database: `Memory` where it had no memory left, and otherwise
+/// `Database`.
 pub fn fault_of(error: Error) -> Fault
     ensures { result ≡ as_fault error }
 {
@@ -39,7 +39,7 @@ pub fn write<S: Alter>(
     }
 }
 
-/// Runs a query with these parameters, and gives its rows.
+/// Runs a query with these parameters, and returns its rows.
 pub fn read<S: Alter>(
     tx: &mut Transaction<'_, S>,
     text: &str,

@@ -1,4 +1,4 @@
--- Who asks: whom the registry knows by what came with a request.
+-- The caller: whom the registry knows by what came with a request.
 use Rattle.std.specs.Prelude.{Bool, true, Option, Some, None, option_map, if◌then◌else◌}
 use Rattle.registry_access.specs.declared.caller.Caller.{Caller}
 use Rattle.registry_access.specs.declared.caller.Caller.TheVariants as caller
@@ -15,7 +15,7 @@ caller_of S (User u) = if has_user S u then Some (caller.User u) else None
 caller_of S (Token digest) = option_map caller.User (at S.access.tokens digest)
 caller_of S Anonymous = Some caller.Anonymous
 
--- they are nobody that the registry would have to hold, or it holds them
+-- the registry need not hold them, or it holds them
 abbrev pub is_known : State → Caller → Bool
 is_known S caller.Operator = true
 is_known S (caller.User u) = has_user S u

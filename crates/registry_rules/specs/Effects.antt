@@ -31,25 +31,25 @@ use Rattle.registry_rules.specs.declared.request.Request.{Request}
 abbrev pub creation : Text → Text → List Change
 creation o u = AddOrg o ∷ PutMember o u Owner false ∷ AddTeam o developers ∷ PutTeamMember o developers u ∷ []
 
--- a member has another role; who becomes a member joins the first team
+-- a member gets another role; a new member joins the first team
 abbrev pub membership : Text → Text → Role → Option Role → List Change
 membership o u role (Some old) = PutMember o u role true ∷ []
 membership o u role None = PutMember o u role false ∷ PutTeamMember o developers u ∷ []
 
 -- ---- teams
 
--- who is in the team already stays in it
+-- a user who is in the team already stays in it
 abbrev pub joining : Text → Text → Text → Bool → List Change
 joining o t u inside = if inside then [] else PutTeamMember o t u ∷ []
 
 -- ---- a publish
 
--- a package of an organisation is its own until it says otherwise
+-- a package with a scope is restricted until its status is set, and one without a scope is public
 abbrev pub first_status : Text → Status
 first_status p = if is_some (scope_of p) then Restricted else Public
 
--- The status that a publish sets: the one that it asks for; else, where the package has none yet,
--- the first; else none
+-- The status that a publish sets: the one that it asks for; otherwise the first, where the package
+-- has none yet
 abbrev pub new_status : Option Status → Option Status → Text → Option Status
 new_status (Some asked) old p = Some asked
 new_status None (Some old) p = None
@@ -89,8 +89,8 @@ abbrev pub freed : Text → Option Text → Text → Change
 freed p None t = DropTag p t
 freed p (Some other) t = if is t latest then PutTag p t other true else DropTag p t
 
--- Of a version that lives since a moment, if it does: the tags that name it first, of which
--- `latest` is to name the greatest of the others that live, and then itself
+-- The withdrawal of a version that was published at a moment, if it lives. First the tags that name
+-- it change: `latest` is to name the greatest of the other live versions. Then the version goes
 abbrev pub withdrawal : ℕ → Text → Text → Option ℕ → List Text → List Text → List Change
 withdrawal now p v None live tags = []
 withdrawal now p v (Some published) live tags = map (freed p (greatest (others live v))) tags ++ RetireVersion p v published now ∷ []
@@ -103,7 +103,7 @@ deprecation p message vs = map (λ v. PutDeprecation p v message) vs
 
 -- ---- rights to a package
 
--- who is a maintainer already stays one
+-- a user who is a maintainer already stays one
 abbrev pub maintaining : Text → Text → Bool → List Change
 maintaining p u already = if already then [] else PutOwner p u ∷ []
 
@@ -135,7 +135,7 @@ effects S now who _ = []
 abbrev pub step_by : State → ℕ → Caller → Action → State
 step_by S now who what = all_made S (effects S now who what)
 
--- the changes of a request. One of nobody has none
+-- the changes of a request. A request of nobody has none
 abbrev pub effects_for : State → ℕ → Option Caller → Action → List Change
 effects_for S now None what = []
 effects_for S now (Some who) what = effects S now who what

@@ -88,8 +88,8 @@ pub record AreWithdrawFacts (standing : Standing) (since : Option ℕ) (needed :
   pub tags : named ≡ tags_of S p (text_of_version v)
   pub live : map text_of_version living ≡ live_versions S p
 
--- What is said of a caller's action is so. What is said of another kind of action means nothing
--- of a state
+-- What is said of a caller's action holds. What is said of another kind of action agrees with no
+-- state
 abbrev pub AboutTells : About → State → Caller → Action → Type 0
 AboutTells (about.UserAdd exists) S who (UserAdd u) = exists ≡ has_user S u
 AboutTells (about.TokenAdd user_exists exists) S who (TokenAdd u digest) = (user_exists ≡ has_user S u) × (exists ≡ has_token S digest)
@@ -120,8 +120,8 @@ AboutTells (about.Team rows exists) S who (TeamMembers o t) = SayOf rows S who o
 AboutTells (about.Team rows exists) S who (TeamPackages o t) = SayOf rows S who o × (exists ≡ has_team S o t)
 AboutTells _ S who _ = ⊥
 
--- The facts are what the registry holds for the request. Of an action of nobody nothing has to be
--- said
+-- The facts are what the registry holds for the request. Nothing has to be said of an action of
+-- nobody
 pub record FactsTell (facts : Facts) (S : State) (r : Request) : Type 0 where
   pub caller : facts.caller ≡ caller_of S r.who
   pub about : (who : Caller) → facts.caller ≡ Some who → AboutTells facts.about S who r.what

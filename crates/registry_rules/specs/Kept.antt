@@ -68,7 +68,7 @@ pub record IsSound (A : Access) : Type 0 where
   pub owners : (o : Text) → IsSome (at A.organisations o) → (u : Text) × (at A.roles (o, u) ≡ Some Owner)
   pub first_teams : (o : Text) → IsSome (at A.organisations o) → IsSome (at A.teams (o, developers))
   pub teams : (o t : Text) → IsSome (at A.teams (o, t)) → IsSome (at A.organisations o)
-  -- who is in a team is a member of its organisation
+  -- a user who is in a team is a member of its organisation
   pub team_members : (o t u : Text) → IsSome (at A.team_members (o, (t, u))) → IsSome (at A.teams (o, t)) × IsSome (at A.roles (o, u))
   pub grants : (o t p : Text) → IsSome (at A.grants (o, (t, p))) → IsGrant A o t p
   -- a maintainer is a user, and their package was published

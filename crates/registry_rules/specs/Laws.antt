@@ -70,7 +70,8 @@ pub record CreatesOrganisation (S T : State) (o u : Text) : Type 0 where
     };
   }
 
--- the user has this role. Who had none joins the first team, and who had one stays where they are
+-- the user has this role. A user who had none joins the first team, and one who had a role stays
+-- where they are
 pub record SetsRole (S T : State) (o u : Text) (new : Role) : Type 0 where
   pub role : at T.access.roles (o, u) ≡ Some new
   pub roles : (k : Pair) → k ≢ (o, u) → at T.access.roles k ≡ at S.access.roles k
@@ -79,8 +80,8 @@ pub record SetsRole (S T : State) (o u : Text) (new : Role) : Type 0 where
   pub team_members : (k : Triple) → k ≢ (o, (developers, u)) → at T.access.team_members k ≡ at S.access.team_members k
   pub rest : T ≡ record S { access = record S.access { roles = T.access.roles; team_members = T.access.team_members } }
 
--- the user is no member, and in no team of the organisation; every other member stays, in all their
--- teams
+-- the user isn't a member any more, and is in no team of the organisation; every other member
+-- stays, in all their teams
 pub record RemovesMember (S T : State) (o u : Text) : Type 0 where
   pub role : at T.access.roles (o, u) ≡ None
   pub roles : (k : Pair) → k ≢ (o, u) → at T.access.roles k ≡ at S.access.roles k
@@ -123,7 +124,7 @@ pub record DestroysTeam (S T : State) (o t : Text) : Type 0 where
   pub grants : (p s q : Text) → ◌≢◌ {A = Pair} (p, s) (o, t) → at T.access.grants (p, (s, q)) ≡ at S.access.grants (p, (s, q))
   pub rest : T ≡ record S { access = record S.access { teams = T.access.teams; team_members = T.access.team_members; grants = T.access.grants } }
 
--- who is in this team alone has changed, and of these this one
+-- only the members of this team have changed, and of them only this one
 pub record IsTeamMemberChange (S T : State) (o t u : Text) : Type 0 where
   pub team_members : (k : Triple) → k ≢ (o, (t, u)) → at T.access.team_members k ≡ at S.access.team_members k
   pub rest : T ≡ record S { access = record S.access { team_members = T.access.team_members } }
@@ -148,12 +149,12 @@ TeamMembersAreRemoved = (S : State) (now : ℕ) (who : Caller) (o t u : Text) �
 
 -- ---- rights to a package
 
--- what teams are granted alone has changed, and of it this team's grant on this package
+-- only what teams are granted has changed, and of that only this team's grant on this package
 pub record IsGrantChange (S T : State) (o t p : Text) : Type 0 where
   pub grants : (k : Triple) → k ≢ (o, (t, p)) → at T.access.grants k ≡ at S.access.grants k
   pub rest : T ≡ record S { access = record S.access { grants = T.access.grants } }
 
--- maintainers alone have changed, and of them this one of this package
+-- only maintainers have changed, and of them only this one of this package
 pub record IsOwnerChange (S T : State) (p u : Text) : Type 0 where
   pub maintainers : (k : Pair) → k ≢ (p, u) → at T.access.maintainers k ≡ at S.access.maintainers k
   pub rest : T ≡ record S { access = record S.access { maintainers = T.access.maintainers } }
@@ -166,7 +167,7 @@ abbrev pub GrantsAreRevoked : Type 0
 GrantsAreRevoked = (S : State) (now : ℕ) (who : Caller) (o t p : Text) → let T = step_by S now who (Revoke o t p) in
     (at T.access.grants (o, (t, p)) ≡ None) × IsGrantChange S T o t p
 
--- the package has this status, and no other has another
+-- the package has this status, and no other package's status has changed
 pub record SetsAccess (S T : State) (p : Text) (status : Status) : Type 0 where
   pub set : at T.access.statuses p ≡ Some status
   pub statuses : (q : Text) → q ≢ p → at T.access.statuses q ≡ at S.access.statuses q
@@ -202,8 +203,8 @@ pub record SetsTags (S T : State) (f : FormParts) : Type 0 where
   pub latest_stays : IsSome (at S.tags (f.name, latest)) → f.tag ≢ latest → at T.tags (f.name, latest) ≡ at S.tags (f.name, latest)
   pub tags : (k : Pair) → k ≢ (f.name, f.tag) → k ≢ (f.name, latest) → at T.tags k ≡ at S.tags k
 
--- Its package has the status that it asks for; else the one that it had; else, with a scope, it is
--- restricted, and without one public
+-- Its package has the status that it asks for; otherwise the one that it had; otherwise it is
+-- restricted with a scope, and public without one
 pub record SetsStatus (S T : State) (f : FormParts) : Type 0 where
   pub asked : (status : Status) → f.access ≡ Some status → at T.access.statuses f.name ≡ Some status
   pub later : f.access ≡ None → IsSome (at S.access.statuses f.name) → at T.access.statuses f.name ≡ at S.access.statuses f.name
@@ -212,7 +213,7 @@ pub record SetsStatus (S T : State) (f : FormParts) : Type 0 where
   pub statuses : (p : Text) → p ≢ f.name → at T.access.statuses p ≡ at S.access.statuses p
 
 -- The first team of a new package's scope reads and writes it, and without a scope its publisher
--- maintains it. Else nobody is let in or shut out
+-- maintains it. Otherwise nobody is let in or shut out
 pub record GivesFirstRight (S T : State) (who : Caller) (f : FormParts) : Type 0 where
   pub later : IsSome (at S.access.statuses f.name) → T.access ≡ record S.access { statuses = T.access.statuses }
   pub scoped : (o : Text) → at S.access.statuses f.name ≡ None → scope_of f.name ≡ Some o → at T.access.grants (o, (developers, f.name)) ≡ Some ReadWrite
@@ -235,7 +236,7 @@ PublishesSetStatuses = (S : State) (now : ℕ) (who : Caller) (f : FormParts) �
 
 -- ---- a tag
 
--- the tags of this package alone have changed, and of them this one
+-- only the tags of this package have changed, and of them only this one
 pub record IsTagChange (S T : State) (p t : Text) : Type 0 where
   pub tags : (k : Pair) → k ≢ (p, t) → at T.tags k ≡ at S.tags k
   pub live : T.live ≡ S.live
@@ -313,7 +314,7 @@ PackagesStandApart = (S : State) (now : ℕ) (who : Caller) (what : Action) (p :
 
 -- ---- who needs a version
 
--- the need is of the package, with a text that is no range, or that allows the version
+-- the need is of the package, with a text that isn't a range, or that allows the version
 pub record IsNeedOf (p : Text) (v : VersionParts) (need : Need) : Type 0 where
   pub target : need.target ≡ p
   pub range : (¬ IsRangeText need.range) ⊎ Allows need.range v

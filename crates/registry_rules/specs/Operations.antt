@@ -28,7 +28,7 @@ with_member S o u role = record S { access = record S.access { roles = put S.acc
 abbrev pub with_role : State → Text → Text → Role → State
 with_role S o u role = if is_some (at S.access.roles (o, u)) then with_member S o u role else S
 
--- the user is no member, and in no team of the organisation
+-- the user isn't a member, and is in no team of the organisation
 abbrev pub without_member : State → Text → Text → State
 without_member S o u = record S {
   access = record S.access {
@@ -75,7 +75,7 @@ without_grant S o t p = record S { access = record S.access { grants = erase S.a
 abbrev pub with_maintainer : State → Text → Text → State
 with_maintainer S p u = record S { access = record S.access { maintainers = put S.access.maintainers (p, u) tt } }
 
--- the user is no maintainer of the package
+-- the user isn't a maintainer of the package
 abbrev pub without_maintainer : State → Text → Text → State
 without_maintainer S p u = record S { access = record S.access { maintainers = erase S.access.maintainers (p, u) } }
 

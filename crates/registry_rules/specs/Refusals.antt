@@ -56,8 +56,8 @@ publish_refusal S now f = refuse (is_live S f.name (version_of f)) Published
     (refuse (is_restricted f.access && is_none (scope_of f.name)) AlwaysPublic
     (refuse (is_waiting S now f.name) Waiting None)))
 
--- Of a version that lives since a moment, if it does: it isn't withdrawn later than three days from
--- then, nor while another package needs it
+-- Of a version that was published at a moment, if it lives: it isn't withdrawn more than three days
+-- after that, nor while another package needs it
 abbrev pub withdraw_refusal : ℕ → Option ℕ → Bool → Option Refusal
 withdraw_refusal now None depended = Some NotFound
 withdraw_refusal now (Some published) depended = refuse (is_too_old now published) TooLate (refuse depended Depended None)
@@ -77,8 +77,8 @@ abbrev pub grant_refusal : Bool → Bool → Text → Text → Option Refusal
 grant_refusal team published o p = refuse (not team || (is_scope o (scope_of p) && not published)) NotFound (refuse (not (is_scope o (scope_of p))) OtherScope None)
 
 -- At this moment. What is there already isn't added, and what isn't there isn't found. An
--- organisation keeps an owner and its first team, and a package its last maintainer; members alone
--- are in teams. A tag is set to a live version alone, and only such a one has a document and an
+-- organisation keeps an owner and its first team, and a package its last maintainer; only members
+-- are in teams. A tag is set only to a live version, and only a live version has a document and an
 -- archive; a package without a live version has no packument and no tags
 abbrev pub state_refusal : State → ℕ → Action → Option Refusal
 state_refusal S now (UserAdd u) = unless_new (has_user S u)
@@ -115,7 +115,7 @@ state_refusal S now (TeamPackages o t) = unless_there (has_team S o t)
 abbrev pub refusal_by : State → ℕ → Caller → Action → Option Refusal
 refusal_by S now who what = option_or (unless_allowed (permission S.access who what)) (state_refusal S now what)
 
--- one of nobody is refused first of all
+-- an action of nobody is refused before all else
 abbrev pub refusal_for : State → ℕ → Option Caller → Action → Option Refusal
 refusal_for S now None what = Some NoCaller
 refusal_for S now (Some who) what = refusal_by S now who what

@@ -87,7 +87,7 @@ has_other_maintainer S p u = list_any (λ (e : Text × Unit {0}). not (is e.0 u)
 abbrev pub has_other_owner : State → Text → Text → Bool
 has_other_owner S o u = list_any (λ (e : Text × Role). not (is e.0 u) && is_owner (Some e.1)) (of S.access.roles o)
 
--- they are the one owner of the organisation
+-- they are the only owner of the organisation
 abbrev pub is_last_owner : State → Text → Text → Bool
 is_last_owner S o u = is_owner (at S.access.roles (o, u)) && not (has_other_owner S o u)
 

@@ -1,5 +1,5 @@
--- When a version may be withdrawn, when a package may be published again, and what is about a
--- version that goes.
+-- When a version may be withdrawn, when a package may be published again, and which versions and
+-- tags a withdrawal or a deprecation concerns.
 use Rattle.std.specs.Prelude.{ℕ, ◌+◌, Bool, false, not, ◌&&◌, List, [], ◌∷◌, filter, max, nat_le, nat_lt, Option, Some, None, unwrap_or, option_map, if◌then◌else◌}
 use Rattle.std.specs.Borrow.{Bor}
 use Rattle.std.specs.List.{list_any}
@@ -21,8 +21,8 @@ use Rattle.registry_rules.specs.State.{State, Release, Withdrawal, has_live}
 abbrev pub oldest : ℕ
 oldest = 259200
 
--- The version was published too long ago to be withdrawn now. After a clock that went back it is of
--- age 0
+-- The version was published too long ago to be withdrawn now. Where the clock went back its age is
+-- 0
 abbrev pub is_too_old : ℕ → ℕ → Bool
 is_too_old now published = nat_le (published + oldest) now
 
@@ -38,7 +38,7 @@ last_of (e ∷ es) = Some (max e.1.withdrawn (unwrap_or (last_of es) 0))
 abbrev pub last_withdrawal : State → Text → Option ℕ
 last_withdrawal S p = last_of (of S.spent p)
 
--- It was less than a day ago. A moment before it is so, too
+-- It was less than a day ago. This also holds of a moment that is still to come
 abbrev pub is_less_than_a_day_ago : ℕ → Option ℕ → Bool
 is_less_than_a_day_ago now None = false
 is_less_than_a_day_ago now (Some last) = nat_lt now (last + longest_wait)
@@ -49,11 +49,12 @@ is_waiting S now p = not (has_live S p) && is_less_than_a_day_ago now (last_with
 
 -- ---- who needs a version
 
--- the need is of this package, with a text that is no range, or a range that the version satisfies
+-- the need is of this package, with a text that isn't a range, or with a range that the version
+-- satisfies
 abbrev pub is_need_of : Text → VersionParts → Need → Bool
 is_need_of p v need = is need.target p && binds need.range v
 
--- what a live version needs. Where its manifest were out of form, nothing
+-- what a live version needs. Nothing where its manifest is out of form
 abbrev pub needs_in : Release → List Need
 needs_in release = unwrap_or (needs_of release.manifest) []
 

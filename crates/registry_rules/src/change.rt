@@ -39,7 +39,7 @@ pub enum Change<'a> {
         /// Whether they are a member already, in another role or in this one.
         stands: bool,
     },
-    /// The user is no member of the organisation, and in none of its teams.
+    /// The user isn't a member of the organisation, and is in none of its teams.
     DropMember {
         /// The organisation.
         organisation: &'a str,
@@ -71,7 +71,7 @@ pub enum Change<'a> {
         /// The user.
         user: &'a Ident,
     },
-    /// The organisation hasn't this team; nobody is in it, and it is granted nothing.
+    /// The organisation no longer has this team: nobody is in it, and it is granted nothing.
     DropTeam {
         /// The organisation.
         organisation: &'a str,
@@ -107,7 +107,7 @@ pub enum Change<'a> {
         /// The user.
         user: &'a Ident,
     },
-    /// The user is no maintainer of the package.
+    /// The user isn't a maintainer of the package.
     DropOwner {
         /// The package.
         package: &'a Name,
@@ -130,7 +130,7 @@ pub enum Change<'a> {
         /// When it is published.
         at: &'a Moment,
     },
-    /// The version lives no more, and is never published again.
+    /// The version no longer lives, and is never published again.
     RetireVersion {
         /// The package.
         package: &'a Name,

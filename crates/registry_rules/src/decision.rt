@@ -38,11 +38,11 @@ pub fn may_ask(facts: &Facts, request: &Request) -> Result<(), Refusal>
     }
 }
 
-/// What a request changes, which is nothing for a query; or why it is refused, as [`may_ask`]
-/// says.
+/// What a request changes, which is nothing for a query, or why it is refused, as [`may_ask`] says.
+/// It begins with [`may_ask`], so both are exact without a premise.
 ///
-/// `Memory` comes where no memory is left for the changes of a request that isn't refused, and
-/// no other fault comes.
+/// `Memory` is returned when no memory is left for the changes of a request that isn't refused, and
+/// no other fault is returned.
 pub fn decide<'a>(
     alloc: Global,
     facts: &'a Facts,
@@ -87,7 +87,7 @@ fn unless_allowed(verdict: Result<Rule, Refusal>) -> Option<Refusal>
     verdict.err()
 }
 
-// Why what an action asks for can't be had, whoever asks.
+// Why an action is refused, whoever asks, if it is.
 fn state_refusal(about: &About, action: &Action, now: &Moment) -> Option<Refusal>
     ensures { (S : State) (who : Caller) → AboutTells about.now S who action.now
         → result ≡ spec.state_refusal S now.now action.now }
@@ -206,7 +206,7 @@ fn unless_there(found: bool) -> Option<Refusal>
     if found { None } else { Some(Refusal::NotFound) }
 }
 
-// What a request that isn't refused changes. One of nobody is refused.
+// What a request that isn't refused changes. A request of nobody is refused.
 fn changes_for<'a>(
     alloc: Global,
     caller: &'a Option<Caller>,

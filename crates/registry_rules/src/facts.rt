@@ -5,13 +5,13 @@ use registry_names::{Moment, Text, Ver};
 
 /// What the registry holds of a request: who asks, and what exists of what they ask for.
 pub struct Facts {
-    /// Who asks. None where the credential names nobody.
+    /// Who asks. `None` where the credential names nobody.
     pub caller: Option<Caller>,
     /// What exists of it.
     pub about: About,
 }
 
-// Written out, so that to drop facts is one call and not one for each part.
+// Written out, so that dropping facts is one call, not one for each part.
 impl Drop for Facts {
     fn drop(self) {
         let Facts {
@@ -21,7 +21,7 @@ impl Drop for Facts {
     }
 }
 
-/// What the registry holds of what an action is about: of each kind of action what decides it and
+/// What the registry holds of what an action is about: for each kind of action, what decides it and
 /// what its changes need. Rows and standings are what the policy asks for: rows of the
 /// organisation, and of the caller's membership in it; the standing of the caller to the package.
 #[derive(Drop)]
@@ -56,7 +56,7 @@ pub enum About {
         /// Whether another member of it is an owner.
         other_owner: bool,
     },
-    /// Of a member who is to leave an organisation.
+    /// Of a member who is to be removed from an organisation.
     OrgRemove {
         /// The organisation, and the caller in it.
         rows: AccessRows,
@@ -79,7 +79,7 @@ pub enum About {
         /// Whether the team is there.
         exists: bool,
     },
-    /// Of a member who is to be in a team.
+    /// Of a member who is to be put into a team.
     TeamAdd {
         /// The organisation, and the caller in it.
         rows: AccessRows,
@@ -90,7 +90,7 @@ pub enum About {
         /// Whether they are in the team already.
         is_in_team: bool,
     },
-    /// Of a member who is to leave a team.
+    /// Of a member who is to be taken out of a team.
     TeamRemove {
         /// The organisation, and the caller in it.
         rows: AccessRows,
@@ -110,7 +110,7 @@ pub enum About {
         /// Whether the team is granted something on it already.
         stands: bool,
     },
-    /// Of a grant that is to be taken.
+    /// Of a grant that is to be revoked.
     Revoke {
         /// The organisation, and the caller in it.
         rows: AccessRows,
@@ -131,7 +131,7 @@ pub enum About {
         /// Whether they are a maintainer already.
         is_maintainer: bool,
     },
-    /// Of a maintainer who is to be none.
+    /// Of a maintainer who is to be removed.
     OwnerRemove {
         /// The caller and the package.
         standing: Standing,
@@ -165,7 +165,7 @@ pub enum About {
         /// Whether the tag exists.
         tag_stands: bool,
     },
-    /// Of a tag that is to go.
+    /// Of a tag that is to be removed.
     TagRemove {
         /// The caller and the package.
         standing: Standing,

@@ -31,9 +31,8 @@ fn is_scope(organisation: &Ident, name: &Name) -> bool
     }
 }
 
-/// Why a team isn't granted anything on a package, if it isn't: the team isn't there, or the
-/// package is of its scope and was never published; or it is of another scope, of which nothing
-/// more is said.
+/// Why a grant is refused, if it is: the team isn't there; the package is of the team's scope and
+/// was never published; or the package is of another scope, and then nothing more is said of it.
 pub(crate) fn grant_refusal(
     team_exists: bool,
     is_published: bool,
@@ -52,7 +51,7 @@ pub(crate) fn grant_refusal(
     None
 }
 
-/// Whether the package would be restricted, and is nobody's.
+/// Whether the package has no scope and would be restricted.
 pub(crate) fn is_closed(status: Option<Status>, name: &Name) -> bool
     ensures { result ≡ (spec.is_restricted status && is_none (scope_of name.now)) }
 {
@@ -70,7 +69,7 @@ pub(crate) fn status_refusal(status: Option<Status>, name: &Name) -> Option<Refu
     None
 }
 
-/// Why a maintainer can't go, if they can't: they are none, or the last one.
+/// Why a maintainer can't be removed, if they can't: the user isn't one, or is the last one.
 pub(crate) fn owner_remove_refusal(is_maintainer: bool, other_maintainer: bool) -> Option<Refusal>
     ensures { result ≡ spec.refuse (not is_maintainer) refusal.NotFound
         (spec.refuse (not other_maintainer) refusal.LastOwner None) }
@@ -84,7 +83,7 @@ pub(crate) fn owner_remove_refusal(is_maintainer: bool, other_maintainer: bool) 
     None
 }
 
-/// The user is a maintainer. Where they are already, nothing changes.
+/// Makes the user a maintainer. Where they are one already, nothing changes.
 pub(crate) fn maintaining<'a>(
     alloc: Global,
     name: &'a Name,

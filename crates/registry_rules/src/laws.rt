@@ -28,9 +28,9 @@ pub fn members_come_and_go()
     ensures removed { MembersAreRemoved }
 {}
 
-/// A team that is created is there, and empty, whatever an older one of its name was. A team that
-/// is destroyed is gone, with its members and its grants. Who is put into a team is in it, and who
-/// is taken out isn't. Nothing else changes.
+/// A team that is created is there, and empty, whatever an earlier team of its name had. A team
+/// that is destroyed is gone, with its members and its grants. A user who is put into a team is in
+/// it, and one who is taken out isn't. Nothing else changes.
 pub fn teams_come_and_go()
     ensures created { TeamsAreCreated }
     ensures new { NewTeamsAreEmpty }
@@ -55,9 +55,9 @@ pub fn publishes_add_versions()
     ensures rights { PublishesGiveFirstRights }
 {}
 
-/// What a team is granted on a package it is granted, in place of what it was before, and what is
-/// revoked is gone. A package has the status that it is given. Who is made a maintainer is one, and
-/// who is removed is none. Nothing else changes.
+/// A grant that is given to a team on a package is there, in place of an earlier one, and a grant
+/// that is revoked is gone. A package has the status that it is given. A user who is made a
+/// maintainer is one, and one who is removed isn't. Nothing else changes.
 pub fn rights_come_and_go()
     ensures granted { GrantsAreGiven }
     ensures revoked { GrantsAreRevoked }
@@ -78,7 +78,7 @@ pub fn tags_are_set_and_removed()
 {}
 
 /// A version is needed exactly where another package has a live version whose manifest has a need
-/// of its package, with a text that is no range, or a range that allows the version.
+/// of its package, with a text that isn't a range, or with a range that allows the version.
 pub fn needed_versions_have_dependents()
     ensures { NeededHaveDependents }
 {}
@@ -97,15 +97,15 @@ pub fn deprecations_mark()
     ensures { DeprecationsMark }
 {}
 
-/// A query changes nothing, and a command nothing of a package that it doesn't name, but that a
-/// team that is destroyed is granted nothing on it.
+/// A query changes nothing. A command changes nothing of a package that it doesn't name, except
+/// that a team that is destroyed loses its grants on the package.
 pub fn commands_leave_other_packages()
     ensures queries { QueriesChangeNothing }
     ensures packages { PackagesStandApart }
 {}
 
-/// What the registry holds is kept in form: nothing is, and each request in form that isn't refused
-/// keeps it so.
+/// An empty registry is in form, and each request in form that isn't refused keeps the registry in
+/// form.
 pub fn requests_keep_the_form()
     ensures nothing { IsKept nothing }
     ensures step { (S : State) (r : Request) → IsInForm r → refusal S r ≡ None
@@ -120,6 +120,7 @@ pub fn requests_are_in_form(request: &Request)
     action_is_in_form(&request.what);
 }
 
+// Reading a value tells the prover what its type promises. Each line does only this.
 fn action_is_in_form(what: &Action)
     ensures { IsActionInForm what.now }
 {

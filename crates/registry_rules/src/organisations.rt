@@ -22,8 +22,8 @@ fn is_owner(role: Option<Role>) -> bool
     matches!(role, Some(Role::Owner))
 }
 
-/// Why a role can't be given, if it can't: there is no such user, or it isn't an owner's and they
-/// are the last one.
+/// Why a role can't be given, if it can't: there is no such user, or the user is the last owner and
+/// the role is another one.
 pub(crate) fn org_set_refusal(
     user_exists: bool,
     old: Option<Role>,
@@ -43,7 +43,7 @@ pub(crate) fn org_set_refusal(
     None
 }
 
-/// Why a member can't leave, if they can't: they are none, or they are the last owner.
+/// Why a member can't be removed, if they can't: the user isn't a member, or is the last owner.
 pub(crate) fn org_remove_refusal(role: Option<Role>, other_owner: bool) -> Option<Refusal>
     ensures { result ≡ spec.refuse (is_none role) refusal.NotFound
         (spec.refuse (levels.is_owner role && not other_owner) refusal.LastOwner None) }
@@ -87,7 +87,7 @@ pub(crate) fn creation<'a>(
     ]?)
 }
 
-/// A member has another role; who becomes a member joins the first team.
+/// A member gets another role; a new member joins the first team.
 pub(crate) fn membership<'a>(
     alloc: Global,
     organisation: &'a Ident,

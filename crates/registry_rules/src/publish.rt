@@ -99,8 +99,8 @@ pub(crate) fn publish_changes<'a>(
     Ok(changes)
 }
 
-// The status that a publish gives: the one that it asks for; else, for a first publication, what
-// the name's scope says; else none, and the old one stays.
+// The status that a publish gives: the one that it asks for; otherwise, for a first publication,
+// what the name's scope says; otherwise none, and the old one stays.
 fn new_status(old: Option<Status>, form: &PublishForm) -> Option<Status>
     ensures { result ≡ effects.new_status form.now.access old form.now.name }
 {
@@ -111,7 +111,7 @@ fn new_status(old: Option<Status>, form: &PublishForm) -> Option<Status>
     }
 }
 
-// A package of an organisation is its own until it says otherwise.
+// A package with a scope is restricted until its status is set, and one without a scope is public.
 fn first_status(name: &Name) -> Status
     ensures { result ≡ effects.first_status name.now }
 {

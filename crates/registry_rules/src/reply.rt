@@ -10,11 +10,11 @@ pub enum Reply {
     Created,
     /// The command was done.
     Done,
-    /// So many versions were deprecated, or aren't any more.
+    /// This many versions were deprecated, or are no longer deprecated.
     Count(u64),
-    /// A document in JSON (RFC 8259), which others may have too.
+    /// A document in JSON (RFC 8259), which other replies may share.
     Doc(SharedText),
-    /// The bytes of an archive, which others may have too.
+    /// The bytes of an archive, which other replies may share.
     Bytes(SharedBlob),
     /// The request is refused, and nothing has changed.
     Refused(Refusal),

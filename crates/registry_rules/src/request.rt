@@ -15,7 +15,7 @@ pub struct Request {
     pub what: Action,
 }
 
-// Written out, so that to drop a request is one call and not one for each part.
+// Written out, so that dropping a request is one call, not one for each part.
 impl Drop for Request {
     fn drop(self) {
         let Request {
@@ -133,7 +133,7 @@ pub enum Action {
         /// The package's name.
         package: Name,
     },
-    /// The command to say who may read a package. One without a scope is public.
+    /// The command to say who may read a package. A package without a scope is always public.
     SetAccess {
         /// The package's name.
         package: Name,
@@ -148,8 +148,8 @@ pub enum Action {
         /// The user's name.
         user: Ident,
     },
-    /// A maintainer's command to let another, or themselves, be a maintainer no more. The last one
-    /// stays.
+    /// A maintainer's command to remove a maintainer of a package, who may be themselves. The last
+    /// one stays.
     OwnerRemove {
         /// The package's name.
         package: Name,
@@ -177,17 +177,18 @@ pub enum Action {
         /// The tag.
         tag: TagText,
     },
-    /// The command to withdraw a live version, which is never published again. It is taken for
+    /// The command to withdraw a live version, which is never published again. It is accepted for
     /// three days after the publish, and while no live version of another package needs the
     /// version.
     Withdraw {
         /// The package's name.
         package: Name,
-        /// The version that is to go.
+        /// The version that is to be withdrawn.
         version: Ver,
     },
-    /// The command to deprecate the live versions that a selector selects, prereleases included, or
-    /// by the empty message to take that back. Versions that are published later aren't touched.
+    /// The command to deprecate the live versions that a selector selects, prereleases included,
+    /// or, by the empty message, to take that back. Versions that are published later aren't
+    /// touched.
     Deprecate {
         /// The package's name.
         package: Name,
@@ -232,15 +233,14 @@ pub enum Action {
         /// The organisation's name.
         organisation: Ident,
     },
-    /// A member's query for those who are in a team.
+    /// A member's query for the members of a team.
     TeamMembers {
         /// The organisation's name.
         organisation: Ident,
         /// The team's name.
         team: Ident,
     },
-    /// A member's query for the packages that a team is granted something on, of those that they
-    /// read.
+    /// A member's query for what a team is granted, on packages that they read.
     TeamPackages {
         /// The organisation's name.
         organisation: Ident,
@@ -249,7 +249,7 @@ pub enum Action {
     },
 }
 
-// Written out, so that to drop an action is one call wherever a function is left.
+// Written out, so that dropping an action is one call wherever a function is left.
 impl Drop for Action {
     fn drop(self) {
         match self {

@@ -6,14 +6,15 @@ ghost use Rattle.registry_rules.specs.Refusals as spec;
 
 use registry_names::Refusal;
 
-/// What is there already isn't added.
+/// Why something can't be added, if it can't: it is there already.
 pub(crate) fn unless_new(exists: bool) -> Option<Refusal>
     ensures { result ≡ spec.unless_new exists }
 {
     if exists { Some(Refusal::Exists) } else { None }
 }
 
-/// What is a user's is added where the user is there and it isn't.
+/// Why something of a user can't be added, if it can't: the user isn't there, or it is there
+/// already.
 pub(crate) fn added_to_refusal(user_exists: bool, exists: bool) -> Option<Refusal>
     ensures { result ≡ spec.refuse (not user_exists) refusal.NotFound (spec.unless_new exists) }
 {

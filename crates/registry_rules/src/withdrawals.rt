@@ -20,7 +20,7 @@ use std::alloc::{AllocError, Global};
 /// Three days: an older version isn't withdrawn.
 const OLDEST: i64 = 259_200;
 
-/// A day, which a package waits whose versions are all withdrawn.
+/// A day: how long a package waits once all its versions are withdrawn.
 const LONGEST_WAIT: i64 = 86_400;
 
 /// Whether the moment of a last withdrawal was less than a day ago, or is still to come.
@@ -33,7 +33,7 @@ pub(crate) fn is_less_than_a_day_ago(now: &Moment, last: Option<Moment>) -> bool
     }
 }
 
-// Whether a version was published too long ago. After a clock that went back its age is 0.
+// Whether a version was published too long ago. Where the clock went back its age is 0.
 fn is_too_old(now: &Moment, published: Moment) -> bool
     ensures { result ≡ definitions.is_too_old now.now published }
 {
@@ -57,9 +57,9 @@ pub(crate) fn withdraw_refusal(
     }
 }
 
-/// What a withdrawal that isn't refused changes: no tag names the version any more, of which
-/// `latest` names the greatest other live version instead, where there is one; and then the version
-/// goes. One that doesn't live is refused.
+/// What a withdrawal that isn't refused changes. First no tag names the version any more: `latest`
+/// names the greatest other live version instead, where there is one. Then the version goes. A
+/// version that doesn't live is refused.
 pub(crate) fn withdrawal<'a>(
     alloc: Global,
     name: &'a Name,
@@ -139,6 +139,7 @@ fn is_below(one: &Ver, other: &Ver) -> bool
     ensures { result ≡ is_lt (text_precedence (text_of_version one.now)
         (text_of_version other.now)) }
 {
+    // Reading a value tells the prover what its type promises.
     one.text();
     other.text();
     one.cmp(other).is_lt()
@@ -163,7 +164,7 @@ fn is_latest(tag: &Text) -> bool
 }
 
 // A tag that names the version is to name the other one, if it is `latest` and there is another;
-// else it goes.
+// otherwise it goes.
 fn freed<'a>(name: &'a Name, other: Option<&'a Ver>, tag: &'a Text) -> Change<'a>
     ensures { change_of result
         ≡ effects.freed name.now (option_map definitions.text_seen other.entry) tag.now }
@@ -227,6 +228,7 @@ fn push_message<'a>(
 fn selects(selector: &Selector, version: &Ver) -> bool
     ensures { result ≡ definitions.selects selector.now (text_of_version version.now) }
 {
+    // Reading a value tells the prover what its type promises.
     version.text();
     selector.selects(version)
 }

@@ -17,7 +17,7 @@ use Rattle.registry_service.specs.Turns.{Answering}
 use Rattle.registry_server.specs.ConnectionStates.{Pending, TakesNone}
 use Rattle.registry_server.specs.Connections.{Keeps, LeavesLittle, MayReceive, OpenConnection, ReceivesLean, TakesOne, Visits, body_least, has_body, has_body_in}
 use Rattle.registry_server.specs.Phases.{is_late}
-use Rattle.registry_server.specs.Pools.{AllHoldLittle, AllIdleEndsLeaveFew, AllIdleEndsLeaveLittle, ChoosesIf, EndsLeaveFew, EndsLeaveLittle, FewChosen, HoldLittle, HoldLittleMore, HoldsLittleMore, HoldsLittleRest, HoldsOneRequest, IdleEndsLeaveFew, IdleEndsLeaveLittle, NewConnectionsLeaveFew, NewConnectionsLeaveLittle, NewPoolHoldsLittle, NewPoolReadsFew, RoundsHoldLittleMore, RoundsLeaveLittle, RoundsReadFew, ServersHoldLittle, UnreadHoldLittle, VisitsAll, VisitsIf, VisitsThere, WakesLeaveFew, WakesLeaveLittle, WhoWaitsHasBegun, added_at_most, after_visit, answered_with, at_place, body_with, chosen, chosen_of, counted_at, emptied, emptied_of, free, has_body_at, has_room, held_at, held_before, held_limit, held_with, idle_in, in_time, is_answered_at, is_crowd, is_held_back, kept_at, new_at, place_count, read_count, read_together, settled, unless_idle, unread_at, waiting_with, woken}
+use Rattle.registry_server.specs.Pools.{AllHoldLittle, AllIdleEndsLeaveFew, AllIdleEndsLeaveLittle, ChoosesIf, EndsLeaveFew, EndsLeaveLittle, FewChosen, FinishesLeaveFew, FinishesLeaveLittle, HoldLittle, HoldLittleMore, HoldsLittleMore, HoldsLittleRest, HoldsOneRequest, IdleEndsLeaveFew, IdleEndsLeaveLittle, NewConnectionsLeaveFew, NewConnectionsLeaveLittle, NewPoolHoldsLittle, NewPoolReadsFew, RoundsHoldLittleMore, RoundsLeaveLittle, RoundsReadFew, ServersHoldLittle, UnreadHoldLittle, VisitsAll, VisitsIf, VisitsThere, WakesLeaveFew, WakesLeaveLittle, WhoWaitsHasBegun, added_at_most, after_visit, answered_with, at_place, body_with, chosen, chosen_of, counted_at, emptied, emptied_of, finishing_at, finishing_with, free, has_body_at, has_room, held_at, held_before, held_limit, held_with, idle_in, in_time, is_answered_at, is_crowd, is_held_back, kept_at, new_at, place_count, read_count, read_together, settled, unless_idle, unread_at, waiting_with, woken}
 use Rattle.registry_server.specs.declared.connection.Visit.{Visit}
 use Rattle.registry_server.specs.declared.connection.Visit.TheVariants.{Again, Rests, Over}
 use Rattle.registry_server.specs.declared.phase.Stage.{Stage}
@@ -168,6 +168,9 @@ module _ (S : Type 0) where
 
   pub all-idle-ends-leave-few : AllIdleEndsLeaveFew S
   all-idle-ends-leave-few places few = omega (arith, few, map-sum (chosen_count {S = S}) chosen_count unless_idle (λ (p : Place S). omega arith) places)
+
+  pub finishes-leave-few : FinishesLeaveFew S
+  finishes-leave-few places few = omega (arith, few, map-sum (chosen_count {S = S}) chosen_count finishing_at (λ (p : Place S). omega arith) places)
 
   pub ends-leave-few : EndsLeaveFew S
   ends-leave-few now places few = omega (arith, few, map-sum (chosen_count {S = S}) chosen_count (kept_at now) (λ (p : Place S). omega arith) places)
@@ -361,6 +364,15 @@ in-time-little most now (Some c) little = kept-little most (is_late c.phase now)
 waiting-little : {S : Type 0} (most now : ℕ) (o : Option (OpenConnection S)) → LittleRest most o → LittleRest most (waiting_with now o)
 waiting-little most now None little = little
 waiting-little most now (Some c) little = little
+
+-- where its next request is its last as much is held
+finishing-held : {S : Type 0} (o : Option (OpenConnection S)) → held_with (finishing_with o) ≤ held_with o
+finishing-held None = omega arith
+finishing-held (Some c) = omega arith
+
+finishing-little : {S : Type 0} (most : ℕ) (o : Option (OpenConnection S)) → LittleRest most o → LittleRest most (finishing_with o)
+finishing-little most None little = little
+finishing-little most (Some c) little = little
 
 -- where nothing is begun the connection may be gone
 left-held : {S : Type 0} (b : Bool) (o : Option (OpenConnection S)) → held_with (if b then None else o) ≤ held_with o
@@ -589,6 +601,9 @@ at-little most change places k less keeps rests few h = record {
 kept-counts : {S : Type 0} (most now : ℕ) (p : Place S) → counted_at most (kept_at now p) ≤ counted_at most p
 kept-counts most now p = counts-less p.is_chosen (held_at (kept_at now p)) (held_at p) (held_before most) (λ none. omega (arith, kept-held now p))
 
+finishing-counts : {S : Type 0} (most : ℕ) (p : Place S) → counted_at most (finishing_at p) ≤ counted_at most p
+finishing-counts most p = counts-less p.is_chosen (held_at (finishing_at p)) (held_at p) (held_before most) (λ none. omega (arith, finishing-held p.connection))
+
 unless-idle-counts : {S : Type 0} (most : ℕ) (p : Place S) → counted_at most (unless_idle p) ≤ counted_at most p
 unless-idle-counts most p = counts-less p.is_chosen (held_at (unless_idle p)) (held_at p) (held_before most) (λ none. omega (arith, unless-idle-held p))
 
@@ -635,6 +650,17 @@ module _ (S : Type 0) where
     rest = All-map (HoldsLittleRest {S = S} most) unless_idle places
         (All-weaker (HoldsLittleRest {S = S} most) (λ (p : Place S). HoldsLittleRest most (unless_idle p)) (λ (p : Place S) few. left-little most (is_some (idle_in p)) p.connection few) places h.rest);
     counted = le_trans (map-sum (counted_at {S = S} most) (counted_at most) unless_idle (unless-idle-counts most) places) h.counted;
+  }
+
+  pub finishes-leave-little : FinishesLeaveLittle S
+  finishes-leave-little most places h = record {
+    size = map-length finishing_at places ∙ h.size;
+    few = finishes-leave-few S places h.few;
+    each = All-map (HoldsOneRequest {S = S} most) finishing_at places
+        (All-weaker (HoldsOneRequest {S = S} most) (λ (p : Place S). HoldsOneRequest most (finishing_at p)) (λ (p : Place S) few. omega (arith, few, finishing-held p.connection)) places h.each);
+    rest = All-map (HoldsLittleRest {S = S} most) finishing_at places
+        (All-weaker (HoldsLittleRest {S = S} most) (λ (p : Place S). HoldsLittleRest most (finishing_at p)) (λ (p : Place S) few. finishing-little most p.connection few) places h.rest);
+    counted = le_trans (map-sum (counted_at {S = S} most) (counted_at most) finishing_at (finishing-counts most) places) h.counted;
   }
 
   pub ends-leave-little : EndsLeaveLittle S

@@ -1,14 +1,14 @@
 -- Whom a new connection ends.
-use Rattle.std.proofs.Common.{◌≡◌, ◌∷◌, ◌∙◌, [], ℕ, zero, suc, Bool, true, false, List, Option, None, Some, get_or, is_none, length, refl, ap, subst, sym, if◌then◌else◌, ◌&&◌, not}
+use Rattle.std.proofs.Common.{◌≡◌, ◌≤◌, ◌∷◌, ◌∙◌, [], ℕ, zero, suc, Bool, true, false, List, Option, None, Some, get_or, is_none, length, arith, refl, ap, subst, sym, if◌then◌else◌, ◌&&◌, not}
 use Rattle.std.specs.Prelude.{All, MatchOption, is_some, map, position, slice_get}
 use Rattle.std.proofs.lemmas.Bool.{false≢true}
 use Rattle.std.proofs.lemmas.List.Elements.{All-cons, All-head, All-map, All-replicate, All-tail, All-weaker}
 use Rattle.std.proofs.lemmas.List.Quantifiers.{position-Some}
 use Rattle.std.proofs.lemmas.Option.{get_or_from_slice_get, slice_get_within}
 use Rattle.registry_service.specs.Turns.{Answering}
-use Rattle.registry_server.specs.Connections.{OpenConnection, must_wait, must_wait_in, waiting}
+use Rattle.registry_server.specs.Connections.{OpenConnection, finishing, must_wait, must_wait_in, waiting}
 use Rattle.registry_server.specs.Phases.{idle_from, is_late}
-use Rattle.registry_server.specs.Pools.{AllIdleEndsLeaveRest, ChoosesIf, EndsLeaveRest, IdleEndsLeaveRest, IsAtRest, IsFirstOfEarliest, IsUnderWay, NewConnectionsLeaveRest, NewPoolRests, NewcomersEndIdle, StopsEndIdle, StopsLeaveUnderWay, VisitsAll, VisitsIf, VisitsLeaveRest, VisitsThere, WakesLeaveRest, WantOfRoomEndsIdle, after_visit, at_place, chosen, chosen_of, emptied, emptied_of, free, has_room, idle_at, idle_in, idle_times, idle_with, in_time, is_crowd, is_free, is_held_back, kept_at, new_at, place_count, settled, unless_idle, waiting_at, waiting_with, woken}
+use Rattle.registry_server.specs.Pools.{AllIdleEndsLeaveRest, ChoosesIf, EndsLeaveRest, FinishesLeaveRest, IdleEndsLeaveRest, IsAtRest, IsFirstOfEarliest, IsUnderWay, MayHaveOne, NewConnectionsLeaveRest, NewPoolRests, NewcomersEndIdle, StopsEndIdle, StopsLeaveUnderWay, VisitsAll, VisitsIf, VisitsLeaveRest, VisitsThere, WakesLeaveRest, WantOfRoomEndsIdle, after_visit, at_place, chosen, chosen_of, emptied, emptied_of, finishing_at, finishing_with, free, has_room, idle_at, idle_in, idle_times, idle_with, in_time, is_crowd, is_free, is_held_back, kept_at, left_with, new_at, place_count, settled, unless_idle, waiting_at, waiting_with, woken}
 use Rattle.registry_server.specs.declared.connection.Visit.{Visit}
 use Rattle.registry_server.specs.declared.connection.Visit.TheVariants.{Again, Rests, Over}
 use Rattle.registry_server.specs.declared.phase.Stage.{Stage}
@@ -85,6 +85,18 @@ module _ {S : Type 0} (has_none is_full : S → Bool) where
   pub all-idle-ends-leave-rest : AllIdleEndsLeaveRest has_none is_full
   all-idle-ends-leave-rest places h = All-map (IsAtRest has_none is_full) unless_idle places
       (All-weaker (IsAtRest has_none is_full) (λ p. IsAtRest has_none is_full (unless_idle p)) left-rest places h)
+
+  -- the next request of one is its last
+  finishing-with-rest : (p : Place S) (o : Option (OpenConnection S)) → p.connection ≡ o → IsAtRest has_none is_full p → (c : OpenConnection S) → p.is_ready ≡ false → finishing_with o ≡ Some c → must_wait has_none is_full c ≡ true
+  finishing-with-rest p None is h c ready at = none-some c at
+  finishing-with-rest p (Some d) is h c ready at = let same : finishing d ≡ c = cc in subst (λ (x : OpenConnection S). must_wait has_none is_full x ≡ true) same (h d ready is)
+
+  finishing-rest : (p : Place S) → IsAtRest has_none is_full p → IsAtRest has_none is_full (finishing_at p)
+  finishing-rest p h c ready at = finishing-with-rest p p.connection refl h c ready at
+
+  pub finishes-leave-rest : FinishesLeaveRest has_none is_full
+  finishes-leave-rest places h = All-map (IsAtRest has_none is_full) finishing_at places
+      (All-weaker (IsAtRest has_none is_full) (λ p. IsAtRest has_none is_full (finishing_at p)) finishing-rest places h)
 
   pub ends-leave-rest : EndsLeaveRest has_none is_full
   ends-leave-rest now places h = All-map (IsAtRest has_none is_full) (kept_at now) places
@@ -181,6 +193,26 @@ left-under-way false o = left-idle o (idle_with o) refl
 pub stops-leave-under-way : (S : Type 0) → StopsLeaveUnderWay S
 stops-leave-under-way S places = All-map (IsUnderWay {S = S}) unless_idle places
     (λ k d lt. left-under-way (get_or places k d).is_ready (get_or places k d).connection)
+
+-- what is under way still is where its next request is its last
+finishing-idle : {S : Type 0} (o : Option (OpenConnection S)) → idle_with (finishing_with o) ≡ idle_with o
+finishing-idle None = refl
+finishing-idle (Some c) = refl
+
+finishing-under-way : {S : Type 0} (p : Place S) → IsUnderWay p → IsUnderWay (finishing_at p)
+finishing-under-way p is = ap (λ (t : Option ℕ). if p.is_ready then None else t) (finishing-idle p.connection) ∙ is
+
+pub finishes-leave-under-way : {S : Type 0} (places : List (Place S)) → All IsUnderWay places → All IsUnderWay (map finishing_at places)
+finishes-leave-under-way {S} places h = All-map (IsUnderWay {S = S}) finishing_at places
+    (All-weaker (IsUnderWay {S = S}) (λ (p : Place S). IsUnderWay (finishing_at p)) finishing-under-way places h)
+
+finishing-one : {S : Type 0} (o : Option (OpenConnection S)) → left_with (finishing_with o) ≤ 1
+finishing-one None = omega arith
+finishing-one (Some c) = omega arith
+
+pub finishes-leave-one : {S : Type 0} (places : List (Place S)) → All MayHaveOne (map finishing_at places)
+finishes-leave-one {S} places = All-map (MayHaveOne {S = S}) finishing_at places
+    (λ k d lt. finishing-one (get_or places k d).connection)
 
 module _ {S : Type 0} (received sent : S → Option (List ℕ)) (has_none is_full has_more is_ended is_broken : S → Bool) {D : Type 0} (answers : Answering D) (over : D → Bool) where
   there-rests : (now most : ℕ) (p : Place S) (o : Option (OpenConnection S)) (q : Place S) (M N : D) (r r2 : Option (List ℕ))

@@ -9,8 +9,8 @@ use Rattle.registry_server.specs.ConnectionStates.{IsStarved, Pending, TakesNone
 use Rattle.registry_server.specs.Connections.{Keeps, OpenConnection, TakesOne, Visits}
 use Rattle.registry_server.specs.Phases.{SentAt, entered}
 use Rattle.registry_server.specs.declared.phase.Stage.TheVariants.{Sends}
-use Rattle.registry_server.specs.Worlds.{ShowsReceived, ShowsSent, SocketShows, StateShows, VisitLeadsTo, VisitsLead}
-use Rattle.registry_server.proofs.WorldFacts.{Goes, IsSame, goes-by-comes, goes-by-sends, goes-by-shuts, goes-by-turns, same-after, stands-still}
+use Rattle.registry_server.specs.Worlds.{Finishes, ShowsReceived, ShowsSent, SocketShows, StateShows, VisitLeadsTo, VisitsLead}
+use Rattle.registry_server.proofs.WorldFacts.{Goes, IsSame, goes-by-comes, goes-by-sends, goes-by-shuts, goes-by-turns, same-after, stands-still, state-lasts}
 
 -- ---- what is known of the bytes of a socket
 
@@ -187,3 +187,10 @@ module _ {S : Type 0} (received sent : S → Option (List ℕ)) {D : Type 0} (an
 
   pub visits-lead : VisitsLead received sent answers
   visits-lead M w k now most old new N readings readings2 r s v = keeps-leads M w k now most old new N readings readings2 r s v v.keeps
+
+pub finishes : (D : Type 0) {S : Type 0} (received sent : S → Option (List ℕ)) → Finishes D received sent
+finishes D received sent w k c s = record {
+  state = state-lasts D w k c.is_over c.state s.state;
+  received_so_far = s.received_so_far;
+  sent_so_far = s.sent_so_far;
+}

@@ -1,5 +1,5 @@
 -- What the calls of one connection make of all of them.
-use Rattle.std.proofs.Common.{◌≡◌, ◌==◌, ◌<◌, ◌-◌, ◌+◌, ◌++◌, ◌∷◌, ◌∙◌, [], ℕ, Bool, true, false, List, Option, None, cond, length, take, drop, refl, sym, ap, subst, arith, append_assoc, append-nil, is_some}
+use Rattle.std.proofs.Common.{◌≡◌, ◌==◌, ◌<◌, ◌-◌, ◌+◌, ◌++◌, ◌∷◌, ◌∙◌, ◌⊎◌, ◌&&◌, ◌||◌, [], ℕ, suc, Bool, true, false, List, Option, None, cond, length, min, not, take, drop, refl, sym, ap, subst, arith, inl, inr, append_assoc, append-nil, is_some}
 use Rattle.std.proofs.lemmas.Bool.Decides.{nat_tests}
 use Rattle.std.proofs.lemmas.List.{take-append-drop}
 use Rattle.registry_wire.specs.Reading.{TakenOf}
@@ -8,7 +8,7 @@ use Rattle.registry_service.specs.Histories.{Transcript, Reached, World, at_end,
 use Rattle.registry_service.specs.Turns.{Answering, Cause, IsTurn, IsTurnFor, Turn, bad_input, is_request, no_memory, request, response_of}
 use Rattle.registry_service.proofs.CourseFacts.{bytes-same, on-not_last, on-request}
 use Rattle.registry_server.specs.ConnectionStates.{Pending, TakesTurn, holding, sending}
-use Rattle.registry_server.specs.Worlds.{Begins, Comes, LeadsTo, MayHave, Sends, Shuts, StateShows, TakesTurns}
+use Rattle.registry_server.specs.Worlds.{Begins, Comes, Lasts, LeadsTo, MayHave, Sends, Shuts, StateShows, TakesTurns}
 
 -- ---- one connection of a world
 
@@ -36,8 +36,20 @@ stands-with w k over p l ts transcript turned held shut outgoing may = record {
 pub stands-still : {D : Type 0} (w v : World D) (j : ℕ) (o : Bool) (q : Pending) → v.transcripts j ≡ w.transcripts j → turns_of j v.log ≡ turns_of j w.log → StateShows w j o q → StateShows v j o q
 stands-still w v j o q transcript turned s = stands-with v j o q (w.transcripts j) (turns_of j w.log) transcript turned s.held s.shut s.outgoing s.may_have
 
-same-last : (n left : ℕ) → n + left ≡ 1000 → (left == 1) ≡ (n + 1 == 1000)
-same-last n left all = grind (arith, nat_tests, all)
+-- at the limit one more may follow
+limit-last : (n left : ℕ) → 0 < left → (n + left ≡ 1000) ⊎ ((left ≡ 1) × (n < 1000)) → (n + 1 == 1000) ≡ true → (left == 1) ≡ true
+limit-last n left some (inl all) at = grind (arith, nat_tests, all, at)
+limit-last n left some (inr one) at = grind (arith, nat_tests, one.0)
+
+last-by : (last limit : Bool) → (limit ≡ true → last ≡ true) → last ≡ ((last && not limit) || limit)
+last-by true true is = refl
+last-by true false is = refl
+last-by false true is = is refl
+last-by false false is = refl
+
+-- the next turn is the last where the server is to end, or at the limit
+same-last : (n left : ℕ) → 0 < left → (n + left ≡ 1000) ⊎ ((left ≡ 1) × (n < 1000)) → (left == 1) ≡ (((left == 1) && not (n + 1 == 1000)) || (n + 1 == 1000))
+same-last n left some all = last-by (left == 1) (n + 1 == 1000) (limit-last n left some all)
 
 one-less : (left : ℕ) → (left == 1) ≡ false → 0 < left → 0 < left - 1
 one-less left is some = grind (arith, nat_tests, is, some)
@@ -47,14 +59,41 @@ count-one (request w at) is = refl
 count-one (bad_input r) is = cc
 count-one no_memory is = cc
 
+not-one : (left : ℕ) → (left == 1) ≡ false → left ≡ 1 → ⊥
+not-one left is one = absurd (grind (arith, nat_tests, is, one))
+
+all-more : (n left left2 : ℕ) → 0 < left → (left == 1) ≡ false → left2 ≡ left - 1 → (n + left ≡ 1000) ⊎ ((left ≡ 1) × (n < 1000)) → suc n + left2 ≡ 1000
+all-more n left left2 some is less (inl all) = omega (arith, all, some, less)
+all-more n left left2 some is less (inr one) = absurd (not-one left is one.0)
+
 may-more : (ts : List Turn) (t : Turn) (left left2 : ℕ) → MayHave ts left → t.ended ≡ None → (left == 1) ≡ false → left2 ≡ left - 1 → MayHave (t ∷ ts) left2
 may-more ts t left left2 may going is less =
     let more = one-less left is may.some in
     record {
       go_on = (going, may.go_on);
       some = omega (arith, more, less);
-      all = omega (arith, may.all, may.some, less);
+      all = inl (all-more (length ts) left left2 may.some is less may.all);
     }
+
+-- one more may follow where some may
+below : (n left : ℕ) → 0 < left → (n + left ≡ 1000) ⊎ ((left ≡ 1) × (n < 1000)) → n < 1000
+below n left some (inl all) = omega (arith, all, some)
+below n left some (inr one) = one.1
+
+may-last : (ts : List Turn) (left : ℕ) → MayHave ts left → MayHave ts (min left 1)
+may-last ts left may = record {
+  go_on = may.go_on;
+  some = omega (arith, may.some);
+  all = inr (omega (arith, may.some), below (length ts) left may.some may.all);
+}
+
+pub state-lasts : (D : Type 0) → Lasts D
+state-lasts D w k over p s = record {
+  held = s.held;
+  shut = s.shut;
+  outgoing = s.outgoing;
+  may_have = λ going. may-last (turns_of k w.log) p.left (s.may_have going);
+}
 
 -- another connection is what it was
 pub record IsSame {D : Type 0} (w v : World D) (j : ℕ) : Type 0 where
@@ -106,7 +145,7 @@ module _ {D : Type 0} (answers : Answering D) where
     held = refl;
     shut = refl;
     outgoing = refl;
-    may_have = λ going. record { go_on = tt; some = omega arith; all = refl };
+    may_have = λ going. record { go_on = tt; some = omega arith; all = inl refl };
   }
 
   pub goes-by-comes : (M : D) (w : World D) (k : ℕ) (p : Pending) (bytes : List ℕ) → Reached answers M w → StateShows w k false p
@@ -146,9 +185,10 @@ module _ {D : Type 0} (answers : Answering D) where
       let took : TakenOf l.rest q.held (l.shut ≡ true) (taken_for t.cause) =
       subst (λ (bs : List ℕ). TakenOf bs q.held (l.shut ≡ true) (taken_for t.cause)) (sym s.held)
       (subst (λ (b : Bool). TakenOf p.held q.held (b ≡ true) (taken_for t.cause)) (sym s.shut) t.took) in
-      let is_turn : IsTurn answers w.service (is_last ts) turn N =
-      subst (λ (b : Bool). IsTurnFor answers t.cause w.service b t.turns.outcome t.turned.end N) (same-last (length ts) p.left may.all) t.turns.is_turn in
-      let v = turned_on w k turn q.held N in
+      let stops = (p.left == 1) && not (length ts + 1 == 1000) in
+      let is_turn : IsTurn answers w.service (is_last stops ts) turn N =
+      subst (λ (b : Bool). IsTurnFor answers t.cause w.service b t.turns.outcome t.turned.end N) (same-last (length ts) p.left may.some may.all) t.turns.is_turn in
+      let v = turned_on w k stops turn q.held N in
       let sent : l.out ≡ l.sent = s.outgoing ∙ ap (λ (u : List ℕ). l.sent ++ u) none ∙ append-nil l.sent in
       let outgoing : l.out ++ response_of turn ≡ l.sent ++ q.outgoing =
       ap (λ (u : List ℕ). u ++ response_of turn) sent
@@ -161,7 +201,7 @@ module _ {D : Type 0} (answers : Answering D) where
       let changed = pick-first (k == k) (with_turn turn q.held l) l (at-same k) in
       record {
         world = v;
-        reached = turns w r k turn q.held N may.go_on took is_turn;
+        reached = turns w r k stops turn q.held N may.go_on took is_turn;
         service = refl;
         stands = stands-with v k over q (with_turn turn q.held l) (turn ∷ ts) changed (pick-first (k == k) (turn ∷ ts) ts (at-same k)) refl s.shut outgoing later;
         came_so_far = ap (λ (m : Transcript). m.came) changed;

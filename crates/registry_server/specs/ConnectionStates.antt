@@ -1,5 +1,5 @@
--- A connection apart from its socket, and what a turn makes of it.
-use Rattle.std.specs.Prelude.{◌≡◌, ◌-◌, ◌==◌, [], ℕ, Bool, true, false, List, Option, Some, None, is_some, length}
+-- A connection without its socket, and what a turn makes of it.
+use Rattle.std.specs.Prelude.{◌≡◌, ◌-◌, ◌==◌, [], ℕ, Bool, true, false, List, Option, Some, None, is_some, length, min}
 use Rattle.registry_wire.specs.Reading.{TakenOf}
 use Rattle.registry_wire.specs.Responses.{head_bytes}
 use Rattle.registry_wire.specs.Spelling.{IsUnfinished}
@@ -21,8 +21,8 @@ abbrev pub body_in : Option Turned → List ℕ
 body_in None = []
 body_in (Some turned) = body_bytes turned.answer.body
 
--- the bytes that came and aren't used yet, those of a response that aren't sent, how many requests
--- it may still have, and how it ends once all is sent, if it does
+-- the bytes that came and aren't used yet, the bytes of a response that aren't sent yet, how many
+-- requests it may still have, and how it ends once everything is sent, if it does
 pub record Pending : Type 0 where
   pub held : List ℕ
   pub outgoing : List ℕ
@@ -44,12 +44,16 @@ holding p held = pending held p.outgoing p.left p.ends
 abbrev pub sending : Pending → List ℕ → Pending
 sending p outgoing = pending p.held outgoing p.left p.ends
 
--- a turn may be taken: all of the response before is sent, and the connection goes on
+-- the same, but its next request, if it may have one, is its last
+abbrev pub lasting : Pending → Pending
+lasting p = pending p.held p.outgoing (min p.left 1) p.ends
+
+-- a turn may be taken: the response before was sent whole, and the connection goes on
 pub record MayTakeTurn (p : Pending) : Type 0 where
   pub all_sent : p.outgoing ≡ []
   pub goes_on : p.ends ≡ None
 
--- want of memory for what came is answered, and the connection ends
+-- a lack of memory for what came is answered, and the connection ends
 pub record IsStarved (old new : Pending) : Type 0 where
   pub turned : Turned
   pub away : TurnsAway no_memory turned
@@ -57,7 +61,7 @@ pub record IsStarved (old new : Pending) : Type 0 where
 
 module _ {D : Type 0} (answers : Answering D) where
   -- One turn was taken of what was held, by a service and a clock, and its response is to be sent.
-  -- Over says that no more bytes come.
+  -- `over` says that no more bytes come.
   pub record TakesTurn (old new : Pending) (M N : D) (readings readings2 : Option (List ℕ)) (over : Bool) : Type 0 where
     pub cause : Cause
     pub turned : Turned
@@ -68,14 +72,14 @@ module _ {D : Type 0} (answers : Answering D) where
     pub ends : new.ends ≡ turned.end
     pub left : new.left ≡ old.left - count_of cause
 
-  -- no turn was taken, and nothing is changed
+  -- no turn was taken, and nothing changed
   pub record TakesNone (old new : Pending) (M N : D) (readings readings2 : Option (List ℕ)) : Type 0 where
     pub state : new ≡ old
     pub service : N ≡ M
     pub unasked : readings2 ≡ readings
 
-  -- what a turn does: where a request, or what is none, has come it is answered; what may become a
-  -- request is waited for; and after the last byte nothing is
+  -- what a turn does: where a request has come, or input that isn't one, it is answered; where a
+  -- request may still come, the turn waits; and after the last byte nothing is answered
   abbrev pub Does : Pending → Pending → D → D → Option (List ℕ) → Option (List ℕ) → Bool → Progress → Type 0
   Does old new M N readings readings2 over Answered = TakesTurn old new M N readings readings2 over
   Does old new M N readings readings2 over Waits = TakesNone old new M N readings readings2 × IsUnfinished old.held × (over ≡ false)

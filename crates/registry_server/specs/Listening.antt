@@ -1,4 +1,4 @@
--- Where connections come in, and how many more are to.
+-- Where connections come in, and how many more may.
 use Rattle.std.specs.Prelude.{ℕ, ◌-◌, ◌∷◌, [], List, max, nat_lt, Bool, true, Option, Some, None, if◌then◌else◌}
 
 -- the octets of the address 127.0.0.1
@@ -9,7 +9,7 @@ loopback = 127 ∷ 0 ∷ 0 ∷ 1 ∷ []
 abbrev pub uncounted : ℕ
 uncounted = 1_000_000
 
--- so many are to come in, where they are counted, and whether one may be there
+-- how many are still to come in, where they are counted, and whether one may be there
 pub record Expected : Type 0 where
   pub left : Option ℕ
   pub is_asked : Bool
@@ -17,7 +17,7 @@ pub record Expected : Type 0 where
 abbrev pub expecting : Option ℕ → Bool → Expected
 expecting left is_asked = record { left = left; is_asked = is_asked }
 
--- as many as this, and one at least; from the greatest number on all that come
+-- at least one, and this many; from the greatest number on, all that come
 abbrev pub counted : ℕ → Option ℕ
 counted count = if nat_lt count uncounted then Some (max count 1) else None
 

@@ -1,22 +1,24 @@
--- How long a connection has time, and since when it is idle.
+-- How long a stage of a connection may last, and since when a connection is idle.
 use Rattle.std.specs.Prelude.{◌≡◌, ◌≤◌, ◌⊎◌, ℕ, ◌+◌, ◌-◌, ◌/◌, ◌^◌, max, min, nat_le, Bool, true, false, Option, Some, None, if◌then◌else◌}
 use Rattle.registry_server.specs.declared.phase.Phase.{Phase}
 use Rattle.registry_server.specs.declared.phase.Stage.{Stage}
 use Rattle.registry_server.specs.declared.phase.Stage.TheVariants.{Idle, Begun, Next, Sends, Drains}
 
--- how many milliseconds the responses of a connection have together, and the most that they have left
+-- how many milliseconds the responses of a connection have together, which is also the most that
+-- they have left
 abbrev pub response_limit : ℕ
 response_limit = 60_000
 
--- for so many bytes that are taken of a response a millisecond more is given
+-- for this many bytes that are taken of a response, one more millisecond is given
 abbrev pub least_rate : ℕ
 least_rate = 16
 
--- a request that waits for others has its time begun anew until it is so many milliseconds old
+-- the time of a request that waits for others begins anew until the request is this many
+-- milliseconds old
 abbrev pub wait_limit : ℕ
 wait_limit = 360_000
 
--- how many milliseconds a stage may last, where the responses have so many left
+-- how many milliseconds a stage may last, where the responses have `spare` milliseconds left
 abbrev pub limit_of : Stage → ℕ → ℕ
 limit_of Idle spare = 60_000
 limit_of Begun spare = 10_000
@@ -24,12 +26,12 @@ limit_of Next spare = 10_000
 limit_of Sends spare = spare
 limit_of Drains spare = 2_000
 
--- the time after so many more milliseconds; the greatest time stays
+-- the time after this many more milliseconds; the greatest time stays
 abbrev pub after : ℕ → ℕ → ℕ
 after millis now = min (now + millis) (2 ^ 64 - 1)
 
--- Whether two stages have one time. A request that was begun has one, whether or not what is held
--- of it was looked at.
+-- Whether two stages share one time. A request that was begun has one time, whether or not what is
+-- held of it was looked at.
 abbrev pub share_time : Stage → Stage → Bool
 share_time Idle Idle = true
 share_time Begun Begun = true
@@ -55,7 +57,8 @@ left_in Drains until spare now = spare
 abbrev pub left_at : Phase → ℕ → ℕ
 left_at p now = left_in p.stage p.until p.spare now
 
--- a stage is entered at this time; one that lasts keeps its time, and since when it lasts
+-- a stage is entered at this time; a stage that lasts keeps its time, and the moment since when it
+-- lasts
 abbrev pub entered : Phase → Stage → ℕ → Phase
 entered old stage now =
     let lasts = share_time old.stage stage in
@@ -66,7 +69,7 @@ entered old stage now =
       spare = if lasts then old.spare else left_at old now;
     }
 
--- a request that waits for others has its time begun anew, unless it is too old for that
+-- the time of a request that waits for others begins anew, unless the request is too old for that
 abbrev pub waited : Phase → ℕ → Phase
 waited p now = record {
   stage = p.stage;
@@ -75,7 +78,7 @@ waited p now = record {
   spare = p.spare;
 }
 
--- so many bytes of a response were taken at this time
+-- this many bytes of a response were taken at this time
 abbrev pub paid : Phase → ℕ → ℕ → Phase
 paid old count now = record {
   stage = old.stage;
@@ -84,7 +87,7 @@ paid old count now = record {
   spare = old.spare;
 }
 
--- so many bytes were sent, and another stage may have been entered then
+-- this many bytes were sent, and another stage may have been entered then
 abbrev pub SentAt : ℕ → ℕ → Phase → Phase → Type 0
 SentAt now count old new = new ≡ entered (paid old count now) new.stage now
 
@@ -129,7 +132,7 @@ receives Drains = false
 
 -- ---- how long the responses of a connection take together
 
--- while a response is being sent what they have left passes
+-- while a response is being sent, the time that they have left passes
 abbrev pub ResponseTimePasses : Type 0
 ResponseTimePasses = (p : Phase) (now later : ℕ) → p.stage ≡ Sends → now ≤ later → left_at p later ≡ left_at p now - (later - now)
 
@@ -137,15 +140,15 @@ ResponseTimePasses = (p : Phase) (now later : ℕ) → p.stage ≡ Sends → now
 abbrev pub StagesGiveNone : Type 0
 StagesGiveNone = (p : Phase) (stage : Stage) (now : ℕ) → left_at (entered p stage now) now ≤ left_at p now
 
--- what is taken gives a millisecond for each 16 bytes
+-- what is taken gives one more millisecond for each 16 bytes
 abbrev pub BytesGive : Type 0
 BytesGive = (p : Phase) (count now : ℕ) → left_at (paid p count now) now ≤ left_at p now + count / least_rate
 
--- and never more than at first
+-- and they never have more than at first
 abbrev pub NeverGiveMore : Type 0
 NeverGiveMore = (p : Phase) (count now : ℕ) → left_at p now ≤ response_limit → left_at (paid p count now) now ≤ response_limit
 
--- and who waits gives them none
+-- and waiting gives them none
 abbrev pub WaitsGiveNone : Type 0
 WaitsGiveNone = (p : Phase) (now later : ℕ) → p.stage ≡ Begun → left_at (waited p now) later ≡ left_at p later
 
@@ -159,11 +162,11 @@ is_under_way Next = true
 is_under_way Sends = false
 is_under_way Drains = false
 
--- A request that is under way has time until it is so old at most, whether or not it waits.
+-- A request that is under way has time only until this age, whether or not it waits.
 abbrev pub EndsInTime : Phase → Type 0
 EndsInTime p = is_under_way p.stage ≡ true → p.until ≤ p.since + (wait_limit + limit_of Begun response_limit)
 
--- so it is where nothing is begun
+-- this holds where nothing is begun
 abbrev pub NewPhasesEndInTime : Type 0
 NewPhasesEndInTime = (now : ℕ) → EndsInTime (first_phase now)
 

@@ -1,10 +1,10 @@
--- Places for connections: which of them a new one takes, who is visited, and who is let go.
+-- Places for connections: which place a new one takes, which are visited, and which end.
 use Rattle.std.specs.Prelude.{◌≡◌, ◌≢◌, ◌<◌, ◌≤◌, ◌+◌, ◌*◌, ◌∷◌, ◌⊎◌, ⊤, [], ℕ, zero, suc, Bool, true, false, List, Option, Some, None, is_none, is_some, All, count_by, length, map, max, nat_le, nat_lt, position, replicate, slice_get, sum_by, MatchOption, ◌&&◌, ◌||◌, not, if◌then◌else◌}
 use Rattle.std.specs.List.{list_all, list_any}
 use Rattle.registry_wire.specs.Spelling.{request_limit}
 use Rattle.registry_service.specs.Turns.{Answering}
 use Rattle.registry_server.specs.ConnectionStates.{fresh}
-use Rattle.registry_server.specs.Connections.{IsDone, IsLost, LeavesLittle, OpenConnection, Visits, body_least, body_since, connected, has_body, is_answered, must_wait, waiting}
+use Rattle.registry_server.specs.Connections.{IsDone, IsLost, LeavesLittle, OpenConnection, Visits, body_least, body_since, connected, finishing, has_body, is_answered, must_wait, waiting}
 use Rattle.registry_server.specs.Phases.{first_phase, idle_since, is_late}
 use Rattle.registry_server.specs.declared.connection.Visit.{Visit}
 use Rattle.registry_server.specs.declared.connection.Visit.TheVariants.{Again, Rests, Over}
@@ -20,7 +20,7 @@ place_count = 512
 abbrev pub placed : {S : Type 0} → Option (OpenConnection S) → Bool → Bool → Place S
 placed connection is_ready is_chosen = record { connection = connection; is_ready = is_ready; is_chosen = is_chosen }
 
--- the same place with this connection, if one is there, and whether it is to be visited
+-- the same place with this connection, if there is one, and whether it is to be visited
 abbrev pub with_connection : {S : Type 0} → Place S → Option (OpenConnection S) → Bool → Place S
 with_connection p connection is_ready = placed connection is_ready p.is_chosen
 
@@ -36,14 +36,14 @@ new_at now socket = placed (Some (connected socket fresh (first_phase now) false
 abbrev pub woken : {S : Type 0} → Place S → Place S
 woken p = with_connection p p.connection true
 
--- the same places, of which some more may be to be visited
+-- the same places, of which some more are to be visited, or none
 abbrev pub AreWoken : {S : Type 0} → List (Place S) → List (Place S) → Type 0
 AreWoken [] [] = ⊤
 AreWoken (p ∷ places) (q ∷ places2) = ((q ≡ p) ⊎ (q ≡ woken p)) × AreWoken places places2
 AreWoken [] (q ∷ places2) = ⊥
 AreWoken (p ∷ places) [] = ⊥
 
--- the places, one of them changed, if it is one of them
+-- the places, of which the one of this number is changed, if there is one
 abbrev pub at_place : {A : Type 0} → (A → A) → List A → ℕ → List A
 at_place change [] number = []
 at_place change (p ∷ places) zero = change p ∷ places
@@ -53,7 +53,7 @@ at_place change (p ∷ places) (suc number) = p ∷ at_place change places numbe
 abbrev pub is_free : {S : Type 0} → Place S → Bool
 is_free p = is_none p.connection
 
--- ---- who is let go
+-- ---- which connections end
 
 -- a connection ends when its time is up
 abbrev pub in_time : {S : Type 0} → ℕ → Option (OpenConnection S) → Option (OpenConnection S)
@@ -78,12 +78,12 @@ abbrev pub idle_at : {S : Type 0} → Option (Place S) → Option ℕ
 idle_at None = None
 idle_at (Some p) = idle_in p
 
--- the same at the place of a number
+-- the same at the place of this number
 abbrev pub idle_times : {S : Type 0} → List (Place S) → ℕ → Option ℕ
 idle_times places k = idle_at (slice_get places k)
 
--- Of so many places this is the one of the earliest time, and the first of such. None is named where
--- no place has a time.
+-- Of this many places this is the one of the earliest time, and the first of these. Where no place
+-- has a time, it is `None`.
 abbrev pub IsFirstOfEarliest : (ℕ → Option ℕ) → ℕ → Option ℕ → Type 0
 IsFirstOfEarliest times count None = (j : ℕ) → j < count → times j ≡ None
 IsFirstOfEarliest times count (Some k) = (since : ℕ) × (k < count) × (times k ≡ Some since) × ((j t : ℕ) → j < count → times j ≡ Some t → (since ≤ t) × (j < k → since < t))
@@ -93,15 +93,15 @@ abbrev pub IsEarliestOf : (ℕ → Option ℕ) → ℕ → Option (ℕ × ℕ) �
 IsEarliestOf times count None = (j : ℕ) → j < count → times j ≡ None
 IsEarliestOf times count (Some best) = (best.0 < count) × (times best.0 ≡ Some best.1) × ((j t : ℕ) → j < count → times j ≡ Some t → (best.1 ≤ t) × (j < best.0 → best.1 < t))
 
--- the better of the best place so far and one more: the first, unless the time of the second is
--- earlier
+-- the better of the best place so far and one more: the best so far, unless the time of the other
+-- is earlier
 abbrev pub earlier : Option (ℕ × ℕ) → ℕ → Option ℕ → Option (ℕ × ℕ)
 earlier best n None = best
 earlier None n (Some t) = Some (n, t)
 earlier (Some best) n (Some t) = if nat_le best.1 t then Some best else Some (n, t)
 
--- the place for a new connection: the first that is free, or else that at which nothing was begun
--- for longest
+-- the place for a new connection: the first that is free, or else the one on which nothing has been
+-- begun for longest
 abbrev pub IsPlaceFor : {S : Type 0} → List (Place S) → Option ℕ → Type 0
 IsPlaceFor places r = MatchOption (position is_free places) (IsFirstOfEarliest (idle_times places) (length places) r) (λ k. r ≡ Some k)
 
@@ -115,31 +115,47 @@ abbrev pub emptied_of : {S : Type 0} → List (Place S) → Option ℕ → List 
 emptied_of places None = places
 emptied_of places (Some k) = at_place emptied places k
 
--- The connection ends at which nothing was begun for longest, and no other. It is said whether there is
--- one.
+-- The connection ends on which nothing has been begun for longest, and no other. `was` says whether
+-- there was one.
 pub record EndsIdle {S : Type 0} (old new : List (Place S)) (was : Bool) : Type 0 where
   pub which : Option ℕ
   pub first : IsFirstOfEarliest (idle_times old) (length old) which
   pub places : new ≡ emptied_of old which
   pub found : was ≡ is_some which
 
--- ---- where a server is to end
+-- ---- where a server is about to end
 
 -- the connection there ends where nothing is begun on it and it isn't to be visited
 abbrev pub unless_idle : {S : Type 0} → Place S → Place S
 unless_idle p = with_connection p (if is_some (idle_in p) then None else p.connection) p.is_ready
 
+abbrev pub finishing_with : {S : Type 0} → Option (OpenConnection S) → Option (OpenConnection S)
+finishing_with None = None
+finishing_with (Some c) = Some (finishing c)
+
+-- the next request of the connection there is its last
+abbrev pub finishing_at : {S : Type 0} → Place S → Place S
+finishing_at p = with_connection p (finishing_with p.connection) p.is_ready
+
+abbrev pub left_with : {S : Type 0} → Option (OpenConnection S) → ℕ
+left_with None = 0
+left_with (Some c) = c.state.left
+
+-- the connection there may have at most one more request
+abbrev pub MayHaveOne : {S : Type 0} → Place S → Type 0
+MayHaveOne p = left_with p.connection ≤ 1
+
 -- something is begun there, or it is to be visited, or nobody is there
 abbrev pub IsUnderWay : {S : Type 0} → Place S → Type 0
 IsUnderWay p = idle_in p ≡ None
 
--- ---- which bodies are read of a crowd
+-- ---- which bodies of a crowd are read
 
--- where all connections together hold so many bytes they are a crowd
+-- where all connections together hold this many bytes, they are a crowd
 abbrev pub held_limit : ℕ
 held_limit = 67_108_864
 
--- so many bodies of a crowd are read side by side at most
+-- at most this many bodies of a crowd are read side by side
 abbrev pub read_together : ℕ
 read_together = 16
 
@@ -175,7 +191,7 @@ is_answered_at p = answered_with p.connection
 abbrev pub is_read : {S : Type 0} → Place S → Bool
 is_read p = p.is_chosen && nat_lt body_least (held_at p) && not (is_answered_at p)
 
--- one where it is so, else nothing
+-- 1 where that is so, and 0 otherwise
 abbrev pub read_count : {S : Type 0} → Place S → ℕ
 read_count p = if is_read p then 1 else 0
 
@@ -187,8 +203,8 @@ has_room places = nat_lt (count_by is_read places) read_together
 abbrev pub may_choose : {S : Type 0} → List (Place S) → Bool
 may_choose places = is_crowd places && has_room places
 
--- A body that was chosen stays it until its request is answered, whether or not there is a crowd; where
--- the connection ends with it, as long as it is held.
+-- A body that was chosen stays chosen until its request is answered, whether or not there is a
+-- crowd; where the connection ends with the answer, as long as the body is held.
 abbrev pub settled : {S : Type 0} → Place S → Place S
 settled p = placed p.connection p.is_ready (is_read p)
 
@@ -196,8 +212,8 @@ abbrev pub body_since_with : {S : Type 0} → Option (OpenConnection S) → Opti
 body_since_with None = None
 body_since_with (Some c) = body_since c
 
--- since when the request there is under way, where its body waits to be chosen: it is to be visited,
--- and isn't chosen
+-- since when the request there has been under way, where its body waits to be chosen: the
+-- connection is to be visited, and the body isn't chosen
 abbrev pub waits_since : {S : Type 0} → Place S → Option ℕ
 waits_since p = if p.is_ready && not p.is_chosen then body_since_with p.connection else None
 
@@ -205,7 +221,7 @@ abbrev pub waits_since_at : {S : Type 0} → Option (Place S) → Option ℕ
 waits_since_at None = None
 waits_since_at (Some p) = waits_since p
 
--- the same at the place of a number
+-- the same at the place of this number
 abbrev pub waiting_times : {S : Type 0} → List (Place S) → ℕ → Option ℕ
 waiting_times places k = waits_since_at (slice_get places k)
 
@@ -217,7 +233,7 @@ abbrev pub chosen_of : {S : Type 0} → List (Place S) → Option ℕ → List (
 chosen_of places None = places
 chosen_of places (Some k) = at_place chosen places k
 
--- one body more is chosen, if one waits: of those the one whose request began first
+-- one more body is chosen, if one waits: the one whose request began first
 pub record ChoosesNext {S : Type 0} (old new : List (Place S)) : Type 0 where
   pub next : Option ℕ
   pub first : IsFirstOfEarliest (waiting_times old) (length old) next
@@ -227,18 +243,18 @@ abbrev pub ChoosesIf : {S : Type 0} → Bool → List (Place S) → List (Place 
 ChoosesIf true old new = ChoosesNext old new
 ChoosesIf false old new = new ≡ old
 
--- The bodies that were chosen stay it until their requests are answered, or as long as they are held,
--- and of a crowd one more is chosen where there is room for it.
+-- The bodies that were chosen stay chosen until their requests are answered, or as long as they are
+-- held, and of a crowd one more is chosen where there is room for it.
 abbrev pub LooksAtBodies : {S : Type 0} → List (Place S) → List (Place S) → Type 0
 LooksAtBodies old new = ChoosesIf (may_choose old) (map settled old) new
 
--- ---- who is held back
+-- ---- which connections are held back
 
 -- of a crowd a body that isn't chosen waits until others are done
 abbrev pub is_held_back : {S : Type 0} → Bool → Place S → Bool
 is_held_back crowd p = crowd && not p.is_chosen && has_body_at p
 
--- the connection there is to be visited, and isn't held back, or one body more may be chosen
+-- the connection there is to be visited, and isn't held back, or one more body may be chosen
 abbrev pub is_due : {S : Type 0} → Bool → Bool → Place S → Bool
 is_due crowd choose p = p.is_ready && (choose || not (is_held_back crowd p))
 
@@ -254,20 +270,21 @@ waiting_with now (Some c) = Some (waiting now c)
 abbrev pub waiting_at : {S : Type 0} → ℕ → Place S → Place S
 waiting_at now p = with_connection p (waiting_with now p.connection) p.is_ready
 
--- ---- who is visited
+-- ---- which connections are visited
 
--- what is at a place after a visit that ended so
+-- what is at a place after a visit with this end
 abbrev pub after_visit : {S : Type 0} → Visit → Place S → OpenConnection S → Place S
 after_visit Again p c = with_connection p (Some c) true
 after_visit Rests p c = with_connection p (Some c) false
 after_visit Over p c = with_connection p None false
 
 module _ {S : Type 0} (received sent : S → Option (List ℕ)) (has_none is_full has_more is_ended is_broken : S → Bool) {D : Type 0} (answers : Answering D) where
-  -- A connection was visited: it goes on at once, rests, or ends. It rests only where its socket takes
-  -- nothing of a response that is due, or where none is due and its socket gives nothing; and what is
-  -- held of a next request was looked at. Within a request it goes on only where its socket may have
-  -- more. It ends where the other side sends no more and all was answered and sent before, and else
-  -- only where it is broken. Where it goes on after an answer little is held, if it was so before.
+  -- A connection was visited: it goes on at once, rests, or ends. It rests only where its socket
+  -- takes nothing of a response that is due, or where no response is due and its socket gives
+  -- nothing; and then what is held of a next request was looked at. Within a request it goes on
+  -- only where its socket may have more. It ends where the other side sends no more and everything
+  -- was answered and sent before, and otherwise only where it is broken. Where it goes on after an
+  -- answer, little is held, if that was so before.
   pub record VisitsOne (now most : ℕ) (at : Place S) (old : OpenConnection S) (new : Place S) (M N : D) (readings readings2 : Option (List ℕ)) : Type 0 where
     pub connection : OpenConnection S
     pub visits : Visits received sent answers now most old connection M N readings readings2
@@ -291,7 +308,8 @@ module _ {S : Type 0} (received sent : S → Option (List ℕ)) (has_none is_ful
   VisitsThere now most at None new M N readings readings2 = VisitsNone (with_connection at None false) new M N readings readings2
   VisitsThere now most at (Some c) new M N readings readings2 = VisitsOne now most at c new M N readings readings2
 
-  -- whether it is to be visited, and whether it is held back: then it still is to be, and waits
+  -- whether it is to be visited, and whether it is held back: then it waits, and is still to be
+  -- visited
   abbrev pub VisitsIf : Bool → Bool → ℕ → ℕ → Place S → Place S → D → D → Option (List ℕ) → Option (List ℕ) → Type 0
   VisitsIf true true now most old new M N readings readings2 = VisitsNone (waiting_at now old) new M N readings readings2
   VisitsIf true false now most old new M N readings readings2 = VisitsThere now most old old.connection new M N readings readings2
@@ -303,9 +321,9 @@ module _ {S : Type 0} (received sent : S → Option (List ℕ)) (has_none is_ful
   VisitsAt crowd now most old new M N readings readings2 =
       VisitsIf received sent has_none is_full has_more is_ended is_broken answers (old.is_ready && not (over M)) (is_held_back crowd old) now most old new M N readings readings2
 
-  -- Each connection that is to be visited and isn't held back is visited, once, in the order of their
-  -- places, and no other is. After the visit in which the service is over none is. Of each so many
-  -- bytes are received at most.
+  -- Each connection that is to be visited and isn't held back is visited once, in the order of the
+  -- places, and no other is. After the visit in which the service is over, none is visited. At most
+  -- this many bytes are received from each.
   abbrev pub VisitsAll : Bool → ℕ → ℕ → List (Place S) → List (Place S) → D → D → Option (List ℕ) → Option (List ℕ) → Type 0
   VisitsAll crowd now most [] [] M N readings readings2 = (N ≡ M) × (readings2 ≡ readings)
   VisitsAll crowd now most (p ∷ places) (q ∷ places2) M N readings readings2 =
@@ -314,8 +332,8 @@ module _ {S : Type 0} (received sent : S → Option (List ℕ)) (has_none is_ful
   VisitsAll crowd now most [] (q ∷ places2) M N readings readings2 = ⊥
   VisitsAll crowd now most (p ∷ places) [] M N readings readings2 = ⊥
 
-  -- A round: it is looked whether the connections are a crowd, and then which bodies are read, and they
-  -- are visited.
+  -- A round: first whether the connections are a crowd, then which bodies are read, and then the
+  -- visits.
   pub record VisitsRound (now most : ℕ) (old new : List (Place S)) (M N : D) (readings readings2 : Option (List ℕ)) : Type 0 where
     pub looked : List (Place S)
     pub looks : LooksAtBodies old looked
@@ -323,70 +341,74 @@ module _ {S : Type 0} (received sent : S → Option (List ℕ)) (has_none is_ful
 
 -- ---- how much is held after a round
 
--- so many bytes more are held at most, and no more where the connection is held back
+-- at most this many bytes more are held, and no more where the connection is held back
 pub record HoldsLittleMore {S : Type 0} (crowd : Bool) (most : ℕ) (old new : Place S) : Type 0 where
   pub few : held_at new ≤ held_at old + most
   pub none : is_held_back crowd old ≡ true → held_at new ≡ held_at old
 
--- so it is at each place
+-- the same at each place
 abbrev pub HoldLittleMore : {S : Type 0} → Bool → ℕ → List (Place S) → List (Place S) → Type 0
 HoldLittleMore crowd most [] [] = ⊤
 HoldLittleMore crowd most (p ∷ places) (q ∷ places2) = HoldsLittleMore crowd most p q × HoldLittleMore crowd most places places2
 HoldLittleMore crowd most [] (q ∷ places2) = ⊥
 HoldLittleMore crowd most (p ∷ places) [] = ⊥
 
--- no more bodies are chosen than are read side by side
+-- no more bodies are chosen than may be read side by side
 abbrev pub FewChosen : {S : Type 0} → List (Place S) → Type 0
 FewChosen {S} places = count_by (λ (p : Place S). p.is_chosen) places ≤ read_together
 
--- so it is in a new pool
+-- this holds in a new pool
 abbrev pub NewPoolReadsFew : Type 0 → Type 0
 NewPoolReadsFew S = FewChosen {S = S} (replicate place_count free)
 
--- and still once a connection came in
+-- and still after a connection came in
 abbrev pub NewConnectionsLeaveFew : Type 0 → Type 0
 NewConnectionsLeaveFew S = (now : ℕ) (socket : S) (places : List (Place S)) (k : ℕ) → FewChosen places → FewChosen (at_place (λ _. new_at now socket) places k)
 
--- once one is to be visited
+-- after one is to be visited
 abbrev pub WakesLeaveFew : Type 0 → Type 0
 WakesLeaveFew S = (places : List (Place S)) (k : ℕ) → FewChosen places → FewChosen (at_place woken places k)
 
--- once those ended whose time is up
+-- after those whose time is up have ended
 abbrev pub EndsLeaveFew : Type 0 → Type 0
 EndsLeaveFew S = (now : ℕ) (places : List (Place S)) → FewChosen places → FewChosen (map (kept_at now) places)
 
--- and once one ended for want of room
+-- after one has ended because room is lacking
 abbrev pub IdleEndsLeaveFew : Type 0 → Type 0
 IdleEndsLeaveFew S = (old new : List (Place S)) (found : Bool) → FewChosen old → EndsIdle old new found → FewChosen new
 
--- and once each ended on which nothing was begun
+-- and after each on which nothing was begun has ended
 abbrev pub AllIdleEndsLeaveFew : Type 0 → Type 0
 AllIdleEndsLeaveFew S = (places : List (Place S)) → FewChosen places → FewChosen (map unless_idle places)
 
--- who is held back has begun a request that isn't whole
+-- after the next request of each is its last
+abbrev pub FinishesLeaveFew : Type 0 → Type 0
+FinishesLeaveFew S = (places : List (Place S)) → FewChosen places → FewChosen (map finishing_at places)
+
+-- a connection that is held back has begun a request that isn't whole
 abbrev pub WhoWaitsHasBegun : Type 0 → Type 0
 WhoWaitsHasBegun S = (crowd : Bool) (p : Place S) (c : OpenConnection S) → is_held_back crowd p ≡ true → p.connection ≡ Some c → c.phase.stage ≡ Begun
 
 module _ {S : Type 0} (received sent : S → Option (List ℕ)) (has_none is_full has_more is_ended is_broken : S → Bool) {D : Type 0} (answers : Answering D) (over : D → Bool) where
-  -- and in a round, also once it is looked which bodies are read
+  -- and in a round, also after it is decided which bodies are read
   abbrev pub RoundsReadFew : Type 0
   RoundsReadFew = (now most : ℕ) (old new : List (Place S)) (M N : D) (readings readings2 : Option (List ℕ)) → FewChosen old
       → (round : VisitsRound received sent has_none is_full has_more is_ended is_broken answers over now most old new M N readings readings2) → FewChosen round.looked × FewChosen new
 
-  -- A round leaves at each place no more than so many bytes beside those that were held before, and
-  -- no more at those of connections that are held back.
+  -- After a round each place holds at most this many bytes more than it did before, and no more
+  -- than before where the connection is held back.
   abbrev pub RoundsHoldLittleMore : Type 0
   RoundsHoldLittleMore = (now most : ℕ) (old new : List (Place S)) (M N : D) (readings readings2 : Option (List ℕ))
       → (round : VisitsRound received sent has_none is_full has_more is_ended is_broken answers over now most old new M N readings readings2) → HoldLittleMore (is_crowd old) most round.looked new
 
 -- ---- how much is held after any number of rounds
 
--- what a connection may hold before its body is one under way, and one read more
+-- what a connection may hold before its body counts as under way, and one more read
 abbrev pub held_before : ℕ → ℕ
 held_before most = body_least + most
 
--- What counts of a place: that much where its body is chosen, else what is held, and no less than
--- that much.
+-- What counts for a place: that number where its body is chosen, and otherwise what is held, but at
+-- least that number.
 abbrev pub counted_at : {S : Type 0} → ℕ → Place S → ℕ
 counted_at most p = if p.is_chosen then held_before most else max (held_at p) (held_before most)
 
@@ -394,7 +416,7 @@ counted_at most p = if p.is_chosen then held_before most else max (held_at p) (h
 abbrev pub added_at_most : ℕ → ℕ
 added_at_most most = most + held_before most
 
--- one request is held there, and one read more, at most
+-- at most one request is held there, and one more read
 abbrev pub HoldsOneRequest : {S : Type 0} → ℕ → Place S → Type 0
 HoldsOneRequest most p = held_at p ≤ request_limit + most
 
@@ -403,8 +425,8 @@ abbrev pub HoldsLittleRest : {S : Type 0} → ℕ → Place S → Type 0
 HoldsLittleRest most p = is_answered_at p ≡ true → held_at p ≤ most
 
 -- There are as many places as at first; few bodies are chosen; no connection holds more than one
--- request and one read, nor more than one read once its request was answered and it goes on; and what
--- counts of all places is the limit at most, and what a round may add.
+-- request and one read, nor more than one read where its request was answered and it goes on; and
+-- what counts for all places together is at most the limit and what a round may add.
 pub record HoldLittle {S : Type 0} (most : ℕ) (places : List (Place S)) : Type 0 where
   pub size : length places ≡ place_count
   pub few : FewChosen places
@@ -412,29 +434,33 @@ pub record HoldLittle {S : Type 0} (most : ℕ) (places : List (Place S)) : Type
   pub rest : All (HoldsLittleRest most) places
   pub counted : sum_by (counted_at most) places ≤ held_limit + place_count * added_at_most most
 
--- so it is in a new pool
+-- this holds in a new pool
 abbrev pub NewPoolHoldsLittle : Type 0 → Type 0
 NewPoolHoldsLittle S = (most : ℕ) → HoldLittle {S = S} most (replicate place_count free)
 
--- and still once a connection came in
+-- and still after a connection came in
 abbrev pub NewConnectionsLeaveLittle : Type 0 → Type 0
 NewConnectionsLeaveLittle S = (most now : ℕ) (socket : S) (places : List (Place S)) (k : ℕ) → HoldLittle most places → HoldLittle most (at_place (λ _. new_at now socket) places k)
 
--- once one is to be visited
+-- after one is to be visited
 abbrev pub WakesLeaveLittle : Type 0 → Type 0
 WakesLeaveLittle S = (most : ℕ) (places : List (Place S)) (k : ℕ) → HoldLittle most places → HoldLittle most (at_place woken places k)
 
--- once those ended whose time is up
+-- after those whose time is up have ended
 abbrev pub EndsLeaveLittle : Type 0 → Type 0
 EndsLeaveLittle S = (most now : ℕ) (places : List (Place S)) → HoldLittle most places → HoldLittle most (map (kept_at now) places)
 
--- once one ended for want of room
+-- after one has ended because room is lacking
 abbrev pub IdleEndsLeaveLittle : Type 0 → Type 0
 IdleEndsLeaveLittle S = (most : ℕ) (old new : List (Place S)) (found : Bool) → HoldLittle most old → EndsIdle old new found → HoldLittle most new
 
--- once each ended on which nothing was begun
+-- after each on which nothing was begun has ended
 abbrev pub AllIdleEndsLeaveLittle : Type 0 → Type 0
 AllIdleEndsLeaveLittle S = (most : ℕ) (places : List (Place S)) → HoldLittle most places → HoldLittle most (map unless_idle places)
+
+-- after the next request of each is its last
+abbrev pub FinishesLeaveLittle : Type 0 → Type 0
+FinishesLeaveLittle S = (most : ℕ) (places : List (Place S)) → HoldLittle most places → HoldLittle most (map finishing_at places)
 
 module _ {S : Type 0} (received sent : S → Option (List ℕ)) (has_none is_full has_more is_ended is_broken : S → Bool) {D : Type 0} (answers : Answering D) (over : D → Bool) where
   -- and after a round
@@ -446,50 +472,55 @@ module _ {S : Type 0} (received sent : S → Option (List ℕ)) (has_none is_ful
 abbrev pub unread_at : {S : Type 0} → Place S → ℕ
 unread_at p = if p.is_chosen then 0 else held_at p
 
--- then the connections whose bodies aren't chosen hold no more together
+-- then the connections whose bodies aren't chosen hold no more than this together
 abbrev pub UnreadHoldLittle : Type 0 → Type 0
 UnreadHoldLittle S = (most : ℕ) (places : List (Place S)) → HoldLittle most places → sum_by unread_at places ≤ held_limit + place_count * added_at_most most
 
--- and all of them no more than that and as many requests, with one read each, as are read side by side
+-- and all of them hold no more than that, and one request and one read for each body that may be
+-- read side by side
 abbrev pub AllHoldLittle : Type 0 → Type 0
 AllHoldLittle S = (most : ℕ) (places : List (Place S)) → HoldLittle most places
     → sum_by held_at places ≤ held_limit + place_count * added_at_most most + read_together * (request_limit + most)
 
--- that is 153 MiB where reads have 16,384 bytes at most, as those of a server
+-- that is 153 MiB where a read has at most 16,384 bytes, as a server's has
 abbrev pub ServersHoldLittle : Type 0 → Type 0
 ServersHoldLittle S = (places : List (Place S)) → HoldLittle 16_384 places → sum_by held_at places ≤ 159_907_840
 
--- ---- whom a new connection ends
+-- ---- which connections a new one ends
 
--- A connection that isn't to be visited rests: its socket took nothing of a response when it was asked
--- last, or gave nothing where none was due.
+-- A connection that isn't to be visited rests: when its socket was last asked, it took nothing of a
+-- response, or gave nothing where no response was due.
 abbrev pub IsAtRest : {S : Type 0} → (S → Bool) → (S → Bool) → Place S → Type 0
 IsAtRest {S} has_none is_full p = (c : OpenConnection S) → p.is_ready ≡ false → p.connection ≡ Some c → must_wait has_none is_full c ≡ true
 
--- so it is in a new pool
+-- this holds in a new pool
 abbrev pub NewPoolRests : {S : Type 0} → (S → Bool) → (S → Bool) → Type 0
 NewPoolRests has_none is_full = All (IsAtRest has_none is_full) (replicate place_count free)
 
--- and still once a connection came in
+-- and still after a connection came in
 abbrev pub NewConnectionsLeaveRest : {S : Type 0} → (S → Bool) → (S → Bool) → Type 0
 NewConnectionsLeaveRest {S} has_none is_full = (now : ℕ) (socket : S) (places : List (Place S)) (k : ℕ)
     → All (IsAtRest has_none is_full) places → All (IsAtRest has_none is_full) (at_place (λ _. new_at now socket) places k)
 
--- once one is to be visited
+-- after one is to be visited
 abbrev pub WakesLeaveRest : {S : Type 0} → (S → Bool) → (S → Bool) → Type 0
 WakesLeaveRest {S} has_none is_full = (places : List (Place S)) (k : ℕ) → All (IsAtRest has_none is_full) places → All (IsAtRest has_none is_full) (at_place woken places k)
 
--- once those ended whose time is up
+-- after those whose time is up have ended
 abbrev pub EndsLeaveRest : {S : Type 0} → (S → Bool) → (S → Bool) → Type 0
 EndsLeaveRest {S} has_none is_full = (now : ℕ) (places : List (Place S)) → All (IsAtRest has_none is_full) places → All (IsAtRest has_none is_full) (map (kept_at now) places)
 
--- once one ended for want of room
+-- after one has ended because room is lacking
 abbrev pub IdleEndsLeaveRest : {S : Type 0} → (S → Bool) → (S → Bool) → Type 0
 IdleEndsLeaveRest {S} has_none is_full = (old new : List (Place S)) (found : Bool) → All (IsAtRest has_none is_full) old → EndsIdle old new found → All (IsAtRest has_none is_full) new
 
--- once each ended on which nothing was begun
+-- after each on which nothing was begun has ended
 abbrev pub AllIdleEndsLeaveRest : {S : Type 0} → (S → Bool) → (S → Bool) → Type 0
 AllIdleEndsLeaveRest {S} has_none is_full = (places : List (Place S)) → All (IsAtRest has_none is_full) places → All (IsAtRest has_none is_full) (map unless_idle places)
+
+-- after the next request of each is its last
+abbrev pub FinishesLeaveRest : {S : Type 0} → (S → Bool) → (S → Bool) → Type 0
+FinishesLeaveRest {S} has_none is_full = (places : List (Place S)) → All (IsAtRest has_none is_full) places → All (IsAtRest has_none is_full) (map finishing_at places)
 
 module _ {S : Type 0} (received sent : S → Option (List ℕ)) (has_none is_full has_more is_ended is_broken : S → Bool) {D : Type 0} (answers : Answering D) (over : D → Bool) where
   -- and after visits
@@ -497,20 +528,21 @@ module _ {S : Type 0} (received sent : S → Option (List ℕ)) (has_none is_ful
   VisitsLeaveRest = (now most : ℕ) (old new : List (Place S)) (M N : D) (readings readings2 : Option (List ℕ)) → All (IsAtRest has_none is_full) old
       → VisitsRound received sent has_none is_full has_more is_ended is_broken answers over now most old new M N readings readings2 → All (IsAtRest has_none is_full) new
 
--- A new connection ends no other but one that isn't to be visited, whose socket gave nothing when it
--- was asked last, and on which nothing is begun.
+-- A new connection ends another only if that isn't to be visited, its socket gave nothing when it
+-- was last asked, and nothing is begun on it.
 abbrev pub NewcomersEndIdle : {S : Type 0} → (S → Bool) → (S → Bool) → Type 0
 NewcomersEndIdle {S} has_none is_full = (places : List (Place S)) (k : ℕ) (p : Place S) (c : OpenConnection S)
     → All (IsAtRest has_none is_full) places → IsPlaceFor places (Some k) → slice_get places k ≡ Some p → p.connection ≡ Some c
     → (p.is_ready ≡ false) × (has_none c.socket ≡ true) × (c.phase.stage ≡ Idle)
 
--- And no more does one that ends for want of room.
+-- The same holds of a connection that ends because room is lacking.
 abbrev pub WantOfRoomEndsIdle : {S : Type 0} → (S → Bool) → (S → Bool) → Type 0
 WantOfRoomEndsIdle {S} has_none is_full = (old new : List (Place S)) (found : Bool) (ends : EndsIdle old new found) (k : ℕ) (p : Place S) (c : OpenConnection S)
     → All (IsAtRest has_none is_full) old → ends.which ≡ Some k → slice_get old k ≡ Some p → p.connection ≡ Some c
     → (p.is_ready ≡ false) × (has_none c.socket ≡ true) × (c.phase.stage ≡ Idle)
 
--- And no more does one that ends where a server is to end: then none is left that isn't under way.
+-- The same holds of the connections that end because a server is about to end: each that is left is
+-- under way.
 abbrev pub StopsEndIdle : {S : Type 0} → (S → Bool) → (S → Bool) → Type 0
 StopsEndIdle {S} has_none is_full = (p : Place S) (c : OpenConnection S) → IsAtRest has_none is_full p → p.connection ≡ Some c → (unless_idle p).connection ≡ None
     → (p.is_ready ≡ false) × (has_none c.socket ≡ true) × (c.phase.stage ≡ Idle)
@@ -520,27 +552,29 @@ StopsLeaveUnderWay S = (places : List (Place S)) → All IsUnderWay (map (unless
 
 -- ---- why a server ends
 
--- because the service is over; or else because it was to end, and all that was under way has ended;
--- or else because as many connections as were to come in have come, and all have ended
+-- because the service is over; or else because it was told to end, and everything that was under
+-- way has ended; or else because as many connections as were to come in have come, and all have
+-- ended
 abbrev pub why_ended : Bool → Bool → Ended
 why_ended over stops = if over then ServiceOver else (if stops then Stopped else Enough)
 
 -- ---- how long a server goes on
 
--- so many milliseconds a server waits at most, where nobody can go on at once
+-- a server waits at most this many milliseconds, where no connection can go on at once
 abbrev pub look_time : ℕ
 look_time = 250
 
--- so many of a round count at most, beside those in which it waited
+-- at most this many milliseconds of a round count, besides those in which it waited
 abbrev pub round_time : ℕ
 round_time = 25
 
--- So many of a round count at most for the connections: none where the server was held, or is, and else
--- as many as it waits at most, and a few more. It doesn't wait where somebody can go on at once.
+-- How many milliseconds of a round count at most for the connections: none where the server was
+-- held, or is; otherwise as many as it waits at most, and a few more. It doesn't wait where a
+-- connection can go on at once.
 abbrev pub counted_time : Bool → Bool → Bool → ℕ
 counted_time was_held is_held busy = if was_held || is_held then 0 else (if busy then 0 else look_time) + round_time
 
--- A server goes on while its service isn't over, and one more connection may come in, or somebody is
--- there.
+-- A server goes on while its service isn't over, and one more connection may come in, or a
+-- connection or guest is there.
 abbrev pub goes_on : {S : Type 0} → Bool → Bool → List (Place S) → Bool → Bool
 goes_on over lets places nobody = not over && (lets || (not (list_all is_free places) || not nobody))

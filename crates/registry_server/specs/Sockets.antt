@@ -9,7 +9,7 @@ MovesAtMost most Waits = ⊤
 MovesAtMost most Ended = ⊤
 MovesAtMost most Broken = ⊤
 
--- what it moved of these bytes, which are the first
+-- the bytes that it moved of these: the first of them
 abbrev pub moved : Flow → List ℕ → List ℕ
 moved (Moved count) bytes = take count bytes
 moved Waits bytes = []

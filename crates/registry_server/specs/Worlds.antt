@@ -1,18 +1,19 @@
--- What a state shows of one of the connections that take turns by a service, and what its calls
+-- What a state shows of one of the connections that take turns with a service, and what its calls
 -- make of all of them.
-use Rattle.std.specs.Prelude.{◌≡◌, ◌+◌, ◌==◌, ◌<◌, ◌++◌, [], ℕ, Bool, true, false, List, Option, Some, None, length, drop}
+use Rattle.std.specs.Prelude.{◌≡◌, ◌+◌, ◌==◌, ◌<◌, ◌⊎◌, ◌++◌, [], ℕ, Bool, true, false, List, Option, Some, None, length, drop}
 use Rattle.registry_service.specs.Courses.{GoOn}
 use Rattle.registry_service.specs.Histories.{Reached, Transcript, World, start, turns_of}
 use Rattle.registry_service.specs.Turns.{Answering, Turn, request_limit}
 use Rattle.registry_service.specs.declared.turning.End.{End}
-use Rattle.registry_server.specs.ConnectionStates.{IsStarved, Pending, TakesTurn, fresh, holding, sending}
-use Rattle.registry_server.specs.Connections.{OpenConnection, Visits}
+use Rattle.registry_server.specs.ConnectionStates.{IsStarved, Pending, TakesTurn, fresh, holding, lasting, sending}
+use Rattle.registry_server.specs.Connections.{OpenConnection, Visits, finishing}
 
--- each of the turns went on, and some more may follow, up to the limit
+-- Each of the turns went on, and more may follow: as many as the limit leaves, or only one, where
+-- the server is to end.
 pub record MayHave (ts : List Turn) (left : ℕ) : Type 0 where
   pub go_on : GoOn ts
   pub some : 0 < left
-  pub all : length ts + left ≡ request_limit
+  pub all : (length ts + left ≡ request_limit) ⊎ ((left ≡ 1) × (length ts < request_limit))
 
 -- The state shows the connection of this number: the bytes that no turn was taken for, whether more
 -- come, what was answered and isn't sent, and, while it goes on, how many requests it may still
@@ -24,8 +25,8 @@ pub record StateShows {D : Type 0} (w : World D) (k : ℕ) (over : Bool) (p : Pe
   pub may_have : p.ends ≡ None → MayHave (turns_of k w.log) p.left
 
 module _ {D : Type 0} (answers : Answering D) where
-  -- From a world another is reached, at this service, in which this state shows this connection.
-  -- What showed another one still does.
+  -- From this world and service another is reached, in which this state shows this connection. A
+  -- state that showed another connection still does.
   pub record LeadsTo (M : D) (w : World D) (k : ℕ) (over : Bool) (p : Pending) (N : D) : Type 0 where
     pub world : World D
     pub reached : Reached answers M world
@@ -53,7 +54,7 @@ module _ {D : Type 0} (answers : Answering D) where
       → Reached answers M w → StateShows w k over p → p.ends ≡ None → p.outgoing ≡ []
       → TakesTurn answers p q w.service N readings readings2 over → LeadsTo M w k over q N
 
-  -- want of memory has a turn, too, of which neither the service nor the clock is asked
+  -- a lack of memory has a turn, too, for which neither the service nor the clock is asked
   abbrev pub Starves : Type 0
   Starves = (M : D) (readings : Option (List ℕ)) (over : Bool) (p q : Pending) → IsStarved p q → TakesTurn answers p q M M readings readings over
 
@@ -62,10 +63,14 @@ module _ {D : Type 0} (answers : Answering D) where
   Sends = (M : D) (w : World D) (k : ℕ) (over : Bool) (p : Pending) (count : ℕ)
       → Reached answers M w → StateShows w k over p → LeadsTo M w k over (sending p (drop count p.outgoing)) w.service
 
+-- the next request of a connection is its last
+abbrev pub Lasts : Type 0 → Type 0
+Lasts D = (w : World D) (k : ℕ) (over : Bool) (p : Pending) → StateShows w k over p → StateShows w k over (lasting p)
+
 -- ---- with sockets
 
--- All that was received from the socket came on the connection. Once that has ended, more may have
--- been received, which is dropped.
+-- Everything that was received from the socket came on the connection. After the connection has
+-- ended, more may have been received, which is dropped.
 abbrev pub ShowsReceived : Option (List ℕ) → Transcript → Option End → Type 0
 ShowsReceived None l ends = Unit {0}
 ShowsReceived (Some bytes) l ends = (dropped : List ℕ) × (bytes ≡ l.came ++ dropped) × (ends ≡ None → dropped ≡ [])
@@ -82,9 +87,13 @@ module _ {S : Type 0} (received sent : S → Option (List ℕ)) {D : Type 0} whe
     pub received_so_far : ShowsReceived (received c.socket) (w.transcripts k) c.state.ends
     pub sent_so_far : ShowsSent (sent c.socket) (w.transcripts k)
 
+-- the next request of an open connection is its last
+abbrev pub Finishes : Type 0 → {S : Type 0} → (S → Option (List ℕ)) → (S → Option (List ℕ)) → Type 0
+Finishes D {S} received sent = (w : World D) (k : ℕ) (c : OpenConnection S) → SocketShows received sent w k c → SocketShows received sent w k (finishing c)
+
 module _ {S : Type 0} (received sent : S → Option (List ℕ)) {D : Type 0} (answers : Answering D) where
-  -- From a world another is reached, at this service, in which this open connection is that of this
-  -- number. What showed another one still does.
+  -- From this world and service another is reached, in which this open connection is the one of
+  -- this number. What showed another connection still does.
   pub record VisitLeadsTo (M : D) (w : World D) (k : ℕ) (c : OpenConnection S) (N : D) : Type 0 where
     pub world : World D
     pub reached : Reached answers M world

@@ -1,4 +1,4 @@
-//! The clocks of a server. One that can't be read gives its last reading again.
+//! The clocks of a server. Where one can't be read, its last reading counts again.
 
 ghost use Rattle.std.specs.Prelude.{◌≡◌, ◌≤◌, ◌+◌, ◌-◌, ◌/◌, ◌^◌, min};
 ghost use Rattle.std.specs.Time.{instant_nanos};
@@ -8,7 +8,7 @@ use registry_service::Clock;
 use std::time;
 use std::time::{Instant, SystemTime};
 
-/// The moment that it is, by the system's clock. Where that can't be read, or is before 1970, the
+/// The present moment, by the system's clock. Where the clock can't be read, or is before 1970, its
 /// last reading counts again.
 #[derive(Drop)]
 pub struct WallClock<'a, R: time::Clock> {
@@ -17,7 +17,7 @@ pub struct WallClock<'a, R: time::Clock> {
 }
 
 impl<'a, R: time::Clock> WallClock<'a, R> {
-    /// A clock that was read once, and this was its reading.
+    /// A clock that was read once, with this reading.
     pub fn new(source: &'a R, last: Moment) -> WallClock<'a, R>
         ensures { result.last ≡ last }
     {
@@ -38,8 +38,8 @@ impl<R: time::Clock> Clock for WallClock<'_, R> {
     }
 }
 
-// The moment that a clock has, the last one there is where it is later. None where the clock can't
-// be read, or is before 1970.
+// The moment that a clock has, or the last moment there is where the clock is later. `None` where
+// the clock can't be read, or is before 1970.
 fn read_moment<R: time::Clock>(source: &R) -> Option<Moment> {
     let now = SystemTime::now(source).ok()?;
     let since = now.duration_since(SystemTime::UNIX_EPOCH).ok()?;
@@ -48,7 +48,7 @@ fn read_moment<R: time::Clock>(source: &R) -> Option<Moment> {
 }
 
 /// The time of a server, in milliseconds. A round counts for as long as it took, and for no more
-/// than it should have: so a round that was slow, or a halt of the process, ends nobody.
+/// than it should have taken: so neither a slow round nor a halt of the process ends a connection.
 #[derive(Drop)]
 pub struct Timer<'a, R: time::Clock> {
     source: &'a R,
@@ -68,8 +68,8 @@ impl<'a, R: time::Clock> Timer<'a, R> {
         }
     }
 
-    /// A round is over, which counts for no more than `most`. What its time is now. Where the clock
-    /// can't be read no time passes, and the next reading makes up for it.
+    /// A round is over, which counts for at most `most`. Returns the time after it. Where the clock
+    /// can't be read, no time passes, and the next reading makes up for it.
     pub fn pass(&mut self, most: u64) -> u64
         ensures last { self.new.last ≡ result }
         ensures forward { self.old.last ≤ result }
@@ -81,8 +81,8 @@ impl<'a, R: time::Clock> Timer<'a, R> {
         self.last
     }
 
-    // So many milliseconds have passed since the start. Those that weren't counted yet count, and no
-    // more of them than `most`.
+    // This many milliseconds have passed since the start. Those that weren't counted yet count, but
+    // at most `most` of them.
     fn count(&mut self, read: u64, most: u64)
         ensures read { self.new.read ≡ read }
         ensures last { self.new.last ≡ min (self.old.last + min (read - self.old.read) most) (2 ^ 64 - 1) }
@@ -94,7 +94,8 @@ impl<'a, R: time::Clock> Timer<'a, R> {
     }
 }
 
-// How many whole milliseconds lie between two readings, and the greatest number where they are more.
+// How many whole milliseconds lie between two readings, or the greatest number where there are
+// more.
 fn millis_between(earlier: Instant, later: Instant) -> u64
     ensures { result ≡ min ((instant_nanos later - instant_nanos earlier) / 1_000_000) (2 ^ 64 - 1) }
 {

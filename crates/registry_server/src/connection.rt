@@ -3,7 +3,7 @@
 ghost use Rattle.std.specs.Prelude.{◌≡◌, ◌≢◌, [], true, false, IfOk, IsSome, OnOk, OnErr, length};
 ghost use Rattle.registry_wire.specs.Spelling.{IsUnfinished};
 ghost use Rattle.registry_server.specs.ConnectionStates.{Does, MayTakeTurn, fresh};
-ghost use Rattle.registry_server.specs.Connections.{AnswersOnce, Drops, IsDone, IsLost, LeavesLittle, LeavesRest, Receives, SendsDue, StarvesOnce, Visits, body_since, connected, has_body, is_answered, must_wait, stage_after, waiting};
+ghost use Rattle.registry_server.specs.Connections.{AnswersOnce, Drops, IsDone, IsLost, LeavesLittle, LeavesRest, Receives, SendsDue, StarvesOnce, Visits, body_since, connected, finishing, has_body, is_answered, must_wait, stage_after, waiting};
 ghost use Rattle.registry_server.specs.Phases as phases;
 ghost use Rattle.registry_server.specs.declared.connection.Visit.TheVariants as visits;
 ghost use Rattle.registry_server.specs.declared.phase.Stage.TheVariants as stages;
@@ -18,7 +18,8 @@ use registry_wire::HEAD_LIMIT;
 use std::alloc::{AllocError, Global};
 use std::marker::Model;
 
-/// Where more bytes are held of a request that isn't whole than a head may have, a body is under way.
+/// A body is under way where more bytes are held of a request that isn't whole than a head may
+/// have.
 pub const BODY_LEAST: usize = HEAD_LIMIT;
 
 /// How a visit ended.
@@ -32,8 +33,8 @@ pub enum Visit {
     Over,
 }
 
-/// An open connection: its socket, what of it isn't done, what it is at and until when it has time,
-/// and whether the other side sends no more.
+/// An open connection: its socket, what is left to do on it, its stage and until when that may
+/// last, and whether the other side sends no more.
 #[derive(Drop)]
 pub struct Connection<S: Socket> {
     socket: S,
@@ -74,7 +75,7 @@ impl<S: Socket> Connection<S> {
         self.phase.is_late(now)
     }
 
-    /// Since when nothing is begun on it. None where something is.
+    /// Since when nothing is begun on it. `None` where something is.
     pub fn idle_since(&self) -> Option<u64>
         ensures { result ≡ phases.idle_since self.now.phase }
     {
@@ -108,7 +109,7 @@ impl<S: Socket> Connection<S> {
         }
     }
 
-    /// Since when a body is under way: since its request began. None where none is.
+    /// Since when a body is under way: since its request began. `None` where no body is.
     pub fn body_since(&self) -> Option<u64>
         ensures { result ≡ body_since self.now }
     {
@@ -119,8 +120,8 @@ impl<S: Socket> Connection<S> {
         }
     }
 
-    /// Its body waits until others are done. The time of its request begins anew, unless it is older
-    /// than [`WAIT_LIMIT`](crate::WAIT_LIMIT).
+    /// Its body waits until others are done. The time of its request begins anew, unless the
+    /// request is older than [`WAIT_LIMIT`](crate::WAIT_LIMIT).
     pub fn wait(&mut self, now: u64)
         requires { has_body self.old ≡ true }
         ensures { self.new ≡ waiting now self.old }
@@ -128,8 +129,15 @@ impl<S: Socket> Connection<S> {
         self.phase.wait(now);
     }
 
-    /// Goes on with the connection: receives once, answers one request at most, and sends once. Where
-    /// a request isn't whole it is looked whether more has come.
+    /// The server is to end: at most one more request may be answered, and that one is the last.
+    pub fn finish(&mut self)
+        ensures { self.new ≡ finishing self.old }
+    {
+        self.state.finish();
+    }
+
+    /// Goes on with the connection: receives once, answers at most one request, and sends once.
+    /// Where a request isn't whole, it looks whether more has come.
     pub fn visit<D: Service, C: Clock>(
         &mut self,
         alloc: Global,
@@ -161,7 +169,7 @@ impl<S: Socket> Connection<S> {
         }
     }
 
-    // Receives what has come, and holds it. After an error it isn't held.
+    // Receives what has come, and holds it. After an error what came isn't held.
     fn receive(&mut self, buffer: &mut [u8], now: u64) -> Result<Flow, AllocError>
         requires turns { phases.takes_turns self.old.phase.stage ≡ true }
         requires receives { phases.receives self.old.phase.stage ≡ true }
@@ -312,7 +320,7 @@ impl<S: Socket> Connection<S> {
         }
     }
 
-    // The whole response was sent. After the last one this is said to the other side.
+    // The whole response was sent. After the last response, the other side is told so.
     fn go_on(&mut self) -> Visit
         ensures state { self.new.state ≡ self.old.state }
         ensures sent { S.sent self.new.socket ≡ S.sent self.old.socket }
@@ -354,7 +362,7 @@ impl<S: Socket> Connection<S> {
     }
 }
 
-// What a connection is at once all of a response is sent.
+// The stage of a connection once a response is sent whole.
 fn next_stage(state: &ConnectionState) -> Stage
     ensures after { result ≡ stage_after state.now }
     ensures not_begun { result ≢ stages.Begun }

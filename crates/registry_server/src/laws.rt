@@ -1,16 +1,16 @@
 //! Laws of connections. Each is the contract of a function that does nothing.
 
 ghost use Rattle.registry_server.specs.Phases.{BytesGive, EnteredEndsInTime, NeverGiveMore, NewPhasesEndInTime, PaidEndsInTime, ResponseTimePasses, StagesGiveNone, WaitedEndsInTime, WaitsGiveNone};
-ghost use Rattle.registry_server.specs.Pools.{AllHoldLittle, AllIdleEndsLeaveFew, AllIdleEndsLeaveLittle, AllIdleEndsLeaveRest, EndsLeaveFew, EndsLeaveLittle, EndsLeaveRest, IdleEndsLeaveFew, IdleEndsLeaveLittle, IdleEndsLeaveRest, NewConnectionsLeaveFew, NewConnectionsLeaveLittle, NewConnectionsLeaveRest, NewPoolHoldsLittle, NewPoolReadsFew, NewPoolRests, NewcomersEndIdle, RoundsHoldLittleMore, RoundsLeaveLittle, RoundsReadFew, ServersHoldLittle, StopsEndIdle, StopsLeaveUnderWay, UnreadHoldLittle, VisitsLeaveRest, WakesLeaveFew, WakesLeaveLittle, WakesLeaveRest, WantOfRoomEndsIdle, WhoWaitsHasBegun};
-ghost use Rattle.registry_server.specs.Worlds.{Begins, Comes, Sends, Shuts, Starves, TakesTurns, VisitsLead};
+ghost use Rattle.registry_server.specs.Pools.{AllHoldLittle, AllIdleEndsLeaveFew, AllIdleEndsLeaveLittle, AllIdleEndsLeaveRest, EndsLeaveFew, EndsLeaveLittle, EndsLeaveRest, FinishesLeaveFew, FinishesLeaveLittle, FinishesLeaveRest, IdleEndsLeaveFew, IdleEndsLeaveLittle, IdleEndsLeaveRest, NewConnectionsLeaveFew, NewConnectionsLeaveLittle, NewConnectionsLeaveRest, NewPoolHoldsLittle, NewPoolReadsFew, NewPoolRests, NewcomersEndIdle, RoundsHoldLittleMore, RoundsLeaveLittle, RoundsReadFew, ServersHoldLittle, StopsEndIdle, StopsLeaveUnderWay, UnreadHoldLittle, VisitsLeaveRest, WakesLeaveFew, WakesLeaveLittle, WakesLeaveRest, WantOfRoomEndsIdle, WhoWaitsHasBegun};
+ghost use Rattle.registry_server.specs.Worlds.{Begins, Comes, Finishes, Lasts, Sends, Shuts, Starves, TakesTurns, VisitsLead};
 
 use crate::socket::Socket;
 use registry_service::Service;
 
-/// Connections that take turns with one service make one history. Each state shows a connection:
-/// what the calls of one make of it, on any connection and in any order, comes about among the
-/// connections that `one_history` of `registry_service` speaks of. So there is one list of turns,
-/// and the service is what they leave.
+/// Connections that take turns with one service make one history. Each state shows a connection,
+/// also where its next request is the last because the server is to end (`lasts`): what calls make
+/// of it, on any connection and in any order, happens among the connections that `one_history` of
+/// `registry_service` speaks of. So there is one list of turns, and the service is what they leave.
 pub fn connections_make_one_history<D: Service>()
     ensures begins { Begins D.answers }
     ensures comes { Comes D.answers }
@@ -18,19 +18,22 @@ pub fn connections_make_one_history<D: Service>()
     ensures turns { TakesTurns D.answers }
     ensures starves { Starves D.answers }
     ensures sends { Sends D.answers }
+    ensures lasts { Lasts D }
 {}
 
-/// Visits of open connections make one history. In it each connection is the one of its socket: all
-/// that was received from the socket came on it, in this order, and more only once it has ended;
-/// and what the socket took to send is what was sent on it. So no byte of a connection is of
-/// another one's socket, none is lost, and none is there twice.
+/// Visits of open connections make one history. In it each connection is the one of its socket:
+/// everything that was received from the socket came on it, in this order, and more only after it
+/// has ended; and what the socket took to send is what was sent on it. So no byte of a connection
+/// is of another connection's socket, no byte is lost, and no byte is there twice. It stays that
+/// connection where its next request is its last (`finishes`).
 pub fn visits_make_one_history<S: Socket, D: Service>()
-    ensures { VisitsLead S.received S.sent D.answers }
+    ensures visits { VisitsLead S.received S.sent D.answers }
+    ensures finishes { Finishes D S.received S.sent }
 {}
 
-/// The responses of a connection have one time together. It passes while one is being sent; no other
-/// stage gives more of it, and no waiting; what is taken gives a millisecond for each 16 bytes, and
-/// never more than there was at first.
+/// The responses of a connection have one time together. It passes while a response is being sent.
+/// No other stage and no waiting gives more of it. What is taken gives one more millisecond for
+/// each 16 bytes, and the time is never more than at first.
 pub fn responses_have_one_time()
     ensures passes { ResponseTimePasses }
     ensures stages { StagesGiveNone }
@@ -39,9 +42,9 @@ pub fn responses_have_one_time()
     ensures most { NeverGiveMore }
 {}
 
-/// A request that is under way has time until it is 370 s old at most, however often it waits: so it
-/// is where nothing is begun, and each call of `Phase` leaves it so. Bytes of a response are taken
-/// only while one is being sent.
+/// A request that is under way has time only until it is 370 s old, however often it waits: this
+/// holds where nothing is begun, and each call of `Phase` keeps it so. Bytes of a response are
+/// taken only while one is being sent.
 pub fn requests_end_in_time()
     ensures begins { NewPhasesEndInTime }
     ensures enters { EnteredEndsInTime }
@@ -49,13 +52,13 @@ pub fn requests_end_in_time()
     ensures pays { PaidEndsInTime }
 {}
 
-/// No new connection ends one that is to be visited. Each connection that isn't rests: its socket
-/// took nothing of a response when it was asked last, or gave nothing where none was due. So it is in
-/// a new pool, and new connections, wakes, ends and visits leave it so. And a new connection takes the
-/// place of another one only where nothing is begun on that and its socket gave nothing (`ended`), and
-/// so it is where one ends as the system has no descriptor left (`lacks`), or as the server is to end
-/// (`stops`). Then each connection that is left is under way: something is begun on it, or it is to
-/// be visited (`left`).
+/// No new connection ends one that is to be visited. Each connection that isn't to be visited
+/// rests: when its socket was last asked, it took nothing of a response, or gave nothing where no
+/// response was due. This holds in a new pool, and new connections, wakes, ends and visits keep it
+/// so. And a new connection takes the place of another only where nothing is begun on that and its
+/// socket gave nothing (`ended`). The same holds where a connection ends because the system has no
+/// descriptor left (`lacks`), or because the server is about to end (`stops`). Then each connection
+/// that is left is under way: something is begun on it, or it is to be visited (`left`).
 pub fn newcomers_end_idle_connections<S: Socket, D: Service>()
     ensures begins { NewPoolRests S.has_none S.is_full }
     ensures comes { NewConnectionsLeaveRest S.has_none S.is_full }
@@ -63,6 +66,7 @@ pub fn newcomers_end_idle_connections<S: Socket, D: Service>()
     ensures late { EndsLeaveRest S.has_none S.is_full }
     ensures room { IdleEndsLeaveRest S.has_none S.is_full }
     ensures idle { AllIdleEndsLeaveRest S.has_none S.is_full }
+    ensures finishes { FinishesLeaveRest S.has_none S.is_full }
     ensures visits { VisitsLeaveRest S.received S.sent S.has_none S.is_full S.has_more S.is_ended S.is_broken D.answers D.over }
     ensures ended { NewcomersEndIdle S.has_none S.is_full }
     ensures lacks { WantOfRoomEndsIdle S.has_none S.is_full }
@@ -70,10 +74,10 @@ pub fn newcomers_end_idle_connections<S: Socket, D: Service>()
     ensures left { StopsLeaveUnderWay S }
 {}
 
-/// A crowd holds little more after a round than before it: a connection holds no more bytes than one
-/// read gives beside those that it held, and no more where it is held back, which it is only where it
-/// has begun a request that isn't whole. At most 16 bodies are chosen: so it is in a new pool, and new
-/// connections, wakes, ends and rounds leave it so.
+/// A crowd holds little more after a round than before it: each connection holds at most as many
+/// more bytes as one read gives, and no more where it is held back. It is held back only where it
+/// has begun a request that isn't whole. At most 16 bodies are chosen: this holds in a new pool,
+/// and new connections, wakes, ends and rounds keep it so.
 pub fn a_crowd_holds_little_more<S: Socket, D: Service>()
     ensures begins { NewPoolReadsFew S }
     ensures comes { NewConnectionsLeaveFew S }
@@ -81,17 +85,18 @@ pub fn a_crowd_holds_little_more<S: Socket, D: Service>()
     ensures late { EndsLeaveFew S }
     ensures room { IdleEndsLeaveFew S }
     ensures idle { AllIdleEndsLeaveFew S }
+    ensures finishes { FinishesLeaveFew S }
     ensures rounds { RoundsReadFew S.received S.sent S.has_none S.is_full S.has_more S.is_ended S.is_broken D.answers D.over }
     ensures few { RoundsHoldLittleMore S.received S.sent S.has_none S.is_full S.has_more S.is_ended S.is_broken D.answers D.over }
     ensures waits { WhoWaitsHasBegun S }
 {}
 
-/// All connections together hold little, after any number of rounds with one buffer: as many bytes as
-/// make a crowd; two reads and the bytes of a head for each place; and one request and one read for
-/// each of 16 bodies. What is kept (`HoldLittle`) is so in a new pool, and new connections, wakes, ends
-/// and rounds leave it so. From it follows how much the connections hold whose bodies aren't chosen
-/// (`unread`), how much all of them do (`all`), and how much that is with reads of 16,384 bytes, as
-/// those of a server (`servers`): 159,907,840 bytes.
+/// All connections together hold little, after any number of rounds with one buffer: as many bytes
+/// as make a crowd; two reads and the bytes of a head for each place; and one request and one read
+/// for each of 16 bodies. What is kept (`HoldLittle`) holds in a new pool, and new connections,
+/// wakes, ends and rounds keep it so. From it follows how much the connections hold whose bodies
+/// aren't chosen (`unread`), how much all of them hold (`all`), and how much that is with reads of
+/// 16,384 bytes, as a server's have (`servers`): 159,907,840 bytes.
 pub fn connections_hold_little<S: Socket, D: Service>()
     ensures begins { NewPoolHoldsLittle S }
     ensures comes { NewConnectionsLeaveLittle S }
@@ -99,6 +104,7 @@ pub fn connections_hold_little<S: Socket, D: Service>()
     ensures late { EndsLeaveLittle S }
     ensures room { IdleEndsLeaveLittle S }
     ensures idle { AllIdleEndsLeaveLittle S }
+    ensures finishes { FinishesLeaveLittle S }
     ensures rounds { RoundsLeaveLittle S.received S.sent S.has_none S.is_full S.has_more S.is_ended S.is_broken D.answers D.over }
     ensures unread { UnreadHoldLittle S }
     ensures all { AllHoldLittle S }

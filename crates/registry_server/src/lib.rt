@@ -2,20 +2,21 @@
 //!
 //! Up to [`CONNECTION_COUNT`] connections are open at once. A [`Server`] waits until some of them
 //! have something to give or take, and visits these one after the other: a visit reads what has
-//! come, answers one whole request, and sends what is taken at once of the response. So requests
-//! are answered one after the other, by one service, and a connection that is slow holds up no
+//! come, answers one whole request, and sends as much of the response as the socket takes at once.
+//! So requests are answered one after the other, by one service, and a slow connection holds up no
 //! other.
 //!
-//! What a connection is apart from its socket is a [`ConnectionState`]: it knows what came and what
-//! isn't sent yet, and its turns are those of `registry_service`. Of sockets no contract says what
-//! they give.
+//! A connection without its socket is a [`ConnectionState`]: it knows what came and what isn't sent
+//! yet, and its turns are those of `registry_service`. No contract says what sockets give.
 #![tactic(auto)]
 
 mod clocks;
 mod connection;
+mod gates;
 mod guests;
 pub mod laws;
 mod listener;
+mod local_socket;
 mod outgoing;
 mod phase;
 mod pool;
@@ -25,7 +26,8 @@ mod state;
 
 pub use crate::connection::{BODY_LEAST, Connection, Visit};
 pub use crate::guests::{FIRST_GUEST, GUEST_TOKENS, Guests, NoGuests};
-pub use crate::listener::UNCOUNTED;
+pub use crate::listener::{ListenAt, UNCOUNTED};
+pub use crate::local_socket::{LocalSocket, SocketFile};
 pub use crate::outgoing::Outgoing;
 pub use crate::phase::{
     DRAIN_LIMIT, IDLE_LIMIT, LEAST_RATE, Phase, REQUEST_TIME_LIMIT, RESPONSE_LIMIT, Stage,

@@ -6,8 +6,10 @@ ghost use Rattle.std.specs.Net.Socket.{socket_ip, socket_port};
 ghost use Rattle.registry_server.specs.Listening as spec;
 ghost use Rattle.registry_server.specs.Listening.{counted, expecting, lets_in, loopback, one_less};
 
+use crate::gates::{Gate, Gates};
+use crate::local_socket::LocalSocket;
 use mio::net::{TcpListener, TcpStream};
-use mio::{Interest, Registry, Token};
+use mio::{Registry, Token};
 use std::io;
 use std::io::ErrorKind;
 use std::marker::Model;
@@ -16,7 +18,7 @@ use std::net::{Ipv4Addr, Net, SocketAddr};
 /// From this number on connections aren't counted.
 pub const UNCOUNTED: u64 = 1_000_000;
 
-// What the system says where a process may open no more descriptors, and where nobody may.
+// What the system says where the process may open no more descriptors, and where no process may.
 const NONE_IN_PROCESS: i32 = 24;
 
 const NONE_IN_SYSTEM: i32 = 23;
@@ -25,13 +27,24 @@ const NONE_IN_SYSTEM: i32 = 23;
 #[derive(Clone, Copy, Debug, PartialEq, Eq)]
 pub struct NoDescriptor;
 
-/// A port of 127.0.0.1, and how many more connections are to come in, where they are counted. It is
-/// closed once the last was taken, or it was shut.
+/// Where a server listens.
+#[derive(Drop)]
+pub enum ListenAt {
+    /// At a port of 127.0.0.1, or at any free port where it is 0.
+    Port(u16),
+    /// At a Unix socket.
+    Socket(LocalSocket),
+    /// At a port, as above, and at a Unix socket.
+    Both(u16, LocalSocket),
+}
+
+/// Where connections come in, and how many more are to come in, where they are counted. It is
+/// closed once the last connection was taken, or once it was shut.
 #[derive(Drop)]
 pub struct Listener {
-    listener: Option<TcpListener>,
+    gates: Option<Gates>,
     left: Option<u64>,
-    // More may wait than have been taken.
+    // Whether more connections may wait than have been taken.
     is_asked: bool,
 }
 
@@ -43,34 +56,34 @@ impl Model for Listener {
 
     ghost view = { λ l. expecting l.left l.is_asked };
 
-    ghost invariant = { λ l. is_some l.listener ≡ lets_in l.left };
+    ghost invariant = { λ l. is_some l.gates ≡ lets_in l.left };
 }
 
 impl Listener {
-    /// Listens at the port, or at any that is free where it is 0, for `count` connections, one at
-    /// least; from [`UNCOUNTED`] on for all that come. The errors are those of the system.
+    /// Listens at a place for `count` connections, at least one; from [`UNCOUNTED`] on, for all
+    /// that come. The errors are those of the system.
     pub fn open<R: Net>(
         rt: &R,
         registry: &Registry,
         token: Token,
-        port: u16,
+        at: ListenAt,
         count: u64,
     ) -> io::Result<Listener>
         ensures { IfOk result (λ l. l ≡ expecting (counted count) true) }
     {
-        let mut listener = TcpListener::bind(rt, address(port))?;
-        registry.register(&mut listener, token, Interest::READABLE)?;
+        let mut gates = gates_at(rt, at)?;
+        gates.register(registry, token)?;
         Ok(Listener {
-            listener: Some(listener),
+            gates: Some(gates),
             left: counted(count),
             is_asked: true,
         })
     }
 
-    /// The port at which it listens.
+    /// The port at which it listens. `NotConnected` is returned where it listens at no port.
     pub fn port(&self) -> io::Result<u16> {
-        match &self.listener {
-            Some(listener) => Ok(listener.local_addr()?.port()),
+        match &self.gates {
+            Some(gates) => gates.port(),
             None => Err(io::Error::from(ErrorKind::NotConnected)),
         }
     }
@@ -86,14 +99,14 @@ impl Listener {
     pub fn is_asked(&self) -> bool
         ensures { result ≡ self.now.is_asked && lets_in self.now.left }
     {
-        self.is_asked && self.listener.is_some()
+        self.is_asked && self.gates.is_some()
     }
 
     /// Nobody comes in any more.
     pub fn shut(&mut self)
         ensures { self.new ≡ expecting (Some 0) self.old.is_asked }
     {
-        self.listener = None;
+        self.gates = None;
         self.left = Some(0);
     }
 
@@ -101,22 +114,22 @@ impl Listener {
     pub fn is_shut(&self) -> bool
         ensures { result ≡ not (lets_in self.now.left) }
     {
-        self.listener.is_none()
+        self.gates.is_none()
     }
 
-    /// Lets one connection in, if one is there. The last one closes the listener. The error is that
-    /// the system has no descriptor left for one: then somebody may still be there.
+    /// Lets one connection in, if one is there. The last one closes the listener. An error is
+    /// returned where the system has no descriptor left for one: then somebody may still be there.
     pub fn admit(&mut self) -> Result<Option<TcpStream>, NoDescriptor>
         ensures some { IfOk result (λ came. IfSome came (λ _. self.new ≡ expecting (one_less self.old.left) self.old.is_asked)) }
         ensures lets_in { IfOk result (λ came. IfSome came (λ _. lets_in self.old.left ≡ true)) }
         ensures none { IfOk result (λ came. IfNone came (self.new.left ≡ self.old.left)) }
         ensures err { OnErr result (self.new ≡ self.old) }
     {
-        let Some(listener) = &self.listener else {
+        let Some(gates) = &mut self.gates else {
             return Ok(None);
         };
-        match listener.accept() {
-            Ok((stream, _)) => {
+        match gates.accept() {
+            Ok(stream) => {
                 self.came_in();
                 Ok(Some(stream))
             }
@@ -136,12 +149,29 @@ impl Listener {
     {
         self.left = one_less(self.left);
         if !may_come(self.left) {
-            self.listener = None;
+            self.gates = None;
         }
     }
 }
 
-// Where a server listens: 127.0.0.1, which nobody reaches over a network, and this port.
+// The gates of a place.
+fn gates_at<R: Net>(rt: &R, at: ListenAt) -> io::Result<Gates> {
+    match at {
+        ListenAt::Port(port) => Ok(Gates::one(gate_at(rt, port)?)),
+        ListenAt::Socket(socket) => Ok(Gates::one(Gate::Path(socket.listener))),
+        ListenAt::Both(port, socket) => {
+            let gate = gate_at(rt, port)?;
+            Ok(Gates::two(gate, Gate::Path(socket.listener)))
+        }
+    }
+}
+
+// The gate of a port.
+fn gate_at<R: Net>(rt: &R, port: u16) -> io::Result<Gate> {
+    Ok(Gate::Port(TcpListener::bind(rt, address(port))?))
+}
+
+// The address of a port: 127.0.0.1, which can't be reached over a network, and this port.
 fn address(port: u16) -> SocketAddr
     ensures ip { IsV4And (socket_ip result) (λ ip. ipv4_octets ip ≡ loopback) }
     ensures port { socket_port result ≡ port }
@@ -149,7 +179,7 @@ fn address(port: u16) -> SocketAddr
     SocketAddr::from((Ipv4Addr::LOCALHOST, port))
 }
 
-// Whether a call of the system failed as no descriptor is left.
+// Whether a call of the system failed because no descriptor is left.
 fn lacks_descriptor(error: &io::Error) -> bool {
     match error.raw_os_error() {
         Some(code) => code == NONE_IN_PROCESS || code == NONE_IN_SYSTEM,
@@ -168,7 +198,7 @@ fn counted(count: u64) -> Option<u64>
     }
 }
 
-// One came in.
+// How many more are to come in after one has.
 fn one_less(left: Option<u64>) -> Option<u64>
     ensures { result ≡ spec.one_less left }
 {

@@ -1,4 +1,4 @@
-//! What isn't sent yet of a response.
+//! The part of a response that isn't sent yet.
 
 ghost use Rattle.std.specs.Prelude.{◌≡◌, ◌≤◌, ◌++◌, ◌==◌, [], length, drop};
 ghost use Rattle.registry_service.specs.Servings.{bytes_of};
@@ -8,9 +8,8 @@ use registry_service::Turned;
 use registry_wire::{Response, ShortText};
 use std::marker::Model;
 
-/// The response of a turn as far as it isn't sent: its head, which lies in the value itself, and
-/// its body as the answer holds it. No memory is taken for it. Contracts see the bytes that are
-/// left.
+/// The part of a turn's response that isn't sent: its head, which lies in the value itself, and its
+/// body as the answer holds it. No memory is taken for it. Contracts see the bytes that are left.
 #[derive(Drop)]
 pub struct Outgoing {
     head: ShortText,
@@ -76,7 +75,7 @@ impl Outgoing {
         }
     }
 
-    /// So many more bytes were sent. Once all are, the memory of the body is given back.
+    /// This many more bytes were sent. Once all are sent, the memory of the body is given back.
     pub fn advance(&mut self, count: usize)
         requires { count ≤ length self.old }
         ensures { self.new ≡ drop count self.old }

@@ -1,33 +1,34 @@
-//! What a connection is at, and until when.
+//! The stage of a connection, and until when it may last.
 
 ghost use Rattle.std.specs.Prelude.{◌≡◌};
 ghost use Rattle.registry_server.specs.Phases as spec;
 ghost use Rattle.registry_server.specs.Phases.{entered, first_phase, left_at, limit_of, paid, waited};
 ghost use Rattle.registry_server.specs.declared.phase.Stage.TheVariants.{Begun};
 
-/// A connection with nothing begun ends after so many milliseconds.
+/// A connection with nothing begun ends after this many milliseconds.
 pub const IDLE_LIMIT: u64 = 60_000;
 
-/// A request that was begun is whole after so many milliseconds, or its connection ends.
+/// A request that was begun has to be whole after this many milliseconds, or its connection ends.
 pub const REQUEST_TIME_LIMIT: u64 = 10_000;
 
-/// A request whose body waits for others has its time begun anew until it is so many milliseconds
-/// old. At most 511 other bodies began before it. Each of them is chosen once at most, 16 are read
-/// side by side, and each has 10 s at most once it was chosen: that makes 320 s, whether or not the
-/// crowd lasts. How long a body is held that was answered unfinished isn't counted in it.
+/// The time of a request whose body waits for others begins anew until the request is this many
+/// milliseconds old. At most 511 other bodies began before it. Each of them is chosen at most once,
+/// 16 are read side by side, and each has at most 10 s once it was chosen: that makes 320 s,
+/// whether or not the crowd lasts. The time for which a body is held that was answered unfinished
+/// isn't counted in it.
 pub const WAIT_LIMIT: u64 = 360_000;
 
-/// All responses of a connection together were taken after so many milliseconds, or it ends. More
-/// is given for what is taken of them, and this is also the most that is left.
+/// All responses of a connection together have to be taken after this many milliseconds, or it
+/// ends. More is given for what is taken of them, and this is also the most that is left.
 pub const RESPONSE_LIMIT: u64 = 60_000;
 
-/// For so many bytes that are taken of a response, a millisecond more is given.
+/// For this many bytes that are taken of a response, one more millisecond is given.
 pub const LEAST_RATE: usize = 16;
 
-/// For so many milliseconds at most, what comes after the last response is read and dropped.
+/// What comes after the last response is read and dropped, for at most this many milliseconds.
 pub const DRAIN_LIMIT: u64 = 2_000;
 
-/// What a connection is at.
+/// The stage of a connection.
 #[derive(Clone, Copy, Debug, PartialEq, Eq)]
 pub enum Stage {
     /// Nothing is begun.
@@ -43,7 +44,7 @@ pub enum Stage {
 }
 
 impl Stage {
-    // How many milliseconds it may last, where responses have so many left.
+    // How many milliseconds it may last, where responses have `spare` milliseconds left.
     fn limit(self, spare: u64) -> u64
         ensures { result ≡ limit_of self spare }
     {
@@ -55,8 +56,8 @@ impl Stage {
         }
     }
 
-    // Whether two stages have one time. A request that was begun has one, whether or not what is
-    // held of it was looked at.
+    // Whether two stages share one time. A request that was begun has one time, whether or not what
+    // is held of it was looked at.
     fn shares_time(self, other: Stage) -> bool
         ensures { result ≡ spec.share_time self other }
     {
@@ -67,9 +68,9 @@ impl Stage {
     }
 }
 
-/// What a connection is at, since when and until when, in milliseconds, and how many of them its
-/// responses have left where none is being sent. Where a request is under way it is so since its
-/// first byte was there, or since the response before it was sent.
+/// The stage of a connection, since when and until when, in milliseconds, and how many of them its
+/// responses have left where none is being sent. Where a request is under way, it has been so since
+/// its first byte was there, or since the response before it was sent.
 #[derive(Drop)]
 pub struct Phase {
     pub stage: Stage,
@@ -101,8 +102,8 @@ impl Phase {
         }
     }
 
-    /// The time of a stage begins when it is entered, and not again while it lasts. The responses
-    /// of a connection have one time together.
+    /// The time of a stage begins when the stage is entered, and not again while it lasts. The
+    /// responses of a connection have one time together.
     pub fn enter(&mut self, stage: Stage, now: u64)
         ensures entered { self.new ≡ entered self.old stage now }
         ensures stage { self.new.stage ≡ stage }
@@ -115,7 +116,7 @@ impl Phase {
         self.stage = stage;
     }
 
-    /// So many bytes of a response were taken, for which there is more time.
+    /// This many bytes of a response were taken, for which there is more time.
     pub fn pay(&mut self, count: usize, now: u64)
         ensures { self.new ≡ paid self.old count now }
     {
@@ -124,8 +125,8 @@ impl Phase {
         self.until = self.until.max(more.min(most));
     }
 
-    /// The request waits until others are done. Its time begins anew, unless it is older than
-    /// [`WAIT_LIMIT`].
+    /// The request waits until others are done. Its time begins anew, unless the request is older
+    /// than [`WAIT_LIMIT`].
     pub fn wait(&mut self, now: u64)
         requires { self.old.stage ≡ Begun }
         ensures { self.new ≡ waited self.old now }
@@ -142,7 +143,7 @@ impl Phase {
         self.until <= now
     }
 
-    /// Since when nothing is begun. None where something is.
+    /// Since when nothing is begun. `None` where something is.
     pub fn idle_since(&self) -> Option<u64>
         ensures { result ≡ spec.idle_since self.now }
     {

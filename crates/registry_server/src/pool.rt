@@ -1,4 +1,4 @@
-//! The open connections, and who of them can go on.
+//! The open connections, and which of them can go on.
 
 ghost use Rattle.std.specs.Prelude.{◌≡◌, ◌&&◌, true, IfOk, is_none, length, map, position, replicate};
 ghost use Rattle.std.specs.List.{list_all, list_any};
@@ -13,14 +13,14 @@ use std::alloc::{AllocError, Global};
 /// The most connections that are open at once.
 pub const CONNECTION_COUNT: usize = 512;
 
-/// Where all connections together hold so many bytes of requests they are a crowd.
+/// Where all connections together hold this many bytes of requests, they are a crowd.
 pub const HELD_LIMIT: usize = 67_108_864;
 
-/// So many bodies of a crowd are read side by side at most.
+/// At most this many bodies of a crowd are read side by side.
 pub const READ_TOGETHER: usize = 16;
 
-/// A place for a connection, whether it is to be visited, and whether its body was chosen: then it is
-/// one of those that are read of a crowd.
+/// A place for a connection, whether the connection is to be visited, and whether its body was
+/// chosen, which makes it one of those of a crowd that are read.
 #[derive(Drop)]
 struct Place<S: Socket> {
     connection: Option<Connection<S>>,
@@ -83,7 +83,7 @@ impl<S: Socket> Place<S> {
         self.is_chosen && self.held_len() > BODY_LEAST && !self.is_answered()
     }
 
-    // One where that is so, else nothing.
+    // 1 where that is so, and 0 otherwise.
     fn read_count(&self) -> usize
         ensures { result ≡ spec.read_count self.now }
     {
@@ -110,7 +110,7 @@ impl<S: Socket> Place<S> {
         is_crowd && !self.is_chosen && self.has_body()
     }
 
-    // Whether the connection there is to be visited, and isn't held back, or one body more may be
+    // Whether the connection there is to be visited, and isn't held back, or one more body may be
     // chosen.
     fn is_due(&self, is_crowd: bool, may_choose: bool) -> bool
         ensures { result ≡ spec.is_due is_crowd may_choose self.now }
@@ -119,7 +119,7 @@ impl<S: Socket> Place<S> {
     }
 
     // Its body stays chosen until its request is answered, or as long as it is held where the
-    // connection ends. So it does while there is no crowd.
+    // connection ends. That holds while there is no crowd, too.
     fn settle(&mut self)
         ensures { self.new ≡ spec.settled self.old }
     {
@@ -136,8 +136,8 @@ impl<S: Socket> Place<S> {
         }
     }
 
-    // Visits the connection, if one is there and is to be visited, unless the service is over. Where
-    // it is held back it waits instead.
+    // Visits the connection, if one is there and is to be visited, unless the service is over.
+    // Where it is held back, it waits instead.
     fn visit<D: Service, C: Clock>(
         &mut self,
         alloc: Global,
@@ -178,6 +178,15 @@ impl<S: Socket> Place<S> {
         }
     }
 
+    // The next request of the connection is its last.
+    fn finish(&mut self)
+        ensures { self.new ≡ spec.finishing_at self.old }
+    {
+        if let Some(connection) = &mut self.connection {
+            connection.finish();
+        }
+    }
+
     // Ends the connection if its time is up.
     fn end_late(&mut self, now: u64)
         ensures { self.new ≡ spec.kept_at now self.old }
@@ -194,11 +203,11 @@ impl<S: Socket> Place<S> {
 
 /// Places for connections, which are numbers below [`CONNECTION_COUNT`].
 ///
-/// Where all connections hold [`HELD_LIMIT`] bytes or more together they are a crowd, of which
-/// [`READ_TOGETHER`] bodies at most are read side by side: those that were chosen, until their
+/// Where all connections together hold [`HELD_LIMIT`] bytes or more, they are a crowd, of which at
+/// most [`READ_TOGETHER`] bodies are read side by side: those that were chosen, until their
 /// requests are answered, or as long as they are held where the connection ends. The others wait. A
-/// choice lasts while there is no crowd, too: so nobody is chosen twice for one request by clients
-/// that end a crowd and bring it back.
+/// choice lasts while there is no crowd, too: so clients that end a crowd and bring it back don't
+/// get a body chosen twice for one request.
 #[derive(Drop)]
 pub struct ConnectionPool<S: Socket> {
     places: Vec<Place<S>>,
@@ -235,8 +244,8 @@ impl<S: Socket> ConnectionPool<S> {
     }
 
     /// Whether a connection is to be visited in the next round, where the service isn't over: it
-    /// isn't held back, or its body would be chosen. The place of one that was to be visited and
-    /// has ended counts, too, until that round.
+    /// isn't held back, or its body would be chosen. The place of a connection that was to be
+    /// visited and has ended counts, too, until that round.
     pub fn is_busy(&self) -> bool
         ensures { result ≡ spec.is_busy self.now.places.items }
     {
@@ -245,9 +254,9 @@ impl<S: Socket> ConnectionPool<S> {
         any_due(&self.places, is_crowd, may_choose)
     }
 
-    /// Where a new connection can be put: a place that is free, or else that of the connection
-    /// on which nothing was begun for longest, of those that aren't to be visited. None where there
-    /// is no such.
+    /// Where a new connection can be put: a free place, or else that of the connection on which
+    /// nothing has been begun for longest, of those that aren't to be visited. `None` where there
+    /// is no such place.
     pub fn place(&self) -> Option<usize>
         ensures { IsPlaceFor self.now.places.items result }
     {
@@ -257,8 +266,8 @@ impl<S: Socket> ConnectionPool<S> {
         }
     }
 
-    /// The connection ends on which nothing was begun for longest, of those that aren't to be
-    /// visited, and no other. False where there is no such, and then none does.
+    /// Ends the connection on which nothing has been begun for longest, of those that aren't to be
+    /// visited, and no other. False where there is no such connection, and then none ends.
     pub fn end_idle(&mut self) -> bool
         ensures { EndsIdle self.old.places.items self.new.places.items result }
     {
@@ -271,13 +280,22 @@ impl<S: Socket> ConnectionPool<S> {
         }
     }
 
-    /// Each connection ends on which nothing is begun, of those that aren't to be visited, and no
+    /// Ends each connection on which nothing is begun, of those that aren't to be visited, and no
     /// other.
     pub fn end_idle_all(&mut self)
         ensures { self.new.places.items ≡ map spec.unless_idle self.old.places.items }
     {
         for place in self.places.iter_mut() {
             place.end_idle();
+        }
+    }
+
+    /// The next request of each connection is its last, because the server is to end.
+    pub fn finish_all(&mut self)
+        ensures { self.new.places.items ≡ map spec.finishing_at self.old.places.items }
+    {
+        for place in self.places.iter_mut() {
+            place.finish();
         }
     }
 
@@ -313,14 +331,14 @@ impl<S: Socket> ConnectionPool<S> {
     }
 
     /// Visits each connection that is to be visited, once, in the order of their places, up to the
-    /// visit in which the service is over. Of a crowd, a connection whose body isn't chosen isn't
-    /// visited now and still is to be: it waits, and its time begins anew, unless its request is
-    /// older than [`WAIT_LIMIT`](crate::WAIT_LIMIT).
+    /// visit in which the service is over. A connection of a crowd whose body isn't chosen isn't
+    /// visited now, and is still to be visited: it waits, and its time begins anew, unless its
+    /// request is older than [`WAIT_LIMIT`](crate::WAIT_LIMIT).
     ///
-    /// A body that was chosen stays it until its request is answered, whether or not there is a crowd;
-    /// where the connection ends with that, as long as it is held. Of a crowd one more is chosen where
-    /// fewer are than may be: of those to be visited, that of the request which began first, and of
-    /// such that at the lowest place.
+    /// A body that was chosen stays chosen until its request is answered, whether or not there is a
+    /// crowd; where the connection ends with the answer, as long as the body is held. Of a crowd,
+    /// one more body is chosen where fewer are chosen than may be: of the connections to be
+    /// visited, the one whose request began first, and of equal ones that at the lowest place.
     pub fn visit_all<D: Service, C: Clock>(
         &mut self,
         alloc: Global,
@@ -356,7 +374,8 @@ impl<S: Socket> ConnectionPool<S> {
         }
     }
 
-    // Looks whether the connections are a crowd, which it says, and then which bodies are read.
+    // Looks whether the connections are a crowd, and then which bodies are read. Returns whether
+    // they are.
     fn look_at_bodies(&mut self) -> bool
         ensures crowd { result ≡ spec.is_crowd self.old.places.items }
         ensures looks { LooksAtBodies self.old.places.items self.new.places.items }
@@ -368,8 +387,8 @@ impl<S: Socket> ConnectionPool<S> {
         is_crowd
     }
 
-    // The bodies that were chosen stay it until their requests are answered, or as long as they are
-    // held.
+    // The bodies that were chosen stay chosen until their requests are answered, or as long as they
+    // are held.
     fn settle(&mut self)
         ensures { self.new.places.items ≡ map spec.settled self.old.places.items }
     {
@@ -378,7 +397,7 @@ impl<S: Socket> ConnectionPool<S> {
         }
     }
 
-    // One body more is chosen, where one may be.
+    // One more body is chosen, where one may be.
     fn choose_if(&mut self, may_choose: bool)
         ensures { ChoosesIf may_choose self.old.places.items self.new.places.items }
     {
@@ -387,7 +406,7 @@ impl<S: Socket> ConnectionPool<S> {
         }
     }
 
-    // One body more is chosen, if one waits.
+    // One more body is chosen, if one waits.
     fn choose(&mut self)
         ensures { ChoosesNext self.old.places.items self.new.places.items }
     {
@@ -406,7 +425,7 @@ impl<S: Socket> ConnectionPool<S> {
     }
 }
 
-// Whether the limit or more is held together.
+// Whether all connections together hold the limit or more.
 fn is_crowd<S: Socket>(places: &[Place<S>]) -> bool
     ensures { result ≡ spec.is_crowd places.now }
 {
@@ -428,7 +447,7 @@ fn has_room<S: Socket>(places: &[Place<S>]) -> bool
     room > 0
 }
 
-// Whether one body more may be chosen: of a crowd, where there is room.
+// Whether one more body may be chosen: of a crowd, where there is room.
 fn may_choose<S: Socket>(places: &[Place<S>], is_crowd: bool) -> bool
     ensures { result ≡ (is_crowd && spec.has_room places.now) }
 {
@@ -458,7 +477,7 @@ fn first_waiting<S: Socket>(places: &[Place<S>]) -> Option<usize>
     }
 }
 
-// The first place of those on which nothing was begun for longest.
+// The first of the places on which nothing has been begun for longest.
 fn longest_idle<S: Socket>(places: &[Place<S>]) -> Option<usize>
     ensures { IsFirstOfEarliest (idle_times places.now) (length places.now) result }
 {
@@ -472,7 +491,7 @@ fn longest_idle<S: Socket>(places: &[Place<S>]) -> Option<usize>
     }
 }
 
-// The best place so far, unless the time of one more is earlier.
+// The best place so far, unless the time of the other is earlier.
 fn earlier(best: Option<(usize, u64)>, number: usize, since: Option<u64>) -> Option<(usize, u64)>
     ensures { result ≡ spec.earlier best number since }
 {

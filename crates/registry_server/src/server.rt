@@ -1,13 +1,14 @@
 //! The loop over all connections.
 
-ghost use Rattle.std.specs.Prelude.{◌≡◌, ◌≤◌, ◌||◌, All, true, false, IfOk, OnOk, if◌then◌else◌};
+ghost use Rattle.std.specs.Prelude.{◌≡◌, ◌≤◌, ◌||◌, ◌⊎◌, All, true, false, map, IfOk, OnOk, if◌then◌else◌};
+ghost use Rattle.mio.specs.declared.net.stream.TcpStream.{TcpStream};
 ghost use Rattle.registry_server.specs.Listening.{lets_in};
 ghost use Rattle.registry_server.specs.Pools as spec;
-ghost use Rattle.registry_server.specs.Pools.{AreWoken, IsUnderWay};
+ghost use Rattle.registry_server.specs.Pools.{AreWoken, IsUnderWay, MayHaveOne, at_place, kept_at, new_at};
 
 use crate::clocks::{Timer, WallClock};
 use crate::guests::{FIRST_GUEST, GUEST_TOKENS, Guests, NoGuests};
-use crate::listener::{Listener, NoDescriptor};
+use crate::listener::{ListenAt, Listener, NoDescriptor};
 use crate::pool::{CONNECTION_COUNT, ConnectionPool};
 use mio::net::TcpStream;
 use mio::{Events, Interest, Poll, Registry, Token};
@@ -27,10 +28,10 @@ const EVENT_COUNT: usize = FIRST_GUEST + GUEST_TOKENS;
 /// The most bytes of one read.
 const BUFFER_LEN: usize = 16_384;
 
-/// So many milliseconds pass at most between two looks at which connections are late.
+/// At most this many milliseconds pass between two looks at which connections are late.
 const LOOK_TIME: u64 = 250;
 
-/// So many milliseconds of a round count at most, beside those in which it waited.
+/// At most this many milliseconds of a round count, besides those in which it waited.
 const ROUND_TIME: u64 = 25;
 
 /// Why a server ended.
@@ -44,7 +45,7 @@ pub enum Ended {
     Stopped,
 }
 
-/// A port of 127.0.0.1, and the connections that came in there.
+/// Where a server listens, and the connections that came in there.
 #[derive(Drop)]
 pub struct Server {
     poll: Poll,
@@ -57,12 +58,19 @@ pub struct Server {
 }
 
 impl Server {
-    /// Listens at the port, or at any that is free where it is 0, for `count` connections, one at
-    /// least; from [`UNCOUNTED`](crate::UNCOUNTED) on for all that come. The errors are those of
-    /// the system.
+    /// Listens at the port, or at any free port where it is 0, for `count` connections, at least
+    /// one; from [`UNCOUNTED`](crate::UNCOUNTED) on, for all that come. The errors are those of the
+    /// system.
     pub fn bind<R: Net>(rt: &R, alloc: Global, port: u16, count: u64) -> io::Result<Server> {
+        Server::bind_at(rt, alloc, ListenAt::Port(port), count)
+    }
+
+    /// Listens as [`bind`](Server::bind) does, at a place. Connections at a Unix socket are served
+    /// like those at a port: they have the same pool, times and limits. Where it listens at both,
+    /// the connections of both are served by turns.
+    pub fn bind_at<R: Net>(rt: &R, alloc: Global, at: ListenAt, count: u64) -> io::Result<Server> {
         let poll = Poll::new(rt)?;
-        let listener = Listener::open(rt, poll.registry(), LISTENER, port, count)?;
+        let listener = Listener::open(rt, poll.registry(), LISTENER, at, count)?;
         Server::over(alloc, poll, listener)
     }
 
@@ -82,17 +90,17 @@ impl Server {
         self.poll.registry()
     }
 
-    /// The port at which it listens.
+    /// The port at which it listens. `NotConnected` is returned where it listens at no port.
     pub fn port(&self) -> io::Result<u16> {
         self.listener.port()
     }
 
     /// Serves with a service until the last connection has come in and all have ended, if they are
-    /// counted, or until the service is over. After the visit in which it is over no connection is
-    /// visited, and all of them end. The clock was read before, and said that it is `at`: this is the
-    /// moment of requests where it can't be read, or is before 1970, until it was read again. An
-    /// error comes where the time of the server can't be read at first, or the system can't be asked
-    /// what is ready.
+    /// counted, or until the service is over. After the visit in which it is over, no connection is
+    /// visited, and all of them end. The clock was read before, and `at` is its reading: this is
+    /// the moment of requests where the clock can't be read, or is before 1970, until it is read
+    /// again. An error is returned where the time of the server can't be read at first, or the
+    /// system can't be asked what is ready.
     pub fn run<R: time::Clock, D: Service>(
         self,
         rt: &R,
@@ -108,9 +116,10 @@ impl Server {
     /// Serves as [`run`](Server::run) does, and looks after guests once in each round, after the
     /// connections. Where connections are counted it goes on until no guest is there, either.
     ///
-    /// While guests hold the server nobody is visited or let in, and no time of connections passes.
-    /// Where they stop it, it lets nobody in any more, ends the connections on which nothing is begun,
-    /// answers what is under way, and ends once nobody is there.
+    /// While guests hold the server, it visits and lets in nobody, and no time of connections
+    /// passes. Where they stop it, it lets nobody in any more, ends the connections on which
+    /// nothing is begun, answers what is under way, and ends once nobody is there. Each connection
+    /// is answered at most one more request, and is told that it ends.
     pub fn run_beside<R: time::Clock, D: Service, G: Guests>(
         mut self,
         rt: &R,
@@ -151,9 +160,9 @@ impl Server {
         Ok(why_ended(service.is_over(), guests.stops()))
     }
 
-    // Waits until something is ready, and goes on with who holds or stops the server. So many
-    // milliseconds of the round count for the others: none where it was held, or is. Of connections
-    // it changes nothing but that some are to be visited.
+    // Waits until something is ready, and goes on with those who hold or stop the server. The
+    // number is how many milliseconds of the round count for the others: none where it was held, or
+    // is. Of connections nothing changes, except that some are to be visited.
     fn attend<R: time::Clock, G: Guests>(
         &mut self,
         timer: &mut Timer<'_, R>,
@@ -183,8 +192,8 @@ impl Server {
         }
     }
 
-    // Visits who is to be visited, ends who is late, and lets in who is there. Where the server is held
-    // it does nothing. Whether it goes on.
+    // Visits those who are to be visited, ends those who are late, and lets in those who are there.
+    // Where the server is held it does nothing. Returns whether the server goes on.
     fn serve<D: Service, C: Clock, G: Guests>(
         &mut self,
         alloc: Global,
@@ -222,6 +231,9 @@ impl Server {
         ensures { IfOk result (λ goes. goes ≡ spec.goes_on (D.over service.new) (lets_in self.new.listener.left)
             self.new.pool.places.items (G.empty guests.new)) }
     {
+        if guests.stops() {
+            self.stop(guests)?;
+        }
         self.pool.visit_all(alloc, service, clock, buffer, now);
         guests.visit(alloc, service, clock, buffer, self.poll.registry(), now);
         service.rest();
@@ -229,22 +241,22 @@ impl Server {
             return Ok(false);
         }
         self.end_late(now);
-        if guests.stops() {
-            self.stop(guests)?;
-        }
         self.let_in(alloc, now, guests)?;
         Ok(!self.listener.is_shut() || !self.pool.is_empty() || !guests.is_empty())
     }
 
-    // Lets nobody in any more, and ends the connections on which nothing is begun. It is looked first
-    // on which of them something has come, so that none of these ends.
+    // Lets nobody in any more, and ends the connections on which nothing is begun. First it looks
+    // on which of them something has come, so that none of these ends. The next request of the
+    // others is their last.
     fn stop<G: Guests>(&mut self, guests: &mut G) -> io::Result<()>
         ensures shut { OnOk result (lets_in self.new.listener.left ≡ false) }
         ensures under_way { OnOk result (All IsUnderWay self.new.pool.places.items) }
+        ensures one { OnOk result (All MayHaveOne self.new.pool.places.items) }
     {
         self.look(0, guests)?;
         self.listener.shut();
         self.pool.end_idle_all();
+        self.pool.finish_all();
         Ok(())
     }
 
@@ -256,8 +268,8 @@ impl Server {
         if self.pool.is_busy() { 0 } else { LOOK_TIME }
     }
 
-    // Waits for so many milliseconds until something is ready. What is ready is to be visited, and
-    // nothing else of connections is changed.
+    // Waits at most this many milliseconds until something is ready. What is ready is to be
+    // visited, and nothing else of connections changes.
     fn look<G: Guests>(&mut self, patience: u64, guests: &mut G) -> io::Result<()>
         ensures keeps { AreWoken self.old.pool.places.items self.new.pool.places.items }
         ensures left { self.new.listener.left ≡ self.old.listener.left }
@@ -268,7 +280,7 @@ impl Server {
         Ok(())
     }
 
-    // Lets in who is there. Where every place is taken it is looked first on which connections
+    // Lets in those who are there. Where every place is taken, it first looks on which connections
     // something has come, so that none of these ends for a new one.
     fn let_in<G: Guests>(&mut self, alloc: Global, now: u64, guests: &mut G) -> io::Result<()> {
         if self.listener.is_asked() {
@@ -276,13 +288,23 @@ impl Server {
                 self.look(0, guests)?;
             }
             self.admit(alloc, now, guests)?;
+            self.leave_descriptor(guests)?;
         }
         Ok(())
     }
 
-    // Lets in who is there, as long as there are places. Where the system has no descriptor left for
-    // one, the connection ends on which nothing was begun for longest. If that gives none for it
-    // either, it is tried again in the next round.
+    // Checks that the new connections left the system a descriptor, by which a guest may come in.
+    // Otherwise the connection ends on which nothing has been begun for longest, if there is one.
+    fn leave_descriptor<G: Guests>(&mut self, guests: &mut G) -> io::Result<()> {
+        if self.poll.registry().try_clone().is_err() {
+            let _ = self.end_idle(guests)?;
+        }
+        Ok(())
+    }
+
+    // Lets in those who are there, as long as there are places. Where the system has no descriptor
+    // left for one, the connection ends on which nothing has been begun for longest. If that gives
+    // none, it is tried again in the next round.
     fn admit<G: Guests>(&mut self, alloc: Global, now: u64, guests: &mut G) -> io::Result<()> {
         let mut may_end = true;
         for _ in 0..2 * CONNECTION_COUNT {
@@ -309,26 +331,34 @@ impl Server {
         Ok(())
     }
 
-    // Ends the connection on which nothing was begun for longest, and says whether there is one. It is
-    // looked first on which connections something has come, so that none of these ends.
+    // Ends the connection on which nothing has been begun for longest, and says whether there is
+    // one. First it looks on which connections something has come, so that none of these ends.
     fn end_idle<G: Guests>(&mut self, guests: &mut G) -> io::Result<bool> {
         self.look(0, guests)?;
         Ok(self.pool.end_idle())
     }
 
     // A connection takes a place. One that the system can't report on ends.
-    fn add_connection(&mut self, alloc: Global, place: usize, mut stream: TcpStream, now: u64) {
+    fn add_connection(&mut self, alloc: Global, place: usize, mut stream: TcpStream, now: u64)
+        ensures { (self.new.pool.places.items ≡ self.old.pool.places.items)
+            ⊎ ((socket : TcpStream) × (self.new.pool.places.items
+            ≡ at_place (λ _. new_at now socket) self.old.pool.places.items place)) }
+    {
         let interest = Interest::READABLE | Interest::WRITABLE;
         let registered = self
             .poll
             .registry()
             .register(&mut stream, Token(place), interest);
-        if registered.is_ok() && stream.set_nodelay(true).is_ok() {
+        if registered.is_ok() {
             self.pool.add(alloc, place, stream, now);
         }
     }
 
-    fn end_late(&mut self, now: u64) {
+    // Ends each connection whose time is up, where it is time to look for them.
+    fn end_late(&mut self, now: u64)
+        ensures { (self.new.pool.places.items ≡ self.old.pool.places.items)
+            ⊎ (self.new.pool.places.items ≡ map (kept_at now) self.old.pool.places.items) }
+    {
         if self.next_look <= now {
             self.pool.end_late(now);
             self.next_look = now.saturating_add(LOOK_TIME);
@@ -358,7 +388,7 @@ fn wake_all<G: Guests>(
     }
 }
 
-// Why a server ended, by a service that is over or isn't, and guests who stopped it or didn't.
+// Why a server ended, by whether its service is over and whether guests stopped it.
 fn why_ended(is_over: bool, is_stopped: bool) -> Ended
     ensures { result ≡ spec.why_ended is_over is_stopped }
 {

@@ -13,7 +13,7 @@ use std::net::Shutdown;
 /// What a call of a socket gave.
 #[derive(Clone, Copy, Debug, PartialEq, Eq)]
 pub enum Flow {
-    /// So many bytes went through, and none where it was interrupted.
+    /// This many bytes went through, and none where it was interrupted.
     Moved(usize),
     /// It would have to wait.
     Waits,
@@ -50,7 +50,7 @@ pub trait Socket: Drop {
     // Whether the connection may be broken.
     ghost is_broken: { Self → Bool };
 
-    /// Receives once what has come, into the front of the buffer, which has room.
+    /// Receives once what has come, into the beginning of the buffer, which has room.
     fn receive(&mut self, buffer: &mut [u8]) -> Flow
         ensures bound { MovesAtMost (length buffer.new) result }
         ensures received { received self.new
@@ -61,7 +61,7 @@ pub trait Socket: Drop {
         ensures still_ended { is_ended self.old ≡ true → is_ended self.new ≡ true }
         ensures broken { result ≡ Broken → is_broken self.new ≡ true };
 
-    /// Looks once whether something has come, and receives nothing of it.
+    /// Looks once whether something has come, and receives none of it.
     fn look(&mut self) -> Flow
         ensures received { received self.new ≡ received self.old }
         ensures sent { sent self.new ≡ sent self.old }
@@ -81,7 +81,7 @@ pub trait Socket: Drop {
         ensures still_ended { is_ended self.old ≡ true → is_ended self.new ≡ true }
         ensures broken { result ≡ Broken → is_broken self.new ≡ true };
 
-    /// Says to the other side that no more is sent. False where that fails.
+    /// Tells the other side that no more is sent. False where that fails.
     fn shut(&mut self) -> bool
         ensures sent { sent self.new ≡ sent self.old }
         ensures received { received self.new ≡ received self.old }

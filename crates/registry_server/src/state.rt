@@ -6,7 +6,7 @@ ghost use Rattle.registry_service.specs.Courses.{Gave};
 ghost use Rattle.registry_service.specs.Servings.{bytes_of};
 ghost use Rattle.registry_service.specs.Turns.{Turns, request};
 ghost use Rattle.registry_server.specs.declared.state.Progress.TheVariants.{Answered, Closed};
-ghost use Rattle.registry_server.specs.ConnectionStates.{Does, IsStarved, MayTakeTurn, fresh, holding, pending, sending};
+ghost use Rattle.registry_server.specs.ConnectionStates.{Does, IsStarved, MayTakeTurn, fresh, holding, lasting, pending, sending};
 
 use crate::outgoing::Outgoing;
 use registry_names::Fault;
@@ -102,7 +102,14 @@ impl ConnectionState {
         self.held.came(bytes)
     }
 
-    /// So many bytes of the response were sent.
+    /// The server is to end: at most one more request may be answered, and that one is the last.
+    pub fn finish(&mut self)
+        ensures { self.new ≡ lasting self.old }
+    {
+        self.left = self.left.min(1);
+    }
+
+    /// This many bytes of the response were sent.
     pub fn sent(&mut self, count: usize)
         requires { count ≤ length self.old.outgoing }
         ensures { self.new ≡ sending self.old (drop count self.old.outgoing) }
@@ -111,9 +118,9 @@ impl ConnectionState {
     }
 
     /// The next turn: the first request is taken where it has come whole, asked at the clock's
-    /// moment, and answered by the service. What is no request is answered, too, and so is want of
-    /// memory to read one; after these, after a fault, after the last request and after one that
-    /// asks for it the connection ends. `is_over` says that no more bytes come.
+    /// moment, and answered by the service. Input that isn't a request is answered, too, and so is
+    /// a lack of memory to read one. After these, after a fault, after the last request and after a
+    /// request that asks for it, the connection ends. `is_over` says that no more bytes come.
     ///
     /// All of the response before is sent, and the connection goes on.
     pub fn take_turn<D: Service, C: Clock>(
@@ -147,7 +154,7 @@ impl ConnectionState {
         }
     }
 
-    /// There was no memory to hold what came: this is answered, and the connection ends.
+    /// There was no memory to hold what came: the fault is answered, and the connection ends.
     pub fn starve<D: Service>(&mut self, service: &mut D)
         ensures starves { IsStarved self.old self.new }
         ensures service { service.new ≡ service.old }

@@ -112,9 +112,9 @@ module _ {D : Type 0} (answers : Answering D) where
     asked = h.asked;
   }
 
-  on-turn : (M : D) (w : World D) (on : ℕ) (t : Turn) (rest : List ℕ) (N : D) → GoOn (turns_of on w.log) → TakenOf (w.transcripts on).rest rest ((w.transcripts on).shut ≡ true) (taken_for t.cause)
-      → IsTurn answers w.service (is_last (turns_of on w.log)) t N → Holds M w → Holds M (turned_on w on t rest N)
-  on-turn M w on t rest N go took turn h = record {
+  on-turn : (M : D) (w : World D) (on : ℕ) (stops : Bool) (t : Turn) (rest : List ℕ) (N : D) → GoOn (turns_of on w.log) → TakenOf (w.transcripts on).rest rest ((w.transcripts on).shut ≡ true) (taken_for t.cause)
+      → IsTurn answers w.service (is_last stops (turns_of on w.log)) t N → Holds M w → Holds M (turned_on w on stops t rest N)
+  on-turn M w on stops t rest N go took turn h = record {
     service = (w.service, h.service, turn);
     transcripts = λ k. either IsTranscript (k == on) (t ∷ turns_of k w.log) (turns_of k w.log) (with_turn t rest (w.transcripts k)) (w.transcripts k)
         (λ e. subst (λ (j : ℕ). IsTranscript (t ∷ turns_of j w.log) (with_turn t rest (w.transcripts j))) (sym (is-same k on e)) (transcript-turns (turns_of on w.log) (w.transcripts on) t rest go (h.asked on) took (h.transcripts on)))
@@ -136,7 +136,7 @@ module _ {D : Type 0} (answers : Answering D) where
   }
   holds M _ (comes w r on bytes more) = on-transcript M w on (with_bytes bytes) (transcript-comes (turns_of on w.log) (w.transcripts on) bytes more) (holds M w r)
   holds M _ (shuts w r on) = on-transcript M w on at_end (transcript-shuts (turns_of on w.log) (w.transcripts on)) (holds M w r)
-  holds M _ (turns w r on t rest N go took turn) = on-turn M w on t rest N go took turn (holds M w r)
+  holds M _ (turns w r on stops t rest N go took turn) = on-turn M w on stops t rest N go took turn (holds M w r)
   holds M _ (sends w r on sent later prefix) = on-transcript M w on (with_sent sent) (transcript-sends (turns_of on w.log) (w.transcripts on) sent later prefix) (holds M w r)
 
   pub one-history : (M : D) (w : World D) → Reached answers M w → IsOneHistory answers M w

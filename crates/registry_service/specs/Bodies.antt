@@ -1,4 +1,5 @@
--- What bodies are read as, and the name of an archive's file: what may be answered of them.
+-- What bodies are read as, and how the name of an archive's file is read: the answers that are
+-- allowed.
 use Rattle.std.specs.Prelude.{◌≡◌, ◌≢◌, ◌⊎◌, Option, Ok, Err}
 use Rattle.registry_names.specs.Faults.{IsMemoryOr}
 use Rattle.registry_names.specs.Texts.{Text}
@@ -13,7 +14,7 @@ use Rattle.registry_routes.specs.Files.{IsFileOf, IsNoFileOf}
 use Rattle.registry_routes.specs.Written.{StopsValue, text_of}
 use Rattle.registry_service.specs.Readings.{Reading}
 
--- the form of a publish of this package; that the body is of another is refused last
+-- the form of a publish of this package; that the body names another package is refused last
 unfoldable pub reads_form : Text → Text → Reading FormParts
 reads_form name body (Ok form) = IsFormOf body form × (form.name ≡ name)
 reads_form name body (Err stop) = StopsForm body stop

@@ -16,7 +16,7 @@ abbrev pub reads_bearer : Text → Reading Credential
 reads_bearer value (Ok who) = (token : Text) × (digest : List ℕ) × IsBearer value token × (digest_of token ≡ Some digest) × (who ≡ Token digest)
 reads_bearer value (Err stop) = (stop ≡ Refused NoCaller) × (IsNoBearer value ⊎ ((token : Text) × IsBearer value token × (digest_of token ≡ None)))
 
--- nobody shows themselves, or one token does
+-- the caller shows nothing, or one token
 abbrev pub reads_caller : Authorization → Reading Credential
 reads_caller Absent = gives Anonymous
 reads_caller (Once value) = reads_bearer value

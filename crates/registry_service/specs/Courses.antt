@@ -55,14 +55,14 @@ taken_for (request w at) = taken.Whole w
 taken_for (bad_input r) = taken.Bad r
 taken_for no_memory = taken.Faulted Memory
 
--- The turns were taken of these bytes, one after the other, and what is held follows them. AtEnd
+-- The turns were taken of these bytes, one after the other, and what is held follows them. `AtEnd`
 -- says that no more bytes are left
 abbrev pub Took : List ℕ → List Turn → List ℕ → Type 0 → Type 0
 Took came [] held AtEnd = held ≡ came
 Took came (t ∷ ts) held AtEnd = (rest : List ℕ) × Took came ts rest ⊥ × TakenOf rest held AtEnd (taken_for t.cause)
 
 -- What was read for turns, and then newer bytes: no more of these than the next request needed,
--- after what the turns left of all that had come.
+-- after what the turns left of everything that had come.
 pub record ReadsAfter (held : List ℕ) (ts : List Turn) (got : List ℕ) (ForTurns : List ℕ → Type 0) : Type 0 where
   pub older : List ℕ
   pub newer : List ℕ
@@ -81,7 +81,7 @@ ReadsFor held (t ∷ ts) got = ReadsAfter held ts got (ReadsFor held ts)
 abbrev pub ReadsOn : List ℕ → List Turn → List ℕ → Type 0
 ReadsOn held ts got = ReadsAfter held ts got (ReadsFor held ts)
 
--- The clock gave these moments, the first of its readings, where so many are known
+-- The clock gave these moments, the first of its readings, where that many are known
 abbrev pub Gave : Option (List ℕ) → Option (List ℕ) → List ℕ → Type 0
 Gave None new ms = Unit {0}
 Gave (Some readings) new ms = length ms ≤ length readings → (rest : List ℕ) × (readings ≡ ms ++ rest) × (new ≡ Some rest)
@@ -109,7 +109,7 @@ abbrev pub EndedBy : List Turn → End → Type 0
 EndedBy [] e = ⊥
 EndedBy (t ∷ ts) e = (t.ended ≡ Some e) × GoOn ts
 
--- how a connection ended that all was written of
+-- how a connection ended whose responses were all written
 abbrev pub EndsAs : {D : Type 0} → Side D → List Turn → End → Type 0
 EndsAs s ts Closed = EndedBy ts Closed ⊎ (GoOn ts × EndsWith s.held ending.Closed × AtEndOf s)
 EndsAs s ts Limit = EndedBy ts Limit
@@ -118,8 +118,8 @@ EndsAs s ts ReadFault = GoOn ts × IsUnfinished s.held
 EndsAs s ts WriteFault = ⊥
 EndsAs s ts (Faulted fault) = EndedBy ts (Faulted fault)
 
--- What was read on a connection that ended so: after a turn that ended it nothing more; and where
--- it went on after the last turn, what was read for a request that never came whole
+-- What was read on a connection that ended like this: after a turn that ended it, nothing more;
+-- where it went on after the last turn, what was read for a request that never came whole
 abbrev pub ReadsUntil : List ℕ → List Turn → End → List ℕ → Type 0
 ReadsUntil held ts e got = (EndedBy ts e × ReadsFor held ts got) ⊎ (GoOn ts × ReadsOn held ts got)
 
@@ -127,8 +127,9 @@ ReadsUntil held ts e got = (EndedBy ts e × ReadsFor held ts got) ⊎ (GoOn ts �
 abbrev pub EndsUnasked : {D : Type 0} → Side D → End → Type 0
 EndsUnasked s e = ((e ≡ Closed) × EndsWith s.held ending.Closed × AtEndOf s) ⊎ ((e ≡ ReadFault) × IsUnfinished s.held)
 
--- How many reads failed, and how many were interrupted: at a read fault at least one failed, and no
--- more than the inbox admitted; at any other end all that failed were interrupted, and tried again
+-- How many reads failed, and how many were interrupted. At a read fault at least one failed, and no
+-- more than the inbox admitted; at any other end each failure was an interruption, and the read was
+-- tried again
 abbrev pub ReadsFail : End → ℕ → ℕ → ℕ → ℕ → Type 0
 ReadsFail Closed count count2 failures failures2 = CountsInterrupted count count2 failures failures2
 ReadsFail Limit count count2 failures failures2 = CountsInterrupted count count2 failures failures2
@@ -143,7 +144,7 @@ module _ {D : Type 0} (answers : Answering D) where
   Follow M [] N = N ≡ M
   Follow M (t ∷ ts) N = (K : D) × Follow M ts K × IsTurn answers K (length ts + 1 == request_limit) t N
 
-  -- the turns, of all that was held at first and that the reader gave since
+  -- the turns, of everything that was held at first or that the reader has given since
   pub record Course (old new : Side D) (ts : List Turn) : Type 0 where
     pub got : List ℕ
     pub gave : Reads old.left new.left new.unknown got
@@ -173,7 +174,7 @@ module _ {D : Type 0} (answers : Answering D) where
 
   -- ---- the whole connection
 
-  -- all was written of the turns
+  -- everything was written of the turns
   pub record Completes (old new : Side D) (out out2 : Option (List ℕ)) (out_unknown : Bool) (s : Served) : Type 0 where
     pub turns : List Turn
     pub course : Course old new turns
@@ -182,7 +183,7 @@ module _ {D : Type 0} (answers : Answering D) where
     pub ends : EndsAs new turns s.end
     pub count : s.requests ≡ requests turns
 
-  -- A write failed: the older responses were written whole, and a part of the newest. After this
+  -- A write failed: the older responses were written whole, and the newest only in part. After this
   -- turn nothing was asked or read.
   pub record BreaksOff (old new : Side D) (out out2 : Option (List ℕ)) (out_unknown : Bool) (s : Served) : Type 0 where
     pub newest : Turn
@@ -196,9 +197,10 @@ module _ {D : Type 0} (answers : Answering D) where
     pub ends : s.end ≡ WriteFault
     pub count : s.requests ≡ requests older
 
-  -- A fault came in the midst of a packument: the older responses were written whole, and of the
-  -- newest, which was begun as that of the packument, a part, of a byte at least. The outcome of this
-  -- turn is the fault; nothing was written of it, and after it nothing was asked or read.
+  -- A fault came in the middle of a packument. The older responses were written whole. The newest
+  -- was begun as that of the packument, and a part of it was written, of at least a byte. The
+  -- outcome of this turn is the fault; nothing was written of the fault, and nothing was asked or
+  -- read after it.
   pub record IsCutShort (old new : Side D) (out out2 : Option (List ℕ)) (out_unknown : Bool) (s : Served) : Type 0 where
     pub newest : Turn
     pub older : List Turn

@@ -1,6 +1,6 @@
--- Many connections that take turns by one service: what may come about, and the one list of turns
--- that it comes to.
-use Rattle.std.specs.Prelude.{◌≡◌, ◌+◌, ◌==◌, ◌++◌, ◌∷◌, [], ℕ, Bool, true, false, List, length, if◌then◌else◌}
+-- Many connections that take turns with one service: what may happen, and the one list of turns
+-- that it amounts to.
+use Rattle.std.specs.Prelude.{◌≡◌, ◌+◌, ◌==◌, ◌||◌, ◌++◌, ◌∷◌, [], ℕ, Bool, true, false, List, length, if◌then◌else◌}
 use Rattle.registry_wire.specs.Reading.{TakenOf}
 use Rattle.registry_service.specs.Courses.{GoOn, Took, taken_for, written}
 use Rattle.registry_service.specs.Turns.{Answering, IsTurn, Turn, request_limit, response_of}
@@ -9,7 +9,8 @@ use Rattle.registry_service.specs.Turns.{Answering, IsTurn, Turn, request_limit,
 pub record Transcript : Type 0 where
   -- all that ever came
   pub came : List ℕ
-  -- what of it no turn was taken for: it is held, or it came after the end and is dropped
+  -- the bytes of it that no turn was taken for: they are held, or came after the end and are
+  -- dropped
   pub rest : List ℕ
   -- no more comes
   pub shut : Bool
@@ -36,9 +37,10 @@ with_turn t rest l = record { came = l.came; rest = rest; shut = l.shut; out = l
 abbrev pub with_sent : List ℕ → Transcript → Transcript
 with_sent sent l = record { came = l.came; rest = l.rest; shut = l.shut; out = l.out; sent = sent }
 
--- a turn, and the connection that it was taken on
+-- a turn, the connection that it was taken on, and whether the server was to end then
 pub record LogEntry : Type 0 where
   pub from : ℕ
+  pub stops : Bool
   pub turn : Turn
 
 -- the turns of a connection, in the order of the whole list
@@ -62,15 +64,16 @@ changed transcripts on change k = if k == on then change (transcripts k) else tr
 abbrev pub on_connection : {D : Type 0} → World D → ℕ → (Transcript → Transcript) → World D
 on_connection w on change = record { service = w.service; transcripts = changed w.transcripts on change; log = w.log }
 
--- a turn is taken on a connection
-abbrev pub turned_on : {D : Type 0} → World D → ℕ → Turn → List ℕ → D → World D
-turned_on w on t rest N = record { service = N; transcripts = changed w.transcripts on (with_turn t rest); log = record { from = on; turn = t } ∷ w.log }
+-- a turn is taken on a connection, by a server that is to end or isn't
+abbrev pub turned_on : {D : Type 0} → World D → ℕ → Bool → Turn → List ℕ → D → World D
+turned_on w on stops t rest N = record { service = N; transcripts = changed w.transcripts on (with_turn t rest); log = record { from = on; stops = stops; turn = t } ∷ w.log }
 
--- the next turn of a connection that had these is the last that it may have
-abbrev pub is_last : List Turn → Bool
-is_last ts = length ts + 1 == request_limit
+-- the next turn of a connection that had these turns is the last that it may have: because its
+-- server is to end, or by the limit
+abbrev pub is_last : Bool → List Turn → Bool
+is_last stops ts = stops || (length ts + 1 == request_limit)
 
--- a connection that had these turns is what they make of it
+-- a connection that had these turns is what they leave
 pub record IsTranscript (ts : List Turn) (l : Transcript) : Type 0 where
   pub took : Took l.came ts l.rest (l.shut ≡ true)
   pub answered : l.out ≡ written ts
@@ -82,24 +85,25 @@ EndsOnce [] = Unit {0}
 EndsOnce (t ∷ ts) = GoOn ts
 
 module _ {D : Type 0} (answers : Answering D) where
-  -- What may come about, from a service: bytes come on a connection, or their end; a turn is taken
-  -- on one that goes on; some of what was answered is sent
+  -- What may happen, from a service: bytes come on a connection, or their end; a turn is taken on a
+  -- connection that goes on, and is its last where the server is to end; some of what was answered
+  -- is sent
   pub data Reached (M : D) : World D → Type 0 where
     begins : Reached M (start M)
     comes : (w : World D) → Reached M w → (on : ℕ) (bytes : List ℕ) → (w.transcripts on).shut ≡ false → Reached M (on_connection w on (with_bytes bytes))
     shuts : (w : World D) → Reached M w → (on : ℕ) → Reached M (on_connection w on at_end)
-    turns : (w : World D) → Reached M w → (on : ℕ) (t : Turn) (rest : List ℕ) (N : D) → GoOn (turns_of on w.log)
-        → TakenOf (w.transcripts on).rest rest ((w.transcripts on).shut ≡ true) (taken_for t.cause) → IsTurn answers w.service (is_last (turns_of on w.log)) t N
-        → Reached M (turned_on w on t rest N)
+    turns : (w : World D) → Reached M w → (on : ℕ) (stops : Bool) (t : Turn) (rest : List ℕ) (N : D) → GoOn (turns_of on w.log)
+        → TakenOf (w.transcripts on).rest rest ((w.transcripts on).shut ≡ true) (taken_for t.cause) → IsTurn answers w.service (is_last stops (turns_of on w.log)) t N
+        → Reached M (turned_on w on stops t rest N)
     sends : (w : World D) → Reached M w → (on : ℕ) (sent later : List ℕ) → (w.transcripts on).out ≡ sent ++ later → Reached M (on_connection w on (with_sent sent))
 
   -- each turn was taken at the service that all older ones left, whichever connection they were on
   abbrev pub FollowAll : D → List LogEntry → D → Type 0
   FollowAll M [] N = N ≡ M
-  FollowAll M (e ∷ es) N = (K : D) × FollowAll M es K × IsTurn answers K (is_last (turns_of e.from es)) e.turn N
+  FollowAll M (e ∷ es) N = (K : D) × FollowAll M es K × IsTurn answers K (is_last e.stops (turns_of e.from es)) e.turn N
 
   -- There is one list of turns: the service is what they leave, and each connection is what its own
-  -- turns among them make of it
+  -- turns among them leave
   pub record IsOneHistory (M : D) (w : World D) : Type 0 where
     pub service : FollowAll M w.log w.service
     pub transcripts : (k : ℕ) → IsTranscript (turns_of k w.log) (w.transcripts k)

@@ -13,7 +13,7 @@ use Rattle.registry_service.specs.declared.answer.Answer.{Answer}
 use Rattle.registry_service.specs.declared.answer.Body.{Body}
 use Rattle.registry_service.specs.declared.answer.Body.TheVariants as body
 
--- what a request is answered
+-- the outcome of a request
 abbrev pub Outcome : Type 0
 Outcome = Result Reply Fault
 
@@ -53,8 +53,8 @@ body_of (Err fault) = error_text (fault_text fault)
 abbrev pub response_to : Outcome → Bool → List ℕ
 response_to o closes = head_bytes (status_of o) (kind_of o) (length (body_of o)) closes ++ body_of o
 
--- the head of the response that is a document of so many bytes, after which the connection ends or
--- not
+-- the head of the response that is a document of this many bytes, after which the connection ends
+-- or not
 abbrev pub document_head : Bool → ℕ → List ℕ
 document_head closes len = head_bytes 200 content.Json len closes
 

@@ -16,12 +16,12 @@ abbrev pub wanted_of : List Turn → List Wanted
 wanted_of [] = []
 wanted_of (t ∷ ts) = wanted_of ts ++ wanted_by t.cause
 
--- the requests of the turns are the first that the bytes spell: what the rest spells follows them.
--- Whether more may come is no matter
+-- The requests of the turns are the first that the bytes spell, and what the rest spells follows
+-- them. It doesn't matter whether more may come
 abbrev pub TurnsAreSpelled : Type 0
 TurnsAreSpelled = (came rest : List ℕ) (ts : List Turn) (vs : List Wanted) (e : Ending) → Took came ts rest (Unit {0}) → Spells rest vs e → Spells came (wanted_of ts ++ vs) e
 
--- of a reader whose bytes are known, the turns were taken of all that was held or left
+-- of a reader whose bytes are known, the turns were taken of everything that was held or left
 abbrev pub TakenOfAll : {D : Type 0} → Answering D → Type 0
 TakenOfAll {D} answers = (old new : Side D) (ts : List Turn) (left left2 : List ℕ) → Course answers old new ts → old.left ≡ Some left → new.left ≡ Some left2 → new.unknown ≡ false
     → Took (old.held ++ left) ts (new.held ++ left2) (left2 ≡ [])

@@ -53,7 +53,7 @@ gives a result = result ≡ Ok a
 abbrev pub refuses : {A : Type 0} → Refusal → Reading A
 refuses refusal result = result ≡ Err (Refused refusal)
 
--- the first, and where it gives a value what follows from it; what stops first is answered
+-- the first, and then what follows from its value, where it gives one; what stops first is returned
 abbrev pub then : {A B : Type 0} → Reading A → (A → Reading B) → Reading B
 then {A} first next (Ok b) = (a : A) × first (Ok a) × next a (Ok b)
 then {A} first next (Err stop) = first (Err stop) ⊎ ((a : A) × first (Ok a) × next a (Err stop))

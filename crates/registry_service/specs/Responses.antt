@@ -26,8 +26,8 @@ abbrev pub turn_of : Cause → Outcome → Option End → Turn
 turn_of c o ended = record { cause = c; outcome = o; ended = ended }
 
 module _ {D : Type 0} (answers : Answering D) where
-  -- The turn that answers a packument, taken for the same cause, as it might have been; and after it
-  -- a turn of the same request, which answers the fault and leaves N
+  -- A turn with the same cause that would have answered a packument; and after it a turn of the
+  -- same request, which answers the fault and leaves N
   pub record MayBegin (M : D) (last : Bool) (c : Cause) (begun : Turn) (fault : Fault) (N : D) : Type 0 where
     pub same : begun.cause ≡ c
     pub asks : AsksPackument c
@@ -36,14 +36,14 @@ module _ {D : Type 0} (answers : Answering D) where
     pub may : IsTurn answers M last begun between
     pub after : IsTurnFor answers c between last (Err fault) (Some (Faulted fault)) N
 
-  -- Its response was written whole; or a part of it, and then a write failed; or it answers a fault
-  -- that came in the midst of a packument, and of that a part was written
+  -- Its response was written whole; or a part of it, before a write failed; or it answers a fault
+  -- that came in the middle of a packument, of which a part was written
   abbrev pub Comes : D → Bool → Turn → D → Option (List ℕ) → Option (List ℕ) → Bool → Responded → Type 0
   Comes M last t N out out2 unknown (Whole ended counts) = Writes out out2 unknown (response_of t) × (ended ≡ t.ended) × (counts ≡ is_request t.cause)
   Comes M last t N out out2 unknown BrokenOff = WritesPrefix out out2 unknown (response_of t)
   Comes M last t N out out2 unknown (CutShort fault) = (t.outcome ≡ Err fault) × ((begun : Turn) × MayBegin M last t.cause begun fault N × WritesSome out out2 unknown (response_of begun))
 
-  -- a turn was taken for a cause, and this came of its response
+  -- a turn was taken for a cause, and this is what happened to its response
   pub record Responds (M : D) (c : Cause) (last : Bool) (N : D) (out out2 : Option (List ℕ)) (unknown : Bool) (responded : Responded) : Type 0 where
     pub outcome : Outcome
     pub ended : Option End

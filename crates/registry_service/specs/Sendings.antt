@@ -21,9 +21,9 @@ module _ {D : Type 0} (answers : Answering D) where
   abbrev pub MayAnswer : D → Request → Text → Fault → D → Type 0
   MayAnswer M r text fault N = (K : D) × answers M r (Ok (reply.Doc text)) K × answers K r (Err fault) N
 
-  -- What was answered, and what was written of it. Of a refusal nothing is, nor of a fault that came
-  -- before the first byte. Where one came behind it, what was written is of a packument that may be
-  -- answered, and the fault came after that.
+  -- What was answered, and what was written of it. Nothing is written of a refusal, nor of a fault
+  -- that came before the first byte. Where a fault came after the first byte, what was written is
+  -- part of a packument that may be answered, and the fault came after that.
   abbrev pub Sends : (ℕ → List ℕ) → D → Request → Sent → D → Option (List ℕ) → Option (List ℕ) → Bool → Type 0
   Sends opens M r (Refused refusal) N out out2 unknown = answers M r (Ok (reply.Refused refusal)) N × Writes out out2 unknown []
   Sends opens M r Whole N out out2 unknown = (text : Text) × answers M r (Ok (reply.Doc text)) N × Writes out out2 unknown (opened opens text)

@@ -18,8 +18,8 @@ use Rattle.registry_service.specs.declared.turning.Turned.{Turned}
 abbrev pub request_limit : ℕ
 request_limit = 1000
 
--- what a turn is taken for: a whole request, asked at a moment; what is no request; or want of
--- memory while one was read
+-- what a turn is taken for: a whole request, asked at a moment; input that isn't a request; or a
+-- lack of memory while a request was read
 pub data Cause : Type 0 where
   request : Wanted → ℕ → Cause
   bad_input : Refusal → Cause
@@ -45,7 +45,7 @@ stopped (stop.Refused r) = Ok (Refused r)
 stopped (stop.Fault f) = Err f
 
 -- how the connection ends after a request, if it does: by a fault, by the last request that it has,
--- or since it was asked to
+-- or because the request asked for it
 abbrev pub end_of : Outcome → Bool → Bool → Option End
 end_of (Err fault) last closes = Some (Faulted fault)
 end_of (Ok reply) last closes = if last then Some Limit else (if closes then Some Closed else None)
@@ -54,14 +54,14 @@ end_of (Ok reply) last closes = if last then Some Limit else (if closes then Som
 abbrev pub Answering : Type 0 → Type 1
 Answering D = D → Request → Outcome → D → Type 0
 
--- what is no request is answered so, and the connection ends
+-- the answer to input that isn't a request, after which the connection ends
 abbrev pub IsTurnAway : Cause → Outcome → Option End → Type 0
 IsTurnAway (request w at) o ended = ⊥
 IsTurnAway (bad_input r) o ended = (o ≡ Ok (Refused r)) × (ended ≡ Some BadInput)
 IsTurnAway no_memory o ended = (o ≡ Err Memory) × (ended ≡ Some (Faulted Memory))
 
 module _ {D : Type 0} (answers : Answering D) where
-  -- a request in form is answered by the service; another is answered by what is out of form, and
+  -- a request in form is answered by the service; any other is answered by its first refusal, and
   -- the service isn't asked
   abbrev pub IsAnswered : D → Wanted → ℕ → Outcome → D → Type 0
   IsAnswered M w at o N = ((r : Request) × reads_request w at (Ok r) × answers M r o N)
@@ -81,14 +81,14 @@ module _ {D : Type 0} (answers : Answering D) where
   abbrev pub IsTurn : D → Bool → Turn → D → Type 0
   IsTurn M last t N = IsTurnFor t.cause M last t.outcome t.ended N
 
-  -- the same of what the code makes of a turn: its answer, and how the connection ends
+  -- the same for what the code makes of a turn: its answer, and how the connection ends
   pub record Turns (M : D) (c : Cause) (last : Bool) (t : Turned) (N : D) : Type 0 where
     pub outcome : Outcome
     pub is_turn : IsTurnFor c M last outcome t.end N
     pub answer : AnswersSo outcome t.answer
     pub counts : t.is_request ≡ is_request c
 
--- the turn of what is no request, of which no service is asked
+-- the turn of input that isn't a request, for which no service is asked
 pub record TurnsAway (c : Cause) (t : Turned) : Type 0 where
   pub outcome : Outcome
   pub is_turn : IsTurnAway c outcome t.end

@@ -13,10 +13,10 @@ use registry_rules::Action;
 use std::alloc::Global;
 
 /// The action that a route asks for, with the values of its path and the body. Where the route has
-/// no body it is dropped.
+/// no body, the body is dropped.
 ///
-/// The values are read from left to right and then the body, and the first that isn't in form gives
-/// its refusal. `Memory` comes where no memory is left.
+/// The values are read from left to right, and then the body; the first that isn't in form gives
+/// its refusal. `Memory` is returned where no memory is left.
 pub(crate) fn action(
     alloc: Global,
     endpoint: Endpoint,

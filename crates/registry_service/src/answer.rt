@@ -19,9 +19,9 @@ pub enum Body {
     Short(ShortText),
     /// A text of its own.
     Text(Text),
-    /// A document of the registry, which others may have too.
+    /// A document of the registry, which may be shared.
     Doc(SharedText),
-    /// The bytes of an archive, which others may have too.
+    /// The bytes of an archive, which may be shared.
     Bytes(SharedBlob),
 }
 
@@ -46,7 +46,7 @@ pub struct Answer {
     pub body: Body,
 }
 
-// Written out, so that to drop an answer is one call and not one for each part.
+// Written out, so that dropping an answer is one call, not one for each part.
 impl Drop for Answer {
     fn drop(self) {
         let Answer {

@@ -27,7 +27,7 @@ impl Opener for Heading {
     }
 }
 
-// The line that says that the connection ends, where it does.
+// The line that says that the connection ends, if it does.
 fn close_line(closes: bool) -> &'static str
     ensures { result.now ≡ wire.close_line closes }
 {

@@ -7,9 +7,9 @@ use crate::turning::Service;
 
 /// Whatever comes, on whichever connection, in whatever pieces, and whoever's turn it is, there is
 /// one list of turns such that the service is what they leave, each taken at what all older ones
-/// left. Each connection's turns are the first that its bytes spell, and the rest is still held or,
-/// after its end, dropped; its answers are those of its turns, and what was sent is a prefix of
-/// them.
+/// left. The turns of each connection are the first that its bytes spell. The rest is still held,
+/// or, after the end of the connection, dropped. Its answers are those of its turns, and what was
+/// sent is a prefix of them.
 pub fn one_history<D: Service>()
     ensures { (M : D) (w : World D) → Reached D.answers M w → IsOneHistory D.answers M w }
 {}
@@ -20,8 +20,8 @@ pub fn turns_are_spelled()
     ensures { TurnsAreSpelled }
 {}
 
-/// Of a reader whose bytes are known, the turns of a connection were taken of all that was held or
-/// left, and what follows them still is.
+/// Of a reader whose bytes are known, the turns of a connection were taken of everything that was
+/// held or left, and what follows them is still held or left.
 pub fn turns_are_taken_of_all<D: Service>()
     ensures { TakenOfAll D.answers }
 {}

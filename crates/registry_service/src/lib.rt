@@ -1,8 +1,8 @@
-//! What a request of HTTP asks of the registry, and what an outcome of the registry is in HTTP.
+//! What an HTTP request asks of the registry, and what an outcome of the registry is in HTTP.
 //!
-//! [`request_of`] forms the request that a whole request of HTTP spells, or answers the first
-//! refusal of its form: of its route, the values of its path from left to right, its body, and then
-//! its authorization.
+//! [`request_of`] forms the request that a whole HTTP request spells, or returns the first refusal
+//! of its form: of its route, of the values of its path from left to right, of its body, and then
+//! of its authorization.
 #![tactic(auto)]
 
 mod action;

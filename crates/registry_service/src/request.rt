@@ -12,9 +12,9 @@ use std::alloc::Global;
 
 /// The request that a whole request of HTTP spells, asked at this moment.
 ///
-/// Where it isn't in form the first of these is answered: `NotFound` where no route has its method
+/// Where it isn't in form, the first of these is returned: `NotFound` where no route has its method
 /// and target; the refusal of a value of the path, from left to right; that of the body; `NoCaller`
-/// for the authorization. `Memory` comes where no memory is left.
+/// for the authorization. `Memory` is returned where no memory is left.
 pub fn request_of(alloc: Global, wanted: &Wanted, at: Moment) -> Result<Request, Stop>
     ensures { spec.reads_request wanted.now at result }
 {

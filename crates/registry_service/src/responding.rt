@@ -16,26 +16,26 @@ use registry_rules::{Action, Reply, Request};
 use registry_wire::{Wanted, write_response};
 use std::alloc::Global;
 
-/// What came of the response to a turn.
+/// What happened to the response to a turn.
 #[derive(Clone, Copy)]
 pub(crate) enum Responded {
     /// It was written whole.
     Whole {
         /// How the connection ends after it, if it does.
         end: Option<End>,
-        /// Whether it is that of a whole request.
+        /// Whether it answers a whole request.
         is_request: bool,
     },
     /// A write failed. A prefix of it was written.
     BrokenOff,
-    /// A fault came in the midst of a packument. A prefix of that response was written.
+    /// A fault came in the middle of a packument. A prefix of that response was written.
     CutShort(Fault),
 }
 
 /// Takes the turn of a whole request, asked at this moment, and writes its response. `is_last` says
-/// that it is the last one that its connection may have.
+/// that this is the last request that its connection may have.
 ///
-/// It is the turn that [`turn`](crate::turn) takes, but a packument is sent as it is made.
+/// It is the turn that [`turn`](crate::turn) takes, except that a packument is sent as it is made.
 pub(crate) fn take_turn<D: PackumentService, W: ByteOut>(
     alloc: Global,
     service: &mut D,
@@ -78,7 +78,7 @@ fn answer<D: PackumentService, W: ByteOut>(
     }
 }
 
-// Sends a packument, behind the head of the response that it is.
+// Sends a packument, after the head of the response.
 fn send<D: PackumentService, W: ByteOut>(
     alloc: Global,
     service: &mut D,

@@ -11,13 +11,13 @@ use registry_packument::{Opener, Sent};
 use registry_rules::Request;
 use std::alloc::Global;
 
-/// A service that can send a packument as it is made, for which [`Service::answer`] makes one text.
+/// A service that can send a packument as it is made, where [`Service::answer`] makes one text.
 pub trait PackumentService: Service {
     /// Answers a request for a packument, as [`Service::answer`] does, and writes the packument:
-    /// what opens one of its length, and then its text.
+    /// the opening for one of its length, and then its text.
     ///
     /// Nothing is written of a refusal, nor of a fault that comes before the first byte. After a
-    /// fault that comes later what was written is a prefix, and no byte of it may follow.
+    /// fault that comes later, what was written is a prefix, and no other byte of it may follow.
     fn send_packument<W: ByteOut, O: Opener>(
         &mut self,
         alloc: Global,

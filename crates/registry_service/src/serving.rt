@@ -31,10 +31,10 @@ pub struct Served {
 }
 
 /// Serves a connection until it ends: takes its requests one after the other, each of them as a
-/// [`turn`](crate::turn), and writes their responses. What comes that is no request is answered,
-/// too, and so is want of memory while a request is read.
+/// [`turn`](crate::turn), and writes their responses. Input that isn't a request is answered, too,
+/// and so is a lack of memory while a request is read.
 ///
-/// A packument is sent as it is made. Where a fault comes behind its first byte the response stays
+/// A packument is sent as it is made. Where a fault comes after its first byte, the response stays
 /// cut short: the fault ends the connection, and nothing is written of it.
 ///
 /// The clock is asked once for each whole request. Nothing more is read after a turn that ends the
@@ -54,8 +54,8 @@ pub fn serve<D: PackumentService, R: ByteIn, W: ByteOut, C: Clock>(
         (W.bytes writer.old) (W.bytes writer.new) (W.is_unknown writer.new) result }
     ensures few { result.requests ≤ 1000 }
 
-    // A read fault comes where a read failed, and a thousand at most did; a write fault comes where
-    // a write failed.
+    // A read fault is returned where a read failed, and at most a thousand reads did; a write fault
+    // where a write failed.
     ensures counted { ReadsFail result.end
         inbox.old.interruptions inbox.new.interruptions
         (R.failures inbox.old.reader) (R.failures inbox.new.reader) }
@@ -89,8 +89,8 @@ pub fn serve<D: PackumentService, R: ByteIn, W: ByteOut, C: Clock>(
     }
 }
 
-// The next turn of a connection, with what came of its response; or how the connection ends without
-// one.
+// The next turn of a connection, with what happened to its response; or how the connection ends
+// without one.
 fn next_turn<D: PackumentService, R: ByteIn, W: ByteOut, C: Clock>(
     alloc: Global,
     service: &mut D,

@@ -30,26 +30,26 @@ pub trait Service {
     fn answer(&mut self, alloc: Global, request: &Request) -> Result<Reply, Fault>
         ensures { answers self.old request.now result self.new };
 
-    /// Whether it is over: nothing more is to be asked of it.
+    /// Whether it is over: nothing more may be asked of it.
     fn is_over(&self) -> bool
         ensures { result ≡ over self.now };
 
-    /// A turn of a connection was taken: for this request, or for what is none or could not be
-    /// read.
+    /// A turn of a connection was taken: for this request, or for input that isn't a request or
+    /// could not be read.
     ///
-    /// The server of many connections calls it, once for each turn: behind the call of
+    /// The server of many connections calls it, once for each turn: after the call of
     /// [`answer`](Service::answer), where the turn has one, and before anything of the response is
     /// sent. Neither [`serve`](crate::serve) nor a command beside the server calls it.
     ///
     /// An implementation may keep a log of what was answered. It changes nothing that contracts see
-    /// of the service, and can't fail. It should not wait, since nobody is answered meanwhile. A
-    /// service that has none of its own does nothing.
+    /// of the service, and can't fail. It should not wait, since nobody is answered meanwhile. The
+    /// default does nothing.
     fn note(&mut self, _wanted: Option<&Wanted>, _turned: &Turned)
         ensures { self.new ≡ self.old }
     {}
 
     /// A round of turns is over. The server of many connections calls it once in each round in
-    /// which it isn't held, behind the turns of all connections and commands. An implementation may
+    /// which it isn't held, after the turns of all connections and commands. An implementation may
     /// write what it noted. It changes nothing that contracts see of the service.
     fn rest(&mut self)
         ensures { self.new ≡ self.old }
@@ -61,9 +61,10 @@ pub trait Service {
 pub enum End {
     /// The other side ended it after a whole request, or a request asked for it.
     Closed,
-    /// It had `REQUESTS_PER_CONNECTION` requests.
+    /// It had as many requests as it may have: `REQUESTS_PER_CONNECTION`, or its last one, since its
+    /// server is to end.
     Limit,
-    /// What came was no request that is served.
+    /// What came wasn't a request that is served.
     BadInput,
     /// A read failed.
     ReadFault,
@@ -77,11 +78,11 @@ pub enum End {
 pub struct Turned {
     pub answer: Answer,
     pub end: Option<End>,
-    /// Whether a whole request was answered, and not what is none.
+    /// Whether a whole request was answered.
     pub is_request: bool,
 }
 
-// Written out, so that to drop a turn is one call and not one for each part.
+// Written out, so that dropping a turn is one call, not one for each part.
 impl Drop for Turned {
     fn drop(self) {
         let Turned {
@@ -150,11 +151,11 @@ pub(crate) fn turn_with(outcome: Result<Reply, Fault>, is_last: bool, closes: bo
     }
 }
 
-/// The turn of a whole request, asked at this moment: it is formed, answered by the service where
-/// it is in form, and its outcome is put into an answer. `is_last` says that it is the last one
-/// that its connection may have.
+/// The turn of a whole request, asked at this moment: the request is formed, the service answers it
+/// where it is in form, and its outcome is put into an answer. `is_last` says that this is the last
+/// request that its connection may have.
 ///
-/// The connection ends after a fault, after the last request, and after one that asks for it.
+/// The connection ends after a fault, after the last request, and after a request that asks for it.
 pub fn turn<D: Service>(
     alloc: Global,
     service: &mut D,
@@ -168,7 +169,8 @@ pub fn turn<D: Service>(
     turn_with(outcome, is_last, wanted.closes)
 }
 
-/// The turn of what is no request: it is answered, and the connection ends. It takes no memory.
+/// The turn of input that isn't a request: it is answered, and the connection ends. It takes no
+/// memory.
 pub fn turn_away(refusal: Refusal) -> Turned
     ensures { spec.TurnsAway (bad_input refusal) result }
 {

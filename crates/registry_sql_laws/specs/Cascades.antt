@@ -43,7 +43,7 @@ links schema tree = flat_map (λ child. filter_map (link_for schema tree child) 
 -- ---- the tables that refer to one
 
 -- a table whose rows go with the row that they refer to, by these places of their own key, and what
--- it makes of the contents that those of a key go
+-- becomes of the contents when those of a key go
 pub record Child (C : Type 0) (more : ℕ) : Type 0 where
   pub table : Table
   pub places : Places more
@@ -53,7 +53,7 @@ pub record Child (C : Type 0) (more : ℕ) : Type 0 where
 abbrev pub link_of : {C : Type 0} {more : ℕ} → Table → Child C more → Link
 link_of {more = more} parent c = record { child = c.table; ref = reference (columns_at more c.places) parent.name Cascade; deed = Delete; key = (parent.tree, places_from more 1, plain) }
 
--- The table at a place of the schema is such a one. Its key has `key_more` texts after the first,
+-- The table at a place of the schema is such a child. Its key has `key_more` texts after the first,
 -- with its index at a place of its own, and nothing goes with its own rows.
 pub record IsChild {C : Type 0} {more : ℕ} (schema : Schema) (contents : Trees → C) (c : Child C more) : Type 0 where
   pub place : ℕ

@@ -16,8 +16,8 @@ use Rattle.registry_rows.specs.Laws.{OfEachCall}
 use Rattle.registry_rows.specs.Ready.{Ready, Reads, Queried, IsMapped}
 use Rattle.registry_sql_laws.specs.Joins.{Side, joins, are_sides, select_join, IsJoined}
 
--- SELECT .. FROM t, u WHERE texts of their keys are equal shows exactly what each two entries give
--- whose keys pass. Neither the order counts nor how often a row is shown.
+-- SELECT .. FROM t, u WHERE texts of their keys are equal shows exactly what each two entries whose
+-- keys pass give. Neither the order nor how often a row is shown counts.
 abbrev pub SelectJoins : {S : Type 0} → Ghosts S → (C X Z Y : Type 0) → Type 0
 SelectJoins store C X Z Y =
     (schema : Schema) (contents : Trees → C) (place : ℕ) (table : Table) (m : ℕ) (value : Row → X) (change : C → TextsMap m X → C) → IsMapped schema contents place table m value change

@@ -10,7 +10,7 @@ use Rattle.registry_names.specs.Texts.{Text}
 use Rattle.registry_rows.specs.Columns.{text_in}
 use Rattle.registry_rows.specs.TextKeys.{Texts}
 
--- a place, and so many more
+-- a place, and this many more
 abbrev pub Places : ℕ → Type 0
 Places zero = ℕ
 Places (suc rest) = ℕ × Places rest

@@ -17,7 +17,7 @@ pub fn deletes_take_parts<S: Alter, C, X>()
 {}
 
 /// A query by some texts of the key shows exactly the entries whose keys have them, in the order
-/// of the keys. A query on two tables shows exactly what two entries give whose keys join.
+/// of the keys. A query on two tables shows exactly what each two entries whose keys join give.
 pub fn queries_show_parts<S: Alter, C, X, Z, Y>()
     ensures part { OfEachTextTable C X (SelectShowsPart S.Store Y) }
     ensures join { SelectJoins S.Store C X Z Y }

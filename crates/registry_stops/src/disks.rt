@@ -1,4 +1,4 @@
-//! Files in memory that stop, and what they hold after.
+//! Files in memory that stop, and what they hold afterwards.
 
 ghost use Rattle.std.specs.Prelude.{IfOk};
 ghost use Rattle.sqlite.specs.Files.{file_state};
@@ -17,19 +17,19 @@ pub(crate) const NEVER: u64 = 1 << 60;
 /// How many pages are kept in memory: more than these registries have.
 const CACHE_PAGES: usize = 64;
 
-/// After so many pages in the log it is copied into the database file: so few that this comes in
-/// the middle of a run, too.
+/// After this many pages the log is copied into the database file. The number is small, so that
+/// this happens in the middle of a run, too.
 const CHECKPOINT_FRAMES: usize = 16;
 
-/// A disk in memory that passes so many calls and then fails every one.
+/// A disk in memory that passes this many calls and then fails every one.
 pub(crate) trait StoppingDisk: Crash + Drop + Sized {
-    /// An empty one.
+    /// An empty disk.
     fn empty(alloc: Global, calls: u64) -> Self;
 
-    /// One that holds these bytes, also after a crash, and passes so many calls.
+    /// A disk that holds these bytes, also after a crash, and passes this many calls.
     fn holding(alloc: Global, bytes: &[u8], calls: u64) -> Result<Self, Fail>;
 
-    /// All that was written.
+    /// Everything that was written.
     fn written(&self) -> &[u8];
 }
 
@@ -57,12 +57,13 @@ pub(crate) enum Stopping {
     Database,
     /// Its log.
     Log,
-    /// Each of them, after as many calls.
+    /// Each of them, after the same number of calls.
     Both,
 }
 
 impl Stopping {
-    // How many calls the log passes, and how many the database file, where what stops passes these.
+    // How many calls the log passes, and how many the database file, where the files that stop pass
+    // this many.
     fn calls(self, calls: u64) -> (u64, u64) {
         match self {
             Stopping::Database => (NEVER, calls),
@@ -77,18 +78,18 @@ impl Stopping {
 pub(crate) enum Leaves {
     /// What was synced: the machine lost its power.
     Synced,
-    /// All that was written: the process was killed.
+    /// Everything that was written: the process was killed.
     Written,
 }
 
-/// Files that were closed, and whether all of that was done.
+/// Files that were closed, and whether the close did everything.
 #[derive(Drop)]
 pub(crate) struct Closed<D: Disk> {
     pub(crate) is_whole: bool,
     pub(crate) files: Files<D>,
 }
 
-/// Empty files, of which one, or each, passes so many calls.
+/// Empty files, one or both of which pass this many calls.
 pub(crate) fn empty_files<D: StoppingDisk>(
     alloc: Global,
     stopping: Stopping,
@@ -101,7 +102,7 @@ pub(crate) fn empty_files<D: StoppingDisk>(
     }
 }
 
-/// Files that hold what these do, of which one, or each, passes so many calls.
+/// Files that hold the same as these, one or both of which pass this many calls.
 pub(crate) fn copied<D: StoppingDisk>(
     alloc: Global,
     files: &Files<D>,
@@ -113,7 +114,7 @@ pub(crate) fn copied<D: StoppingDisk>(
     beside(alloc, log, files.db.written(), db)
 }
 
-// A log, and a database file that holds these bytes and passes so many calls.
+// A log, and a database file that holds these bytes and passes this many calls.
 fn beside<D: StoppingDisk>(
     alloc: Global,
     log: D,
@@ -149,7 +150,7 @@ fn synced<D: StoppingDisk>(files: Files<D>) -> Files<D> {
     Files { log, db }
 }
 
-/// The registry in the files, or else what is left of them.
+/// The registry in the files, or what is left of them.
 pub(crate) fn opened<D: Disk + Drop>(
     alloc: Global,
     files: Files<D>,
@@ -165,7 +166,7 @@ pub(crate) fn opens<D: Disk + Drop>(alloc: Global, files: Files<D>) -> bool {
     refused(alloc, files).is_none()
 }
 
-/// The fault of an open of the files, and what is left of them, or nothing where a registry opens.
+/// The fault of an open of the files, and what is left of them. `None` where a registry opens.
 pub(crate) fn refused<D: Disk + Drop>(alloc: Global, files: Files<D>) -> Option<(Fault, Files<D>)> {
     match open(alloc, files) {
         Ok(_registry) => None,
@@ -173,8 +174,9 @@ pub(crate) fn refused<D: Disk + Drop>(alloc: Global, files: Files<D>) -> Option<
     }
 }
 
-// The registry in the files, or else a fault and what is left of them. `open_files` says far more
-// than a test needs, and each caller of it is checked with all of that: so this is the only one.
+// The registry in the files, or a fault and what is left of them. The contract of `open_files` says
+// far more than a test needs, and every caller is checked with all of it: so this is the only
+// caller.
 fn open<D: Disk + Drop>(
     alloc: Global,
     files: Files<D>,
@@ -188,8 +190,8 @@ fn open<D: Disk + Drop>(
     }
 }
 
-/// A connection to the database in the files, or else what is left of them. It is the only caller of
-/// `connect`, as [`open`] of `open_files`.
+/// A connection to the database in the files, or what is left of them. It is the only caller of
+/// `connect`, as [`open`] is of `open_files`.
 pub(crate) fn connected<D: Disk + Drop>(
     alloc: Global,
     files: Files<D>,

@@ -1,4 +1,4 @@
-//! The requests that are asked, a line each.
+//! The requests that are asked, one a line.
 
 /// The commands: three users, a token and an organisation; four versions, of which two have the same
 /// archive and two are withdrawn; one more, which is withdrawn and never published again; a team
@@ -44,8 +44,8 @@ token npm_bob_000000001 --at 200 tags @lab/kit
 --at 200 --as eve packument @lab/kit
 ";
 
-/// A command on a registry of which nothing was asked.
+/// A command on a registry that was asked nothing before.
 pub(crate) const ADD_ANN: &str = "--operator user-add ann";
 
-/// A query that any registry refuses that has no package.
+/// A query that every registry without a package refuses.
 pub(crate) const TAGS_OF_NONE: &str = "tags none";

@@ -1,5 +1,5 @@
-//! What was answered is there after a stop, no service goes on over a disk that failed, and no other
-//! byte is read than was written.
+//! What was answered is there after a stop, no service goes on over a disk that failed, and no byte
+//! is read that wasn't written.
 
 mod adoption;
 mod service;

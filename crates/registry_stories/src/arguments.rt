@@ -11,7 +11,7 @@ pub struct Arguments {
     pub input: Option<String>,
 }
 
-/// Splits a command line at its spaces. Those inside `'..'` or `".."` belong to an argument, and
+/// Splits a command line at its spaces. Spaces inside `'..'` or `".."` belong to an argument, and
 /// `< FILE` names the input.
 pub fn arguments_of(alloc: Global, line: &str) -> Result<Arguments, AllocError> {
     let mut splitter = Splitter::new(alloc);
@@ -22,18 +22,18 @@ pub fn arguments_of(alloc: Global, line: &str) -> Result<Arguments, AllocError> 
     Ok(splitter.done)
 }
 
-/// What a line has so far.
+/// What a line has given so far.
 #[derive(Drop)]
 struct Splitter {
     done: Arguments,
     argument: String,
-    /// The argument has a letter or quotes.
+    /// Whether the argument has a letter or quotes.
     is_begun: bool,
-    /// The argument has quotes.
+    /// Whether the argument has quotes.
     is_quoted: bool,
-    /// The quotes that aren't closed.
+    /// The quotes that are still open.
     quote: Option<char>,
-    /// The next argument names the input.
+    /// Whether the next argument names the input.
     is_input: bool,
 }
 

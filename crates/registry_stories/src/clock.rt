@@ -1,4 +1,4 @@
-//! A clock that always gives one moment.
+//! A clock that always gives the same moment.
 
 ghost use Rattle.std.specs.Prelude.{None};
 

@@ -1,4 +1,4 @@
-//! A call of the program, and all that it prints.
+//! A call of the program, and everything that it prints.
 
 use crate::arguments::{Arguments, arguments_of};
 use crate::failure::Stop;
@@ -8,8 +8,8 @@ use registry_names::{FromRead, Text, ToWrite};
 use registry_program::program_over;
 use std::alloc::{AllocError, Global};
 
-/// All that a call with these arguments prints: standard output, then standard error, and the
-/// status where it isn't 0. Arguments without a moment get the one that is stated.
+/// Everything that a call with these arguments prints: standard output, then standard error, and
+/// the status where it isn't 0. Arguments without a moment get the one that the story states.
 pub fn printed(
     rt: &HostRuntime,
     alloc: Global,
@@ -26,8 +26,8 @@ pub fn printed(
     Ok(called(rt, alloc, registry, &texts, &input)?)
 }
 
-// The arguments with the moment that is stated, where they have none. A call without arguments has
-// no moment.
+// The arguments, with the moment that the story states where they have none. A call without
+// arguments has no moment.
 fn at_moment(alloc: Global, texts: Vec<Text>, at: Option<&str>) -> Result<Vec<Text>, AllocError> {
     let Some(at) = at else {
         return Ok(texts);
@@ -76,7 +76,7 @@ fn called(
     Ok(all)
 }
 
-// Adds what one stream was given. A part without a newline at its end is marked.
+// Adds what was written to one stream. A part without a newline at its end is marked.
 fn push_part(alloc: Global, all: &mut String, bytes: &[u8]) -> Result<(), AllocError> {
     let text = String::from_utf8_lossy(alloc, bytes)?;
     all.push_str(text.as_str())?;

@@ -3,10 +3,10 @@
 use crate::failure::{Stop, failed_with};
 use std::alloc::Global;
 
-/// What the bytes before spell in part.
+/// The escape that the bytes before have begun.
 #[derive(Clone, Copy, PartialEq, Eq)]
 enum Begun {
-    /// Nothing.
+    /// No escape.
     Nothing,
     /// `\`.
     Escape,
@@ -36,7 +36,7 @@ pub fn unescaped(alloc: Global, text: &str) -> Result<Vec<u8>, Stop> {
     Ok(bytes)
 }
 
-// What a byte spells after what is begun, and what is begun then.
+// The byte that is spelled, if one is, and the escape that is begun afterwards.
 fn step(begun: Begun, byte: u8) -> Option<(Option<u8>, Begun)> {
     match begun {
         Begun::Nothing if byte == b'\\' => Some((None, Begun::Escape)),

@@ -1,5 +1,5 @@
 //! A connection over HTTP to the registry of a story, without a socket: the server's own state of a
-//! connection is given what comes, and asked what is to be sent.
+//! connection is given what comes, and is asked what to send.
 
 use crate::clock::StatedClock;
 use crate::failure::{Stop, failed_with};
@@ -12,7 +12,7 @@ use registry_service::{End, REQUESTS_PER_CONNECTION, Service};
 use sqlite::Alter;
 use std::alloc::{AllocError, Global};
 
-/// From so many bytes on, what comes in pieces comes in large ones.
+/// Where more bytes than this come in pieces, the pieces are large.
 const MANY: usize = 20_000;
 
 /// The bytes of a large piece.
@@ -23,7 +23,7 @@ const LARGE_PIECE: usize = 4_096;
 pub enum Pace {
     /// All at once.
     AtOnce,
-    /// One byte a read, or some thousand where there are many.
+    /// One byte a read, or a few thousand where there are many.
     InPieces,
 }
 
@@ -55,7 +55,7 @@ pub fn answered(
     }
 }
 
-// What a registry answers, which is let go.
+// What a registry answers, which is let go of.
 fn answered_in<S: Alter + Drop>(
     alloc: Global,
     registry: Registry<S>,
@@ -67,7 +67,7 @@ fn answered_in<S: Alter + Drop>(
     Exchange::new(alloc, at).carry(alloc, &mut service, asked, pace)
 }
 
-/// A connection, its clock, what it has answered so far, and how it ended, if it did.
+/// A connection, its clock, what it has answered so far, and how it ended, if it has.
 #[derive(Drop)]
 struct Exchange {
     state: ConnectionState,
@@ -106,7 +106,7 @@ impl Exchange {
         Ok(Answer { bytes, end })
     }
 
-    // Gives the connection piece after piece.
+    // Gives the connection one piece after the other.
     fn give_pieces<D: Service>(
         &mut self,
         alloc: Global,
@@ -120,7 +120,7 @@ impl Exchange {
         Ok(())
     }
 
-    // Gives the connection one piece. What comes after it has ended is dropped.
+    // Gives the connection one piece. What comes after the end is dropped.
     fn give<D: Service>(
         &mut self,
         alloc: Global,
@@ -134,7 +134,7 @@ impl Exchange {
         Ok(())
     }
 
-    // Takes turns until the connection waits for more, or ends. Answers how it ends, if it does.
+    // Takes turns until the connection waits for more, or ends. Returns how it ends, if it does.
     fn take_turns<D: Service>(
         &mut self,
         alloc: Global,
@@ -157,7 +157,7 @@ impl Exchange {
         Ok(self.state.ends())
     }
 
-    // Sends all that isn't sent.
+    // Sends everything that isn't sent yet.
     fn send(&mut self) -> Result<(), AllocError> {
         let (head, body) = self.state.outgoing().parts();
         self.bytes.extend_from_slice(head)?;
@@ -168,7 +168,7 @@ impl Exchange {
     }
 }
 
-/// How a connection ended, as a story says it.
+/// How a connection ended, in the words of a story.
 pub fn end_text(end: Option<End>) -> &'static str {
     match end {
         None => "[open]",

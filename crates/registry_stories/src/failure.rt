@@ -13,7 +13,7 @@ const SHOWN: usize = 240;
 pub enum Stop {
     /// There is no memory left.
     Memory,
-    /// What came isn't what was wanted: both, for a reader.
+    /// What came isn't what was wanted: shows both, for a reader.
     Failed(String),
 }
 
@@ -31,7 +31,7 @@ pub fn failed_with(alloc: Global, said: &str) -> Stop {
     }
 }
 
-/// The failure that shows what was wanted and what came, each from a little before the first
+/// The failure that shows what was wanted and what came, both from a little before the first
 /// difference.
 pub fn differing(alloc: Global, wanted: &[u8], came: &[u8]) -> Stop {
     match difference(alloc, wanted, came) {
@@ -47,7 +47,7 @@ fn difference(alloc: Global, wanted: &[u8], came: &[u8]) -> Result<String, Alloc
     format!(in alloc; "wanted: {wanted}\ncame:   {came}")
 }
 
-// How many bytes are the same in front.
+// How many bytes at the beginning are the same.
 fn same_count(first: &[u8], second: &[u8]) -> usize {
     let mut count = 0usize;
     for (left, right) in first.iter().zip(second) {

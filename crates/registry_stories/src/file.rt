@@ -1,4 +1,4 @@
-//! The stories of one file, said one after the other.
+//! The stories of one file, run one after the other.
 
 use crate::exchange::Pace;
 use crate::failure::Stop;
@@ -8,10 +8,10 @@ use crate::story::{Story, stories_of};
 use std::alloc::Global;
 use std::fs;
 
-/// The file that stories name for a copy of the registry.
+/// The file that stories use for a copy of the registry.
 const COPY: &str = "copy.db";
 
-/// Runs the stories of a file, and prints how many it has. Answers whether each came out as it
+/// Runs the stories of a file, and prints how many it has. Returns whether each came out as it
 /// should; those that didn't are reported on standard error.
 pub fn run_file(rt: &HostRuntime, alloc: Global, path: &str) -> Result<bool, Stop> {
     let Ok(text) = fs::read_to_string(rt, path) else {
@@ -41,7 +41,7 @@ pub fn run_file(rt: &HostRuntime, alloc: Global, path: &str) -> Result<bool, Sto
     Ok(failures == 0)
 }
 
-// Runs a story, and answers how many calls it has. One with a connection runs at both paces.
+// Runs a story, and returns how many calls it has. A story with a connection runs at both paces.
 fn run_story<'a>(
     rt: &'a HostRuntime,
     alloc: Global,
@@ -55,7 +55,7 @@ fn run_story<'a>(
     Ok(calls)
 }
 
-// Runs a story on no registry. A failure names the place.
+// Runs a story, which begins with an empty registry. A failure names the place.
 fn run_at<'a>(
     rt: &'a HostRuntime,
     alloc: Global,
@@ -89,7 +89,7 @@ fn empty(rt: &HostRuntime, alloc: Global, story: &Story<'_>) -> Result<StoryRegi
     }
 }
 
-// Removes the registry's file and its log, and a copy of it.
+// Removes the registry's file and its log, and the copy of it.
 fn forget(rt: &HostRuntime) {
     for name in [DB, "registry.db-wal", COPY, "copy.db-wal"] {
         let _ = fs::remove_file(rt, name);

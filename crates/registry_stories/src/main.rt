@@ -1,8 +1,8 @@
 //! Runs the stories in the files that its arguments name, and prints how many each file has.
 //!
-//! A story is what is asked of a registry and all that it answers, by command lines and over
-//! HTTP. `CONTRIBUTING.md` describes the format, and `data/example.txt` shows each part of it.
-//! A story that comes out otherwise is reported on standard error, and the status is then 1; it is
+//! A story is what is asked of a registry and everything that it answers, by command lines and over
+//! HTTP. `CONTRIBUTING.md` describes the format, and `data/example.txt` shows each part of it. A
+//! story that comes out differently is reported on standard error, and the status is then 1; it is
 //! 3 where memory runs out.
 #![tactic(auto)]
 
@@ -35,7 +35,7 @@ fn main(rt: HostRuntime) -> ExitCode {
     }
 }
 
-// Runs the files that the arguments name. Answers whether each story came out as it should.
+// Runs the files that the arguments name. Returns whether each story came out as it should.
 fn run_files(rt: &HostRuntime) -> Result<bool, Stop> {
     let Ok(arguments) = env::args(rt) else {
         return Err(Stop::Memory);

@@ -8,14 +8,14 @@ use std::fs;
 /// How the text of a line is read.
 #[derive(Clone, Copy)]
 struct Marks {
-    /// The text has escapes.
+    /// Whether the text has escapes.
     is_escaped: bool,
-    /// The text is repeated so many times.
+    /// How often the text is repeated.
     times: u64,
 }
 
-/// The bytes of `TEXT`, `! TEXT`, `*N TEXT`, `!*N TEXT` or `file NAME`: the text is followed by
-/// `end`, and has escapes or is repeated where the marks before it say so.
+/// The bytes of `TEXT`, `! TEXT`, `*N TEXT`, `!*N TEXT` or `file NAME`. `end` follows the text. The
+/// text has escapes, or is repeated, where the marks before it say so.
 pub fn piece(rt: &HostRuntime, alloc: Global, spelled: &str, end: &str) -> Result<Vec<u8>, Stop> {
     if let Some(name) = spelled.strip_prefix("file ") {
         return file_bytes(rt, alloc, name);
@@ -61,7 +61,7 @@ fn repeated(alloc: Global, once: &[u8], times: u64) -> Result<Vec<u8>, AllocErro
     Ok(bytes)
 }
 
-// The bytes of a text: without escapes they are its own.
+// The bytes of a text, which are its own where it has no escapes.
 fn text_bytes(alloc: Global, text: &str, is_escaped: bool) -> Result<Vec<u8>, Stop> {
     if is_escaped {
         return unescaped(alloc, text);

@@ -9,7 +9,7 @@ use registry_rules::{Reply, Request};
 use sqlite::MemStore;
 use std::alloc::Global;
 
-/// The file of the registry that command lines ask where they name none.
+/// The file of the registry that command lines ask where they name no other.
 pub const DB: &str = "registry.db";
 
 /// Where the registry of a story is.
@@ -17,7 +17,7 @@ pub const DB: &str = "registry.db";
 pub enum StoryRegistry {
     /// In memory, from the beginning of the story to its end.
     InMemory(RegistryService<MemStore>),
-    /// In the file `registry.db`, which each command and each connection opens and lets go.
+    /// In the file `registry.db`, which each command and each connection opens and lets go of.
     InFile,
 }
 
@@ -33,7 +33,7 @@ impl StoryRegistry {
 }
 
 impl Registries for StoryRegistry {
-    /// Another file than `registry.db` is always opened.
+    /// A file other than `registry.db` is always opened.
     fn reply(
         &mut self,
         rt: &HostRuntime,

@@ -1,4 +1,4 @@
-//! What a story is at: its registry, the moment, and what isn't compared yet.
+//! The state of a story: its registry, the moment, and what isn't compared yet.
 
 use crate::command::printed;
 use crate::exchange::{Answer, Pace, answered, end_text};
@@ -17,23 +17,23 @@ struct Made<'a> {
     bytes: Vec<u8>,
 }
 
-/// A story that runs.
+/// A story that is being run.
 #[derive(Drop)]
 pub struct Scene<'a> {
     rt: &'a HostRuntime,
     alloc: Global,
     pace: Pace,
     registry: StoryRegistry,
-    /// The line that runs.
+    /// The number of the line that is being run.
     number: u64,
     calls: u64,
-    /// The moment that is stated.
+    /// The moment that the story states.
     at: Option<&'a str>,
-    /// What a command printed and no line has yet.
+    /// What a command printed that no line was compared with yet.
     printed: String,
     /// What comes on a connection that isn't answered yet.
     asked: Option<Vec<u8>>,
-    /// What a connection answered and no line has yet, and its end.
+    /// What a connection answered that no line was compared with yet, and its end.
     answer: Option<Answer>,
     /// The file that is being made.
     made: Option<Made<'a>>,
@@ -67,7 +67,7 @@ impl<'a> Scene<'a> {
         self.calls
     }
 
-    /// The number of the line that runs.
+    /// The number of the line that is being run.
     pub fn number(&self) -> u64 {
         self.number
     }
@@ -128,7 +128,7 @@ impl<'a> Scene<'a> {
         Ok(())
     }
 
-    // The next line that is printed is this one.
+    // The next line that is printed has to be this one.
     fn expect_printed(&mut self, wanted: &str) -> Result<(), Stop> {
         let (came, rest) = self.printed.as_str().split_once('\n').unwrap_or(("", ""));
         if came != wanted {
@@ -138,7 +138,7 @@ impl<'a> Scene<'a> {
         Ok(())
     }
 
-    // More comes on a connection. After an answer it is a new one.
+    // More comes on a connection. After an answer, it is a new connection.
     fn send(&mut self, spelled: &str) -> Result<(), Stop> {
         self.end_file()?;
         self.end_answer("[closed]")?;
@@ -150,7 +150,7 @@ impl<'a> Scene<'a> {
         Ok(())
     }
 
-    // The next bytes that are answered are these.
+    // The next bytes that are answered have to be these.
     fn expect_answer(&mut self, spelled: &str) -> Result<(), Stop> {
         self.exchange()?;
         let wanted = piece_after(self.rt, self.alloc, spelled, '<')?;
@@ -168,7 +168,7 @@ impl<'a> Scene<'a> {
         }
     }
 
-    // All was answered, and the connection ended so.
+    // Everything that was answered has been compared, and the connection ended as the line says.
     fn expect_end(&mut self, wanted: &str) -> Result<(), Stop> {
         self.exchange()?;
         if self.answer.is_none() {
@@ -186,7 +186,7 @@ impl<'a> Scene<'a> {
         }
     }
 
-    // Ends what was begun: all that came of it was compared.
+    // Ends what was begun: everything that it gave has been compared.
     fn settle(&mut self) -> Result<(), Stop> {
         if !self.printed.is_empty() {
             return Err(differing(self.alloc, &[], self.printed.as_str().as_bytes()));
@@ -196,7 +196,7 @@ impl<'a> Scene<'a> {
         self.end_answer("[closed]")
     }
 
-    // Asks on a connection what is to be asked.
+    // Asks on a connection what is still to be asked.
     fn exchange(&mut self) -> Result<(), Stop> {
         let Some(asked) = mem::replace(&mut self.asked, None) else {
             return Ok(());
@@ -212,7 +212,7 @@ impl<'a> Scene<'a> {
         Ok(())
     }
 
-    // All that a connection answered was compared, and it ended so.
+    // Everything that a connection answered has been compared, and it ended as wanted.
     fn end_answer(&mut self, wanted: &str) -> Result<(), Stop> {
         let Some(answer) = mem::replace(&mut self.answer, None) else {
             return Ok(());
@@ -239,7 +239,8 @@ impl<'a> Scene<'a> {
     }
 }
 
-// The bytes that a line spells after its first arrow. Without a second one it ends in CRLF.
+// The bytes that a line spells after its first arrow. Without a second arrow, the line ends in
+// CRLF.
 fn piece_after(
     rt: &HostRuntime,
     alloc: Global,

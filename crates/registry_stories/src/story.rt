@@ -32,7 +32,7 @@ impl Story<'_> {
     }
 }
 
-/// Whether a line only explains, or separates others.
+/// Whether a line only explains or separates other lines.
 pub fn is_unknown(line: &str) -> bool {
     line.is_empty() || line.starts_with('#')
 }

@@ -1,4 +1,4 @@
--- A connection over which a walk may begin.
+-- A connection on which a walk may begin.
 use Rattle.std.specs.Prelude.{◌≡◌, IsTrue}
 use Rattle.sqlite.specs.State.{State, HasCleanDisk}
 use Rattle.registry_rows.specs.Ready.{Ready}

@@ -92,7 +92,7 @@ pub record MayRetire (p v : Text) (c : Contents) : Type 0 where
   pub not_spent : IsFree c.spent (p, v)
   pub untagged : IsUntagged p v c
 
--- What must be so of what is stored, or the change is not answered. A new row has a key under
+-- What must hold of what is stored for the change to be answered. A new row has a key under
 -- which nothing is. Other changes ask for nothing, except those of versions
 abbrev pub Asks : Change → Contents → Type 0
 Asks (AddUser u) c = IsFree c.users u

@@ -152,7 +152,7 @@ access_of c = record {
   maintainers = c.owners;
 }
 
--- the bytes of the archive that a version has. Where it had none that is stored, they would be none
+-- the bytes of the archive that a version has. Where it has none that is stored, there are no bytes
 abbrev pub bytes_held : Contents → Pair → List ℕ
 bytes_held c k = unwrap_or (option_map (λ (a : Archive). a.bytes) (option_and_then (at c.archives) (at c.held k))) []
 

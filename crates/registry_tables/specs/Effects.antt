@@ -55,7 +55,7 @@ module _ {S : Type 0} (store : Ghosts S) where
     abbrev pub Makes : (Contents → Contents) → Type 0
     Makes f = HasCleanDisk (shown new) → OnOk result (Leaves schema contents (f (stored_in old)) (shown new))
 
-    -- an answer comes only where this is so of what is stored
+    -- there is an answer only where this holds of what is stored
     abbrev pub OnlyWhere : (Contents → Type 0) → Type 0
     OnlyWhere is_so = HasCleanDisk (shown new) → OnOk result (is_so (stored_in old))
 

@@ -12,11 +12,11 @@ use Rattle.registry_tables.specs.Schema.{keyed, need_ranges, schema, schema_2}
 use Rattle.registry_tables.specs.Contents.{Contents}
 use Rattle.registry_tables.specs.Effects.{shown}
 
--- a schema of the first so many of the tables with a primary key of columns
+-- a schema of this many tables: the first of those with a primary key of columns
 abbrev pub first_tables : ℕ → Schema
 first_tables n = record { tables = take n keyed; indexes = map key_index (take n keyed); views = [] }
 
--- what the first so many of the texts make: 15 tables with such a key, then that of the archives
+-- what this many of the first texts make: 15 tables with such a key, then that of the archives
 -- with the one that counts beside it, their index, the table of needs, and its index
 abbrev pub schema_after : ℕ → Schema
 schema_after n =
@@ -40,7 +40,7 @@ with_number c n = record c { meta = put c.meta schema_key n }
 abbrev pub CountsArchivesAlone : Contents → Type 0
 CountsArchivesAlone c = c.counters ≡ []
 
--- what no rows say
+-- what tables without rows hold
 abbrev pub no_contents : Contents
 no_contents = record { users = empty; tokens = empty; organisations = empty; members = empty; teams = empty; team_members = empty; packages = empty; grants = empty; owners = empty; versions = empty; spent = empty; tags = empty; needs = empty; meta = empty; need_ranges = empty; held = empty; archives = empty; last_archive = None; counters = [] }
 
@@ -48,7 +48,7 @@ no_contents = record { users = empty; tokens = empty; organisations = empty; mem
 abbrev pub fresh : Contents
 fresh = with_number no_contents schema_number
 
--- what the first so many texts make is there and empty, and the transaction goes on, as long as the
--- disk is clean
+-- what this many of the first texts make is there and empty, and the transaction goes on, as long
+-- as the disk is clean
 abbrev pub HasMade : {S : Type 0} → Ghosts S → ℕ → Transaction S → Type 0
 HasMade store n tx = HasCleanDisk (shown store tx) → Blank (schema_after n) (shown store tx)

@@ -40,7 +40,7 @@ counts_query = codes "SELECT name FROM sqlite_sequence"
 abbrev pub is_name_of_archives : Row → Bool
 is_name_of_archives r = is_eq (value_cmp (column r 0) (Stored table.archives.name))
 
--- the rows are none, or that name alone
+-- there are no rows, or that name alone
 abbrev pub name_archives_alone : List Row → Bool
 name_archives_alone [] = true
 name_archives_alone (r ∷ []) = is_name_of_archives r
@@ -64,7 +64,7 @@ Understands s text = (meaning : Compiled) × (understood s.now.schema text ≡ O
 abbrev pub HasNumber : State → Type 0
 HasNumber s = (¬ HasNothing s) × Understands s number_query
 
--- the table `users` is there, and none else
+-- the table `users` is there, and no other
 abbrev pub HasUsersAlone : State → Type 0
 HasUsersAlone s = s.now.schema ≡ first_tables 1
 
@@ -91,7 +91,7 @@ module _ {S : Type 0} (store : Ghosts S) where
 
   -- ---- making the tables
 
-  -- the first so many of the texts that make the tables were run, one after another, each
+  -- this many of the first texts that make the tables were run, one after another, each
   -- understood by the schema that it found
   abbrev pub HasRun : ℕ → Transaction S → Transaction S → Type 0
   HasRun zero old new = new ≡ old

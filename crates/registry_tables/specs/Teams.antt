@@ -1,4 +1,4 @@
--- What goes with a member and with a team, who is in a team, and what its members are granted by
+-- What goes with a member and with a team, the members of a team, and what they are granted by
 -- that.
 use Rattle.std.specs.Prelude.{◌≡◌, Bool, false, not, ◌&&◌, List, map, filter, Option, Some, IsSome}
 use Rattle.std.specs.List.{list_any}
@@ -20,7 +20,7 @@ use Rattle.registry_tables.specs.Contents.{Contents, access_of, grant_of}
 
 -- ---- what goes
 
--- the user is no member, and in no team of the organisation
+-- the user isn't a member, and is in no team of the organisation
 abbrev pub without_member : Text → Text → Contents → Contents
 without_member o u c = record c {
   members = erase c.members (o, u);
@@ -35,7 +35,7 @@ without_team o t c = record c {
   grants = keep c.grants (λ k. not (pair_is (o, t) (k.0, k.1.0)));
 }
 
--- ---- who is in a team
+-- ---- the members of a team
 
 -- the users in a team of an organisation, in byte order
 abbrev pub users_of : Contents → Text → Text → List Text
@@ -47,8 +47,8 @@ users_of c o t = keys (parts (pairs_of c.team_members o) t)
 abbrev pub granted_in : Contents → Text → Text → Text → Grant → Bool
 granted_in c o u p g = list_any (λ k. pair_is (o, u) (k.0, k.1.1) && grants (at c.grants (k.0, (k.1.0, p))) g) (keys (entries c.team_members))
 
--- the list has what is granted so, and nothing else. Neither the order counts nor how often a grant
--- occurs there
+-- the list has exactly what is granted so. Neither the order nor how often a grant occurs
+-- there counts
 abbrev pub AreGranted : Contents → Text → Text → Text → List Grant → Type 0
 AreGranted c o u p gs = (g : Grant) → is_listed gs g ≡ granted_in c o u p g
 
@@ -56,7 +56,7 @@ AreGranted c o u p gs = (g : Grant) → is_listed gs g ≡ granted_in c o u p g
 abbrev pub GrantsInScope : Contents → Type 0
 GrantsInScope c = (o t p : Text) → IsSome (at c.grants (o, (t, p))) → scope_of p ≡ Some o
 
--- who is in a team is a member of its organisation
+-- a user who is in a team is a member of its organisation
 abbrev pub TeamsAreOfMembers : Contents → Type 0
 TeamsAreOfMembers c = (o t u : Text) → IsSome (at c.team_members (o, (t, u))) → IsSome (at c.members (o, u))
 
@@ -75,7 +75,7 @@ AreGrantedTo c who p role gs = AreTeamsSound c → role ≡ scope_role (access_o
 abbrev pub grants_of : Contents → Text → Text → List (Text × Grant)
 grants_of c o t = parts (pairs_of c.grants o) t
 
--- of some grants those on packages that the caller reads
+-- those of some grants that are on packages that the caller reads
 abbrev pub readable : Contents → Caller → List (Text × Grant) → List (Text × Grant)
 readable c who = filter (λ (e : Text × Grant). reads (level_in (access_of c) who e.0))
 

@@ -1,5 +1,5 @@
--- What is so of every walk: its rows are in order, and what it leaves of its connection by one
--- reading after another it leaves by both.
+-- What is so of every walk: its rows are in order, and two reads, one after the other, leave its
+-- connection as both together do.
 use Rattle.std.specs.Prelude.{◌≡◌, true, ℕ, zero, suc, List, [], ◌∷◌, drop, Option, None, IsTrue}
 use Rattle.std.specs.Borrow.{MutBor}
 use Rattle.std.specs.FinMap.Entries.{below_all}

@@ -32,7 +32,7 @@ documents_of s p = map (seen document) (of (live_of (stored s)) p)
 abbrev pub row_of_entry : Text × (Text × Text) → VersionRow
 row_of_entry e = record { version = e.0; manifest = e.1.0; message = e.1.1 }
 
--- those behind the first n of them, as rows
+-- those after the first n of them, as rows
 abbrev pub rows_after : Seen → Text → ℕ → List VersionRow
 rows_after s p n = map row_of_entry (drop n (documents_of s p))
 
@@ -69,8 +69,8 @@ module _ {S : Type 0} (store : Ghosts S) where
   abbrev pub as_rows : {R : Type 0} → (R → Rows S store) → MutBor R → MutBor (Rows S store)
   as_rows rows r = record { ref_ptr = r.ref_ptr; ghost_name = r.ghost_name; now = rows r.now }
 
-  -- A walk has gone on over the same rows: their connection is the same one and left alone, and open
-  -- as long as no fault has stopped the walk
+  -- A walk has gone on over the same rows: their connection is the same one and left alone, and
+  -- open as long as no fault has stopped the walk
   pub record HasGoneOn (old new : MutBor (Rows S store)) (stopped : Option Fault) : Type 0 where
     pub same_rows : new.ghost_name ≡ old.ghost_name
     pub same_reference : reference new.now ≡ reference old.now
@@ -83,7 +83,7 @@ module _ {S : Type 0} (store : Ghosts S) where
   abbrev pub HasWalked : Text → Held S → List Row → Type 0
   HasWalked p h given = HasGiven store walk_text (Stored p ∷ []) h given
 
-  -- one more row is given, which this version is, or there is none and those so far are all
+  -- one more row is given, that of this version, or there is none and the rows so far are all
   abbrev pub StepsTo : Text → Held S → Held S → List Row → Option VersionRow → Type 0
   StepsTo p old new given (Some v) = (row : Row) × HasWalked p new (given ++ row ∷ []) × (row_entry v ≡ row_spelled row)
   StepsTo p old new given None = Shown walk_text (Stored p ∷ []) (state store old) (state store new) given

@@ -66,7 +66,7 @@ fn one_name(alloc: Global, name: &str) -> Result<Vec<Text>, Fault>
     Ok(vec![in alloc; name]?)
 }
 
-// The membership of a caller, if they are a member. Of one who is no user nothing is asked.
+// The membership of a caller, if they are a member. Nothing is asked of a caller who isn't a user.
 fn member_rows<S: Alter>(
     alloc: Global,
     tx: &mut Transaction<'_, S>,

@@ -22,9 +22,11 @@ use registry_rows::{RowKind, read, value_of_first_row, value_of_row, write};
 use sqlite::types::ValueRef;
 use sqlite::{Alter, Error, Row, Transaction, params};
 
-/// The archive of a version. None where it doesn't live.
+/// The archive of a version. `None` where it doesn't live.
 ///
-/// A version that lives and has no archive is a fault.
+/// A version that lives and has no archive is a fault. A query for an archive makes three look-ups
+/// by key. Only the first decides: whether the version lives. The others, of the archive's number
+/// and of its bytes, are made here.
 pub fn load_archive<S: Alter>(
     tx: &mut Transaction<'_, S>,
     name: &Name,
@@ -64,7 +66,7 @@ pub(crate) fn held_archive<S: Alter>(
     value_of_first_row::<NumberRow>(&rows)
 }
 
-// The bytes of the archive with this number. Where none has it that is a fault.
+// The bytes of the archive with this number. It is a fault where no archive has it.
 fn load_bytes<S: Alter>(tx: &mut Transaction<'_, S>, number: i64) -> Result<Blob, Fault>
     requires in_form { InForm S.Store tx.old }
     ensures stays { Stays S.Store tx.old tx.new }
@@ -105,8 +107,8 @@ pub(crate) fn put_archive<S: Alter>(
 /// stored.
 ///
 /// Bytes that are stored with their own integrity aren't stored twice
-/// ([`laws::archives_are_kept`](crate::laws::archives_are_kept)). With another integrity they may be:
-/// that it is theirs is for the caller to see to, as a form does.
+/// ([`laws::archives_are_kept`](crate::laws::archives_are_kept)). With another integrity they may
+/// be: the caller ensures that the integrity is theirs, as a form does.
 pub fn store_archive<S: Alter>(
     tx: &mut Transaction<'_, S>,
     integrity: &str,

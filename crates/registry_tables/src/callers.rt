@@ -20,8 +20,8 @@ use registry_rules::Credential;
 use sqlite::{Alter, Transaction};
 use std::alloc::Global;
 
-/// The caller of a credential: a user who is there, or the one whose token it is. None where it
-/// names nobody. Of the operator, and of somebody without a credential, nothing is asked.
+/// The caller of a credential: a user who is there, or the one whose token it is. `None` where it
+/// names nobody. Nothing is asked of the operator, nor of somebody without a credential.
 pub fn load_caller<S: Alter>(
     alloc: Global,
     tx: &mut Transaction<'_, S>,

@@ -27,7 +27,7 @@ use sqlite::{Alter, Transaction};
 /// was withdrawn, or in a package without a status, and one that is withdrawn although it doesn't
 /// live, was withdrawn already, or has a tag.
 ///
-/// No clause says so, but a row of which the tables lack what it refers to is a fault, too: a tag
+/// No clause says so, but a row that refers to what the tables lack is a fault, too, such as a tag
 /// of a version that doesn't live. A grant refers to its team and its package's status, a
 /// maintainer to the user and to that status.
 pub fn make<S: Alter>(tx: &mut Transaction<'_, S>, change: &Change<'_>) -> Result<(), Fault>

@@ -11,7 +11,7 @@ use sqlite::types::ValueRef;
 use sqlite::{Alter, Row, Transaction};
 
 /// Whether SQLite counts for the archives alone, as in tables that we made: no other row is there.
-/// Another row whose name is no text is answered by `Database`.
+/// `Database` is returned for another row whose name isn't a text.
 pub fn counts_archives_alone<S: Alter>(tx: &mut Transaction<'_, S>) -> Result<bool, Fault>
     requires in_form { InForm S.Store tx.old }
     ensures stays { Stays S.Store tx.old tx.new }
@@ -22,7 +22,7 @@ pub fn counts_archives_alone<S: Alter>(tx: &mut Transaction<'_, S>) -> Result<bo
     name_archives(&rows)
 }
 
-// Whether the rows are none, or the name of the archives alone.
+// Whether there are no rows, or only the name of the archives.
 fn name_archives(rows: &[Row]) -> Result<bool, Fault>
     ensures { IfOk result (λ alone. alone ≡ name_archives_alone rows.now) }
 {

@@ -15,7 +15,7 @@ use registry_ranges::binds;
 use sqlite::{Alter, Transaction};
 use std::alloc::Global;
 
-/// Whether a live version of another package needs this version: with a text that is no range, or
+/// Whether a live version of another package needs this version: with a text that isn't a range, or
 /// with a range that allows it.
 pub fn is_depended<S: Alter>(
     alloc: Global,

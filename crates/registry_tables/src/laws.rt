@@ -25,11 +25,11 @@ pub fn changes_make_operations<S: Alter>()
 
 /// The archives that are stored are those of live versions, each once, with the integrity of their
 /// bytes, and no row of a version has bytes: there are none at first, what leaves the three tables
-/// keeps it so, and so does a form's version, where it didn't live and the form has its archive's
-/// integrity, as each form has. A withdrawal keeps it so, too, and a deprecation.
+/// alone keeps it so, and so does a form's version, where it didn't live and the form has its
+/// archive's integrity, as each form has. A withdrawal keeps it so, too, and a deprecation.
 ///
-/// Of the archives alone: where each has the integrity of its bytes and no bytes occur twice, that
-/// stays so where one is stored with the integrity of its bytes
+/// For the archives themselves: where each has the integrity of its bytes and no bytes occur twice,
+/// that stays so where one is stored with the integrity of its bytes
 /// ([`store_archive`](crate::store_archive)).
 pub fn archives_are_kept()
     ensures fresh { HoldsArchives fresh }
@@ -41,9 +41,9 @@ pub fn archives_are_kept()
 {}
 
 /// The needs that are stored are exactly those that live manifests name: there are none at first,
-/// what leaves the live versions and the needs keeps it so, and so does a form's version, where it
-/// didn't live and the form has its manifest's needs, as each form has. A withdrawal keeps it so,
-/// too, and a deprecation.
+/// what leaves the live versions and the needs alone keeps it so, and so does a form's version,
+/// where it didn't live and the form has its manifest's needs, as each form has. A withdrawal keeps
+/// it so, too, and a deprecation.
 pub fn needs_are_kept()
     ensures fresh { HoldsNeeds fresh }
     ensures others { OthersKeepNeeds }
@@ -52,9 +52,9 @@ pub fn needs_are_kept()
     ensures deprecations { DeprecationsKeepNeeds }
 {}
 
-/// Whatever a database holds: it is answered to have no tables only where it has nothing, and it
-/// is answered by a number only where it has something, and its schema has a meaning for the
-/// query of that number. So a database with the table `users` alone is never answered by one.
+/// Whatever a database holds, the answer is that it has no tables only where it has nothing, and is
+/// a number only where it has something and its schema has a meaning for the query of that number.
+/// So the answer is never a number for a database with the table `users` alone.
 pub fn answers_tell_what_is_there<S: Alter>()
     ensures none { NoneTellsOfNothing S.Store }
     ensures some { NumbersTellOfTables S.Store }
@@ -75,8 +75,8 @@ pub fn grants_stay_in_scope()
     ensures unscoped { NoScopeGrantsNothing }
 {}
 
-/// Where references hold, a team has members of its organisation alone, and
-/// grants on packages of its scope.
+/// Where references hold, a team has only members of its organisation, and only grants on packages
+/// of its scope.
 pub fn teams_are_within_their_organisation()
     ensures { TeamsStaySound }
 {}

@@ -2,8 +2,8 @@
 //!
 //! Each call runs fixed texts with parameters, each over one table or a join of two, inside the
 //! caller's transaction: it changes what the transaction sees, and nothing is kept until that is
-//! committed. A statement that runs out of memory is answered by the fault `Memory`, and every
-//! other error by `Database`.
+//! committed. The fault `Memory` is returned for a statement that runs out of memory, and
+//! `Database` for every other error.
 #![tactic(auto)]
 
 mod access;

@@ -85,8 +85,8 @@ fn is_user(text: &Text, user: &str) -> bool
     text.as_str() == user
 }
 
-/// Makes a user a maintainer of a package. One who is is a fault, and so is a package that has no
-/// status, or a user who isn't there.
+/// Makes a user a maintainer of a package. A user who is one already is a fault, and so is a user
+/// who isn't there, or a package that has no status.
 pub(crate) fn put_owner<S: Alter>(
     tx: &mut Transaction<'_, S>,
     name: &str,
@@ -106,7 +106,7 @@ pub(crate) fn put_owner<S: Alter>(
     )
 }
 
-/// Ends a user's maintaining of a package, if they are one of its maintainers.
+/// Drops a maintainer of a package, if the user is one.
 pub(crate) fn drop_owner<S: Alter>(
     tx: &mut Transaction<'_, S>,
     name: &str,

@@ -21,7 +21,7 @@ use registry_rows::{RowKind, read, value_of_first_row, values_of_rows, write};
 use sqlite::{Alter, Error, Row, Transaction, params};
 use std::alloc::Global;
 
-/// The role of a user in an organisation. None where they aren't a member of it.
+/// The role of a user in an organisation. `None` where they aren't a member of it.
 pub fn load_role<S: Alter>(
     tx: &mut Transaction<'_, S>,
     organisation: &str,
@@ -149,7 +149,7 @@ fn update_member<S: Alter>(
     )
 }
 
-/// Drops a member of an organisation, if they are one, and with that from each of its teams.
+/// Drops a member of an organisation, if they are one, and drops them from each of its teams.
 pub(crate) fn drop_member<S: Alter>(
     tx: &mut Transaction<'_, S>,
     organisation: &str,

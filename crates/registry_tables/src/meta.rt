@@ -17,10 +17,10 @@ use sqlite::{Alter, Row, Transaction, params};
 /// The number of the schema, which a change of the tables raises.
 const SCHEMA: i64 = 3;
 
-/// The number of the schema of the tables that are there, or none where the database has no
+/// The number of the schema of the tables that are there, or `None` where the database has no
 /// table.
 ///
-/// A database that has tables and no number of a schema is answered by `Database`.
+/// `Database` is returned for a database that has tables and no number of a schema.
 pub fn opened<S: Alter>(tx: &mut Transaction<'_, S>) -> Result<Option<u32>, Fault>
     ensures same_reference { tx.new.conn.ghost_name ≡ tx.old.conn.ghost_name }
     ensures committed { GoesOn S.Store tx.old → HasCleanDisk (shown S.Store tx.new)

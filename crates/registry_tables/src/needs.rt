@@ -98,7 +98,7 @@ fn has_need<S: Alter>(
 /// The ranges in which live versions of other packages need this one, one for each that needs it.
 ///
 /// Where the needs that are stored are those of live manifests, these are all: a version of the
-/// package is needed by another exactly where one of the texts is no range, or allows it.
+/// package is needed by another exactly where one of the texts isn't a range, or allows it.
 pub fn load_dependents<S: Alter>(
     alloc: Global,
     tx: &mut Transaction<'_, S>,

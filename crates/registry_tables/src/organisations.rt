@@ -28,7 +28,7 @@ pub fn has_organisation<S: Alter>(
     Ok(!rows.is_empty())
 }
 
-/// Adds an organisation. One of its name is a fault.
+/// Adds an organisation. It is a fault where one of its name is there.
 pub(crate) fn add_organisation<S: Alter>(
     tx: &mut Transaction<'_, S>,
     organisation: &str,

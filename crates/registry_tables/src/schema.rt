@@ -49,7 +49,7 @@ pub const TABLES: [&str; 19] = [
 ];
 
 /// Makes the tables in a database that has none: all of them empty, except the number of the
-/// schema. Where a table of one of their names is there already, the answer is `Database`.
+/// schema. `Database` is returned where a table of one of their names is there already.
 pub fn create<S: Alter>(tx: &mut Transaction<'_, S>) -> Result<(), Fault>
     ensures stays { Stays S.Store tx.old tx.new }
     ensures made { HasNoTables S.Store tx.old → HasCleanDisk (shown S.Store tx.new)

@@ -34,7 +34,7 @@ pub fn is_spent<S: Alter>(
     Ok(!rows.is_empty())
 }
 
-/// When a version of the package was withdrawn last. None where none ever was.
+/// When a version of the package was withdrawn last. `None` where none ever was.
 pub fn load_last_withdrawal<S: Alter>(
     tx: &mut Transaction<'_, S>,
     name: &Name,
@@ -52,8 +52,7 @@ pub fn load_last_withdrawal<S: Alter>(
     last_moment(&rows)
 }
 
-/// When those versions of the package were published that were withdrawn since, in byte order of the
-/// versions.
+/// When the withdrawn versions of the package were published, in byte order of the versions.
 pub fn load_spent_publications<S: Alter>(
     alloc: Global,
     tx: &mut Transaction<'_, S>,

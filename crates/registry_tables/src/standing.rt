@@ -23,8 +23,9 @@ use std::alloc::Global;
 /// What a caller is to a package: all that the policy asks of them and it.
 ///
 /// A package without a scope is in no organisation, and only a member of an organisation is in its
-/// teams: of others no grant is asked for, nor of an owner or admin, whose role alone lets them
-/// write. An organisation in which the caller has a role is there, and isn't asked for.
+/// teams. So grants are asked for only where the caller is a member, and not an owner or admin,
+/// whose role alone lets them write. An organisation in which the caller has a role is there, and
+/// isn't asked for.
 pub fn load_standing<S: Alter>(
     alloc: Global,
     tx: &mut Transaction<'_, S>,

@@ -12,7 +12,7 @@ use registry_names::{Fault, Name, Status};
 use registry_rows::{RowKind, read, value_of_first_row, write};
 use sqlite::{Alter, Error, Row, Transaction, params};
 
-/// The status of a package. None where it was never published.
+/// The status of a package. `None` where it was never published.
 pub fn load_status<S: Alter>(
     tx: &mut Transaction<'_, S>,
     name: &Name,

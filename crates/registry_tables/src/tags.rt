@@ -31,7 +31,7 @@ pub fn has_tag<S: Alter>(tx: &mut Transaction<'_, S>, name: &Name, tag: &str) ->
     Ok(!rows.is_empty())
 }
 
-/// The version that a tag of a package names. None where the tag doesn't exist.
+/// The version that a tag of a package names. `None` where the tag doesn't exist.
 pub fn load_tag<S: Alter>(
     tx: &mut Transaction<'_, S>,
     name: &Name,

@@ -1,4 +1,4 @@
-//! The table `team_members`: who is in which team. A member of a team is a member of its
+//! The table `team_members`: the members of every team. A member of a team is a member of its
 //! organisation.
 
 ghost use Rattle.std.specs.Prelude.{◌≡◌, is_some};
@@ -34,8 +34,8 @@ pub fn is_in_team<S: Alter>(
     Ok(!rows.is_empty())
 }
 
-/// Puts a user in a team. One who is in it is a fault, and so is a team that isn't there, or a user
-/// who isn't a member of the organisation.
+/// Puts a user in a team. A user who is in it already is a fault, and so is a team that isn't
+/// there, or a user who isn't a member of the organisation.
 pub(crate) fn put_team_member<S: Alter>(
     tx: &mut Transaction<'_, S>,
     organisation: &str,

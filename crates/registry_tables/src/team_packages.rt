@@ -17,7 +17,7 @@ use registry_packument::Granted;
 use sqlite::{Alter, Transaction};
 use std::alloc::Global;
 
-/// What a team is granted, in byte order of the packages: of those alone that the caller reads.
+/// What a team is granted, in byte order of the packages: only of those that the caller reads.
 pub fn load_team_packages<S: Alter>(
     alloc: Global,
     tx: &mut Transaction<'_, S>,
@@ -34,7 +34,7 @@ pub fn load_team_packages<S: Alter>(
     read_by(alloc, tx, caller, granted)
 }
 
-// Of grants those on packages that the caller reads.
+// The grants on packages that the caller reads.
 fn read_by<S: Alter>(
     alloc: Global,
     tx: &mut Transaction<'_, S>,

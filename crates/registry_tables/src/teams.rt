@@ -51,7 +51,7 @@ pub fn load_teams<S: Alter>(
     texts_in(alloc, &rows)
 }
 
-/// Adds a team without members to an organisation. One of its name is a fault, and so is an
+/// Adds a team without members to an organisation. A team of its name is a fault, and so is an
 /// organisation that isn't there.
 pub(crate) fn add_team<S: Alter>(
     tx: &mut Transaction<'_, S>,
@@ -72,7 +72,7 @@ pub(crate) fn add_team<S: Alter>(
     )
 }
 
-/// Drops a team of an organisation, if it is there, with who is in it and what it is granted.
+/// Drops a team of an organisation, if it is there, with its members and its grants.
 pub(crate) fn drop_team<S: Alter>(
     tx: &mut Transaction<'_, S>,
     organisation: &str,

@@ -14,7 +14,7 @@ use registry_rows::{read, value_of_first_row, write};
 use sqlite::{Alter, Row, Transaction, params};
 use std::alloc::Global;
 
-/// The user of the token with this digest. None where no token has it.
+/// The user of the token with this digest. `None` where no token has it.
 pub fn load_token_user<S: Alter>(
     alloc: Global,
     tx: &mut Transaction<'_, S>,
@@ -41,8 +41,8 @@ fn user_in(alloc: Global, rows: &[Row]) -> Result<Option<Ident>, Fault>
     }
 }
 
-/// Adds a token, by its digest, for this user. One of the same digest is a fault, and so is a user
-/// who isn't there.
+/// Adds a token, by its digest, for this user. A token of the same digest is a fault, and so is a
+/// user who isn't there.
 pub(crate) fn add_token<S: Alter>(
     tx: &mut Transaction<'_, S>,
     digest: &TokenDigest,

@@ -21,7 +21,7 @@ pub fn has_user<S: Alter>(tx: &mut Transaction<'_, S>, user: &str) -> Result<boo
     Ok(!rows.is_empty())
 }
 
-/// Adds a user. One of their name is a fault.
+/// Adds a user. A user of the same name is a fault.
 pub(crate) fn add_user<S: Alter>(tx: &mut Transaction<'_, S>, user: &str) -> Result<(), Fault>
     requires in_form { InForm S.Store tx.old }
     ensures stays { Stays S.Store tx.old tx.new }

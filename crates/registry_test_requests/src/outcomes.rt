@@ -6,11 +6,11 @@ use registry_rules::{Reply, Request};
 use sqlite::Alter;
 use std::alloc::{AllocError, Global};
 
-/// What comes of a request.
+/// The outcome of a request.
 pub type Outcome = Result<Reply, Fault>;
 
-/// What comes of a request. `apply` says far more of it than a test needs, and each caller of it is
-/// checked with all of that: so this is the only one.
+/// The outcome of a request. The contract of `apply` says far more than a test needs, and every
+/// caller is checked with all of it: so this is the only caller.
 pub fn outcome_of<S: Alter>(
     alloc: Global,
     registry: &mut Registry<S>,
@@ -19,7 +19,7 @@ pub fn outcome_of<S: Alter>(
     registry.apply(alloc, request)
 }
 
-/// What comes of requests, one after another.
+/// The outcomes of requests, one after another.
 pub fn outcomes_of<S: Alter>(
     alloc: Global,
     registry: &mut Registry<S>,

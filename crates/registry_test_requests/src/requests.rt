@@ -28,10 +28,10 @@ pub fn push_requests(alloc: Global, requests: &mut Vec<Request>, text: &str) -> 
 }
 
 /// The request that a line asks for: the words after the program's name, with one space between
-/// them, where `''` is an empty one. Without `--at` it is asked at the moment 0. There are two
-/// differences:
+/// them, where `''` is an empty word. Without `--at` it is asked at moment 0. There are two
+/// differences from a command line:
 ///
-/// - A line that begins with `token TOKEN ` is asked by who shows that token.
+/// - A line that begins with `token TOKEN ` is asked by the holder of that token.
 /// - After `publish` come a package and a version, and then, where they are others than these, the
 ///   archive in Base64 (`YWJj`), the tag (`latest`), the dependencies as JSON (`{}`) and the status
 ///   that is asked for as JSON (`null`).
@@ -45,7 +45,7 @@ pub fn request_of(alloc: Global, line: &str) -> Result<Request, Fail> {
     }
 }
 
-// What words ask for, and who shows a token asks for it where there is one.
+// What words ask for. Where a token is given, its holder asks.
 fn asked(alloc: Global, words: &str, token: Option<&str>) -> Result<Request, Fail> {
     match words.split_once(" publish ") {
         Some((front, what)) => {
@@ -70,7 +70,7 @@ fn body_of(alloc: Global, what: &str) -> Result<String, AllocError> {
     )
 }
 
-// The same, with the body of what is published.
+// The same, with the body that is published.
 fn said(alloc: Global, words: &str, body: &str, token: Option<&str>) -> Result<Request, Fail> {
     let texts = texts_of(alloc, words)?;
     match line(alloc, texts.as_slice()) {
@@ -103,7 +103,7 @@ fn meant(alloc: Global, line: &Line, body: &str, token: Option<&str>) -> Result<
     })
 }
 
-// Who shows the token, where there is one.
+// The holder of the token, where one is given.
 fn shown(token: Option<&str>, who: Credential) -> Result<Credential, Fail> {
     let Some(token) = token else {
         return Ok(who);

@@ -5,7 +5,7 @@ use std::alloc::{AllocError, Global};
 /// The archive `abc` in Base64.
 pub const ABC: &str = "YWJj";
 
-/// The body of a version whose manifest has its name and its version alone, with this archive in
+/// The body of a version whose manifest has only its name and its version, with this archive in
 /// Base64.
 pub fn body_of(
     alloc: Global,

@@ -1,4 +1,4 @@
-//! What the tests over a database share: how they show a case that comes out otherwise than is
+//! What the tests over a database share: how they show a case that comes out differently than
 //! wanted, and the bodies that they publish.
 #![tactic(auto)]
 

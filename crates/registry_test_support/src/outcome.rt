@@ -1,9 +1,10 @@
-//! What a test shows of a case that comes out otherwise than is wanted.
+//! What a test shows of a case that comes out differently than wanted.
 
 use std::fmt::Debug;
 use std::test::Fail;
 
-/// Whether a case comes out as it is wanted. Else the test fails, and shows the case and both.
+/// Checks that a case comes out as wanted. Otherwise the test fails, and shows the case and both
+/// values.
 pub fn same<C: Debug + Drop, T: Debug + Drop + PartialEq>(
     case: C,
     came_out: T,
@@ -15,7 +16,7 @@ pub fn same<C: Debug + Drop, T: Debug + Drop + PartialEq>(
     Err(otherwise(case, came_out, wanted))
 }
 
-/// What the test shows of a case that doesn't come out as it is wanted.
+/// What the test shows of a case that doesn't come out as wanted.
 pub fn otherwise<C: Debug + Drop, T: Debug + Drop, W: Debug + Drop>(
     case: C,
     came_out: T,

@@ -1,11 +1,11 @@
 //! The policy on packages by the rows of a small registry, with answers written by hand from the
-//! table of rules. The program decides by a standing instead: the stories of who may do what have
+//! table of rules. The program decides by a standing instead; the stories of who may do what have
 //! the same cases.
 //!
 //! The organisation `lab` has the owner ann, the admin amy and the developers bob and dan. Bob is
-//! in its teams `developers` and `ops`, dan is in none, and eve is no member. `@lab/kit` is
+//! in its teams `developers` and `ops`, dan is in no team, and eve isn't a member. `@lab/kit` is
 //! restricted: `developers` write it and `ops` read it. `@lab/app` is public: `developers` read it
-//! and `ops` write it. The organisation `inc` has the owner eve and a team `ops` of hers. Bob
+//! and `ops` write it. The organisation `inc` has the owner eve, who is in its team `ops`. Bob
 //! maintains `tool`, which is public. `@lab/none` and `none` were never published, and there is no
 //! organisation `ghost`.
 

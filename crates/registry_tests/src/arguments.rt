@@ -1,4 +1,4 @@
-//! Command lines that no story calls: those that ask to serve, and the line without arguments, by
+//! Command lines that no story calls: those that ask to serve, and the line without arguments, for
 //! which the program reads standard input instead.
 
 use crate::outcome::same;

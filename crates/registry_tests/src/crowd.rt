@@ -12,20 +12,20 @@ use std::alloc::Global;
 use std::io::Read;
 use std::process::Abort;
 
-/// The head of a body of 4 MiB, which comes in a read of its own.
+/// The header of a body of 4 MiB, which comes in a read of its own.
 const HEAD: &str = "PUT /kit HTTP/1.1\r\ncontent-length: 4194304\r\n\r\n";
 
-/// So many bytes come in each read after it.
+/// This many bytes come in each read after it.
 const READ_LEN: usize = 16_384;
 
-/// A body has so many reads.
+/// A body has this many reads.
 const WHOLE: usize = 256;
 
-/// Seventeen bodies are a crowd once so many reads of each came.
+/// Seventeen bodies are a crowd once this many reads of each have come.
 const FRONT: usize = 241;
 
-/// The socket of a client that sends so many reads of a body, and after a pause so many more, and then
-/// nothing. Once it is answered it sends no more.
+/// The socket of a client that sends `left` reads of a body, after a pause `later` more, and then
+/// nothing. After its answer it sends no more.
 #[derive(Drop)]
 struct Client {
     is_begun: bool,
@@ -58,7 +58,7 @@ impl Client {
         }
     }
 
-    // Whether nothing has come now. After it the next part comes.
+    // Whether nothing has come now. After that the next part comes.
     fn pauses(&mut self) -> bool {
         if self.left > 0 {
             return false;
@@ -86,7 +86,7 @@ impl Socket for Client {
 
     ghost is_broken = { λ _. true };
 
-    // Which bytes come in a read of the body is all the same.
+    // The bytes in a read of the body don't matter.
     fn receive(&mut self, buffer: &mut [u8]) -> Flow {
         if self.is_answered {
             Flow::Ended
@@ -151,8 +151,8 @@ impl Crowd {
         }
     }
 
-    // Seventeen clients, of which the last one alone sends its whole body. All begin at 0, and so
-    // much of their bodies came that they are a crowd.
+    // Seventeen clients, of which only the last sends its whole body. All begin at 0, and enough of
+    // their bodies has come that they are a crowd.
     fn of_seventeen(rt: &impl Abort, alloc: Global) -> Crowd {
         let mut crowd = Crowd::new(rt, alloc);
         for number in 0..READ_TOGETHER {
@@ -163,14 +163,14 @@ impl Crowd {
         crowd
     }
 
-    // The first so many have sent more.
+    // The first `count` clients have sent more.
     fn wake(&mut self, count: usize) {
         for number in 0..count {
             self.pool.wake(number);
         }
     }
 
-    // So many places come free, and connections take them on which nothing comes.
+    // The first `count` places become free, and connections take them on which nothing comes.
     fn take_places(&mut self, rt: &impl Abort, alloc: Global, count: usize, now: u64) {
         for number in 0..count {
             same(rt, "a place", &self.pool.place(), &Some(number));
@@ -178,7 +178,7 @@ impl Crowd {
         }
     }
 
-    // So many rounds at this time.
+    // Makes this many rounds at this time.
     fn visit(&mut self, alloc: Global, now: u64, rounds: usize) {
         let mut buffer = [0; READ_LEN];
         for _ in 0..rounds {
@@ -187,8 +187,8 @@ impl Crowd {
     }
 }
 
-// The time of those that are read runs, and that of the one that waits begins anew. Once they are gone
-// it is read.
+// The time of those that are read runs, and that of the one that waits begins anew. It is read once
+// they are gone.
 #[test]
 fn sixteen_bodies_of_a_crowd_are_read(rt: HostRuntime) {
     let alloc = rt.alloc();
@@ -208,7 +208,8 @@ fn sixteen_bodies_of_a_crowd_are_read(rt: HostRuntime) {
     same(&rt, "the last is read", &crowd.pool.place(), &Some(last));
 }
 
-// Sixteen that have sent nothing more since the crowd began aren't chosen before one that has.
+// Sixteen clients that have sent nothing more since the crowd began aren't chosen before one that
+// has.
 #[test]
 fn who_has_sent_nothing_more_is_not_chosen(rt: HostRuntime) {
     let alloc = rt.alloc();
@@ -220,7 +221,7 @@ fn who_has_sent_nothing_more_is_not_chosen(rt: HostRuntime) {
     same(&rt, "the last is read", &crowd.pool.place(), &Some(last));
 }
 
-// The one that waits has its time begun anew at the last moment at which it may, and not after it.
+// The time of the one that waits begins anew at the last moment at which it may, and not after it.
 #[test]
 fn a_body_waits_for_six_minutes(rt: HostRuntime) {
     let alloc = rt.alloc();
@@ -236,10 +237,10 @@ fn a_body_waits_for_six_minutes(rt: HostRuntime) {
     same(&rt, "at its end", crowd.pool.is_empty(), true);
 }
 
-// Eighteen clients begin at 6 s, beside one that began at 0: they are a crowd, and sixteen of them are
-// chosen. At 10 s that one ends, for a moment there is no crowd, and another body begins. Then the
-// sixteen send more. They were chosen before, so their time doesn't begin anew: it ends at 16 s, and
-// the later body is read.
+// Eighteen clients begin at 6 s, beside one that began at 0: they are a crowd, and sixteen of them
+// are chosen. At 10 s the first one ends, for a moment there is no crowd, and another body begins.
+// Then the sixteen send more. They were chosen before, so their time doesn't begin anew: it ends at
+// 16 s, and the later body is read.
 #[test]
 fn a_choice_outlasts_a_moment_without_a_crowd(rt: HostRuntime) {
     let alloc = rt.alloc();
@@ -273,8 +274,8 @@ fn a_choice_outlasts_a_moment_without_a_crowd(rt: HostRuntime) {
     );
 }
 
-// Where the system has no descriptor left the connection ends that is idle for longest, and none that
-// is to be visited.
+// Where the system has no descriptor left, the connection that has been idle for longest ends, and
+// none that is to be visited.
 #[test]
 fn one_ends_for_want_of_room(rt: HostRuntime) {
     let alloc = rt.alloc();
@@ -293,7 +294,7 @@ fn one_ends_for_want_of_room(rt: HostRuntime) {
     same(&rt, "no other", crowd.pool.end_idle(), false);
 }
 
-// Where a server is to end each connection ends on which nothing is begun, and none that is to be
+// Where a server is to end, each connection on which nothing is begun ends, and none that is to be
 // visited or has begun a request.
 #[test]
 fn idle_connections_end_at_a_stop(rt: HostRuntime) {

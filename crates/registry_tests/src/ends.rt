@@ -41,7 +41,7 @@ impl Read for Restless {
     }
 }
 
-/// A writer that takes one byte a call, but nothing at the third, and that fails at the fifth.
+/// A writer that takes one byte a call, but nothing in the third call, and that fails in the fifth.
 #[derive(Drop)]
 struct Narrow {
     taken: Vec<u8>,
@@ -63,7 +63,7 @@ impl Write for Narrow {
     }
 }
 
-/// What a read is to give.
+/// What a read should give.
 type Given = Result<&'static str, ReadFailed>;
 
 // What the next read gives.
@@ -157,7 +157,7 @@ fn all_written_whole(rt: &impl Abort, narrow: &mut Narrow) {
     }
 }
 
-// Sees that the whole of an input, up to a limit, is this.
+// Checks that this is the whole of an input, up to a limit.
 fn is_whole<I: ByteIn>(
     rt: &impl Abort,
     alloc: Global,

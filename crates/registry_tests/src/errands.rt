@@ -2,7 +2,7 @@
 
 use crate::outcome::same;
 use crate::parts::{shown, text, texts};
-use registry_cli::{Errand, NewToken, Usage, Who, errand_of, line};
+use registry_cli::{Errand, NewToken, Serving, Usage, Who, errand_of, line};
 use registry_names::{Moment, Text};
 use std::alloc::Global;
 use std::process::Abort;
@@ -66,9 +66,15 @@ fn a_server_can_be_stopped(rt: HostRuntime) {
 fn a_server_can_keep_a_log(rt: HostRuntime) {
     let alloc = rt.alloc();
     let arguments = ["--db", "r.db", "serve", "--port", "81", "--log", "l"];
-    let Errand::Serve { line: served, log } = errand(&rt, alloc, &arguments) else {
+    let Errand::Serve(serving) = errand(&rt, alloc, &arguments) else {
         panic!(rt; "nothing is served");
     };
+    let Serving {
+        line: served,
+        has_port,
+        socket,
+        log,
+    } = serving;
     let Ok(wanted) = line(alloc, &texts(&rt, alloc, &arguments[..5])) else {
         panic!(rt; "nothing is served without a log");
     };
@@ -79,7 +85,47 @@ fn a_server_can_keep_a_log(rt: HostRuntime) {
         shown(&rt, alloc, &served).as_str(),
         wanted.as_str(),
     );
-    same(&rt, "log", log.as_str(), "l");
+    same(&rt, "a port", has_port, true);
+    same(&rt, "socket", socket.is_none(), true);
+    same(&rt, "log", said(&log), "l");
+}
+
+fn said(text: &Option<Text>) -> &str {
+    match text {
+        Some(text) => text.as_str(),
+        None => "",
+    }
+}
+
+/// Where a server listens: the port of its line, whether it listens there, and the socket.
+static PLACES: [(&'static [&'static str], &'static str, bool, &'static str); 4] = [
+    (&["serve", "--socket", "s"], "8080", false, "s"),
+    (
+        &["serve", "--socket", "s", "--log", "l"],
+        "8080",
+        false,
+        "s",
+    ),
+    (&["serve", "--port", "81", "--socket", "s"], "81", true, "s"),
+    (&["serve", "--log", "l"], "8080", true, ""),
+];
+
+#[test]
+fn a_server_listens_where_it_is_said(rt: HostRuntime) {
+    for (arguments, port, has_port, socket) in &PLACES {
+        let Errand::Serve(serving) = errand(&rt, rt.alloc(), arguments) else {
+            panic!(rt; "{arguments:?} serve nothing");
+        };
+        let words = serving.line.what.as_slice();
+        same(
+            &rt,
+            *arguments,
+            words.get(1).map_or("", Text::as_str),
+            *port,
+        );
+        same(&rt, *arguments, serving.has_port, *has_port);
+        same(&rt, *arguments, said(&serving.socket), *socket);
+    }
 }
 
 const TOKEN: &str = "npm_000102030405060708090a0b0c0d0e0f7f80abff";
@@ -113,7 +159,7 @@ fn a_server_is_asked_for_the_same_line(rt: HostRuntime) {
     }
 }
 
-/// Lines, and arguments that are wrong for requests.
+/// Lines, and arguments that are wrong as requests.
 static NO_ERRANDS: [&'static [&'static str]; 8] = [
     &["tags", "kit"],
     &["serve"],
@@ -133,7 +179,7 @@ fn a_request_is_no_errand(rt: HostRuntime) {
     }
 }
 
-/// Wrong arguments of errands, and how what is said of them begins.
+/// Wrong arguments of errands, and how the message begins.
 static WRONG: [(&'static [&'static str], &'static str); 9] = [
     (
         &["check", "more"],
@@ -160,7 +206,7 @@ static WRONG: [(&'static [&'static str], &'static str); 9] = [
     ),
     (
         &["serve", "--log", "l", "--help"],
-        "Serve npm over HTTP, and keep a log of the requests",
+        "Serve npm over HTTP, and keep a log of the requests or listen",
     ),
 ];
 

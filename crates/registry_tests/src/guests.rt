@@ -8,8 +8,8 @@ use crate::parts::{as_text, text, texts};
 use crate::talk::connections::{FixedTags, Steps};
 use registry_cache::SharedBlob;
 use registry_guests::{
-    Control, GUEST_COUNT, GUEST_TIME_LIMIT, Guest, HOLD_LIMIT, Hall, SILENCE_LIMIT, Said, Unsent,
-    fits, hear, read, write,
+    CommandOutput, Control, GUEST_COUNT, GUEST_TIME_LIMIT, Guest, GuestPool, HOLD_LIMIT,
+    SILENCE_LIMIT, Unsent, fits, parse_reply, read, write,
 };
 use registry_names::{Fault, Refusal};
 use registry_rules::Reply;
@@ -75,7 +75,7 @@ impl Socket for Memory {
     }
 }
 
-// A message of these words, which asks nothing of a file.
+// A message of these words, without a file.
 fn message(rt: &impl Abort, alloc: Global, words: &[&str]) -> Vec<u8> {
     let words = texts(rt, alloc, words);
     if !fits(&words) {
@@ -98,8 +98,8 @@ fn a_message_is_read_as_it_was_written(rt: HostRuntime) {
     let alloc = rt.alloc();
     let bytes = message(&rt, alloc, &["user-add", "", "ann"]);
     let read = read(alloc, &bytes).expect(&rt, "a message");
-    same(&rt, "words", read.words.len(), 3);
-    let last = read.words.last().map(|word| as_text(word));
+    same(&rt, "words", read.arguments.len(), 3);
+    let last = read.arguments.last().map(|word| as_text(word));
     same(&rt, "the last", last, Some("ann"));
     same(&rt, "the body", as_text(read.body), "a body");
     for len in 0..bytes.len() {
@@ -112,69 +112,82 @@ fn a_message_is_read_as_it_was_written(rt: HostRuntime) {
     }
 }
 
-// What is said, as it is sent and heard.
-fn is_said(rt: &impl Abort, alloc: Global, said: Said, status: u8, wanted: &str) {
+// Checks what is printed, as it is sent and parsed.
+fn is_printed(rt: &impl Abort, alloc: Global, output: CommandOutput, status: u8, wanted: &str) {
     let mut bytes = Vec::new(alloc);
-    let unsent = Unsent::of(said);
+    let unsent = Unsent::of(output);
     let (front, rest) = unsent.parts();
     bytes.extend_from_slice(front).expect(rt, "memory");
     bytes.extend_from_slice(rest).expect(rt, "memory");
-    is_heard(rt, alloc, &bytes, status, wanted);
+    is_reply(rt, alloc, &bytes, status, wanted);
 }
 
-// What is heard of bytes that were sent.
-fn is_heard(rt: &impl Abort, alloc: Global, bytes: &[u8], status: u8, wanted: &str) {
-    let heard = hear(alloc, bytes).expect(rt, "an answer");
-    let mut text = Vec::from_slice(alloc, heard.text).expect(rt, "memory");
-    text.extend_from_slice(&heard.end).expect(rt, "memory");
+// Checks the reply in bytes that were sent.
+fn is_reply(rt: &impl Abort, alloc: Global, bytes: &[u8], status: u8, wanted: &str) {
+    let reply = parse_reply(alloc, bytes).expect(rt, "an answer");
+    let mut text = Vec::from_slice(alloc, reply.text).expect(rt, "memory");
+    text.extend_from_slice(&reply.end).expect(rt, "memory");
     same(rt, wanted, as_text(&text), wanted);
-    same(rt, wanted, heard.status, status);
+    same(rt, wanted, reply.status, status);
 }
 
 #[test]
-fn outcomes_are_said_as_they_are_printed(rt: HostRuntime) {
+fn outcomes_are_sent_as_they_are_printed(rt: HostRuntime) {
     let alloc = rt.alloc();
     let archive = SharedBlob::from_slice(alloc, b"bytes").expect(&rt, "memory");
-    is_said(&rt, alloc, Said::of(Ok(Reply::Done)), 0, "{\"ok\":true}\n");
-    is_said(
+    is_printed(
         &rt,
         alloc,
-        Said::of(Ok(Reply::Count(12))),
+        CommandOutput::of(Ok(Reply::Done)),
+        0,
+        "{\"ok\":true}\n",
+    );
+    is_printed(
+        &rt,
+        alloc,
+        CommandOutput::of(Ok(Reply::Count(12))),
         0,
         "{\"count\":12,\"ok\":true}\n",
     );
-    is_said(&rt, alloc, Said::of(Ok(Reply::Bytes(archive))), 0, "bytes");
-    is_said(
+    is_printed(
         &rt,
         alloc,
-        Said::of(Ok(Reply::Refused(Refusal::NotFound))),
+        CommandOutput::of(Ok(Reply::Bytes(archive))),
+        0,
+        "bytes",
+    );
+    is_printed(
+        &rt,
+        alloc,
+        CommandOutput::of(Ok(Reply::Refused(Refusal::NotFound))),
         1,
         "refused: NotFound\n",
     );
-    is_said(
+    is_printed(
         &rt,
         alloc,
-        Said::of(Err(Fault::Database)),
+        CommandOutput::of(Err(Fault::Database)),
         3,
         "fault: Database\n",
     );
-    is_said(
+    is_printed(
         &rt,
         alloc,
-        Said::usage(text(&rt, alloc, "wrong")),
+        CommandOutput::usage(text(&rt, alloc, "wrong")),
         2,
         "wrong\n",
     );
-    is_said(
+    is_printed(
         &rt,
         alloc,
-        Said::usage(text(&rt, alloc, "wrong\n")),
+        CommandOutput::usage(text(&rt, alloc, "wrong\n")),
         2,
         "wrong\n",
     );
 }
 
-/// What guests ask of a service that knows two teams' fault and refuses all else.
+/// What guests ask of a service that has a fault for teams and refuses everything else that they
+/// ask.
 static CASES: [Case<'static>; 4] = [
     (&["--operator", "user-add", "ann"], 1, "refused: NotFound\n"),
     (&["--as", "ann", "teams", "lab"], 3, "fault: Database\n"),
@@ -211,7 +224,7 @@ fn guests_are_answered(rt: HostRuntime) {
             let bytes = message(&rt, alloc, words);
             let mut guest = Guest::new(alloc, socket(alloc, bytes, piece_len), 0);
             same(&rt, *wanted, visit_all(&rt, alloc, &mut guest), Visit::Over);
-            is_heard(&rt, alloc, &guest.into_socket().got, *status, wanted);
+            is_reply(&rt, alloc, &guest.into_socket().got, *status, wanted);
         }
     }
 }
@@ -227,49 +240,49 @@ fn a_cut_message_is_answered_by_nothing(rt: HostRuntime) {
 }
 
 #[test]
-fn a_hall_has_eight_seats(rt: HostRuntime) {
+fn a_pool_has_eight_slots(rt: HostRuntime) {
     let alloc = rt.alloc();
-    let mut hall = Hall::new(alloc).expect(&rt, "memory");
-    same(&rt, "new", hall.is_empty(), true);
+    let mut pool = GuestPool::new(alloc).expect(&rt, "memory");
+    same(&rt, "new", pool.is_empty(), true);
     for number in 0..GUEST_COUNT {
-        same(&rt, number, hall.place(), Some(number));
+        same(&rt, number, pool.place(), Some(number));
         let bytes = message(&rt, alloc, &["tags", "kit"]);
-        hall.add(alloc, number, socket(alloc, bytes, 1_000), 0);
+        pool.add(alloc, number, socket(alloc, bytes, 1_000), 0);
     }
-    same(&rt, "full", hall.place(), None);
-    same(&rt, "busy", hall.is_busy(), true);
+    same(&rt, "full", pool.place(), None);
+    same(&rt, "busy", pool.is_busy(), true);
     let mut service = FixedTags {
         asked: Vec::new(alloc),
     };
     let mut clock = Steps { next: 0 };
     let mut buffer = [0; 64];
-    hall.visit_all(alloc, &mut service, &mut clock, &mut buffer);
-    hall.wake(3);
-    hall.end_late(GUEST_TIME_LIMIT - 1);
-    same(&rt, "in time", hall.is_empty(), false);
-    hall.end_late(GUEST_TIME_LIMIT);
-    same(&rt, "late", hall.is_empty(), true);
+    pool.visit_all(alloc, &mut service, &mut clock, &mut buffer);
+    pool.wake(3);
+    pool.end_late(GUEST_TIME_LIMIT - 1);
+    same(&rt, "in time", pool.is_empty(), false);
+    pool.end_late(GUEST_TIME_LIMIT);
+    same(&rt, "late", pool.is_empty(), true);
 }
 
-// A server whose visitor of the control socket says this, a byte a visit, from 0 on.
-fn controlled(rt: &impl Abort, alloc: Global, said: &str) -> Control<Memory> {
+// A server whose control connection sends these bytes from 0 on, one in each visit.
+fn controlled(rt: &impl Abort, alloc: Global, bytes: &str) -> Control<Memory> {
     let mut control = Control::new();
-    come(rt, alloc, &mut control, said);
+    come(rt, alloc, &mut control, bytes);
     control
 }
 
-fn come(rt: &impl Abort, alloc: Global, control: &mut Control<Memory>, said: &str) {
-    let said = Vec::from_slice(alloc, said.as_bytes()).expect(rt, "memory");
-    control.add(socket(alloc, said, 1), 0);
+fn come(rt: &impl Abort, alloc: Global, control: &mut Control<Memory>, bytes: &str) {
+    let bytes = Vec::from_slice(alloc, bytes.as_bytes()).expect(rt, "memory");
+    control.add(socket(alloc, bytes, 1), 0);
 }
 
-// What was sent to who is there.
+// What was sent to the connection that is there.
 fn answers(rt: &impl Abort, control: Control<Memory>) -> Vec<u8> {
-    control.into_socket().expect(rt, "a visitor").got
+    control.into_socket().expect(rt, "a connection").got
 }
 
 #[test]
-fn a_visitor_holds_a_server(rt: HostRuntime) {
+fn a_connection_holds_a_server(rt: HostRuntime) {
     let alloc = rt.alloc();
     let mut control = controlled(&rt, alloc, "hk");
     same(&rt, "before it asks", control.holds(), false);
@@ -285,14 +298,14 @@ fn a_visitor_holds_a_server(rt: HostRuntime) {
 #[test]
 fn a_hold_ends(rt: HostRuntime) {
     let alloc = rt.alloc();
-    for said in ["h", "hh", "hs", "hx"] {
-        let mut control = controlled(&rt, alloc, said);
+    for bytes in ["h", "hh", "hs", "hx"] {
+        let mut control = controlled(&rt, alloc, bytes);
         control.visit(0);
-        same(&rt, said, control.holds(), true);
+        same(&rt, bytes, control.holds(), true);
         control.visit(0);
-        same(&rt, said, control.holds(), false);
-        same(&rt, said, control.is_free(), true);
-        same(&rt, said, control.stops(), false);
+        same(&rt, bytes, control.holds(), false);
+        same(&rt, bytes, control.is_free(), true);
+        same(&rt, bytes, control.stops(), false);
     }
     let mut control = controlled(&rt, alloc, "hk");
     control.visit(1);
@@ -303,7 +316,7 @@ fn a_hold_ends(rt: HostRuntime) {
 }
 
 #[test]
-fn a_visitor_that_says_nothing_is_let_go(rt: HostRuntime) {
+fn a_connection_that_sends_nothing_ends(rt: HostRuntime) {
     let alloc = rt.alloc();
     let mut control = controlled(&rt, alloc, "");
     same(&rt, "it is visited", control.is_busy(), true);
@@ -311,16 +324,16 @@ fn a_visitor_that_says_nothing_is_let_go(rt: HostRuntime) {
     same(&rt, "in time", control.is_free(), false);
     control.end_late(SILENCE_LIMIT);
     same(&rt, "late", control.is_free(), true);
-    for said in ["k", "x"] {
-        let mut control = controlled(&rt, alloc, said);
+    for bytes in ["k", "x"] {
+        let mut control = controlled(&rt, alloc, bytes);
         control.visit(0);
-        same(&rt, said, control.is_free(), true);
-        same(&rt, said, control.holds(), false);
+        same(&rt, bytes, control.is_free(), true);
+        same(&rt, bytes, control.holds(), false);
     }
 }
 
 #[test]
-fn a_visitor_stops_a_server(rt: HostRuntime) {
+fn a_connection_stops_a_server(rt: HostRuntime) {
     let alloc = rt.alloc();
     let mut control = controlled(&rt, alloc, "s");
     control.visit(0);

@@ -1,8 +1,9 @@
 //! Tests of the public calls that need no database: that they succeed where there is memory, which
-//! no contract says, and what they answer to cases that are worked out by hand or by an outside
+//! no contract says, and what they return in cases that are worked out by hand or by another
 //! program.
 //!
-//! They are here, and not in the crates, since the gate proves a crate once more with its tests.
+//! They are here, and not in the crates, because the gate proves a crate again together with its
+//! tests.
 #![tactic(auto)]
 
 #[cfg(test)]

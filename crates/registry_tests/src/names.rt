@@ -128,7 +128,7 @@ fn refusals_and_faults_are_printed(rt: HostRuntime) {
     }
 }
 
-/// Two texts, and whether they are one.
+/// Two texts, and whether they are equal.
 type Pair = (&'static str, &'static str, bool);
 
 static PAIRS: [Pair; 4] = [

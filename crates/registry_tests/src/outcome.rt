@@ -1,13 +1,13 @@
-//! How a case comes out, and what a test shows of one that comes out otherwise than is wanted.
+//! How a case comes out, and what a test shows of one that comes out differently than wanted.
 //!
-//! A test ends at the first case that comes out otherwise, and where there is no memory.
+//! A test ends at the first case that comes out differently, and where there is no memory.
 
 use registry_names::{Refusal, Stop};
 use std::alloc::Global;
 use std::fmt::{Debug, Display};
 use std::process::Abort;
 
-/// Sees that a case comes out as it is wanted. Else the test shows the case and both.
+/// Checks that a case comes out as wanted. Otherwise the test shows the case and both values.
 pub fn same<C: Copy + Debug, T: Copy + Debug + PartialEq>(
     rt: &impl Abort,
     case: C,
@@ -19,13 +19,13 @@ pub fn same<C: Copy + Debug, T: Copy + Debug + PartialEq>(
     }
 }
 
-/// Sees that a value is displayed so.
+/// Checks that a value is displayed as this text.
 pub fn is_displayed<T: Display>(rt: &impl Abort, alloc: Global, value: &T, wanted: &str) {
     let came_out = format!(in alloc; "{value}").expect(rt, "memory");
     same(rt, wanted, came_out.as_str(), wanted);
 }
 
-/// Sees that a case is to be refused so.
+/// Checks that a case is refused with this refusal.
 pub fn is_refused<C: Copy + Debug, T: Copy + Debug>(
     rt: &impl Abort,
     case: C,

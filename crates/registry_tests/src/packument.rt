@@ -40,7 +40,7 @@ enum Asked {
     Grants(&'static [(&'static str, Grant)]),
 }
 
-/// What a case shows, what is asked for, and its text, or None where a version has no document.
+/// What a case shows, what is asked for, and its text, or `None` where a version has no document.
 type Case = (&'static str, Asked, Option<&'static str>);
 
 fn tags(rt: &impl Abort, alloc: Global, cases: &[TagCase]) -> Vec<DistTag> {
@@ -59,7 +59,8 @@ fn tag(rt: &impl Abort, alloc: Global, tag: &str, version: &str) -> DistTag {
     }
 }
 
-// The head of a package of these tags and versions, each published at 100, and one withdrawn at 200.
+// The head of a package with these tags and versions, each published at 100, and one withdrawn at
+// 200.
 fn head(
     rt: &impl Abort,
     alloc: Global,
@@ -140,7 +141,7 @@ fn all_told(rt: &impl Abort, alloc: Global, cases: &[Case]) {
     }
 }
 
-// Sees that there is to be no document, by the fault that says so.
+// Checks that there is no document, by the fault that says so.
 fn has_none(rt: &impl Abort, shows: &str, fault: Fault, told: &Option<&str>) {
     same(rt, shows, &fault, &Fault::Database);
     same(rt, shows, &None, told);

@@ -1,4 +1,4 @@
-//! Values in form, of which the cases are made.
+//! Values in form, of which the cases consist.
 
 use registry_cache::{SharedBlob, SharedText};
 use registry_names::{Blob, Ident, Name, Text, Ver};
@@ -51,7 +51,7 @@ pub fn repeated(rt: &impl Abort, alloc: Global, text: &str, times: usize) -> Str
     text.repeat(alloc, times).expect(rt, "memory")
 }
 
-/// A text, another so many times, and a last one.
+/// A text, another one this many times, and a last one.
 pub fn around(
     rt: &impl Abort,
     alloc: Global,

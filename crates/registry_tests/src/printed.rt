@@ -17,7 +17,7 @@ fn is_printed(rt: &impl Abort, alloc: Global, reply: Reply, out: &str, err: &str
     is_written(rt, alloc, &reply, &printed);
 }
 
-// Sees that the same goes to two streams.
+// Checks that the same is written to two streams.
 fn is_written(rt: &impl Abort, alloc: Global, reply: &Reply, printed: &Printed) {
     let mut out = Vec::new(alloc);
     let mut err = Vec::new(alloc);

@@ -1,12 +1,12 @@
-//! The tables of `docs/RANGES.md`, and texts that are ranges and that are none.
+//! The tables of `docs/RANGES.md`, texts that are ranges, and texts that aren't.
 
 use crate::outcome::same;
 use crate::parts::{repeated, version};
-use registry_ranges::{Range, is_range};
+use registry_ranges::{Range, binds, is_range};
 use std::alloc::Global;
 use std::process::Abort;
 
-/// Whether a range allows a version. None where the text is no range.
+/// Whether a range allows a version. `None` where the text isn't a range.
 type Allowed = Option<bool>;
 
 const ALLOWED: Allowed = Some(true);
@@ -23,7 +23,13 @@ fn allowed(rt: &impl Abort, alloc: Global, range: &str, text: &str) -> Allowed {
     }
 }
 
-// Sees that both calls say of a range what is wanted.
+// A text binds a version where it is no range, or allows it.
+fn bound(rt: &impl Abort, alloc: Global, range: &str, text: &str) -> bool {
+    let version = version(rt, alloc, text);
+    binds(alloc, range, &version).expect(rt, "memory")
+}
+
+// Sees that the calls say of a range what is wanted.
 fn both_say(
     rt: &impl Abort,
     alloc: Global,
@@ -38,6 +44,12 @@ fn both_say(
         &(shows, version),
         &allowed(rt, alloc, range, version),
         &wanted,
+    );
+    same(
+        rt,
+        &(shows, version),
+        &bound(rt, alloc, range, version),
+        &wanted.unwrap_or(true),
     );
 }
 

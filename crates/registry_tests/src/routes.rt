@@ -1,4 +1,5 @@
-//! Routes: what no answer over HTTP shows of them, and their table beside that of `matchit`.
+//! Routes: the part of them that no answer over HTTP shows, and their table beside that of
+//! `matchit`.
 
 mod agreement;
 mod escapes;
@@ -13,8 +14,8 @@ use registry_routes::{Endpoint, Route, Values, route_of};
 /// A method and a target, what they ask for, and the values of the path, with a space between them.
 type Case = (Method, &'static str, Endpoint, &'static str);
 
-// Routes whose values no answer shows: a name or a file that is out of form is refused like any
-// other. What an answer shows of routes is in the stories of `http_paths.txt`.
+// Routes whose values no answer shows: a name or a file that isn't in form is refused like any
+// other. The stories of `http_paths.txt` have what an answer shows of routes.
 static UNSHOWN: [Case; 10] = [
     (Get, "/@lab", Packument, "@lab"),
     (Get, "/@lab/-", Packument, "@lab/-"),

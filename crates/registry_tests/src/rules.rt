@@ -1,4 +1,4 @@
-//! The decision on a publication to a package that has a live version and no tag `latest`. No
+//! The decision on a publication to a package that has a live version but no tag `latest`. No
 //! request leads there, so no story has these cases.
 
 use crate::outcome::same;

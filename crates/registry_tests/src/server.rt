@@ -1,4 +1,4 @@
-//! Connections apart from their sockets, and a server over loopback.
+//! Connections without their sockets, and a server over loopback.
 
 ghost use Rattle.std.specs.Prelude.{nat_lt};
 
@@ -15,7 +15,7 @@ use std::io::{Read, Write};
 use std::net::{Ipv4Addr, Net, OpenListener, OpenStream, Shutdown, SocketAddr, TcpStream};
 use std::process::Abort;
 
-// Puts what isn't sent of a line after the rest, a few bytes at a time.
+// Adds what a connection hasn't sent yet to `out`, a few bytes at a time.
 fn take_all(rt: &impl Abort, state: &mut ConnectionState, out: &mut Vec<u8>) {
     for _ in 0..1_000 {
         let (head, body) = state.outgoing().parts();
@@ -34,8 +34,8 @@ fn take_all(rt: &impl Abort, state: &mut ConnectionState, out: &mut Vec<u8>) {
     }
 }
 
-// Puts what a line answers to the input, which comes in pieces of a length, after the rest, and
-// says how it ends.
+// Adds what a connection answers to the input to `out`, and returns how it ends. The input comes in
+// pieces of this length.
 fn answers(
     rt: &impl Abort,
     alloc: Global,
@@ -159,7 +159,7 @@ fn a_server_answers_over_loopback(rt: HostRuntime) {
     hears(&rt, alloc, "cut", &mut cut, CUT_OUT);
 }
 
-/// A service that has a fault for the first request, and is over then.
+/// A service that has a fault for the first request, and is over after it.
 #[derive(Drop)]
 struct Failing {
     asked: u32,
@@ -180,7 +180,7 @@ impl Service for Failing {
     }
 }
 
-// What is answered to a request that meets the fault.
+// The answer to a request that meets the fault.
 const FAULT_OUT: &str =
     "HTTP/1.1 500 Internal Server Error\r\ncontent-type: application/json\r\ncontent-length: 20\r\nconnection: close\r\n\r\n{\"error\":\"Database\"}";
 

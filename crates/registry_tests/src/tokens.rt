@@ -1,4 +1,4 @@
-//! Tokens that are made: what of, the line that adds one, and what is printed of it.
+//! Tokens that are made: what they are made of, the line that adds one, and what is printed for it.
 
 use crate::outcome::same;
 use crate::parts::text;
@@ -45,7 +45,7 @@ fn the_line_adds_the_digest_of_the_token(rt: HostRuntime) {
     same(&rt, TOKEN, is_of_token, true);
 }
 
-// Sees that this is printed, where the line is answered so.
+// Checks that this is printed, where the line is answered with this reply.
 fn is_printed(rt: &impl Abort, alloc: Global, reply: &Reply, out: &str, err: &str, status: u8) {
     let mut output = Vec::new(alloc);
     let mut errors = Vec::new(alloc);

@@ -51,11 +51,11 @@ is_number text = nat_lt 0 (length text) && list_all is_ascii_digit text
 abbrev pub within_limit : ℕ → Result ℕ Refusal
 within_limit n = if nat_le n body_limit then Ok n else Err TooLarge
 
--- the length that digits of any number write
+-- the length that the digits write, however many they are
 abbrev pub written_len : List ℕ → Result ℕ Refusal
 written_len text = if is_number text then within_limit (digits_value 10 text) else Err BadBody
 
--- the length that `content-length` says: none is 0, and there is at most one
+-- the length that `content-length` says, or 0 where there is no such field; there is at most one
 abbrev pub said_len : Said → Result ℕ Refusal
 said_len absent = Ok 0
 said_len (once text) = written_len text

@@ -8,7 +8,7 @@ abbrev pub interruption_limit : ℕ
 interruption_limit = 1000
 
 -- how many reads may fail until an inbox with this count of interrupted ones gives up: as many as
--- bring the count to the limit, and one at least
+-- bring the count to the limit, and at least one
 abbrev pub failures_admitted : ℕ → ℕ
 failures_admitted count = max 1 (interruption_limit - count)
 

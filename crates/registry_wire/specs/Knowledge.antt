@@ -11,7 +11,7 @@ pub record BeginWith (bytes : List ℕ) (head : CutHead) : Type 0 where
   pub len : head.len ≤ length bytes
   pub place : IsAt head.place (take head.len bytes)
 
--- as long as the bytes are fewer than these they are unfinished, whatever comes
+-- while there are fewer bytes than this they are unfinished, whatever comes
 pub record Need (bytes : List ℕ) (count : ℕ) : Type 0 where
   pub bounded : count ≤ request_limit
   pub unfinished : (more : List ℕ) → length (bytes ++ more) < count → IsUnfinished (bytes ++ more)

@@ -15,7 +15,7 @@ OneReading = (bytes : List ℕ) (ws vs : List Wanted) (d e : Ending) → Spells 
 abbrev pub RequestStays : Type 0
 RequestStays = (bytes more : List ℕ) (w : Wanted) (rest : List ℕ) → HasRequest bytes w rest → HasRequest (bytes ++ more) w (rest ++ more)
 
--- nor do they make what is none a request
+-- nor do they make a request of what isn't one
 abbrev pub BadStays : Type 0
 BadStays = (bytes more : List ℕ) (r : Refusal) → IsBad bytes r → IsBad (bytes ++ more) r
 

@@ -13,7 +13,7 @@ IsHead bytes = (h : RequestHead) × ReadsRequest bytes h []
 abbrev pub Expects : (List ℕ → Type 0) → List ℕ → Type 0
 Expects Follows bytes = (text : List ℕ) → Follows text → IsHead (bytes ++ text)
 
--- ---- what can follow, from the end of a head to its begin
+-- ---- what can follow, from the end of a head to its beginning
 
 -- fields, and the empty line that ends a head
 pub record AreLines (text : List ℕ) : Type 0 where
@@ -55,7 +55,7 @@ pub record IsNameRest (text : List ℕ) : Type 0 where
 abbrev pub version_text : List ℕ
 version_text = codes "HTTP/1."
 
--- the rest of a version of which so many bytes have come
+-- the rest of a version of which this many bytes have come
 pub record IsVersionRest (count : ℕ) (text : List ℕ) : Type 0 where
   pub minor : ℕ
   pub after : List ℕ

@@ -29,7 +29,7 @@ type_line kind = codes "content-type: " ++ media_type kind ++ line_end
 abbrev pub length_line : ℕ → List ℕ
 length_line len = codes "content-length: " ++ decimal len ++ line_end
 
--- whoever shows no token learns which kind it is
+-- the field of a 401: which kind of credential is asked for
 abbrev pub challenge : ℕ → List ℕ
 challenge status = only_if (status == 401) (codes "www-authenticate: Bearer\r\n")
 

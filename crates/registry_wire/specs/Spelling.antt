@@ -45,7 +45,7 @@ pub record IsRefused (bytes : List ℕ) (r : Refusal) : Type 0 where
   pub begins : HasHead bytes head after
   pub len : body_len (fields_of head) ≡ Err r
 
--- they begin with what is no request, whatever follows
+-- they begin with what isn't a request, whatever follows
 abbrev pub IsBad : List ℕ → Refusal → Type 0
 IsBad bytes r = IsRefused bytes r ⊎ ((r ≡ BadBody) × NeverHasHead bytes)
 
@@ -79,8 +79,8 @@ request_limit = head_limit + body_limit
 
 -- ---- all the bytes of a connection
 
--- These are the last bytes: there are none, or they begin with what is no request, or with one that
--- is cut.
+-- These are the last bytes: there are none, or they begin with what isn't a request, or with one
+-- that is cut.
 abbrev pub EndsWith : List ℕ → Ending → Type 0
 EndsWith bytes Closed = bytes ≡ []
 EndsWith bytes (BadInput r) = IsBad bytes r ⊎ ((r ≡ BadBody) × (0 < length bytes) × IsUnfinished bytes)

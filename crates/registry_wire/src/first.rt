@@ -25,7 +25,7 @@ pub const FIELD_LIMIT: usize = 64;
 /// What the bytes that have come say of the first request.
 #[derive(Debug, Drop)]
 pub enum First {
-    /// It has come whole, and has so many bytes.
+    /// It has come whole, and has this many bytes.
     Whole(Wanted, usize),
     /// It hasn't come whole, and may.
     Unfinished,
@@ -38,18 +38,19 @@ pub enum First {
 pub enum Ending {
     /// After a whole request, or before the first.
     Closed,
-    /// With what is no request that is served.
+    /// With what isn't a request that is served.
     BadInput(Refusal),
 }
 
-/// What the bytes that have come say of the first request. A fault comes where no memory is left
-/// for its texts and its body.
+/// What the bytes that have come say of the first request. A fault is returned when no memory is
+/// left for its texts and its body.
 ///
-/// `BadBody` is a head that `httparse` refuses, one with more than `FIELD_LIMIT` fields or that
-/// doesn't end within `HEAD_LIMIT` bytes, one with a `transfer-encoding` or with a
-/// `content-encoding` other than `identity`, and one with two `content-length` or with one that
-/// isn't digits; `TooLarge` is a length above [`BODY_LIMIT`](registry_names::BODY_LIMIT) in any
-/// other. The length is 0 where the head says none.
+/// A head is refused with `BadBody` where `httparse` refuses it, where it has more than
+/// `FIELD_LIMIT` fields or doesn't end within `HEAD_LIMIT` bytes, where it has a
+/// `transfer-encoding` or a `content-encoding` other than `identity`, and where it has two
+/// `content-length` or one that isn't digits. Any other head is refused with `TooLarge` where its
+/// length is above [`BODY_LIMIT`](registry_names::BODY_LIMIT). The length is 0 where the head says
+/// none.
 pub fn first_in(alloc: Global, bytes: &[u8]) -> Result<First, Fault>
     ensures says { IfOk result (Says bytes.now) }
     ensures fault { IfErr result (λ fault. fault ≡ Memory) }
@@ -108,7 +109,7 @@ fn authorization(alloc: Global, values: Values<'_>) -> Result<Authorization, All
 }
 
 /// How a connection ends that gives no more bytes, where these are the last and hold no whole
-/// request: closed where there are none, else with `BadBody`.
+/// request: closed where there are none, and otherwise with `BadBody`.
 pub fn ending_of(bytes: &[u8]) -> Ending
     ensures { IsUnfinished bytes.now → EndsWith bytes.now result }
 {

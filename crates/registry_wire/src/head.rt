@@ -33,11 +33,12 @@ pub struct HeadParts<'a> {
 pub enum HeadFound<'a> {
     Whole(HeadParts<'a>),
     Unfinished,
-    /// There is none, whatever follows.
+    /// There is no head, whatever follows.
     Never,
 }
 
-/// The head that all these bytes begin with.
+/// The head that all these bytes begin with. More than 64 fields are refused as the line of the
+/// 65th ends.
 pub fn head_in(bytes: &[u8]) -> HeadFound<'_>
     requires { length bytes.now ≤ head_limit }
     ensures { SaysHead bytes.now result }

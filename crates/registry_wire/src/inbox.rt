@@ -24,7 +24,7 @@ pub const INTERRUPTION_LIMIT: u32 = 1000;
 const PIECE_LEN: usize = 4096;
 
 /// A reader, the bytes that it gave and that are not used yet, and how many of its reads were
-/// interrupted, `INTERRUPTION_LIMIT` at most.
+/// interrupted, at most `INTERRUPTION_LIMIT`.
 #[derive(Drop)]
 pub struct Inbox<R: ByteIn> {
     reader: R,
@@ -51,7 +51,7 @@ pub enum Taken {
     Whole(Wanted),
     /// No byte was held, and none is left.
     Closed,
-    /// What is held, and what may follow, is no request that is served.
+    /// What is held, and what may follow, isn't a request that is served.
     Bad(Refusal),
     /// A read failed before the request was whole.
     ReadFault,
@@ -62,7 +62,7 @@ pub enum Taken {
 // What one more read gave.
 #[derive(Clone, Copy, Debug, PartialEq, Eq)]
 enum Piece {
-    // More bytes, or none since it was interrupted.
+    // More bytes, or none, as it was interrupted.
     More,
     // Nothing is left.
     End,
@@ -92,8 +92,8 @@ impl<R: ByteIn> Inbox<R> {
     /// taken at once, and the body of one that is refused by its head isn't read. So fewer bytes
     /// are ever held than a request and one read of 4,096 bytes may have.
     ///
-    /// A read that is interrupted is tried again, up to the one that makes their number
-    /// `INTERRUPTION_LIMIT`, which is a failure.
+    /// An interrupted read is tried again. The one that makes their number `INTERRUPTION_LIMIT` is
+    /// a failure.
     pub fn read_request(&mut self, alloc: Global) -> Taken
         ensures takes { Takes self.old.held (R.bytes self.old.reader)
             self.new.held (R.bytes self.new.reader) (R.is_unknown self.new.reader) result }

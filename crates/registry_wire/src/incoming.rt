@@ -16,7 +16,7 @@ use std::marker::Model;
 const KEPT_LIMIT: usize = 16_384;
 
 /// The bytes that came on a connection and aren't used yet. However few come at once, a head among
-/// them is parsed twice at most before its body, and once more when that is whole: in between each
+/// them is parsed at most twice before its body, and once more when that is whole: in between each
 /// byte of the head is looked at once, and none of the body.
 #[derive(Drop)]
 pub struct Incoming {
@@ -43,7 +43,7 @@ impl Incoming {
         }
     }
 
-    /// Whether there is none.
+    /// Whether there are no bytes.
     pub fn is_empty(&self) -> bool
         ensures { result ≡ (length self.now == 0) }
     {
@@ -65,7 +65,8 @@ impl Incoming {
         Ok(())
     }
 
-    /// What the bytes say of the first request, as [`first_in`](crate::first_in) says it. They stay.
+    /// What the bytes say of the first request, as [`first_in`](crate::first_in) says it. They
+    /// stay.
     pub fn first(&mut self, alloc: Global) -> Result<First, Fault>
         ensures says { IfOk result (Says self.old) }
         ensures fault { IfErr result (λ fault. fault ≡ Memory) }
@@ -81,7 +82,7 @@ impl Incoming {
         Ok(first)
     }
 
-    /// So many bytes are used.
+    /// Drops this many of the first bytes: they have been used.
     pub fn drop_first(&mut self, alloc: Global, used: usize)
         requires { used ≤ length self.old }
         ensures { self.new ≡ drop used self.old }

@@ -1,5 +1,5 @@
 //! What is known of bytes that hold no whole request, so that they aren't read again for each byte
-//! that comes.
+//! that comes. A body that comes in pieces costs two parses of its head.
 
 ghost use Rattle.std.specs.Prelude.{◌≡◌, ◌<◌, ◌+◌, true, length, IfSome};
 ghost use Rattle.registry_wire.specs.Knowledge.{BeginWith, IsKnown};
@@ -62,7 +62,7 @@ pub fn is_unfinished(known: Known, bytes: &[u8]) -> bool
     }
 }
 
-// The head goes on in all bytes. None where it ends in them, or where they are none.
+// The head, grown to all these bytes. `None` where it ends in them, or where they aren't a head.
 fn grown(mut head: CutHead, bytes: &[u8]) -> Option<CutHead>
     requires { BeginWith bytes.now head }
     ensures { IfSome result (BeginWith bytes.now) }
@@ -73,7 +73,7 @@ fn grown(mut head: CutHead, bytes: &[u8]) -> Option<CutHead>
     Some(head)
 }
 
-// The head goes on in one byte more. A head with too many lines is looked at as a whole.
+// The head, grown by one byte. A head with too many lines is looked at as a whole.
 fn with_one_more(head: CutHead, bytes: &[u8]) -> Option<CutHead>
     requires begins { BeginWith bytes.now head }
     requires inside { head.len < length bytes.now }
@@ -89,7 +89,7 @@ fn with_one_more(head: CutHead, bytes: &[u8]) -> Option<CutHead>
     })
 }
 
-// The number of whole lines. None where they are more than the request line and `FIELD_LIMIT`
+// The number of whole lines. `None` where they are more than the request line and `FIELD_LIMIT`
 // fields.
 fn counted(place: Place, lines: usize) -> Option<usize> {
     match place {

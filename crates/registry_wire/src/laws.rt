@@ -8,7 +8,7 @@ pub fn bytes_have_one_reading()
     ensures { OneReading }
 {}
 
-/// Bytes that come later change nothing about a request that is whole, nor about what is none.
+/// Bytes that come later change nothing about a request that is whole, nor about what isn't one.
 pub fn later_bytes_change_nothing()
     ensures request { RequestStays }
     ensures bad { BadStays }

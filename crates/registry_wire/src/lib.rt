@@ -1,11 +1,12 @@
 //! Requests and responses of HTTP/1.1 as bytes.
 //!
 //! The bytes of a connection spell requests, one after the other, and then an end: it is closed, or
-//! what comes is no request that is served. [`first_in`] gives what the bytes that have come say of
-//! the first request. An [`Incoming`] holds bytes as they come, and says the same of them without
-//! reading all of them again, however few come at once; an [`Inbox`] reads until they say it. A head
-//! is read by `httparse`; it has at most 16,384 bytes and 64 fields, and a body at most 4,194,304
-//! bytes. Nothing that was read is lost where no request was whole yet, so it can be asked for again.
+//! what comes isn't a request that is served. [`first_in`] gives what the bytes that have come say
+//! of the first request. An [`Incoming`] holds bytes as they come, and says the same of them
+//! without reading all of them again, however few come at once; an [`Inbox`] reads until they say
+//! it. A head is read by `httparse`; it has at most 16,384 bytes and 64 fields, and a body at most
+//! 4,194,304 bytes. Nothing that was read is lost where no request was whole yet, so it can be
+//! asked for again.
 //!
 //! A [`Response`] is written with no memory taken: its head from a buffer of fixed size, its body
 //! as it is.

@@ -18,7 +18,7 @@ pub enum Place {
     Method,
     /// In the target, which begins with this byte.
     Target(usize),
-    /// In the version, of which so many bytes have come.
+    /// In the version, of which this many bytes have come.
     Version(usize),
     /// After the version.
     Minor,
@@ -37,8 +37,8 @@ pub enum Place {
 // The version up to its last digit.
 const VERSION: [u8; 7] = *b"HTTP/1.";
 
-/// Where a head is that is at a place, and goes on with the byte behind. None where it doesn't go
-/// on so, or is whole then.
+/// The place of a head that was at this one, after the byte at `at`. `None` where the head can't go
+/// on with that byte, or is whole then.
 pub fn step(bytes: &[u8], at: usize, place: Place) -> Option<Place>
     requires inside { at < length bytes.now }
     requires place { IsAt place (take at bytes.now) }
@@ -53,7 +53,7 @@ pub fn step(bytes: &[u8], at: usize, place: Place) -> Option<Place>
     }
 }
 
-// The target ends, which is a text.
+// The target ends here. It must be UTF-8.
 fn after_target(seen: &[u8], start: usize) -> Option<Place>
     requires { IsAt (places.Target start) seen.now }
     ensures { IfSome result (λ next. IsAt next (seen.now ++ space ∷ [])) }
@@ -68,7 +68,7 @@ fn after_target(seen: &[u8], start: usize) -> Option<Place>
     }
 }
 
-// Where a head is after one byte more that ends neither its method nor its target.
+// Where a head is after one more byte that ends neither its method nor its target.
 fn next(place: Place, byte: u8) -> Option<Place>
     ensures { IfSome result (Leads place byte) }
 {

@@ -26,7 +26,7 @@ pub struct Response<'a> {
     pub status: StatusCode,
     pub kind: ContentKind,
     pub body: &'a [u8],
-    /// Whether the connection ends after it, which it says then.
+    /// Whether the connection ends after it. If so, the response says it.
     pub closes: bool,
 }
 

@@ -14,7 +14,7 @@ pub struct Wanted {
     pub closes: bool,
 }
 
-// Written out, so that to drop a request is one call and not one for each part.
+// Written out, so that dropping a request is one call, not one for each part.
 impl Drop for Wanted {
     fn drop(self) {
         let Wanted {

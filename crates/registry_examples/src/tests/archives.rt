@@ -10,7 +10,7 @@ use sqlite::{Alter, Error};
 use std::alloc::Global;
 use std::test::Fail;
 
-/// What is asked where `@lab/kit` 1.0.0 is published, and how many archives are stored then. The
+/// What is asked after `@lab/kit` 1.0.0 is published, and how many archives are stored then. The
 /// second version has the same archive.
 static STORED: [(&str, &str, usize); 3] = [
     (
@@ -55,7 +55,7 @@ fn are_done(outcomes: &[Outcome]) -> Result<(), Fail> {
     Ok(())
 }
 
-/// How many rows a query of a registry's tables gives. The registry ends.
+/// How many rows a query of a registry's tables gives. The registry ends afterwards.
 pub(crate) fn rows_in<S: Alter + Drop>(registry: Registry<S>, query: &str) -> Result<usize, Error> {
     let mut conn = registry.release();
     let rows = conn.query_all(query, &[])?;

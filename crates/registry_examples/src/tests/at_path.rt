@@ -8,8 +8,8 @@ use sqlite::{Alter, Connection, Error, ErrorCode, FileStore};
 use sqlite_disk::Disk;
 use std::alloc::Global;
 
-/// What the registry in the file at the path answers to a request. It is closed then, so that the
-/// file holds all of it. A fault comes where none opens.
+/// What the registry in the file at the path answers to a request. It is closed afterwards, so that
+/// the file holds everything. A fault is returned where no registry opens.
 pub(crate) fn outcome_at(rt: &HostRuntime, path: &str, request: &Request) -> Outcome {
     match Registry::open(rt, path) {
         Ok(registry) => outcome_in(rt.alloc(), registry, request),
@@ -31,8 +31,8 @@ fn outcome_in<D: Disk + Drop>(
     }
 }
 
-/// Runs statements on the database in the file at the path, and then a query, of whose answer it
-/// gives the first number.
+/// Runs statements on the database in the file at the path, and then a query, and returns the first
+/// number of its answer.
 pub(crate) fn number_at(
     rt: &HostRuntime,
     path: &str,
@@ -69,7 +69,7 @@ fn number_of<S: Alter>(
     row.get(0)
 }
 
-// Closes a connection. Whether its log was copied into its file.
+// Closes a connection. Returns whether its log was copied into its file.
 fn is_closed<D: Disk + Drop>(conn: Connection<FileStore<D>>) -> bool {
     match conn.close_files() {
         Ok(_files) => true,

@@ -1,4 +1,4 @@
-//! Lists of requests, whose outcomes are the same by `run` and by `apply` one by one.
+//! Lists of requests that have the same outcomes by `run` and by `apply` one by one.
 
 use crate::tests::archives::rows_in;
 use crate::tests::lists::{
@@ -13,16 +13,16 @@ use registry_test_support::{otherwise, same};
 use std::alloc::{AllocError, Global};
 use std::test::Fail;
 
-/// A query that gives a row where the tables have the number of our schema.
+/// A query that gives a row where the tables have this program's schema number.
 const NUMBER: &str = "SELECT name FROM meta WHERE name = 'schema' AND value = 3";
 
-/// Requests, and what comes of each of them.
+/// Requests, and the outcome of each.
 struct Told<'a> {
     requests: Vec<Request>,
     wanted: Vec<&'a str>,
 }
 
-// Written out, so that to drop it is one call and not one for each part.
+// Written out, so that dropping it is one call, not one for each part.
 impl Drop for Told<'_> {
     fn drop(self) {
         let Told {
@@ -54,7 +54,7 @@ fn fifty_rounds_are_the_same_both_ways(rt: HostRuntime) -> Result<(), Fail> {
     are_rounds(outcomes.get(6..).unwrap_or(&[]))
 }
 
-// The outcomes of requests, which are the same all at once and one by one, and no faults.
+// The outcomes of requests, which are the same all at once and one by one, and without faults.
 fn both_ways(alloc: Global, shows: &str, requests: &[Request]) -> Result<Vec<Outcome>, Fail> {
     let (outcomes, rows) = ran(alloc, requests, NUMBER)?;
     same((shows, "the schema's number"), rows, 1)?;
@@ -79,7 +79,7 @@ fn one_by_one(alloc: Global, requests: &[Request]) -> Result<Vec<Outcome>, Fault
     Ok(outcomes_of(alloc, &mut registry, requests)?)
 }
 
-// Whether both are the same replies.
+// Whether both have the same replies.
 fn are_the_same(shows: &str, others: &[Outcome], outcomes: &[Outcome]) -> Result<(), Fail> {
     same(shows, others.len(), outcomes.len())?;
     for (place, (other, outcome)) in others.iter().zip(outcomes).enumerate() {
@@ -89,8 +89,8 @@ fn are_the_same(shows: &str, others: &[Outcome], outcomes: &[Outcome]) -> Result
     Ok(())
 }
 
-// Each caller asks each action at one moment, where a package was published; and then all of this
-// backwards.
+// Each caller asks for each action at one moment, after a package was published; and then all of
+// this backwards.
 fn requests_there_and_back(alloc: Global) -> Result<Vec<Request>, Fail> {
     let mut actions = Vec::new(alloc);
     push_lines(&mut actions, ON_TEAMS)?;
@@ -138,7 +138,7 @@ fn every_reply(alloc: Global) -> Result<Told<'static>, Fail> {
     Ok(told)
 }
 
-// Adds the requests of a text, and what comes of each, which is the line after it.
+// Adds the requests of a text, and the outcome of each, which is the line after it.
 fn push_told<'a>(alloc: Global, told: &mut Told<'a>, text: &'a str) -> Result<(), Fail> {
     for line in text.lines() {
         match line.strip_prefix("= ") {
@@ -149,7 +149,7 @@ fn push_told<'a>(alloc: Global, told: &mut Told<'a>, text: &'a str) -> Result<()
     Ok(())
 }
 
-// Whether the last outcomes are the wanted ones.
+// Whether the last outcomes are as wanted.
 fn are_wanted(outcomes: &[Outcome], wanted: &[&str]) -> Result<(), Fail> {
     let first = outcomes.len().saturating_sub(wanted.len());
     same("how many come before", first, 7)?;
@@ -161,7 +161,7 @@ fn are_wanted(outcomes: &[Outcome], wanted: &[&str]) -> Result<(), Fail> {
     Ok(())
 }
 
-// Whether an outcome is the one that a line says.
+// Whether an outcome is the one that a line tells.
 fn is_wanted(outcome: &Outcome, wanted: &str) -> bool {
     match outcome {
         Ok(Reply::Created) => wanted == "created",
@@ -183,7 +183,7 @@ fn fifty_rounds(alloc: Global) -> Result<Vec<Request>, Fail> {
     Ok(requests)
 }
 
-// A version is published, and once more; then its package is asked for, and one that is unknown.
+// A version is published twice; then its package is asked for, and one that is unknown.
 fn push_round(alloc: Global, requests: &mut Vec<Request>, round: u64) -> Result<(), Fail> {
     let (kit, version) = (round % 7, round / 7);
     let publish = format!(in alloc; "--at {round} --as bob publish kit-{kit} 1.{version}.0")?;

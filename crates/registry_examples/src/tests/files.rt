@@ -1,5 +1,5 @@
-//! Registries in the machine's files: what becomes one, and from what none opens. That one is kept
-//! as it was, and the program reports why.
+//! Registries in the machine's files: which files become one, and from which none opens. Such a
+//! file isn't changed, and the program reports why.
 
 use crate::tests::lies::{FOLDER, LOG, Lies, PATH, added, lay};
 use crate::tests::program::{Case, Failing, leaves_it, with_db};
@@ -31,7 +31,7 @@ static LINES: [&'static [&'static str]; 3] = [
     &["serve"],
 ];
 
-/// What each case shows, what lies there, and why the user isn't added, if it isn't.
+/// What each case shows, what is in the file, and why the user isn't added, if it isn't.
 static OPENED: [(&str, Lies, Option<Refusal>); 6] = [
     (
         "a file that isn't there becomes a registry",
@@ -61,8 +61,8 @@ static OPENED: [(&str, Lies, Option<Refusal>); 6] = [
     ),
 ];
 
-/// Files that are no registry: what each case shows, what lies there, and what the program prints on
-/// the errors, where that is tried.
+/// Files that aren't a registry: what each case shows, what is in the file, and what the program
+/// prints on the errors, where that is tried.
 static DAMAGED: [(&str, Lies, &str); 9] = [
     (
         "a text is no registry",
@@ -99,7 +99,7 @@ static DAMAGED: [(&str, Lies, &str); 9] = [
     ),
 ];
 
-/// Databases that are no registry of this schema, likewise.
+/// Databases that aren't a registry of this schema, in the same form.
 static OTHERS: [(&str, Lies, &str); 11] = [
     (
         "another program's tables are none",
@@ -196,7 +196,7 @@ fn reply_of(refusal: Option<Refusal>) -> Reply {
     }
 }
 
-// No registry opens from any of these, and each is as it was.
+// No registry opens from any of these, and none of them is changed.
 fn all_are_kept(rt: &HostRuntime, cases: &[(&str, Lies, &'static str)]) -> Result<(), Fail> {
     for (shows, lies, errors) in cases {
         lay(rt, *lies)?;
@@ -205,7 +205,7 @@ fn all_are_kept(rt: &HostRuntime, cases: &[(&str, Lies, &'static str)]) -> Resul
     Ok(fs::remove_dir_all(rt, FOLDER)?)
 }
 
-// No registry opens from the file, which is as it was then. Each line prints this, where it is told.
+// No registry opens from the file, which isn't changed. Each line prints this, where it is given.
 fn is_kept(rt: &HostRuntime, shows: &str, errors: &'static str) -> Result<(), Fail> {
     let before = fs::read(rt, PATH).ok();
     same(shows, added(rt)?, Err(Fault::Database))?;
@@ -215,7 +215,7 @@ fn is_kept(rt: &HostRuntime, shows: &str, errors: &'static str) -> Result<(), Fa
     same((shows, "kept"), fs::read(rt, PATH).ok() == before, true)
 }
 
-// Each line ends in the fault, and prints this.
+// Each line ends with the fault, and prints this.
 fn all_print(rt: &HostRuntime, errors: &'static str) -> Result<(), Fail> {
     for given in &LINES {
         let case = Case {
@@ -233,7 +233,7 @@ fn all_print(rt: &HostRuntime, errors: &'static str) -> Result<(), Fail> {
     Ok(())
 }
 
-// While a registry is held its file and its log are its owner's alone, and no other opens.
+// While a registry is held, its file and its log are only its owner's, and no other registry opens.
 fn is_held<S: Alter + Drop>(rt: &HostRuntime, held: Registry<S>) -> Result<(), Fail> {
     let seen = is_seen_held(rt);
     drop(held);

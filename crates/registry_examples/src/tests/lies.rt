@@ -1,4 +1,4 @@
-//! What may lie where a registry's file is to be opened.
+//! What may be where a registry's file is to be opened.
 
 use crate::tests::at_path::{number_at, outcome_at};
 use registry_rules::Reply;
@@ -33,13 +33,13 @@ pub(crate) enum Lies {
     Folder,
     /// A registry that has the user `ann`.
     Registry,
-    /// That one's file, which has a second name.
+    /// The file of that registry, which has a second name.
     Linked,
-    /// The first so many bytes of that one's file.
+    /// The first bytes of that file, this many.
     Cut(usize),
-    /// That one's file, with the byte at this place changed.
+    /// That file, with the byte at this place changed.
     Spoiled(usize),
-    /// That registry, on which a statement was run.
+    /// That registry, after a statement was run on it.
     Changed(&'static str),
     /// A database of another program, which a statement made.
     Program(&'static str),
@@ -47,7 +47,7 @@ pub(crate) enum Lies {
     Older,
 }
 
-/// Lays this at the path, in a new folder.
+/// Puts this at the path, in a new folder.
 pub(crate) fn lay(rt: &HostRuntime, lies: Lies) -> Result<(), Fail> {
     let _ = fs::remove_dir_all(rt, FOLDER);
     match lies {
@@ -68,7 +68,7 @@ fn lay_in_folder(rt: &HostRuntime, lies: Lies) -> Result<(), Fail> {
     }
 }
 
-// Lays a registry, and then does to it what is said.
+// Puts a registry there, and then does to it what is said.
 fn lay_registry(rt: &HostRuntime, lies: Lies) -> Result<(), Fail> {
     same("a registry", added(rt)?, Ok(Reply::Done))?;
     match lies {
@@ -80,7 +80,7 @@ fn lay_registry(rt: &HostRuntime, lies: Lies) -> Result<(), Fail> {
     }
 }
 
-/// What comes of a request to add the user `ann`. A fault comes where no registry opens.
+/// The outcome of a request to add the user `ann`. A fault where no registry opens.
 pub(crate) fn added(rt: &HostRuntime) -> Result<Outcome, Fail> {
     let request = request_of(rt.alloc(), "--operator user-add ann")?;
     Ok(outcome_at(rt, PATH, &request))

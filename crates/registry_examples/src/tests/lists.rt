@@ -1,4 +1,4 @@
-//! Lists of requests as text. Where a line begins with `= `, it says what comes of the request before
+//! Lists of requests as text. A line that begins with `= ` tells the outcome of the request before
 //! it.
 
 /// The users `ann`, `bob` and `eve`, a token of `bob`, and the organisation `lab`: `ann` is its
@@ -219,7 +219,7 @@ pub(crate) const RIGHTS: &str = r#"
 = {"beta":"1.0.0","latest":"1.0.0"}
 "#;
 
-/// Publishes, and what is answered of them.
+/// Publishes, and their outcomes.
 pub(crate) const VERSIONS: &str = r#"
 --at 200 --as eve publish @lab/app 1.0.0
 = refused Denied A4
@@ -255,7 +255,7 @@ pub(crate) const VERSIONS: &str = r#"
 = refused NotFound
 "#;
 
-/// Withdrawals, and what comes of them.
+/// Withdrawals, and their outcomes.
 pub(crate) const WITHDRAWALS: &str = r#"
 --at 200 --as bob publish @lab/app 1.0.0 YWJj latest {"tool":"*"}
 = created

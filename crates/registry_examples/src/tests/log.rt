@@ -17,10 +17,10 @@ use std::io::Write;
 use std::test::Fail;
 use std::{fs, io, str};
 
-/// 2026-11-26, at ten.
+/// 2026-11-26, at 10:00.
 const TEN: i64 = 1_795_687_200;
 
-/// A file that takes so many bytes of each text, and all of those after the last of these.
+/// A file that takes this many bytes of each text, and all bytes after the last of these numbers.
 #[derive(Drop)]
 struct Paper {
     rt: HostRuntime,
@@ -52,7 +52,7 @@ fn put(rt: &HostRuntime, path: &str, bytes: &[u8]) -> io::Result<()> {
         .write_all(bytes)
 }
 
-/// Clocks that stand still, but for the microseconds: each reading is 1,250 more.
+/// Clocks that stand still, except that each reading of the microseconds is 1,250 more.
 #[derive(Drop)]
 struct Still {
     micros: u64,
@@ -77,7 +77,7 @@ impl Clock for Still {
     }
 }
 
-// What is put for the target of a request of nobody.
+// The line for the target of a request of nobody.
 fn line_of(alloc: Global, target: &[u8]) -> Result<Vec<u8>, Fail> {
     let entry = Entry {
         at: Moment::clamped(TEN),
@@ -91,7 +91,7 @@ fn line_of(alloc: Global, target: &[u8]) -> Result<Vec<u8>, Fail> {
     Ok(entry.line(alloc)?)
 }
 
-/// Targets, and what is put for them.
+/// Targets, and how the log shows them.
 static TARGETS: [(&[u8], &str); 10] = [
     (b"/@lab%2fkit", "/@lab%2fkit"),
     (b"/a b\n\x7f\xffc", "/a?b???c"),
@@ -149,13 +149,13 @@ fn a_line_has_what_is_known(rt: HostRuntime) -> Result<(), Fail> {
     )
 }
 
-/// A request with bob's token, one without, one that has no route, one with a token of nobody, and what
-/// is none.
+/// A request with bob's token, one without a token, one that has no route, one with a token of
+/// nobody, and input that isn't a request.
 const ASKS: &[u8] =
     b"GET /-/package/@lab%2fkit/dist-tags HTTP/1.1\r\nauthorization: Bearer npm_bob_000000001\r\n\r\nGET /-/package/kit/dist-tags HTTP/1.1\r\n\r\nGET /-/ping HTTP/1.1\r\n\r\nGET /-/package/kit/dist-tags HTTP/1.1\r\nauthorization: Bearer npm_zed_000000001\r\n\r\nwhat\r\n\r\n";
 
-/// Serves a registry in which `@lab/kit` 1.0.0 is published on these bytes, a round for each turn,
-/// and gives the log, of whose file this is the path, and which takes so many bytes of each text.
+/// Serves these bytes with a registry in which `@lab/kit` 1.0.0 is published, with a round for each
+/// turn, and returns the log. Its file is at this path, and takes this many bytes of each text.
 fn logged(rt: &HostRuntime, path: &str, asks: &[u8], takes: &[usize]) -> Result<String, Fail> {
     let alloc = rt.alloc();
     let mut registry = Registry::in_memory(alloc)?;
@@ -177,7 +177,7 @@ fn logged(rt: &HostRuntime, path: &str, asks: &[u8], takes: &[usize]) -> Result<
     Ok(text)
 }
 
-// Takes the turns of these bytes, of which a connection gets no more.
+// Takes the turns of these bytes, after which the connection gets no more.
 fn serve<D: Service>(alloc: Global, service: &mut D, asks: &[u8]) -> Result<(), Fail> {
     let mut clock = Still { micros: 0 };
     let mut state = ConnectionState::new(alloc);
@@ -195,7 +195,7 @@ fn serve<D: Service>(alloc: Global, service: &mut D, asks: &[u8]) -> Result<(), 
     Ok(())
 }
 
-// All of a response is sent.
+// Sends a response whole.
 fn send(state: &mut ConnectionState) {
     for _ in 0..2 {
         let (head, body) = state.outgoing().parts();
@@ -218,7 +218,8 @@ fn each_turn_has_a_line(rt: HostRuntime) -> Result<(), Fail> {
     )
 }
 
-/// The first line is written, then the disk is full within the second one, and for the third.
+/// The first line is written; then the disk is full in the middle of the second line, and for the
+/// third.
 #[test]
 fn lost_lines_are_told(rt: HostRuntime) -> Result<(), Fail> {
     let text = logged(&rt, "lost-requests.log", ASKS, &[1_000, 30, 0])?;

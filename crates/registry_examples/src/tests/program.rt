@@ -1,5 +1,5 @@
-//! The program over streams that fail. Its modules have a check that finds something, copies, tokens
-//! that are made, clients over loopback, and the moments of what is asked.
+//! The program over streams that fail. Its modules have a check that finds something, copies,
+//! tokens that are made, clients over loopback, and the moments of requests.
 
 mod checks;
 mod copies;
@@ -131,7 +131,7 @@ pub(crate) fn with_db(alloc: Global, db: &str, given: &[&str]) -> Result<Vec<Tex
     Ok(arguments)
 }
 
-/// Whether the program leaves what the case says, with these arguments.
+/// Whether the program, with these arguments, leaves what the case says.
 pub(crate) fn leaves_it(
     rt: &HostRuntime,
     alloc: Global,
@@ -159,7 +159,7 @@ pub(crate) fn leaves_it(
 // What a call leaves: its status, what is printed, and the line on the errors.
 type Left<'a> = (u8, &'a str, &'a str);
 
-// Whether this is left. Else the test fails, and shows both.
+// Whether this is left. Otherwise the test fails, and shows both.
 fn is_left(case: &Case, left: Left, wanted: Left) -> Result<(), Fail> {
     if left == wanted {
         return Ok(());

@@ -1,4 +1,4 @@
-//! Packuments that are sent as they are made: to writers that fail somewhere, and refused, and broken
+//! Packuments that are sent as they are made: to writers that fail somewhere, refused, and broken
 //! off before their first byte.
 
 ghost use Rattle.std.specs.Prelude.{◌==◌, codes, if◌then◌else◌};
@@ -17,7 +17,7 @@ use std::io;
 use std::io::{ErrorKind, Write};
 use std::test::Fail;
 
-/// The query of `bob`, and of one who may not read the package.
+/// The query of `bob`, and of a user who may not read the package.
 const BOBS: &str = "--at 200 --as bob packument @lab/kit";
 
 const EVES: &str = "--at 200 --as eve packument @lab/kit";
@@ -26,16 +26,16 @@ const EVES: &str = "--at 200 --as eve packument @lab/kit";
 pub(crate) const TWO_VERSIONS: &str =
     r#"{"_id":"@lab/kit","dist-tags":{"latest":"1.1.0"},"name":"@lab/kit","time":{"1.0.0":"1970-01-01T00:01:40.000Z","1.1.0":"1970-01-01T00:01:41.000Z","created":"1970-01-01T00:01:40.000Z","modified":"1970-01-01T00:01:41.000Z"},"versions":{"1.0.0":{"dependencies":{},"name":"@lab/kit","version":"1.0.0"},"1.1.0":{"dependencies":{},"name":"@lab/kit","version":"1.1.0"}}}"#;
 
-/// By another hand, the second version has no manifest any more.
+/// Something else removes the manifest of the second version.
 const SPOIL: &str = "UPDATE versions SET manifest = '[1]' WHERE version = '1.1.0'";
 
-/// What is said before a packument that is as long as was expected.
+/// What is written before a packument that is as long as was expected.
 const LONG_ENOUGH: &str = "as long as its answer\n";
 
-/// What is said before any other.
+/// What is written before any other packument.
 const OF_ANOTHER_LENGTH: &str = "of another length\n";
 
-/// Says before a packument whether it is as long as was expected.
+/// Writes before a packument whether it is as long as was expected.
 #[derive(Drop)]
 struct Expected {
     len: u64,
@@ -55,7 +55,7 @@ impl Opener for Expected {
     }
 }
 
-/// A writer that takes so many bytes, and then fails.
+/// A writer that takes this many bytes, and then fails.
 #[derive(Drop)]
 pub(crate) struct Narrow {
     pub(crate) taken: Vec<u8>,
@@ -82,7 +82,7 @@ fn packuments_are_sent_as_they_are_answered(rt: HostRuntime) -> Result<(), Fail>
     are_sent(rt.alloc(), Registry::in_memory(rt.alloc())?)
 }
 
-// A packument is sent where it is made, and once it is answered, where its text is kept.
+// A packument is sent as it is made, and again after it was answered, when its text is kept.
 fn are_sent<S: Alter + Drop>(alloc: Global, registry: Registry<S>) -> Result<(), Fail> {
     let mut registry = registry;
     publish_two(alloc, &mut registry)?;
@@ -143,7 +143,7 @@ fn opened<D: Disk + Drop>(alloc: Global, files: Files<D>) -> Result<Registry<Fil
     }
 }
 
-/// Publishes two versions of `@lab/kit`, where nothing else was asked.
+/// Publishes two versions of `@lab/kit` to a registry that was asked nothing else.
 pub(crate) fn publish_two<S: Alter>(alloc: Global, registry: &mut Registry<S>) -> Result<(), Fail> {
     let mut requests = requests_of(alloc, LAB_KIT)?;
     let second = "--at 101 --as bob publish @lab/kit 1.1.0";
@@ -156,7 +156,7 @@ pub(crate) fn publish_two<S: Alter>(alloc: Global, registry: &mut Registry<S>) -
     Ok(())
 }
 
-// The packument is answered, and kept from then on.
+// The packument is answered, and is kept from then on.
 fn is_answered<S: Alter>(alloc: Global, registry: &mut Registry<S>) -> Result<(), Fail> {
     match outcome_of(alloc, registry, &request_of(alloc, BOBS)?) {
         Ok(Reply::Doc(text)) => same("the answer", text.as_str(), TWO_VERSIONS),
@@ -164,8 +164,8 @@ fn is_answered<S: Alter>(alloc: Global, registry: &mut Registry<S>) -> Result<()
     }
 }
 
-// How a packument is sent, and what a writer takes of it that fails after so many bytes. What opens
-// it says whether it is as long as that of two versions.
+// How a packument is sent, and what a writer takes of it that fails after this many bytes. The
+// opening says whether the packument is as long as that of two versions.
 fn sent_to<S: Alter>(
     alloc: Global,
     registry: &mut Registry<S>,
@@ -187,8 +187,8 @@ fn sent_to<S: Alter>(
     Ok((sent, narrow.taken))
 }
 
-// A writer that fails after some bytes has taken these, and nothing else; one that doesn't has taken
-// all.
+// A writer that fails after some bytes has taken these bytes, and nothing else; a writer that
+// doesn't fail has taken all bytes.
 fn is_sent_to_any_writer<S: Alter>(
     alloc: Global,
     shows: &str,
@@ -206,7 +206,7 @@ fn is_sent_to_any_writer<S: Alter>(
     same((shows, "whole"), taken.as_slice() == whole.as_bytes(), true)
 }
 
-// Nothing is written for one who may not read the package.
+// Nothing is written for a user who may not read the package.
 fn is_not_sent_to_strangers<S: Alter>(
     alloc: Global,
     registry: &mut Registry<S>,

@@ -1,4 +1,4 @@
-//! A packument over a connection: a head with its length, and then what is answered.
+//! A packument over a connection: a head with its length, and then the packument.
 
 ghost use Rattle.std.specs.Prelude.{None};
 
@@ -18,7 +18,7 @@ use std::test::Fail;
 /// `bob` asks for the packument of `@lab/kit`.
 const ASKS: &str = "GET /@lab%2fkit HTTP/1.1\r\nauthorization: Bearer npm_bob_000000001\r\n\r\n";
 
-/// The response to somebody whom nobody knows.
+/// The response to a caller who isn't known.
 const UNREAD: &str =
     "HTTP/1.1 404 Not Found\r\ncontent-type: application/json\r\ncontent-length: 20\r\n\r\n{\"error\":\"NotFound\"}";
 
@@ -39,7 +39,7 @@ fn a_packument_over_http_is_a_head_and_its_answer(rt: HostRuntime) -> Result<(),
     is_served(rt.alloc(), Registry::in_memory(rt.alloc())?)
 }
 
-// A packument is sent where it is made, and once it is answered, where its text is kept.
+// A packument is sent as it is made, and again after it was answered, when its text is kept.
 fn is_served<S: Alter + Drop>(alloc: Global, registry: Registry<S>) -> Result<(), Fail> {
     let mut registry = registry;
     publish_two(alloc, &mut registry)?;
@@ -51,7 +51,7 @@ fn is_served<S: Alter + Drop>(alloc: Global, registry: Registry<S>) -> Result<()
     is_served_so(alloc, "unread", &mut service, asks, UNREAD)
 }
 
-// The packument is answered, and kept from then on.
+// The packument is answered, and is kept from then on.
 fn is_answered<D: Service>(alloc: Global, service: &mut D) -> Result<(), Fail> {
     let query = request_of(alloc, "--at 200 --as bob packument @lab/kit")?;
     match service.answer(alloc, &query) {
@@ -60,8 +60,8 @@ fn is_answered<D: Service>(alloc: Global, service: &mut D) -> Result<(), Fail> {
     }
 }
 
-// How a connection is served on which this is asked, and what a writer takes of it that fails after
-// so many bytes.
+// How a connection is served on which this is asked, and what a writer takes of the response that
+// fails after this many bytes.
 fn served_to<D: PackumentService>(
     alloc: Global,
     service: &mut D,
@@ -78,8 +78,8 @@ fn served_to<D: PackumentService>(
     (served, narrow.taken)
 }
 
-// A writer that fails after some bytes has taken these, and nothing else; one that doesn't has taken
-// all.
+// A writer that fails after some bytes has taken these bytes, and nothing else; a writer that
+// doesn't fail has taken all bytes.
 fn is_served_to_any_writer<D: PackumentService>(
     alloc: Global,
     shows: &str,
@@ -102,7 +102,7 @@ fn is_served_to_any_writer<D: PackumentService>(
     is_served_so(alloc, shows, service, ASKS, whole.as_str())
 }
 
-// What is asked is answered so, and the connection ends with it.
+// The answer is this, and the connection ends with it.
 fn is_served_so<D: PackumentService>(
     alloc: Global,
     shows: &str,

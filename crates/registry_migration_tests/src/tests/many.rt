@@ -39,7 +39,7 @@ fn many_versions_are_migrated(rt: HostRuntime) -> Result<(), Fail> {
     Ok(())
 }
 
-// Puts the versions, of which each sixteenth has the same archive.
+// Puts the versions, which have sixteen archives in turn.
 fn put_all(alloc: Global, conn: &mut Connection<FileStore<Memory>>) -> Result<(), Fail> {
     conn.execute_batch("BEGIN")?;
     for number in 0..VERSIONS {

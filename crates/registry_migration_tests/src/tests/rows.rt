@@ -6,7 +6,8 @@ use sqlite_disk::Memory;
 use std::alloc::Global;
 use std::test::Fail;
 
-/// What a query shows: the values of each row after one another, each row after a space.
+/// What a query shows: each row after a space, and the values of a row one after the other. A blob
+/// is shown as its hexadecimal digits.
 pub fn shown(
     alloc: Global,
     conn: &mut Connection<FileStore<Memory>>,
@@ -34,9 +35,16 @@ fn push_row(alloc: Global, text: &mut String, row: &Row) -> Result<(), Fail> {
 fn push_value(alloc: Global, text: &mut String, value: ValueRef<'_>) -> Result<(), Fail> {
     match value {
         ValueRef::Text(bytes) => text.push_str(str::from_utf8(bytes)?)?,
-        ValueRef::Blob(bytes) => text.push_str(str::from_utf8(bytes)?)?,
+        ValueRef::Blob(bytes) => push_digits(alloc, text, bytes)?,
         ValueRef::Int(number) => text.push_str(format!(in alloc; "{number}")?.as_str())?,
         _ => text.push_str("none")?,
+    }
+    Ok(())
+}
+
+fn push_digits(alloc: Global, text: &mut String, bytes: &[u8]) -> Result<(), Fail> {
+    for byte in bytes {
+        text.push_str(format!(in alloc; "{byte:02x}")?.as_str())?;
     }
     Ok(())
 }

@@ -1,37 +1,45 @@
-//! A registry of schema 2, as it was left: each archive is stored once, and of needs the targets
-//! alone.
+//! A registry of schema 2, as it was left: each archive is stored once, and of needs it has only
+//! the targets.
 
 use super::Shown;
+use super::asked::Asked;
 
-/// The rows, as statements that put them.
+/// The statements that put the rows.
 pub fn rows() -> &'static [&'static str] {
     &ROWS
 }
 
-/// What is asked of it afterwards, and what it shows.
+/// What its tables hold afterwards.
 pub fn shown() -> &'static [Shown] {
     &SHOWN
 }
 
-/// The rows, in an order in which each refers to rows that are there. The archive of number 2 went
-/// with the version that had it. Of one need the manifest doesn't know.
-static ROWS: [&str; 33] = [
+/// What it is asked afterwards, and what it answers.
+pub fn asked() -> &'static [Asked] {
+    &ASKED
+}
+
+/// The rows, in an order in which each refers to rows that are there. The archive with the number 2
+/// went with the version that had it. One need isn't in its version's manifest.
+static ROWS: [&str; 35] = [
     "INSERT INTO meta VALUES ('schema', 2)",
     "INSERT INTO users VALUES ('ann')",
     "INSERT INTO users VALUES ('bob')",
     "INSERT INTO users VALUES ('eve')",
-    "INSERT INTO tokens VALUES (x'6161616161616161616161616161616161616161616161616161616161616161', 'ann')",
+    "INSERT INTO tokens VALUES (x'b6105209b6cda59e36efc1968ba52aa75e0ecd46808fc5c3e9ab982b57a5ad98', 'bob')",
     "INSERT INTO orgs VALUES ('lab')",
     "INSERT INTO members VALUES ('lab', 'ann', 2)",
+    "INSERT INTO members VALUES ('lab', 'bob', 0)",
     "INSERT INTO teams VALUES ('lab', 'developers')",
     "INSERT INTO team_members VALUES ('lab', 'developers', 'ann')",
+    "INSERT INTO team_members VALUES ('lab', 'developers', 'bob')",
     "INSERT INTO packages VALUES ('@lab/kit', 0)",
     "INSERT INTO packages VALUES ('tool', 1)",
     "INSERT INTO grants VALUES ('lab', 'developers', '@lab/kit', 2)",
     "INSERT INTO owners VALUES ('tool', 'eve')",
     r#"INSERT INTO versions VALUES ('@lab/kit', '1.0.0', 100, '{"name":"@lab/kit","version":"1.0.0","dependencies":{"tool":"^1"}}', 'old', x'')"#,
     r#"INSERT INTO versions VALUES ('tool', '1.0.0', 103, '{"name":"tool","version":"1.0.0"}', '', x'')"#,
-    r#"INSERT INTO versions VALUES ('tool', '1.1.0', 104, '{"name":"tool","version":"1.1.0","peerDependencies":{"@lab/kit":"1"}}', '', x'')"#,
+    r#"INSERT INTO versions VALUES ('tool', '1.1.0', 104, '{"name":"tool","version":"1.1.0","peerDependencies":{"@lab/kit":"^2"}}', '', x'')"#,
     "INSERT INTO spent VALUES ('@lab/kit', '0.9.0', 90, 95)",
     "INSERT INTO tags VALUES ('@lab/kit', 'latest', '1.0.0')",
     "INSERT INTO tags VALUES ('tool', 'latest', '1.0.0')",
@@ -51,46 +59,110 @@ static ROWS: [&str; 33] = [
     "INSERT INTO tags VALUES ('tool', 'new', '1.1.0')",
 ];
 
-/// What it shows afterwards.
-static SHOWN: [Shown; 13] = [
-    ("SELECT name, value FROM meta ORDER BY name", " schema|3"),
-    ("SELECT name FROM users ORDER BY name", " ann bob eve"),
+/// What it shows afterwards: each table, with every column of each row.
+static SHOWN: [Shown; 18] = [
+    ("SELECT * FROM meta ORDER BY name", " schema|3"),
+    ("SELECT * FROM users ORDER BY name", " ann bob eve"),
     (
-        "SELECT org, user, role FROM members ORDER BY org, user",
-        " lab|ann|2",
+        "SELECT * FROM tokens ORDER BY digest",
+        " b6105209b6cda59e36efc1968ba52aa75e0ecd46808fc5c3e9ab982b57a5ad98|bob",
+    ),
+    ("SELECT * FROM orgs ORDER BY name", " lab"),
+    (
+        "SELECT * FROM members ORDER BY org, user",
+        " lab|ann|2 lab|bob|0",
+    ),
+    ("SELECT * FROM teams ORDER BY org, team", " lab|developers"),
+    (
+        "SELECT * FROM team_members ORDER BY org, team, user",
+        " lab|developers|ann lab|developers|bob",
     ),
     (
-        "SELECT org, team, user FROM team_members ORDER BY org, team, user",
-        " lab|developers|ann",
+        "SELECT * FROM packages ORDER BY name",
+        " @lab/kit|0 gone|1 tool|1",
     ),
     (
-        "SELECT org, team, package, level FROM grants ORDER BY org, team, package",
+        "SELECT * FROM grants ORDER BY org, team, package",
         " lab|developers|@lab/kit|2",
     ),
     (
-        "SELECT package, user FROM owners ORDER BY package, user",
+        "SELECT * FROM owners ORDER BY package, user",
         " gone|bob tool|eve",
     ),
     (
-        "SELECT package, version, published, deprecated, archive FROM versions ORDER BY package, version",
-        " @lab/kit|1.0.0|100|old| tool|1.0.0|103|| tool|1.1.0|104||",
+        "SELECT * FROM versions ORDER BY package, version",
+        r#" @lab/kit|1.0.0|100|{"name":"@lab/kit","version":"1.0.0","dependencies":{"tool":"^1"}}|old| tool|1.0.0|103|{"name":"tool","version":"1.0.0"}|| tool|1.1.0|104|{"name":"tool","version":"1.1.0","peerDependencies":{"@lab/kit":"^2"}}||"#,
     ),
     (
-        "SELECT package, version, published, withdrawn FROM spent ORDER BY package, version",
+        "SELECT * FROM spent ORDER BY package, version",
         " @lab/kit|0.9.0|90|95 gone|1.0.0|10|11",
     ),
     (
-        "SELECT package, tag, version FROM tags ORDER BY package, tag",
+        "SELECT * FROM tags ORDER BY package, tag",
         " @lab/kit|latest|1.0.0 tool|latest|1.0.0 tool|new|1.1.0",
     ),
-    ("SELECT package, version, target FROM needs", ""),
+    ("SELECT * FROM needs ORDER BY package, version, target", ""),
     (
-        "SELECT package, version, target, range FROM need_ranges ORDER BY package, version, target, range",
-        " @lab/kit|1.0.0|tool|^1 tool|1.1.0|@lab/kit|1",
+        "SELECT * FROM need_ranges ORDER BY package, version, target, range",
+        " @lab/kit|1.0.0|tool|^1 tool|1.1.0|@lab/kit|^2",
     ),
     (
-        "SELECT held.package, held.version, archives.id, archives.bytes FROM held, archives WHERE held.archive = archives.id ORDER BY held.package, held.version",
-        " @lab/kit|1.0.0|1|abc tool|1.0.0|1|abc tool|1.1.0|3|",
+        "SELECT * FROM held ORDER BY package, version",
+        " @lab/kit|1.0.0|1 tool|1.0.0|1 tool|1.1.0|3",
     ),
-    ("SELECT name, seq FROM sqlite_sequence", " archives|3"),
+    (
+        "SELECT * FROM archives ORDER BY id",
+        " 1|sha512-3a81oZNherrMQXNJriBBMRLm+k6JqX6iCp7u5ktV05ohkpkqJ0/BqDa6PCOj/uu9RU1EI2Q86A4qmslPpUyknw==|616263 3|sha512-z4PhNX7vuL3xVChQ1m2AB9Yg5AULVxXcg/SpIdNs6c5H0NE8XYXysP+DGNKHfuwvY7kxvUdBeoGlODJ6+SfaPg==|",
+    ),
+    ("SELECT * FROM sqlite_sequence ORDER BY name", " archives|3"),
+];
+
+/// Queries of each kind, as they were answered before, and a withdrawal. `tool` 1.1.0 needs
+/// `@lab/kit`, in a range that doesn't allow 1.0.0. The older schema has only the targets, so the
+/// registry refused the withdrawal before.
+static ASKED: [Asked; 20] = [
+    (
+        "--at 125 --as bob packument @lab/kit",
+        r#"{"_id":"@lab/kit","dist-tags":{"latest":"1.0.0"},"name":"@lab/kit","time":{"1.0.0":"1970-01-01T00:01:40.000Z","created":"1970-01-01T00:01:30.000Z","modified":"1970-01-01T00:01:40.000Z"},"versions":{"1.0.0":{"deprecated":"old","name":"@lab/kit","version":"1.0.0","dependencies":{"tool":"^1"}}}}"#,
+    ),
+    (
+        "--at 125 --as eve packument tool",
+        r#"{"_id":"tool","dist-tags":{"latest":"1.0.0","new":"1.1.0"},"name":"tool","time":{"1.0.0":"1970-01-01T00:01:43.000Z","1.1.0":"1970-01-01T00:01:44.000Z","created":"1970-01-01T00:01:43.000Z","modified":"1970-01-01T00:01:44.000Z"},"versions":{"1.0.0":{"name":"tool","version":"1.0.0"},"1.1.0":{"name":"tool","version":"1.1.0","peerDependencies":{"@lab/kit":"^2"}}}}"#,
+    ),
+    ("--at 125 --as bob packument gone", "NotFound"),
+    (
+        "token npm_bob_000000001 --at 125 version-doc @lab/kit latest",
+        r#"{"deprecated":"old","name":"@lab/kit","version":"1.0.0","dependencies":{"tool":"^1"}}"#,
+    ),
+    (
+        "--at 125 --as bob version-doc tool 1.1.0",
+        r#"{"name":"tool","version":"1.1.0","peerDependencies":{"@lab/kit":"^2"}}"#,
+    ),
+    ("--at 125 --as bob version-doc @lab/kit 0.9.0", "NotFound"),
+    ("--at 125 --as bob archive @lab/kit 1.0.0", "abc"),
+    ("--at 125 --as eve archive tool 1.0.0", "abc"),
+    ("--at 125 --as eve archive tool 1.1.0", ""),
+    (
+        "token npm_bob_000000001 --at 125 tags @lab/kit",
+        r#"{"latest":"1.0.0"}"#,
+    ),
+    ("--at 125 tags tool", r#"{"latest":"1.0.0","new":"1.1.0"}"#),
+    (
+        "--at 125 --as ann members lab",
+        r#"{"ann":"owner","bob":"developer"}"#,
+    ),
+    ("--at 125 --as ann teams lab", r#"["developers"]"#),
+    (
+        "--at 125 --as ann team-members lab developers",
+        r#"["ann","bob"]"#,
+    ),
+    (
+        "--at 125 --as ann team-packages lab developers",
+        r#"{"@lab/kit":"read-write"}"#,
+    ),
+    ("--at 125 --as ann team-packages lab ops", "NotFound"),
+    ("--at 125 --as eve packument @lab/kit", "NotFound"),
+    ("--at 130 --as bob withdraw @lab/kit 1.0.0", "done"),
+    ("--at 130 --as bob packument @lab/kit", "NotFound"),
+    ("--at 130 --as eve archive tool 1.0.0", "abc"),
 ];

@@ -1,5 +1,5 @@
 //! Registries of older schemas whose files stop at each call while they are migrated. Whatever the
-//! stop leaves, the registry opens afterwards with all that it held.
+//! stop leaves, the registry opens afterwards with everything that it held.
 
 use super::{Shown, first, made, migrated, options, second, showing};
 use registry_desk::Registry;
@@ -15,7 +15,7 @@ const MOST_CALLS: u64 = 10_000;
 /// More calls than any run makes.
 const NEVER: u64 = 1 << 60;
 
-/// A database file and its log, of which each passes so many calls and then fails every one.
+/// A database file and its log, each of which passes a number of calls and then fails every one.
 type StoppingFiles = Files<Fuse<Memory>>;
 
 /// Which of the two files stops.
@@ -23,6 +23,8 @@ type StoppingFiles = Files<Fuse<Memory>>;
 enum Stopping {
     Database,
     Log,
+    /// Each of them, after the same number of calls.
+    Both,
 }
 
 /// What a stop leaves.
@@ -30,7 +32,7 @@ enum Stopping {
 enum Leaves {
     /// What was synced: the machine lost its power.
     Synced,
-    /// All that was written: the process was killed.
+    /// Everything that was written: the process was killed.
     Written,
 }
 
@@ -42,6 +44,16 @@ fn a_lost_database_file_loses_nothing(rt: HostRuntime) -> Result<(), Fail> {
 #[test]
 fn a_lost_log_loses_nothing(rt: HostRuntime) -> Result<(), Fail> {
     no_stop_loses_anything(rt.alloc(), Stopping::Log, Leaves::Synced)
+}
+
+#[test]
+fn a_loss_of_both_files_loses_nothing(rt: HostRuntime) -> Result<(), Fail> {
+    no_stop_loses_anything(rt.alloc(), Stopping::Both, Leaves::Synced)
+}
+
+#[test]
+fn a_kill_loses_nothing(rt: HostRuntime) -> Result<(), Fail> {
+    no_stop_loses_anything(rt.alloc(), Stopping::Both, Leaves::Written)
 }
 
 #[test]
@@ -61,8 +73,8 @@ fn no_stop_loses_anything(alloc: Global, stopping: Stopping, leaves: Leaves) -> 
     outlives_stops(alloc, &older, second::shown(), stopping, leaves)
 }
 
-// Lets a file of the older registry stop at its first call, at its second, and so on, until an open
-// meets no stop.
+// Lets a file of the older registry, or each, stop at its first call, at its second, and so on,
+// until an open isn't stopped.
 fn outlives_stops(
     alloc: Global,
     older: &Files<Memory>,
@@ -82,7 +94,7 @@ fn outlives_stops(
     Err(Fail::new(format_args!("it stops after {MOST_CALLS} calls, too")))
 }
 
-// Files with the bytes of these, of which one passes so many calls.
+// Files with the bytes of these, one or both of which pass this many calls.
 fn stopping_files(
     alloc: Global,
     files: &Files<Memory>,
@@ -92,6 +104,7 @@ fn stopping_files(
     let (log, db) = match stopping {
         Stopping::Database => (NEVER, calls),
         Stopping::Log => (calls, NEVER),
+        Stopping::Both => (calls, calls),
     };
     Ok(Files {
         log: Fuse::new(written(alloc, &files.log)?, log),
@@ -99,7 +112,8 @@ fn stopping_files(
     })
 }
 
-// Opens the registry, and closes it: whether that was stopped, and what is left of the files.
+// Opens the registry, and closes it. Returns whether that was stopped, and what is left of the
+// files.
 fn opened_once(alloc: Global, files: StoppingFiles) -> (bool, StoppingFiles) {
     if !files.may_be_used() {
         return (true, files);

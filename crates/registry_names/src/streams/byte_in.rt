@@ -59,8 +59,8 @@ pub trait ByteIn {
     // Whether its bytes are no longer known. A failed call may make it so, for good.
     ghost is_unknown: { Self → Bool } = { λ _. false };
 
-    /// Moves some of the bytes that are left to the front of the buffer, and gives how many.
-    /// It gives 0 for a buffer with room only where no byte is left.
+    /// Moves some of the bytes that are left to the front of the buffer, and returns how many.
+    /// For a buffer with room it returns 0 only where no byte is left.
     ///
     /// A failed read takes no byte, or its bytes are no longer known.
     fn read(&mut self, buf: &mut [u8]) -> Result<usize, ReadFailed>

@@ -34,8 +34,8 @@ pub trait ByteOut {
     // Whether its bytes are no longer known. A failed call may make it so, for good.
     ghost is_unknown: { Self → Bool } = { λ _. false };
 
-    /// Adds a prefix of the text to the bytes that were written, and gives its length.
-    /// To take none of a text that isn't empty is a failure.
+    /// Adds a prefix of the text to the bytes that were written, and returns its length.
+    /// Taking no byte of a text that isn't empty is a failure.
     ///
     /// A failed write adds no byte, or its bytes are no longer known.
     fn write(&mut self, text: &[u8]) -> Result<usize, WriteFailed>

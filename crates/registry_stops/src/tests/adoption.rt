@@ -23,10 +23,10 @@ use std::test::Fail;
 /// More calls than an open makes of one file.
 const MOST_CALLS: u64 = 1_000;
 
-/// What changes nothing.
+/// A statement that changes nothing.
 const SAME: &str = "UPDATE meta SET value = 3 WHERE name = 'schema'";
 
-/// What another hand changes in a registry's file: no registry opens then.
+/// What something else changes in a registry's file: then no registry opens.
 static CHANGES: [&str; 4] = [
     "CREATE VIEW people AS SELECT name FROM users",
     "CREATE TABLE notes (note TEXT)",
@@ -47,7 +47,7 @@ fn is_adopted<D: StoppingDisk>(alloc: Global, queries: &[Request]) -> Result<(),
     }
 }
 
-// What a registry shows is shown once more where its connection is adopted.
+// What a registry shows is shown again where its connection is adopted.
 fn shows_the_same<S: Alter + Drop>(
     alloc: Global,
     registry: Registry<S>,
@@ -79,8 +79,8 @@ fn adopted_again<S: Alter + Drop>(
     }
 }
 
-// The fault of an adoption, and the connection, or nothing where it becomes a registry. `adopt` says
-// far more than that, and each caller of it is checked with all of it.
+// The fault of an adoption, and the connection; `None` where it becomes a registry. The contract of
+// `adopt` says far more than that, and every caller is checked with all of it.
 fn handed_back<S: Alter + Drop>(
     alloc: Global,
     connection: Connection<S>,
@@ -95,7 +95,7 @@ fn handed_back<S: Alter + Drop>(
     }
 }
 
-// The same of files.
+// The same for files.
 fn files_handed_back<D: StoppingDisk>(
     alloc: Global,
     connection: Connection<FileStore<D>>,
@@ -122,7 +122,7 @@ fn is_refused<D: StoppingDisk>(alloc: Global, change: &str) -> Result<(), Fail> 
     }
 }
 
-// The connection is refused, and once more.
+// The connection is refused, twice.
 fn is_handed_back<S: Alter + Drop>(
     alloc: Global,
     change: &str,
@@ -202,7 +202,7 @@ fn come_back<D: StoppingDisk>(alloc: Global) -> Result<(), Fail> {
     }
 }
 
-// The open failed by the fault of the database, and one without notes doesn't.
+// The open fails with the fault of the database, and one without notes doesn't fail.
 fn open_without_notes<D: StoppingDisk>(
     alloc: Global,
     fault: Fault,
@@ -216,8 +216,8 @@ fn open_without_notes<D: StoppingDisk>(
     )
 }
 
-// Until an adoption meets no fault: after one, another meets it again, and a crash leaves files
-// that open.
+// Repeats until an adoption meets no fault: after a fault, another adoption meets it again, and a
+// crash leaves files that open.
 #[test]
 fn a_fault_of_the_disk_is_met_again(rt: HostRuntime) -> Result<(), Fail> {
     let mut faults = 0u64;
@@ -231,7 +231,7 @@ fn a_fault_of_the_disk_is_met_again(rt: HostRuntime) -> Result<(), Fail> {
     Err(Fail::new(format_args!("it stops after {MOST_CALLS} calls, too")))
 }
 
-/// What comes of an adoption of files whose log stops.
+/// The result of an adoption of files whose log stops.
 enum Adoption {
     /// They weren't opened.
     Unopened,

@@ -1,5 +1,5 @@
-//! A service over a registry whose log fails after so many calls: a fault is answered, and the
-//! service is over where that has shut the registry.
+//! A service over a registry whose log fails after some calls: a fault is returned, and the service
+//! is over where the fault has shut the registry.
 
 use crate::disks::{Stopping, StoppingDisk, empty_files, opened};
 use crate::requests::{ADD_ANN, TAGS_OF_NONE};
@@ -18,7 +18,7 @@ use std::test::Fail;
 /// More calls than an open and a request make of the log.
 const ENOUGH: u64 = 1_000;
 
-/// What comes of a registry in files, and of one request to it.
+/// The result of a registry in files, and of one request to it.
 #[derive(Clone, Copy)]
 enum Comes {
     /// It doesn't open.
@@ -37,7 +37,7 @@ struct Asked {
     query: Request,
 }
 
-// Written out, so that to drop it is one call and not one for each part.
+// Written out, so that dropping it is one call, not one for each part.
 impl Drop for Asked {
     fn drop(self) {
         let Asked { add: _, query: _ } = self;
@@ -67,7 +67,7 @@ fn both_are_seen(alloc: Global, asked: &Asked) -> Result<(), Fail> {
     Err(Fail::new(format_args!("no request is answered")))
 }
 
-// What comes of a registry whose log fails after so many calls.
+// The result of a registry whose log fails after this many calls.
 fn comes_of<D: StoppingDisk>(alloc: Global, calls: u64, asked: &Asked) -> Result<Comes, Fail> {
     match opened(alloc, empty_files::<D>(alloc, Stopping::Log, calls)) {
         Ok(registry) => served(alloc, calls, registry, asked),
@@ -97,7 +97,7 @@ fn answers<S: Service>(
     }
 }
 
-// The fault that answers a request, if one does.
+// The fault with which a request is answered, if there is one.
 fn fault_of<S: Service>(alloc: Global, service: &mut S, request: &Request) -> Option<Fault> {
     match service.answer(alloc, request) {
         Ok(_reply) => None,
@@ -111,8 +111,8 @@ fn answered(calls: u64, is_over: bool) -> Result<Comes, Fail> {
     Ok(Comes::Answered)
 }
 
-// Whether the service is over exactly if its registry answers nothing more, and is still so after
-// one more request. The fault is that of a disk that fails.
+// Checks that the service is over exactly where its registry answers nothing more, and still is
+// after one more request. The fault is that of a disk that fails.
 fn after_the_fault<S: Service>(
     alloc: Global,
     calls: u64,
@@ -131,7 +131,7 @@ fn after_the_fault<S: Service>(
     Ok(ending(is_over))
 }
 
-// What a fault comes to.
+// The result where a fault was returned.
 fn ending(is_over: bool) -> Comes {
     if is_over {
         Comes::IsOver

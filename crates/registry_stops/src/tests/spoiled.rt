@@ -1,5 +1,5 @@
-//! A disk that gives back another byte than it was given: the file is refused, and its page is never
-//! read as data.
+//! A disk that gives back another byte than it was given: the file is refused, and the page is
+//! never read as data.
 
 use crate::disks::{
     Closed, NEVER, Stopping, StoppingDisk, empty_files, ended, files_of, opened, refused,
@@ -23,16 +23,16 @@ const PATH: &str = "spoiled_files/registry.db";
 /// How many bytes a page has.
 const PAGE_LEN: usize = 4096;
 
-/// A place in each field of a database's head: the name of the format, the size of pages, both
-/// versions, the bytes of sums, the three fractions, the counter of changes, the number of pages,
-/// the first free page and the number of free ones, the schema's cookie and format, the size of
-/// the cache, the largest root, the encoding, the number that users give, the mark of vacuums, the
-/// number of the program, what is kept empty, the counter again, and the version of the library.
+/// A place in each field of a database's header: the name of the format, the size of pages, both
+/// versions, the bytes of checksums, the three fractions, the change counter, the number of pages,
+/// the first free page and the number of free ones, the schema's cookie and format, the size of the
+/// cache, the largest root, the encoding, the user version, the mark of incremental vacuums, the
+/// application id, the reserved space, the counter again, and the version of the library.
 static HEAD: [usize; 23] = [
     0, 16, 18, 19, 20, 21, 22, 23, 24, 28, 32, 36, 40, 44, 48, 52, 56, 60, 64, 68, 72, 92, 96,
 ];
 
-/// A request, and why it is refused. It is done where it isn't.
+/// A request, and why it is refused. `None` where it is done.
 type Told = (&'static str, Option<Refusal>);
 
 const ANN_IS_ADDED: Told = (ADD_ANN, None);
@@ -59,7 +59,7 @@ fn a_byte_changed_in_any_page_is_never_read(rt: HostRuntime) -> Result<(), Fail>
     Ok(fs::remove_dir_all(&rt, FOLDER)?)
 }
 
-// A registry holds in the second run what was answered in the first.
+// In the second run, a registry holds what was answered in the first.
 fn lasts<D: StoppingDisk>(alloc: Global) -> Result<(), Fail> {
     let files = empty_files::<D>(alloc, Stopping::Both, NEVER);
     let files = told_in(alloc, files, ANN_IS_ADDED)?;
@@ -72,16 +72,16 @@ fn told_again<D: Disk + Drop>(alloc: Global, files: Files<D>) -> Result<Files<D>
     told_in(alloc, files, NONE_IS_FOUND)
 }
 
-// No registry opens from files with one byte of the head changed. The first page ends in a sum of
-// its bytes, which no change of one byte leaves right, and no log replaces it; and what comes of a
-// change in the size of pages or of sums is no size.
+// No registry opens from files with one byte of the header changed. The first page ends in a
+// checksum of its bytes, which any change of one byte makes wrong, and no log replaces the page;
+// and a changed size of pages or of checksums isn't a valid size.
 fn no_changed_head_opens<D: StoppingDisk>(alloc: Global) -> Result<(), Fail> {
     let files = empty_files::<D>(alloc, Stopping::Both, NEVER);
     let files = told_in(alloc, files, ANN_IS_ADDED)?;
     whole_alone_opens::<D>(alloc, files.db.written())
 }
 
-// A registry opens from these bytes, and none where one of the head is changed.
+// A registry opens from these bytes, and none opens where one byte of the header is changed.
 fn whole_alone_opens<D: StoppingDisk>(alloc: Global, whole: &[u8]) -> Result<(), Fail> {
     opens_whole::<D>(alloc, whole)?;
     for place in &HEAD {
@@ -125,7 +125,7 @@ fn opens_none<D: Disk + Drop>(alloc: Global, place: usize, files: Files<D>) -> R
     }
 }
 
-// The files, once a registry in them answered as it should.
+// The files, after a registry in them answered as it should.
 fn told_in<D: Disk + Drop>(alloc: Global, files: Files<D>, told: Told) -> Result<Files<D>, Fail> {
     match opened(alloc, files) {
         Ok(registry) => told_closed(alloc, registry, told),
@@ -177,7 +177,7 @@ fn is_reply(outcome: &Outcome, refusal: Option<Refusal>) -> bool {
     }
 }
 
-// Makes the file, of which the queries show the same until a byte is changed.
+// Makes the file. The queries show the same until a byte is changed.
 fn no_changed_byte_is_read(rt: &HostRuntime) -> Result<(), Fail> {
     let queries = requests_of(rt.alloc(), QUERIES)?;
     whole_file_alone_opens(rt, &queries)
@@ -190,7 +190,7 @@ fn whole_file_alone_opens(rt: &HostRuntime, queries: &[Request]) -> Result<(), F
     no_changed_page_opens(rt, queries, outcomes.get(first..).unwrap_or(&[]))
 }
 
-// Makes the file. What comes of the commands, and then of the queries.
+// Makes the file. Returns the outcomes of the commands, and then of the queries.
 fn made(rt: &HostRuntime) -> Result<Vec<Outcome>, Fail> {
     let text = format!(in rt.alloc(); "{COMMANDS}{QUERIES}")?;
     made_by(rt, &text)
@@ -208,7 +208,8 @@ fn are_replies(outcomes: &[Outcome]) -> Result<(), Fail> {
     Ok(())
 }
 
-// With no byte changed the registry opens and shows what it showed before, and with one none opens.
+// With no byte changed, the registry opens and shows what it showed before; with one changed, none
+// opens.
 fn no_changed_page_opens(
     rt: &HostRuntime,
     queries: &[Request],
@@ -244,8 +245,8 @@ fn write_spoiled(rt: &HostRuntime, whole: &[u8], place: usize) -> Result<(), Fai
     Ok(fs::write(rt, PATH, bytes.as_slice())?)
 }
 
-// The outcomes of these requests at a registry from the file, which is closed. A fault comes where
-// none opens.
+// The outcomes of these requests at a registry from the file, which is closed afterwards. A fault
+// is returned where no registry opens.
 fn outcomes_at(rt: &HostRuntime, requests: &[Request]) -> Result<Vec<Outcome>, Fault> {
     match Registry::open_from(rt, PATH, Wary) {
         Ok(registry) => outcomes_closed(rt.alloc(), registry, requests),
@@ -276,7 +277,7 @@ fn outcomes_by<S: Alter + Drop>(
     Ok((outcomes, registry))
 }
 
-// Whether all is done where a registry ends.
+// Whether everything is done where a registry ends.
 fn is_whole_at_the_end<D: Disk + Drop>(registry: Registry<FileStore<D>>) -> bool {
     let Closed {
         is_whole,

@@ -18,7 +18,7 @@ use std::test::Fail;
 /// More calls than any run makes of one file.
 const MOST_CALLS: u64 = 10_000;
 
-/// After one of so many stops the next open stops, too, where the environment says nothing else.
+/// After one of this many stops the next open stops, too, unless the environment says otherwise.
 const EVERY: u64 = 32;
 
 /// What is asked, and what a registry in memory, which never stops, answers.
@@ -30,15 +30,15 @@ struct Story {
 
 /// What a registry in memory answers.
 struct Answers {
-    /// What comes of each command.
+    /// The outcome of each command.
     replies: Vec<Outcome>,
-    /// What comes of each command where it is asked once more, after which all is as before.
+    /// The outcome of each command where it is asked again. After that the registry is as before.
     again: Vec<Outcome>,
     /// What the queries show before the first command, and after each.
     shown: Vec<Vec<Outcome>>,
 }
 
-// Both are written out, so that to drop one is one call and not one for each part.
+// Both are written out, so that dropping one is one call, not one for each part.
 impl Drop for Story {
     fn drop(self) {
         let Story {
@@ -59,21 +59,21 @@ impl Drop for Answers {
     }
 }
 
-/// What stops, and what that leaves.
+/// What stops, and what a stop leaves.
 #[derive(Clone, Copy)]
 struct Stops {
     stopping: Stopping,
     leaves: Leaves,
-    /// After one of so many stops the next open stops, too.
+    /// After one of this many stops the next open stops, too.
     every: u64,
 }
 
 /// The stops that were made.
 #[derive(Drop)]
 struct Made {
-    /// Of each, how many commands were answered before it.
+    /// For each stop, how many commands were answered before it.
     stopped: Vec<usize>,
-    /// How many stops came in the open after one of them.
+    /// How many stops came in the open after one of these.
     in_opens: u64,
 }
 
@@ -124,9 +124,9 @@ fn a_kill_at_the_log_loses_no_answer(rt: HostRuntime) -> Result<(), Fail> {
     no_stop_loses_an_answer(&rt, Stopping::Log, Leaves::Written)
 }
 
-// Lets a file stop at its first call, at its second, and so on, until a run ends with no stop, and
-// prints how many stops there were. The log is written by each command that isn't refused, so there
-// each of these is stopped by some run.
+// Lets a file stop at its first call, at its second, and so on, until a run ends without a stop,
+// and prints how many stops there were. Each command that isn't refused writes the log, so where
+// the log stops, some run stops each of them.
 fn no_stop_loses_an_answer(
     rt: &HostRuntime,
     stopping: Stopping,
@@ -141,7 +141,8 @@ fn no_stop_loses_an_answer(
     goes_on_after_stops(rt, &story, stops)
 }
 
-// After one of how many stops the next open stops, too: `STOPS_EVERY` says so in `make stops`.
+// The next open stops, too, after one of this many stops. In `make stops`, `STOPS_EVERY` gives the
+// number.
 fn every(rt: &HostRuntime) -> u64 {
     match env::var(rt, "STOPS_EVERY") {
         Ok(text) => text.as_str().parse::<u64>().unwrap_or(EVERY),
@@ -177,7 +178,7 @@ fn show_places(rt: &HostRuntime, commands: usize, stopped: &[usize]) {
     );
 }
 
-// How many stops came where so many commands were answered.
+// How many stops came after this many commands were answered.
 fn count_at(stopped: &[usize], commands: usize) -> usize {
     let mut count = 0usize;
     for answered in stopped {
@@ -202,7 +203,7 @@ fn make_stops<D: StoppingDisk>(
     Err(Fail::new(format_args!("it stops after {MOST_CALLS} calls, too")))
 }
 
-// Whether a run is stopped where what stops passes so many calls. What it leaves goes on.
+// Whether a run is stopped where the files that stop pass this many calls. What it leaves goes on.
 fn is_stopped_after<D: StoppingDisk>(
     alloc: Global,
     calls: u64,
@@ -225,7 +226,7 @@ fn is_stopped_after<D: StoppingDisk>(
     Ok(is_stopped)
 }
 
-// What a stop leaves goes on, and where the next open is to stop, too, it does so first.
+// What a stop leaves goes on. Where the next open is to stop, too, it stops first.
 fn after_the_stop<D: StoppingDisk>(
     alloc: Global,
     calls: u64,
@@ -242,7 +243,7 @@ fn after_the_stop<D: StoppingDisk>(
     goes_on(alloc, calls, left, story, answered)
 }
 
-// Lets opens of what a stop left stop, and counts them.
+// Lets opens of what a stop left stop, and counts these stops.
 fn stop_opens<D: StoppingDisk>(
     alloc: Global,
     left: &Files<D>,
@@ -256,8 +257,8 @@ fn stop_opens<D: StoppingDisk>(
     Ok(())
 }
 
-// How many stops an open of what a stop left has. After each of them what the first one left is
-// shown, and so it is where none comes.
+// How many stops an open of what a stop left has. After each of them, and where there is none, the
+// registry shows what the first stop left.
 fn stops_of_open<D: StoppingDisk>(
     alloc: Global,
     left: &Files<D>,
@@ -273,7 +274,7 @@ fn stops_of_open<D: StoppingDisk>(
     Err(Fail::new(format_args!("an open stops after {MOST_CALLS} calls, too")))
 }
 
-// Whether an open is stopped where what stops passes so many calls.
+// Whether an open is stopped where the files that stop pass this many calls.
 fn is_open_stopped<D: StoppingDisk>(
     alloc: Global,
     calls: u64,
@@ -318,7 +319,7 @@ fn shows_left<D: Disk + Drop>(
     shows(alloc, calls, registry, story, answered)
 }
 
-// A registry shows what so many answered commands made, or one more.
+// A registry shows what this many answered commands made, or one more.
 fn shows<S: Alter + Drop>(
     alloc: Global,
     calls: u64,
@@ -335,7 +336,7 @@ fn shows<S: Alter + Drop>(
     )
 }
 
-// Whether a registry shows what so many commands made, and whether it shows what one more made.
+// Whether a registry shows what this many commands made, and whether it shows what one more made.
 fn shown_by<S: Alter>(
     alloc: Global,
     registry: &mut Registry<S>,
@@ -349,12 +350,12 @@ fn shown_by<S: Alter>(
     })
 }
 
-// Whether these are what the queries show after so many commands.
+// Whether the queries show these after this many commands.
 fn is_at(shown: &[Vec<Outcome>], commands: usize, found: &Vec<Outcome>) -> bool {
     shown.get(commands) == Some(found)
 }
 
-// Each command that isn't refused is among those that were stopped, if it writes what stops.
+// Each command that isn't refused was stopped in some run, if it writes the file that stops.
 fn are_stopped(story: &Story, stopping: Stopping, stopped: &[usize]) -> Result<(), Fail> {
     if matches!(stopping, Stopping::Database) {
         return Ok(());
@@ -532,7 +533,7 @@ fn holds_all<S: Alter + Drop>(
     holds(alloc, calls, &mut registry, story, answered)
 }
 
-// A registry holds what so many answered commands made, or one more, and the commands that follow
+// A registry holds what this many answered commands made, or one more, and the commands that follow
 // are answered as in memory.
 fn holds<S: Alter>(
     alloc: Global,
@@ -551,8 +552,8 @@ fn holds<S: Alter>(
     follow(alloc, calls, registry, story, answered.saturating_add(1))
 }
 
-// Whether the stopped command is answered as in memory: for the first time where it wasn't done, and
-// as it is asked once more where it was. After the last command there is none.
+// Whether the stopped command is answered as in memory: as for the first time where it wasn't done,
+// and as when it is asked again where it was. After the last command there is none.
 fn is_told_again<S: Alter>(
     alloc: Global,
     registry: &mut Registry<S>,
@@ -569,8 +570,8 @@ fn is_told_again<S: Alter>(
     (shown.is_before && is_first) || (shown.is_after && is_again)
 }
 
-// The commands from this place on are answered as in memory, and then all is shown that the last one
-// leaves there.
+// The commands from this place on are answered as in memory, and then the registry shows everything
+// that the last one leaves there.
 fn follow<S: Alter>(
     alloc: Global,
     calls: u64,
@@ -605,7 +606,7 @@ fn is_answered_at<S: Alter>(
     }
 }
 
-// All is shown that the last command leaves in memory.
+// The registry shows everything that the last command leaves in memory.
 fn shows_the_end<S: Alter>(
     alloc: Global,
     calls: u64,

@@ -1,4 +1,4 @@
-//! Statements on a table of another database than the registry's, and rows that are read as values
+//! Statements on a table of a database other than the registry's, and rows that are read as values
 //! of a struct.
 
 ghost use Rattle.std.specs.Prelude.{◌≡◌, false, ℕ, List, string_bytes};
@@ -34,22 +34,22 @@ impl RowKind for Count {
     }
 }
 
-/// What is done with the table, after those before it.
+/// What is done with the table, in the state that earlier calls left.
 #[derive(Clone, Copy, Debug)]
 enum Call {
     /// A statement that writes is run.
     Write(&'static str),
     /// A word is put with its times.
     Put(&'static str, i64),
-    /// A query is run, and so many rows are given.
+    /// A query is run, and its rows are counted.
     Read(&'static str),
     /// All rows of a query are read as words, each with its times.
     All(&'static str),
-    /// The first one is.
+    /// The first row of a query is read in the same way.
     First(&'static str),
 }
 
-/// Calls, and what each answers.
+/// Calls, and what each returns.
 static CALLS: [(Call, Result<&str, Fault>); 15] = [
     (
         Call::Write(

@@ -1,5 +1,5 @@
-//! Calls on an empty database, with enough memory. No contract says that one ever succeeds: here
-//! each does, and shows what the calls before it put.
+//! Calls on an empty database, with enough memory. No contract says that a call ever succeeds: here
+//! each call does, and shows what the calls before it put.
 
 mod call;
 mod rights;
@@ -55,7 +55,8 @@ fn walks_give_the_live_versions(rt: HostRuntime) -> Result<(), Fail> {
     all_give(rt.alloc(), &WALKS)
 }
 
-/// The body of `kit` 1.0.0 that names `pad` with one range in two members, and `kid` with two.
+/// The body of `kit` 1.0.0, which names `pad` with the same range in two members, and `kid` with
+/// two ranges.
 const NEEDS_BODY: &str =
     r#"{"name":"kit","versions":{"1.0.0":{"name":"kit","version":"1.0.0","dependencies":{"kid":"~2","pad":"^1"},"devDependencies":{"pod":"3"},"optionalDependencies":{"pad":"^1"},"peerDependencies":{"kid":"2.1"}}},"_attachments":{"a":{"data":"YWJj"}}}"#;
 

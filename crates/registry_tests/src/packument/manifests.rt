@@ -1,5 +1,5 @@
-//! What is a manifest: a text that is read into an object, and no other. What `serde_json` 1.0 of
-//! Rust reads into one decides.
+//! What a manifest is: a text that can be read into an object, and nothing else. The crate
+//! `serde_json` 1.0 of Rust decides what can.
 
 use crate::outcome::same;
 use crate::packument::{VersionCase, head, source, versions};
@@ -40,7 +40,7 @@ static MANIFESTS: [&str; 6] = [
     r#"{"z":[[],{},"\ud83d\ude00",true,false,null],"a":""}"#,
 ];
 
-// Sees that a manifest has a document, or none by this fault.
+// Checks that a manifest has a document, or none because of this fault.
 fn has_fault(rt: &impl Abort, alloc: Global, manifest: &str, message: &str, fault: &Option<Fault>) {
     let came_out = version_text(alloc, manifest, message).err();
     same(rt, &(manifest, message), &came_out, fault);
@@ -67,7 +67,7 @@ fn a_manifest_is_its_document(rt: HostRuntime) {
     }
 }
 
-// An object of arrays in one another, so many.
+// An object of arrays in one another, this many deep.
 fn nested(rt: &impl Abort, alloc: Global, depth: usize) -> String {
     let opened = repeated(rt, alloc, "[", depth);
     let closed = repeated(rt, alloc, "]", depth);
@@ -96,19 +96,19 @@ fn a_manifest_nests_127_deep(rt: HostRuntime) {
 const PREFIX: &str =
     r#"{"_id":"kit","dist-tags":{},"name":"kit","time":{"created":"1970-01-01T00:01:40.000Z","modified":"1970-01-01T00:03:20.000Z"},"versions":{"1.0.0":{}"#;
 
-// Sees that these rows have no text.
+// Checks that these rows have no text.
 fn has_no_text(rt: &impl Abort, alloc: Global, head: &PackHead, rows: &[VersionCase]) {
     let told = packument_text(alloc, head, &mut source(rt, alloc, rows)).err();
     same(rt, rows, &told, &Some(Fault::Database));
 }
 
-// Sees that no length of them is.
+// Checks that their length can't be counted.
 fn has_no_length(rt: &impl Abort, alloc: Global, head: &PackHead, rows: &[VersionCase]) {
     let counted = packument_len(alloc, head, &mut source(rt, alloc, rows));
     same(rt, rows, &counted, &Err(Fault::Database));
 }
 
-// Sees that what comes before the one out of form is written.
+// Checks that what comes before the manifest that isn't in form is written.
 fn has_a_prefix(rt: &impl Abort, alloc: Global, head: &PackHead, rows: &[VersionCase]) {
     let mut out = Vec::new(alloc);
     let mut source = source(rt, alloc, rows);
@@ -117,7 +117,7 @@ fn has_a_prefix(rt: &impl Abort, alloc: Global, head: &PackHead, rows: &[Version
     same(rt, rows, as_text(&out), PREFIX);
 }
 
-// Sees that where a manifest follows one in form, there is no packument.
+// Checks that where such a manifest follows one in form, there is no packument.
 fn is_no_packument(
     rt: &impl Abort,
     alloc: Global,

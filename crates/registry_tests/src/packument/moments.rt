@@ -44,9 +44,9 @@ fn moments_are_dates_and_times(rt: HostRuntime) {
     }
 }
 
-/// When versions were withdrawn that were published at these moments, and the last of these
-/// withdrawals; and when the package was created and modified then, if there is a version. A version
-/// that lives was published at 100.
+/// When the versions that were withdrawn had been published, the last of these withdrawals, the
+/// live versions, and when the package was created and modified, if there is a version. A live
+/// version was published at 100.
 type Span = (
     &'static [i64],
     Option<i64>,

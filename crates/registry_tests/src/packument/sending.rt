@@ -14,13 +14,13 @@ use std::process::Abort;
 /// More calls than a source of three versions is asked.
 const ALL: u32 = 9;
 
-/// What is said before a packument of as many bytes as the case has.
+/// What is written before a packument of as many bytes as the case has.
 const COUNTED: &str = "as long as it was counted\n";
 
-/// What is said before any other.
+/// What is written before any other packument.
 const OTHER: &str = "of another length\n";
 
-/// Says before a packument whether it has as many bytes as the case.
+/// Writes before a packument whether it has as many bytes as the case.
 #[derive(Drop)]
 struct Counted {
     len: u64,
@@ -43,8 +43,8 @@ fn narrow(alloc: Global, room: usize) -> Narrow {
     }
 }
 
-// How the packument is sent that was counted to have so many bytes, from a source that answers so
-// many calls, to a writer that takes what it has room for.
+// How the packument is sent that was counted to have this many bytes, from a source that answers
+// this many calls, to a writer that takes what it has room for.
 fn sent_to(rt: &impl Abort, alloc: Global, answers: u32, len: u64, writer: &mut Narrow) -> Sent {
     let head = head(rt, alloc, "kit", KIT_TAGS, KIT_VERSIONS);
     let mut source = Failing {
@@ -63,7 +63,7 @@ fn sent_to(rt: &impl Abort, alloc: Global, answers: u32, len: u64, writer: &mut 
     )
 }
 
-// Sees how a packument is sent to a writer with this room, from a source and from its text.
+// Checks how a packument is sent to a writer with this room, from a source and from its text.
 fn both_sent(rt: &impl Abort, alloc: Global, room: usize, sent: Sent, written: &str) {
     let len = KIT.len() as u64;
     let mut counted = narrow(alloc, room);
@@ -87,7 +87,7 @@ fn packuments_are_sent_to_any_writer(rt: HostRuntime) {
     both_sent(&rt, alloc, whole.len(), Sent::Whole, whole.as_str());
 }
 
-// Sees that a prefix of the packument is sent, and not all of it, and then a fault comes.
+// Checks that a proper prefix of the packument is sent, and then a fault is returned.
 fn is_broken_off(rt: &impl Abort, alloc: Global, answers: u32, len: u64) {
     let mut narrow = narrow(alloc, usize::MAX);
     let sent = sent_to(rt, alloc, answers, len, &mut narrow);

@@ -1,4 +1,4 @@
-//! Packuments from sources in memory, to writers that take all, or fail somewhere.
+//! Packuments from sources in memory, to writers that take everything, or fail somewhere.
 
 ghost use Rattle.std.specs.Prelude.{Some, if◌then◌else◌};
 ghost use Rattle.registry_names.specs.declared.stop.Fault.TheVariants.{Database};
@@ -15,7 +15,7 @@ use std::io;
 use std::io::{ErrorKind, Write};
 use std::process::Abort;
 
-/// A source that answers so many calls of another, and then with a fault.
+/// A source that answers this many calls of another, and then with a fault.
 #[derive(Drop)]
 pub(super) struct Failing<S> {
     pub(super) source: S,
@@ -53,7 +53,7 @@ impl<S: VersionSource> VersionSource for Failing<S> {
     }
 }
 
-/// A writer that takes so many bytes, and then fails.
+/// A writer that takes this many bytes, and then fails.
 #[derive(Drop)]
 pub(super) struct Narrow {
     pub(super) taken: Vec<u8>,
@@ -90,8 +90,8 @@ pub(super) const KIT: &str =
 pub(super) const KIT_WITHOUT_VERSIONS: &str =
     r#"{"_id":"kit","dist-tags":{"latest":"1.1.0"},"name":"kit","time":{"created":"1970-01-01T00:01:40.000Z","modified":"1970-01-01T00:03:20.000Z"},"versions":{}}"#;
 
-/// Versions, from a source that answers so many calls, to a writer that takes so many bytes; what
-/// is written then; and how that ends.
+/// Versions, from a source that answers this many calls, to a writer that takes this many bytes;
+/// what is written then; and how that ends.
 #[derive(Drop)]
 struct Case {
     versions: &'static [VersionCase],
@@ -115,7 +115,7 @@ fn is_told(rt: &impl Abort, alloc: Global, shows: &str, case: &Case) {
     is_written(rt, alloc, shows, &head, case);
 }
 
-// A length is given where the source has no fault, whatever the writer does.
+// A length is returned where the source has no fault, whatever the writer does.
 fn is_counted(rt: &impl Abort, alloc: Global, shows: &str, head: &PackHead, case: &Case) {
     let came_out = packument_len(alloc, head, &mut source_of(rt, alloc, case));
     let wanted = match case.end {
@@ -138,7 +138,7 @@ fn is_written(rt: &impl Abort, alloc: Global, shows: &str, head: &PackHead, case
     stays(rt, alloc, shows, &mut source);
 }
 
-// The source, where it failed, fails again.
+// A source that failed fails again.
 fn stays(rt: &impl Abort, alloc: Global, shows: &str, source: &mut Failing<VersionRows>) {
     if source.answers == 0 {
         same(rt, shows, &source.next(alloc).err(), &Some(Fault::Database));

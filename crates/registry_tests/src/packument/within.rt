@@ -1,4 +1,4 @@
-//! Packuments in one walk: the text within a limit, and else how many bytes it has.
+//! Packuments in one walk: the text within a limit, and otherwise how many bytes it has.
 
 use crate::outcome::same;
 use crate::packument::stream::{Failing, KIT, KIT_TAGS, KIT_VERSIONS, KIT_WITHOUT_VERSIONS};
@@ -16,7 +16,7 @@ type Row = (&'static [VersionCase], &'static str);
 
 static WHOLE: [Row; 2] = [(KIT_VERSIONS, KIT), (&[], KIT_WITHOUT_VERSIONS)];
 
-// What is given of the packument of these versions, from a source that answers so many calls.
+// What is returned for the packument of these versions, from a source that answers this many calls.
 fn given(
     rt: &impl Abort,
     alloc: Global,
@@ -33,7 +33,7 @@ fn given(
     packument_within(alloc, &head, &mut source, limit)
 }
 
-// Sees that the text is given.
+// Checks that the text is returned.
 fn is_text(rt: &impl Abort, alloc: Global, row: &Row, limit: u64) {
     let (versions, text) = row;
     match given(rt, alloc, versions, ALL, limit) {
@@ -43,7 +43,7 @@ fn is_text(rt: &impl Abort, alloc: Global, row: &Row, limit: u64) {
     }
 }
 
-// Sees that only the length of the text is given.
+// Checks that only the length of the text is returned.
 fn is_longer(rt: &impl Abort, alloc: Global, row: &Row, limit: u64) {
     let (versions, text) = row;
     match given(rt, alloc, versions, ALL, limit) {
@@ -72,10 +72,10 @@ fn a_packument_above_a_limit_is_a_length(rt: HostRuntime) {
     }
 }
 
-/// Limits that are passed before the first version, by the second of three, and by none.
+/// Limits that are passed before the first version, by the second of three, and never.
 static LIMITS: [u64; 3] = [0, 300, u64::MAX];
 
-// Sees that a fault comes, whatever the limit.
+// Checks that a fault is returned, whatever the limit.
 fn fails(rt: &impl Abort, alloc: Global, versions: &[VersionCase], answers: u32) {
     for limit in &LIMITS {
         let fault = given(rt, alloc, versions, answers, *limit).err();

@@ -6,10 +6,10 @@ use registry_publish::{Need, needs_of};
 use std::alloc::Global;
 use std::process::Abort;
 
-/// A target, and the range of it that is needed.
+/// A target, and the range that is needed of it.
 type NeedCase = (&'static str, &'static str);
 
-// Sees that these are the targets and the ranges of the needs, in their order.
+// Checks that these are the targets and the ranges of the needs, in their order.
 fn are_needed(rt: &impl Abort, shows: &str, needs: &[Need], wanted: &[NeedCase]) {
     same(rt, shows, &needs.len(), &wanted.len());
     for (need, case) in needs.iter().zip(wanted) {
@@ -60,7 +60,7 @@ fn is_told(rt: &impl Abort, alloc: Global, case: &Manifest) {
     }
 }
 
-// Sees that a manifest is to have these needs.
+// Checks that a manifest has these needs.
 fn has_needs(
     rt: &impl Abort,
     manifest: &str,

@@ -1,5 +1,5 @@
-//! The table agrees with the crate `matchit`, where that can say what the table does: it has no
-//! scopes of two segments, no file names of two, and knows `-` as any other name.
+//! The table agrees with the crate `matchit`, where that can express what the table does: it has no
+//! scopes of two segments, no file names of two, and treats `-` like any other name.
 
 use crate::outcome::same;
 use crate::parts::concat;
@@ -47,7 +47,7 @@ static ROWS: [Row; 24] = [
 
 static METHODS: [Method; 5] = [Get, Put, Post, Delete, Other];
 
-// Segments, none of which begins a scope.
+// Segments that don't begin a scope.
 static SEGMENTS: [&str; 6] = ["kit", "@lab%2Fkit", "-", "org", "team", "%2d"];
 
 static PREFIXES: [&str; 4] = ["/-/package", "/-/org", "/-/team", "/-/grant"];
@@ -97,13 +97,13 @@ fn names_package(endpoint: Endpoint) -> bool {
     matches!(endpoint, Packument | Publish | VersionDoc | Archive)
 }
 
-// Sees that both say the same of a path.
+// Checks that both say the same of a path.
 fn agree(rt: &impl Abort, router: &Router<Endpoint>, method: Method, path: &str) {
     let came_out = route_of(method, path.as_bytes());
     same(rt, &(method, path), &came_out, &found(router, path));
 }
 
-// Sees that they do of each path of a prefix and one segment.
+// Checks that they do for each path of a prefix and one segment.
 fn agree_behind(
     rt: &impl Abort,
     alloc: Global,
@@ -118,7 +118,7 @@ fn agree_behind(
     }
 }
 
-// Sees that they do of each path of a prefix and one or two segments.
+// Checks that they do for each path of a prefix and one or two segments.
 fn agree_on_two(
     rt: &impl Abort,
     alloc: Global,
@@ -134,7 +134,7 @@ fn agree_on_two(
     }
 }
 
-// Sees that they do of each path of a prefix and one to three of these segments.
+// Checks that they do for each path of a prefix and one to three of these segments.
 fn agree_on(
     rt: &impl Abort,
     alloc: Global,

@@ -1,4 +1,4 @@
-//! Whole connections, by a service that knows one package and nobody.
+//! Whole connections, with a service that knows one package and nobody.
 
 ghost use Rattle.std.specs.Prelude.{None, false};
 
@@ -15,7 +15,8 @@ use std::alloc::Global;
 use std::io::ErrorKind;
 use std::process::Abort;
 
-/// A service that shows the tags of any package to who shows a token, and has a fault for teams.
+/// A service that shows the tags of any package to a caller who shows a token, and has a fault for
+/// teams.
 #[derive(Drop)]
 pub struct FixedTags {
     pub asked: Vec<i64>,
@@ -61,7 +62,7 @@ impl PackumentService for FixedTags {
     }
 }
 
-/// A clock that goes on by a second each time.
+/// A clock that advances by a second each time.
 #[derive(Drop)]
 pub struct Steps {
     pub next: i64,
@@ -77,7 +78,7 @@ impl Clock for Steps {
     }
 }
 
-// Input, what is written of it, how many requests are answered, and how it ends.
+// Input, what is written in answer to it, how many requests are answered, and how it ends.
 pub type Case = (&'static str, &'static str, u32, End);
 
 fn is_served<R: ByteIn + Drop>(
@@ -190,7 +191,7 @@ const NONE_SERVED: Served = Served {
     end: End::ReadFault,
 };
 
-/// What is shown, how reads fail, how many do, what is written, and how it ends.
+/// What a case shows, how reads fail, how many do, what is written, and how it ends.
 type Failed = (&'static str, ErrorKind, u32, &'static str, Served);
 
 static FAILED_READS: [Failed; 3] = [
@@ -223,7 +224,7 @@ fn interrupted_reads_are_tried_again(rt: HostRuntime) {
     }
 }
 
-// Sees how a connection of two requests ends where so many bytes are taken.
+// Checks how a connection of two requests ends where this many bytes are taken.
 fn is_cut(rt: &impl Abort, alloc: Global, limit: usize, requests: u32) {
     let two = repeated(rt, alloc, TAGS, 2);
     let mut service = FixedTags {

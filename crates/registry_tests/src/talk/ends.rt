@@ -1,6 +1,7 @@
-//! Connections that end by what comes on them: by what is no request, by the limits, and by reads
-//! that fail. Each case is served with all bytes at once, and with one byte a read. What a registry
-//! answers then is in the stories of HTTP; here is seen what is asked of the service at all.
+//! Connections that end by what comes on them: by input that isn't a request, by the limits, and by
+//! reads that fail. Each case is served with all bytes at once, and with one byte a read. The
+//! stories of HTTP have what a registry answers then; these tests show whether the service is asked
+//! at all.
 
 use super::connections::{CUT_OUT, FixedTags, Steps, TAGS, TAGS_OUT};
 use super::source::Source;
@@ -21,16 +22,16 @@ const LAST_OUT: &str =
 const LARGE_OUT: &str =
     "HTTP/1.1 413 Payload Too Large\r\ncontent-type: application/json\r\ncontent-length: 20\r\nconnection: close\r\n\r\n{\"error\":\"TooLarge\"}";
 
-/// What comes on a connection, and what comes of it.
+/// What comes on a connection, and what happens then.
 #[derive(Clone, Copy)]
 struct Case<'a> {
-    /// All that comes.
+    /// Everything that comes.
     input: &'a str,
     /// How many reads are interrupted before it.
     interruptions: u32,
     /// Whether a read after it fails.
     breaks: bool,
-    /// All that is answered.
+    /// Everything that is answered.
     output: &'a str,
     /// How many requests are answered.
     requests: u32,
@@ -40,7 +41,7 @@ struct Case<'a> {
     end: End,
 }
 
-/// What is no request, for the sake of its head or of its body.
+/// Input that isn't a request because of its head or of its body.
 static BAD_INPUTS: [&str; 6] = [
     "GET /kit HTTP/1.1\r\nhost: l",
     "PUT /kit HTTP/1.1\r\ncontent-length: +3\r\n\r\nabc",
@@ -56,7 +57,7 @@ static LARGE: [&str; 2] = [
     "PUT /kit HTTP/1.1\r\ncontent-length: 18446744073709551616\r\n\r\n",
 ];
 
-// Sees that all comes out as the case has it, where the input comes in pieces of so many bytes.
+// Checks that a case comes out as wanted, where the input comes in pieces of this many bytes.
 fn comes_out(rt: &impl Abort, alloc: Global, case: &Case<'_>, piece_len: usize) {
     let mut service = FixedTags {
         asked: Vec::new(alloc),
@@ -87,7 +88,7 @@ fn both_come_out(rt: &impl Abort, alloc: Global, case: &Case<'_>) {
     comes_out(rt, alloc, case, 1);
 }
 
-// Sees that nothing is asked of the service, and this is answered.
+// Checks that nothing is asked of the service, and this is answered.
 fn is_turned_away(rt: &impl Abort, alloc: Global, input: &str, breaks: bool, output: &str) {
     let case = Case {
         input,

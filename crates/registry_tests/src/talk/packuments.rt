@@ -24,8 +24,8 @@ enum Break {
     BehindItsHead,
 }
 
-/// A service that sends one packument, whichever is asked for, behind a head, and answers nothing
-/// else.
+/// A service that sends one packument after a head, whichever packument is asked for, and answers
+/// nothing else.
 #[derive(Drop)]
 struct OnePackument {
     breaks: Break,
@@ -126,7 +126,7 @@ static CASES: [Case; 3] = [
     ),
 ];
 
-// Sees that all comes out as the case has it.
+// Checks that a case comes out as wanted.
 fn comes_out(rt: &impl Abort, alloc: Global, case: &Case) {
     let (breaks, input, output, asked, requests, end) = case;
     let mut service = OnePackument {
@@ -154,7 +154,7 @@ fn packuments_are_sent_behind_their_head(rt: HostRuntime) {
     }
 }
 
-// Sees that as many bytes are written as are taken, of the response to one request.
+// Checks that as many bytes of the response to one request are written as are taken.
 fn is_cut(rt: &impl Abort, alloc: Global, limit: usize) {
     let mut service = OnePackument {
         breaks: Break::Nowhere,

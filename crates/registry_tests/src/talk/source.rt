@@ -3,8 +3,8 @@
 use std::io;
 use std::io::{ErrorKind, Read};
 
-/// A reader that is interrupted so many times and then gives a text, in pieces of so many bytes at
-/// most. After the text it ends, or breaks.
+/// A reader that is interrupted this many times, and then gives a text, in pieces of at most this
+/// many bytes. After the text it ends, or breaks.
 #[derive(Drop)]
 pub struct Source<'a> {
     pub interruptions: u32,

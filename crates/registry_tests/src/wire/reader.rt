@@ -1,4 +1,4 @@
-//! Readers and writers that give and take one byte a call, that are interrupted, and that fail.
+//! Readers and writers that handle one byte a call, that are interrupted, and that fail.
 
 use std::io;
 use std::io::{ErrorKind, Read, Write};
@@ -23,7 +23,7 @@ impl Read for Drip<'_> {
     }
 }
 
-/// A reader whose first reads fail with this kind of error, and that gives a text then.
+/// A reader whose first reads fail with this kind of error, and that then gives a text.
 #[derive(Drop)]
 pub struct Faltering<'a> {
     pub text: &'a [u8],
@@ -41,7 +41,7 @@ impl Read for Faltering<'_> {
     }
 }
 
-/// A reader that fails once each time when it has given half of what is left.
+/// A reader that fails once each time it has given half of what is left.
 #[derive(Drop)]
 pub struct Halting<'a> {
     pub front: &'a [u8],

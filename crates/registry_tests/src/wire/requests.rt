@@ -1,4 +1,4 @@
-//! What bytes spell, where no answer shows it. What one shows is in the stories of HTTP.
+//! What bytes spell, where no answer shows it. The stories of HTTP have what an answer shows.
 
 use super::reader::{Drip, Faltering, Halting};
 use crate::outcome::same;
@@ -11,7 +11,7 @@ use std::alloc::Global;
 use std::io::ErrorKind;
 use std::process::Abort;
 
-// A request in a line: its method, its target, its authorization, its body, and whether it is the
+// A request as a line: its method, its target, its authorization, its body, and whether it is the
 // last of its connection.
 fn asked(rt: &impl Abort, alloc: Global, wanted: &Wanted) -> String {
     let method = shown(rt, alloc, &wanted.method);
@@ -35,7 +35,7 @@ fn authorization(wanted: &Wanted) -> &str {
     }
 }
 
-// What a read of a request gave, in a line.
+// What a read of a request gave, as a line.
 fn told(rt: &impl Abort, alloc: Global, taken: &Taken) -> String {
     match taken {
         Taken::Whole(wanted) => asked(rt, alloc, wanted),
@@ -46,7 +46,7 @@ fn told(rt: &impl Abort, alloc: Global, taken: &Taken) -> String {
     }
 }
 
-// Sees that the next read gives this.
+// Checks that the next read gives this.
 fn is_read<R: ByteIn + Drop>(
     rt: &impl Abort,
     alloc: Global,
@@ -58,7 +58,7 @@ fn is_read<R: ByteIn + Drop>(
     same(rt, case, told(rt, alloc, &taken).as_str(), wanted);
 }
 
-// Sees that reads give these, one after the other.
+// Checks that reads give these, one after the other.
 fn all_read<R: ByteIn + Drop>(
     rt: &impl Abort,
     alloc: Global,
@@ -72,14 +72,14 @@ fn all_read<R: ByteIn + Drop>(
     }
 }
 
-// The same where all bytes come at once, and where each read gives one.
+// The same, both where all bytes come at once and where each read gives one byte.
 fn both_read(rt: &impl Abort, alloc: Global, input: &[u8], wanted: &[&str]) {
     let case = as_text(input);
     all_read(rt, alloc, case, FromRead::new(input), wanted);
     all_read(rt, alloc, case, FromRead::new(Drip { text: input }), wanted);
 }
 
-// Input, and what reads of it give one after the other.
+// Input, and what reads of it give, one after the other.
 type Case = (&'static str, &'static [&'static str]);
 
 fn all_come_out(rt: &impl Abort, alloc: Global, cases: &[Case]) {
@@ -88,8 +88,8 @@ fn all_come_out(rt: &impl Abort, alloc: Global, cases: &[Case]) {
     }
 }
 
-// What a connection doesn't show, since it ends: what a read gives after the end of what comes,
-// after what is no request, and after the last request.
+// What a connection doesn't show, because it ends: what a read gives after the end of the input,
+// after input that isn't a request, and after the last request.
 static READ_AGAIN: [Case; 4] = [
     ("", &["closed", "closed"]),
     ("GET /kit HTTP/1.1\r\nhost: l", &["BadBody", "BadBody"]),
@@ -115,7 +115,7 @@ fn reads_go_on_after_an_end(rt: HostRuntime) {
 
 static KIT: &str = "GET /kit HTTP/1.1\r\n\r\n";
 
-// A reader whose first reads fail, and that gives a request then.
+// A reader whose first reads fail, and that then gives a request.
 fn faltering(kind: ErrorKind, failures: u32) -> FromRead<Faltering<'static>> {
     FromRead::new(Faltering {
         text: KIT.as_bytes(),
@@ -124,7 +124,7 @@ fn faltering(kind: ErrorKind, failures: u32) -> FromRead<Faltering<'static>> {
     })
 }
 
-// What is shown, how many reads are interrupted, and what reads of requests give.
+// What a case shows, how many reads are interrupted, and what reads of requests give.
 static INTERRUPTED: [(&str, u32, &[&str]); 3] = [
     ("999", 999, &["Get|/kit|||", "closed"]),
     ("1,000", 1_000, &["a read failed", "Get|/kit|||"]),
@@ -154,8 +154,8 @@ fn a_failed_read_loses_nothing(rt: HostRuntime) {
     }
 }
 
-// What comes at once, and what reads of it give, where the next call of the reader fails: what is
-// whole or refused is answered before that call.
+// What comes at once, and what reads of it give, where the next call of the reader fails: input
+// that is whole or refused is answered before that call.
 static ANSWERED_AT_ONCE: [Case; 4] = [
     (
         "GET /kit HTTP/1.1\r\n\r\n",
@@ -187,7 +187,7 @@ fn nothing_is_read_after_a_whole_request(rt: HostRuntime) {
     }
 }
 
-// What bytes that have come say of the first request, in a line with its length.
+// What bytes that have come say of the first request, as a line with its length.
 fn said(rt: &impl Abort, alloc: Global, bytes: &[u8]) -> String {
     let first = first_in(alloc, bytes).expect(rt, "memory");
     line_of(rt, alloc, bytes, &first)
@@ -253,7 +253,7 @@ static COMING: [&[u8]; 24] = [
     b"GET / HTTP/1.1\r\n\rhost: a\r\n\r\n",
 ];
 
-// Sees that these bytes say the same of the first request if they come one by one.
+// Checks that these bytes say the same of the first request where they come one by one.
 fn says_the_same(rt: &impl Abort, alloc: Global, bytes: &[u8]) {
     let mut incoming = Incoming::new(alloc);
     for byte in bytes {

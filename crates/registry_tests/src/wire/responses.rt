@@ -1,4 +1,4 @@
-//! The bytes of responses that no story shows, and of one that is cut.
+//! The bytes of responses that no story shows, and of a response that is cut.
 
 use super::reader::Narrow;
 use crate::outcome::same;
@@ -39,7 +39,7 @@ static CASES: [Case; 4] = [
     ),
 ];
 
-// What is written of the case's response where so many bytes are taken, one a call.
+// What is written of the case's response where this many bytes are taken, one a call.
 fn is_written(
     rt: &impl Abort,
     alloc: Global,

@@ -1,4 +1,4 @@
-//! A check of a registry whose rows were changed by another hand.
+//! A check of a registry whose rows something else changed.
 
 use super::{Case, Failing, forget, leaves_it, path, with_db};
 use crate::tests::at_path::number_at;

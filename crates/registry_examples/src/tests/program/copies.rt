@@ -22,7 +22,7 @@ fn a_copy_is_one_file_with_all_of_the_registry(rt: HostRuntime) -> Result<(), Fa
     same("the bytes", again == copy, true)
 }
 
-// The copy of the registry in a file without a log, once it was asked the requests of a text, and
+// The copy of the registry in a file without a log, after it was asked the requests of a text, and
 // what it answers for the tags of `@lab/kit`.
 fn copy_of(alloc: Global, db: Memory, text: &str) -> Result<(Vec<u8>, Outcome), Fail> {
     let files = Files {
@@ -52,7 +52,7 @@ fn copied<D: Disk + Drop>(
     }
 }
 
-// What a registry answers for the tags of `@lab/kit`, once it was asked the requests of a text.
+// What a registry answers for the tags of `@lab/kit`, after it was asked the requests of a text.
 fn tags_after<S: Alter>(
     alloc: Global,
     registry: &mut Registry<S>,

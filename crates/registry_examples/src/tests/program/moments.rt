@@ -30,14 +30,14 @@ const BEGINS: u64 = 1_700_000_000;
 const TAGS: &str =
     "GET /-/package/@lab%2fkit/dist-tags HTTP/1.1\r\nauthorization: Bearer npm_bob_000000001\r\n\r\n";
 
-/// What it is answered.
+/// The answer to it.
 const TAGS_OUT: &str =
     "HTTP/1.1 200 OK\r\ncontent-type: application/json\r\ncontent-length: 18\r\n\r\n{\"latest\":\"1.0.0\"}";
 
 const CREATED: &str =
     "HTTP/1.1 201 Created\r\ncontent-type: application/json\r\ncontent-length: 11\r\n\r\n{\"ok\":true}";
 
-/// What makes the user `bob`, who has a token.
+/// The commands that make the user `bob`, who has a token.
 static BEGINNING: [&'static [&'static str]; 2] = [
     &["--operator", "user-add", "bob"],
     &["--operator", "token-add", "bob", BOBS_TOKEN],
@@ -122,7 +122,7 @@ fn withdraw_text(alloc: Global) -> Result<String, AllocError> {
     )
 }
 
-/// A clock that jumps by so many seconds whenever the moment is read.
+/// A clock that jumps by this many seconds whenever the moment is read.
 #[derive(Drop)]
 struct Jumping<'a> {
     rt: &'a HostRuntime,
@@ -142,7 +142,7 @@ impl Clock for Jumping<'_> {
     }
 }
 
-/// So many seconds pass between a publish and the withdrawal, and what that is answered.
+/// How many seconds pass between a publish and the withdrawal, and the answer to that.
 static JUMPS: [(u64, &str); 2] = [
     (
         259_199,
@@ -173,15 +173,15 @@ fn a_server_answers_two_clients_at_a_registry(rt: HostRuntime) -> Result<(), Fai
     same("two clients", answers.as_str(), wanted.as_str())
 }
 
-// What a server answers to clients, one after the other, at a registry in memory that has been asked
-// the requests of a text. Its clock jumps by so many seconds whenever it is read.
+// What a server answers to clients, one after the other, from a registry in memory that was asked
+// the requests of a text. Its clock jumps by this many seconds whenever it is read.
 fn answers_to(rt: &HostRuntime, jump: u64, text: &str, asks: &[&str]) -> Result<String, Fail> {
     let requests = requests_of(rt.alloc(), text)?;
     let registry = Registry::in_memory(rt.alloc())?;
     answers_over(rt, jump, registry, &requests, asks)
 }
 
-// The same at any registry, which ends.
+// The same with any registry, which ends afterwards.
 fn answers_over<S: Alter + Drop>(
     rt: &HostRuntime,
     jump: u64,
@@ -218,7 +218,7 @@ fn answers_of<S: Service>(
     heard(rt.alloc(), &clients)
 }
 
-// Clients that have asked, each its text, and send no more.
+// Clients that have asked, each with its text, and send no more.
 fn clients(rt: &HostRuntime, port: u16, asks: &[&str]) -> Result<Vec<TcpStream>, Fail> {
     let mut clients = Vec::new(rt.alloc());
     for text in asks {
@@ -234,7 +234,7 @@ fn client(rt: &HostRuntime, port: u16, text: &str) -> Result<TcpStream, Fail> {
     Ok(stream)
 }
 
-// All that clients are sent, one after the other.
+// Everything that clients are sent, one after the other.
 fn heard(alloc: Global, clients: &[TcpStream]) -> Result<String, Fail> {
     let mut all = String::new(alloc);
     for client in clients {

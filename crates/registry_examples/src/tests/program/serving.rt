@@ -14,7 +14,7 @@ const ASKS: &str = "GET /kit HTTP/1.1\r\nhost: localhost\r\n\r\n";
 const ANSWER: &str =
     "HTTP/1.1 404 Not Found\r\ncontent-type: application/json\r\ncontent-length: 20\r\n\r\n{\"error\":\"NotFound\"}";
 
-/// What is said where as many connections came as were to be served.
+/// The message where as many connections came as were to be served.
 const ENOUGH: &str = "ended: as many connections came as --connections says\n";
 
 /// An output that connects a client as soon as its first bytes say where the program listens. The
@@ -37,7 +37,8 @@ impl<R: Net> Caller<'_, R> {
         Ok(client)
     }
 
-    // Whether the output was given where the program listens, and the client this answer.
+    // Whether the output was given the address at which the program listens, and the client this
+    // answer.
     fn is_answered(&mut self, alloc: Global, answer: &str) -> Result<(), Fail> {
         let wanted = format!(in alloc; "listening 127.0.0.1:{}\n{answer}", self.port)?;
         self.hear()?;
@@ -73,7 +74,7 @@ fn a_registry_in_a_file_is_served(rt: HostRuntime) -> Result<(), Fail> {
     forget(&rt, db.as_str())
 }
 
-/// Whether the program, serving the registry in this file, answers a client that asks so.
+/// Whether the program, while it serves the registry in this file, answers this to a client.
 pub(super) fn answers_client(
     rt: &HostRuntime,
     db: &str,
@@ -90,7 +91,7 @@ pub(super) fn answers_client(
     is_served(rt, db, &mut caller, answer)
 }
 
-// Whether the caller is served and given this answer, and why the program ends is said.
+// Whether the caller is served and given this answer, and the program says why it ends.
 fn is_served<R: Net>(
     rt: &HostRuntime,
     db: &str,
@@ -107,7 +108,7 @@ fn is_served<R: Net>(
     Ok(())
 }
 
-// Serves one connection, which is that of the caller, and answers the exit status.
+// Serves one connection, which is that of the caller, and returns the exit status.
 fn serve<R: Net>(
     rt: &HostRuntime,
     db: &str,

@@ -1,4 +1,4 @@
-use Rattle.registry_guests.proofs.HallFacts.{first-within, stay-within}
+use Rattle.registry_guests.proofs.GuestPoolFacts.{first-within, stay-within}
 use Rattle.registry_guests.proofs.laws.guests_hold_little.Goals as goal
 
 pub returns-clause-first : goal.returns-clause-first

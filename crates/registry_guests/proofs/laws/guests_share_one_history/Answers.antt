@@ -7,7 +7,7 @@ pub returns-clause-guests : goal.returns-clause-guests
 returns-clause-guests g c = go-on g.D.Service.answers
 
 pub returns-clause-answered : goal.returns-clause-answered
-returns-clause-answered g c = guests-follow g.S.Socket.received g.S.Socket.sent g.D.Service.answers g.S.Socket.is_ended
+returns-clause-answered g c = guests-follow g.S.Socket.received g.S.Socket.sent g.D.Service.answers g.S.Socket.has_none
 
 pub returns-clause-follows : goal.returns-clause-follows
 returns-clause-follows g c = visits-follow g.S.Socket.received g.S.Socket.sent g.D.Service.answers

@@ -1,6 +1,6 @@
 use Rattle.std.proofs.Common.{◌∙◌, All, IfErr, IsUtf8, List, ℕ, inl, inr, subst, sym}
 use Rattle.registry_guests.specs.GuestTurns.{IsUnasked}
-use Rattle.registry_guests.specs.Saying.{prints}
+use Rattle.registry_guests.specs.Outputs.{prints}
 use Rattle.registry_guests.proofs.TextFacts.{both}
 use Rattle.registry_guests.proofs.turning.line_of.Goals as goal
 
@@ -12,7 +12,7 @@ line_in-requires c =
 pub returns-in-Ok-Some-clause-err : goal.returns-in-Ok-Some-clause-err
 returns-in-Ok-Some-clause-err c =
     let p = rw c.in-Ok-Some.field-0-is at (both c.in-Ok-Some.is (both c.deref.ensures.value c.in-Ok-Some.ensures.some)) in
-    subst (λ (ws : List (List ℕ)). IfErr c.line_in.result (λ said. IsUnasked ws (prints said))) (p.1.0 ∙ p.1.1.0) c.line_in.ensures.err
+    subst (λ (ws : List (List ℕ)). IfErr c.line_in.result (λ output. IsUnasked ws (prints output))) (p.1.0 ∙ p.1.1.0) c.line_in.ensures.err
 
 pub returns-in-Ok-None-clause-err : goal.returns-in-Ok-None-clause-err
 returns-in-Ok-None-clause-err c =

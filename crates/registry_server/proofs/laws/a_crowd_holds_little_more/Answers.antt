@@ -1,4 +1,4 @@
-use Rattle.registry_server.proofs.HeldFacts.{all-idle-ends-leave-few, ends-leave-few, idle-ends-leave-few, new-connections-leave-few, new-pool-reads-few, rounds-hold-little-more, rounds-read-few, wakes-leave-few, who-waits-has-begun}
+use Rattle.registry_server.proofs.HeldFacts.{all-idle-ends-leave-few, ends-leave-few, finishes-leave-few, idle-ends-leave-few, new-connections-leave-few, new-pool-reads-few, rounds-hold-little-more, rounds-read-few, wakes-leave-few, who-waits-has-begun}
 use Rattle.registry_server.proofs.laws.a_crowd_holds_little_more.Goals as goal
 
 pub returns-clause-begins : goal.returns-clause-begins
@@ -27,3 +27,6 @@ returns-clause-waits g c = who-waits-has-begun g.row.S.Denot
 
 pub returns-clause-idle : goal.returns-clause-idle
 returns-clause-idle g c = all-idle-ends-leave-few g.row.S.Denot
+
+pub returns-clause-finishes : goal.returns-clause-finishes
+returns-clause-finishes g c = finishes-leave-few g.row.S.Denot

@@ -1,5 +1,5 @@
 use Rattle.registry_server.proofs.StateFacts.{starved-turn}
-use Rattle.registry_server.proofs.WorldFacts.{state-begins, state-comes, state-sends, state-shuts, state-turns}
+use Rattle.registry_server.proofs.WorldFacts.{state-begins, state-comes, state-lasts, state-sends, state-shuts, state-turns}
 use Rattle.registry_server.proofs.laws.connections_make_one_history.Goals as goal
 
 pub returns-clause-begins : goal.returns-clause-begins
@@ -19,3 +19,6 @@ returns-clause-sends g c = state-sends g.D.Service.answers
 
 pub returns-clause-starves : goal.returns-clause-starves
 returns-clause-starves g c = starved-turn g.D.Service.answers
+
+pub returns-clause-lasts : goal.returns-clause-lasts
+returns-clause-lasts g c = state-lasts g.row.D.Denot

@@ -1,4 +1,4 @@
-use Rattle.registry_server.proofs.RestFacts.{all-idle-ends-leave-rest, ends-leave-rest, idle-ends-leave-rest, new-connections-leave-rest, new-pool-rests, newcomers-end-idle, stops-end-idle, stops-leave-under-way, visits-leave-rest, wakes-leave-rest, want-of-room-ends-idle}
+use Rattle.registry_server.proofs.RestFacts.{all-idle-ends-leave-rest, ends-leave-rest, finishes-leave-rest, idle-ends-leave-rest, new-connections-leave-rest, new-pool-rests, newcomers-end-idle, stops-end-idle, stops-leave-under-way, visits-leave-rest, wakes-leave-rest, want-of-room-ends-idle}
 use Rattle.registry_server.proofs.laws.newcomers_end_idle_connections.Goals as goal
 
 pub returns-clause-begins : goal.returns-clause-begins
@@ -33,3 +33,6 @@ returns-clause-stops g c = stops-end-idle g.S.Socket.has_none g.S.Socket.is_full
 
 pub returns-clause-left : goal.returns-clause-left
 returns-clause-left g c = stops-leave-under-way g.row.S.Denot
+
+pub returns-clause-finishes : goal.returns-clause-finishes
+returns-clause-finishes g c = finishes-leave-rest g.S.Socket.has_none g.S.Socket.is_full

@@ -1,4 +1,4 @@
-//! Calls on made tables, one after another, and what each answers.
+//! Calls on new tables, one after another, and what each answers.
 
 ghost use Rattle.std.specs.Prelude.{◌≡◌, OnOk};
 ghost use Rattle.sqlite.specs.Held.{state};
@@ -24,8 +24,8 @@ use sqlite_value::value::ValueRef;
 use std::alloc::Global;
 use std::test::Fail;
 
-/// Gives the name of its table for each row, and for what versions depend on the target and the
-/// range, in byte order.
+/// Gives the name of its table for each row; for a need, the target and the range on which versions
+/// depend. They are in byte order.
 const TABLE_OF_EACH_ROW: &str =
     "SELECT 'users' FROM users UNION ALL SELECT 'tokens' FROM tokens UNION ALL SELECT 'orgs' FROM orgs UNION ALL SELECT 'members' FROM members UNION ALL SELECT 'teams' FROM teams UNION ALL SELECT 'team_members' FROM team_members UNION ALL SELECT 'packages' FROM packages UNION ALL SELECT 'grants' FROM grants UNION ALL SELECT 'owners' FROM owners UNION ALL SELECT 'versions' FROM versions UNION ALL SELECT 'spent' FROM spent UNION ALL SELECT 'tags' FROM tags UNION ALL SELECT 'needs' FROM needs UNION ALL SELECT 'meta' FROM meta UNION ALL SELECT target || ' ' || range FROM need_ranges UNION ALL SELECT 'held' FROM held UNION ALL SELECT 'archives' FROM archives ORDER BY 1";
 
@@ -33,9 +33,9 @@ const TABLE_OF_EACH_ROW: &str =
 pub struct Case {
     /// What they show.
     pub shows: &'static str,
-    /// The calls, each with the name of its package, and what it answers.
+    /// The calls, each with the name of its package, and its answer.
     pub calls: &'static [(&'static str, Call, &'static str)],
-    /// What comes after them.
+    /// What follows them.
     pub end: End,
 }
 
@@ -48,11 +48,11 @@ pub enum Call {
     OtherStatus(Status),
     /// A statement keeps this number for its first status.
     Number(i64),
-    /// Puts the version of this body as a change, published at this second.
+    /// Puts the version of this body as a change, published in this second.
     Add(Body, i64),
-    /// Puts it by itself.
+    /// Puts it on its own.
     Publish(Body, i64),
-    /// A statement has the version withdrawn.
+    /// A statement makes the version a withdrawn one.
     Withdrawn(&'static str),
     /// The live version, published at second 1, is withdrawn at second 2.
     Retire(&'static str),
@@ -76,10 +76,10 @@ pub enum Call {
     HasTag(&'static str),
     /// Its tags, each with its version.
     Tags,
-    /// Its versions, each with its manifest and its message, and then each with the second of its
-    /// publication.
+    /// Its versions, each with its manifest and its message, and then each with the second in which
+    /// it was published.
     Versions,
-    /// Its versions, each with the second of its publication.
+    /// Its versions, each with the second in which it was published.
     Times,
     /// The length of the version's archive, and its last bytes.
     Archive(&'static str),
@@ -89,18 +89,18 @@ pub enum Call {
     Rights(RightCall),
 }
 
-/// What comes after the calls of a case.
+/// What follows the calls of a case.
 #[derive(Clone, Copy)]
 pub enum End {
     /// Nothing.
     Nothing,
-    /// A call that is a fault of the database.
+    /// A call that returns a fault of the database.
     Fault(&'static str, Call),
-    /// A look at every row that is there: these are their tables, and what versions depend on.
+    /// A look at every row that is there: the tables of these rows, and what versions depend on.
     Rows(&'static str),
 }
 
-/// Whether all cases come out as they say.
+/// Checks that all cases come out as they say.
 pub fn all_come_out(alloc: Global, cases: &[Case]) -> Result<(), Fail> {
     for case in cases {
         let mut conn = Connection::open_in_memory(alloc)?;
@@ -129,7 +129,7 @@ fn comes_out_inside<S: Alter>(
     ends(alloc, tx, case)
 }
 
-/// Makes the calls, each of which answers what the case says.
+/// Makes the calls, each of which has to answer what the case says.
 pub fn all_tell<S: Alter>(
     alloc: Global,
     tx: &mut Transaction<'_, S>,

@@ -14,7 +14,7 @@ use registry_tables::{
 use sqlite::{Alter, Transaction};
 use std::alloc::Global;
 
-/// A call on a package, which names teams with their organisation first.
+/// A call on a package, in which the organisation comes before the team.
 #[derive(Clone, Copy, Debug)]
 pub enum RightCall {
     /// A team is to be granted this on it.
@@ -25,19 +25,19 @@ pub enum RightCall {
     DropGrant(&'static str, &'static str),
     /// A user is to be a maintainer of it.
     NewMaintainer(&'static str),
-    /// A user is to be none.
+    /// A user is to be removed from the maintainers.
     DropOwner(&'static str),
     /// Whether a team is granted something on it.
     HasGrant(&'static str, &'static str),
     /// Whether a user is a maintainer of it.
     IsMaintainer(&'static str),
-    /// Whether another user than this is one.
+    /// Whether a user other than this one is a maintainer.
     OtherMaintainer(&'static str),
-    /// What a user is to it.
+    /// The standing of a user on it.
     Standing(&'static str),
-    /// What somebody without a credential is to it.
+    /// The standing of a caller without a credential on it.
     Anonymous,
-    /// What a team is granted on packages that the user reads, who comes first.
+    /// What a team is granted on packages that the user reads; the user comes first.
     Packages(&'static str, &'static str, &'static str),
 }
 

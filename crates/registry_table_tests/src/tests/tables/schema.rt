@@ -1,4 +1,4 @@
-//! The tables as they are made, in a database in memory.
+//! The tables as they are created, in a database in memory.
 
 ghost use Rattle.std.specs.Prelude.{◌≡◌, false};
 
@@ -19,18 +19,18 @@ fn tables_are_as_they_are_made(rt: HostRuntime) -> Result<(), Fail> {
     Ok(())
 }
 
-/// What is done, and what comes of it.
+/// What is done, and the result.
 #[derive(Clone, Copy, Debug)]
 enum Step {
     /// The tables are made.
     Create(Result<(), Fault>),
     /// The number of the schema is asked for.
     Schema(Result<Option<u32>, Fault>),
-    /// A text is run, with no error.
+    /// A text is run without an error.
     Run(&'static str),
     /// A text is run that breaks a foreign key.
     BreakKey(&'static str),
-    /// A text gives so many rows.
+    /// A text gives this many rows.
     Rows(&'static str, usize),
 }
 

@@ -1,4 +1,4 @@
-//! Calls over organisations and teams, whose rows statements put.
+//! Calls over organisations and teams, whose rows are put by statements.
 
 ghost use Rattle.std.specs.Prelude.{◌≡◌, OnOk};
 ghost use Rattle.registry_tables.specs.Effects.{InForm};
@@ -10,7 +10,7 @@ use registry_tables::{load_grants, load_team_users};
 use sqlite::{Alter, Transaction, params};
 use std::alloc::Global;
 
-/// A call over an organisation, which comes first, on its teams and users.
+/// A call over an organisation's teams and users; the organisation comes first.
 #[derive(Clone, Copy, Debug)]
 pub enum TeamCall {
     /// A statement puts a user.

@@ -11,10 +11,10 @@ use std::alloc::{AllocError, Global};
 /// The body of a publication.
 #[derive(Clone, Copy, Debug)]
 pub enum Body {
-    /// One of this version, whose manifest has its name and its version alone, with the archive
+    /// The body of this version, whose manifest has only its name and its version, with the archive
     /// `abc`.
     Plain(&'static str),
-    /// The same with an archive of the bytes `abc` so many times.
+    /// The same, with an archive that repeats the bytes `abc` this many times.
     Archive(&'static str, usize),
     /// This text.
     Text(&'static str),
@@ -44,7 +44,7 @@ fn archive_body(
     body_of(alloc, name, version, &archive)
 }
 
-/// What a call answers that only writes.
+/// The answer of a call that only writes.
 pub fn done(alloc: Global) -> Result<String, Stop> {
     Ok(String::from_str(alloc, "done")?)
 }
@@ -88,8 +88,8 @@ pub fn push_word(text: &mut String, word: &str) -> Result<(), AllocError> {
     text.push_str(word)
 }
 
-/// Each version with its manifest and its message in brackets, and then each with the second of its
-/// publication, after a space.
+/// Each version with its manifest and its message in brackets, and then each with the second in
+/// which it was published, after a space.
 pub fn versions_text(alloc: Global, live: &LiveVersions) -> Result<String, Stop> {
     let mut text = String::new(alloc);
     push_versions(&mut text, &live.versions)?;
@@ -97,7 +97,7 @@ pub fn versions_text(alloc: Global, live: &LiveVersions) -> Result<String, Stop>
     Ok(text)
 }
 
-/// Each version with the second of its publication, after a space.
+/// Each version with the second in which it was published, after a space.
 pub fn times_text(alloc: Global, times: &[VersionTime]) -> Result<String, Stop> {
     let mut text = String::new(alloc);
     push_times(alloc, &mut text, times)?;

@@ -27,7 +27,7 @@ pub struct Walk {
     pub gives: &'static [(&'static str, &'static str)],
 }
 
-/// Whether all walks give what they should.
+/// Checks that all walks give what they should.
 pub fn all_give(alloc: Global, walks: &[Walk]) -> Result<(), Fail> {
     for walk in walks {
         let mut conn = Connection::open_in_memory(alloc)?;
@@ -43,7 +43,7 @@ fn gives_on<S: Alter>(alloc: Global, conn: &mut Connection<S>, walk: &Walk) -> R
     each_gives(alloc, conn, walk)
 }
 
-// Makes the tables and the calls, and commits.
+// Makes the tables, makes the calls, and commits.
 fn put<S: Alter>(alloc: Global, conn: &mut Connection<S>, case: &Case) -> Result<(), Fail>
     requires empty { IsEmpty (state S.Store conn.old) }
     ensures awaits { OnOk result (AwaitsWalk (state S.Store conn.new)) }
@@ -114,7 +114,7 @@ fn text_of_walk<S: Alter>(
     }
 }
 
-// What a walk over rows that were asked for gives.
+// What a walk over these rows gives.
 fn rows_text<R: LiveRows>(alloc: Global, name: &Name, rows: &mut R) -> Result<String, Stop>
     requires begun { Begins R.store name.now (R.rows rows.old) }
     ensures same_reference { reference R.store (R.rows rows.new)
@@ -128,7 +128,7 @@ fn rows_text<R: LiveRows>(alloc: Global, name: &Name, rows: &mut R) -> Result<St
     walk_text(alloc, &mut walk)
 }
 
-// What a walk has left.
+// What is left of a walk.
 fn walk_text<R: LiveRows>(alloc: Global, walk: &mut VersionWalk<'_, R>) -> Result<String, Stop>
     ensures same_rows { (lent R.LiveRows walk.new).ghost_name
         ≡ (lent R.LiveRows walk.old).ghost_name }

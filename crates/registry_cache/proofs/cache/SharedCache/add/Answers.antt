@@ -16,7 +16,8 @@ invariant_of-self-2 g c =
     let room = ap (λ (s : Cache). size s.entries) c.self.view_is in
     let limit = ap (λ (s : Cache). s.limit) c.self.view_is in
     let there = c.requires.room in
-    let len = c.requires.len in
+    let cost = c.requires.cost in
+    let name = ap length c.in_ok-name.ensures.ok in
     let sum = ap (λ q. size (named string_bytes g.V.Shared.bytes q.entries)) new in
     record {
       counted = omega arith;

@@ -4,19 +4,28 @@ use Rattle.registry_cache.specs.Inside.{named}
 use Rattle.registry_cache.proofs.NamedFacts.{query, named-remove_entry, size-remove_entry, remove_entry-none}
 use Rattle.registry_cache.proofs.cache.SharedCache.forget_entry.Goals as goal
 
-pub overflow_sub-self : goal.overflow_sub-self
-overflow_sub-self g c =
-    let sum = size-remove_entry string_bytes g.V.Shared.bytes (query string_bytes c.args.name.now) c.self.inside.entries.entries c.in-Some.value (sym c.in-Some.ensures.value) in
+pub cost_of-requires : goal.cost_of-requires
+cost_of-requires g c =
+    let sum = size-remove_entry string_bytes g.V.Shared.bytes c.args.name.now c.self.inside.entries.entries c.in-Some.value (sym c.in-Some.ensures.value) in
     let counted = c.self.invariant.counted in
     let same = c.len.ensures in
     omega arith
 
+pub overflow_sub-self : goal.overflow_sub-self
+overflow_sub-self g c =
+    let sum = size-remove_entry string_bytes g.V.Shared.bytes c.args.name.now c.self.inside.entries.entries c.in-Some.value (sym c.in-Some.ensures.value) in
+    let counted = c.self.invariant.counted in
+    let same = c.len.ensures in
+    let taken = c.cost_of.ensures.cost in
+    omega arith
+
 pub invariant_of-self : goal.invariant_of-self
 invariant_of-self g c =
-    let sum = size-remove_entry string_bytes g.V.Shared.bytes (query string_bytes c.args.name.now) c.self.inside.entries.entries c.in-Some.value (sym c.in-Some.ensures.value) in
+    let sum = size-remove_entry string_bytes g.V.Shared.bytes c.args.name.now c.self.inside.entries.entries c.in-Some.value (sym c.in-Some.ensures.value) in
     let counted = c.self.invariant.counted in
     let limited = c.self.invariant.limited in
     let same = c.len.ensures in
+    let taken = c.cost_of.ensures.cost in
     let left = ap (λ q. size (named string_bytes g.V.Shared.bytes q.entries)) c.pop.ensures.entries in
     record {
       counted = omega arith;

@@ -17,5 +17,5 @@ add-requires-clause-room g c =
     let limit = ap (λ (s : Cache). s.limit) c.make_room-2.ensures in
     let same = ap (λ (s : Cache). s.limit) c.self.view_is in
     let again = ap (λ (s : Cache). s.limit) c.make_room.view_is in
-    let low = c.if-len-self.false in
+    let taken = c.cost_of-cost.ensures.within in
     omega arith

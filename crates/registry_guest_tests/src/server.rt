@@ -1,0 +1,117 @@
+//! The server's side of the sockets: rounds as a server's, with a service that counts.
+
+ghost use Rattle.std.specs.Prelude.{None, false};
+
+use mio::{Events, Poll};
+use registry_guests::CommandListener;
+use registry_names::{Fault, Moment};
+use registry_rules::{Reply, Request};
+use registry_server::{FIRST_GUEST, GUEST_TOKENS, Guests};
+use registry_service::{Clock, Service};
+use std::alloc::Global;
+use std::test::Fail;
+use std::time::Duration;
+
+/// How many rounds a server makes in one go: enough for a message and its answer.
+const ROUNDS: u32 = 6;
+
+/// A service that does whatever it is asked, and counts that.
+#[derive(Drop)]
+pub struct Counting {
+    pub asked: u64,
+}
+
+impl Service for Counting {
+    ghost answers = { λ M r o N. Unit {0} };
+
+    ghost over = { λ _. false };
+
+    fn answer(&mut self, _alloc: Global, _request: &Request) -> Result<Reply, Fault> {
+        self.asked = self.asked.saturating_add(1);
+        Ok(Reply::Done)
+    }
+
+    fn is_over(&self) -> bool {
+        false
+    }
+}
+
+/// A clock that stands still.
+#[derive(Drop)]
+struct Still;
+
+impl Clock for Still {
+    ghost readings = { λ s. None };
+
+    fn now(&mut self) -> Moment {
+        Moment::clamped(0)
+    }
+}
+
+/// A server's side of the sockets of a file.
+#[derive(Drop)]
+pub struct ServerSide {
+    pub listener: CommandListener,
+    pub service: Counting,
+    poll: Poll,
+    events: Events,
+    // What a connection sent before lies in it.
+    buffer: Vec<u8>,
+}
+
+impl ServerSide {
+    /// One that listens at the sockets of a file.
+    pub fn open(rt: &HostRuntime, file: &str) -> Result<ServerSide, Fail> {
+        let alloc = rt.alloc();
+        let poll = Poll::new(rt)?;
+        let mut listener = CommandListener::closed(alloc)?;
+        listener.open(rt, alloc, poll.registry(), file)?;
+        let mut buffer = Vec::new(alloc);
+        for _ in 0..1_024 {
+            buffer.push(b'x')?;
+        }
+        Ok(ServerSide {
+            listener,
+            service: Counting { asked: 0 },
+            poll,
+            events: Events::with_capacity(alloc, GUEST_TOKENS)?,
+            buffer,
+        })
+    }
+
+    /// Some rounds, each at this time in milliseconds.
+    pub fn go_on(&mut self, rt: &HostRuntime, now: u64) -> Result<(), Fail> {
+        for _ in 0..ROUNDS {
+            self.round(rt, now)?;
+        }
+        Ok(())
+    }
+
+    // A round, as `Server::run_beside` makes it.
+    fn round(&mut self, rt: &HostRuntime, now: u64) -> Result<(), Fail> {
+        self.poll
+            .poll(&mut self.events, Some(Duration::from_millis(0)))?;
+        wake_all(&self.events, &mut self.listener);
+        self.listener.attend(self.poll.registry(), now);
+        if !self.listener.holds() {
+            self.listener.visit(
+                rt.alloc(),
+                &mut self.service,
+                &mut Still,
+                &mut self.buffer,
+                self.poll.registry(),
+                now,
+            );
+        }
+        Ok(())
+    }
+}
+
+fn wake_all(events: &Events, listener: &mut CommandListener) {
+    for event in events.iter() {
+        let token = event.token();
+        if token.0 >= FIRST_GUEST {
+            listener.wake(token.0 - FIRST_GUEST);
+        }
+    }
+}
