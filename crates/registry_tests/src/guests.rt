@@ -20,12 +20,14 @@ use std::process::Abort;
 /// What a program would print, and its status.
 type Case<'c> = (&'c [&'c str], u8, &'c str);
 
-/// The socket of a guest that sends a message, a few bytes at a time, and keeps what it gets.
+/// The socket of a guest that sends a message, a few bytes at a time, and keeps what it gets. After
+/// its message it stays, or says that it sends no more.
 #[derive(Drop)]
 struct Memory {
     message: Vec<u8>,
     taken: usize,
     piece_len: usize,
+    stays: bool,
     got: Vec<u8>,
 }
 
@@ -50,7 +52,7 @@ impl Socket for Memory {
         let rest = self.message.get(self.taken..).unwrap_or(&[]);
         let count = rest.len().min(buffer.len()).min(self.piece_len);
         if count == 0 {
-            return Flow::Ended;
+            return if self.stays { Flow::Waits } else { Flow::Ended };
         }
         buffer[..count].copy_from_slice(&rest[..count]);
         self.taken = self.taken.saturating_add(count);
@@ -89,8 +91,16 @@ fn socket(alloc: Global, message: Vec<u8>, piece_len: usize) -> Memory {
         message,
         taken: 0,
         piece_len,
+        stays: false,
         got: Vec::new(alloc),
     }
+}
+
+// One that stays after its message.
+fn staying(alloc: Global, message: Vec<u8>, piece_len: usize) -> Memory {
+    let mut socket = socket(alloc, message, piece_len);
+    socket.stays = true;
+    socket
 }
 
 #[test]
@@ -222,7 +232,7 @@ fn guests_are_answered(rt: HostRuntime) {
     for (words, status, wanted) in &CASES {
         for piece_len in [1, 7, 1_000] {
             let bytes = message(&rt, alloc, words);
-            let mut guest = Guest::new(alloc, socket(alloc, bytes, piece_len), 0);
+            let mut guest = Guest::new(alloc, staying(alloc, bytes, piece_len), 0);
             same(&rt, *wanted, visit_all(&rt, alloc, &mut guest), Visit::Over);
             is_reply(&rt, alloc, &guest.into_socket().got, *status, wanted);
         }
@@ -237,6 +247,15 @@ fn a_cut_message_is_answered_by_nothing(rt: HostRuntime) {
     let mut guest = Guest::new(alloc, socket(alloc, bytes, 7), 0);
     same(&rt, "cut", visit_all(&rt, alloc, &mut guest), Visit::Over);
     same(&rt, "cut", guest.into_socket().got.len(), 0);
+}
+
+#[test]
+fn a_guest_that_has_gone_is_not_answered(rt: HostRuntime) {
+    let alloc = rt.alloc();
+    let bytes = message(&rt, alloc, &["--as", "ann", "teams", "lab"]);
+    let mut guest = Guest::new(alloc, socket(alloc, bytes, 7), 0);
+    same(&rt, "gone", visit_all(&rt, alloc, &mut guest), Visit::Over);
+    same(&rt, "gone", guest.into_socket().got.len(), 0);
 }
 
 #[test]
