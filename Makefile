@@ -2,7 +2,7 @@
 
 KIT := $(shell command -v rt 2>/dev/null)
 PROGRAM := crates/registry_main
-STORIES := crates/registry_stories
+STORIES := crates/registry_tests_stories
 EXAMPLE := examples/lab-kit-1.0.0.publish.json
 PACKUMENT := examples/lab-kit-1.0.0.packument.json
 BODY := $(EXAMPLE)
@@ -136,14 +136,14 @@ quick: kit
 # Proves and builds the program that runs stories, and runs it on a copy of their files.
 stories: kit
 	@mkdir -p out
-	@tools/prove registry_stories out/stories.log < /dev/null > /dev/null
+	@tools/prove registry_tests_stories out/stories.log < /dev/null > /dev/null
 	@work=$$(mktemp -d); cp -r $(STORIES)/data/. $$work; \
-	(cd $$work && $(CURDIR)/$(STORIES)/out/registry_stories $(FILES)); \
+	(cd $$work && $(CURDIR)/$(STORIES)/out/registry_tests_stories $(FILES)); \
 	status=$$?; rm -rf $$work; exit $$status
 
 # Its tests are in the gate, too.
 stops: kit
-	@cd crates/registry_stops && rt test
+	@cd crates/registry_tests_stops && rt test
 
 plants: kit
 	@tools/plants

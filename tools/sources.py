@@ -6,7 +6,7 @@ import re
 
 TOP = pathlib.Path(__file__).resolve().parent.parent
 CRATES = TOP / 'crates'
-STORIES = CRATES / 'registry_stories' / 'data'
+STORIES = CRATES / 'registry_tests_stories' / 'data'
 FUNCTION = re.compile(r'( *)(pub(?:\(\w+\))? )?(?:const |unsafe )*fn (\w+)')
 BLOCK = re.compile(r'(impl|(?:pub(?:\(\w+\))? )?(?:trait|struct|enum|type|const|static))\b')
 GHOST = re.compile(r'    ghost (\w+)(?::.*)? = ')

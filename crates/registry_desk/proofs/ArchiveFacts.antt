@@ -26,7 +26,7 @@ use Rattle.registry_tables.specs.Archives.{HeldAreStored}
 use Rattle.registry_tables.specs.Changes.{all_stored}
 use Rattle.registry_tables.specs.Contents.{Contents, registry_of}
 use Rattle.registry_tables.proofs.StepFacts.{changes_make}
-use Rattle.registry_history.specs.Answers.{archive_in, reply_to}
+use Rattle.registry_laws_history.specs.Answers.{archive_in, reply_to}
 use Rattle.registry_desk.specs.Caches.{AreArchives, KeepsArchive, KeepsNoMore, LeavesArchivesRight, archive_key, moves, without_moved}
 use Rattle.registry_desk.proofs.CacheFacts.{more_kept, untouched_found}
 

@@ -13,7 +13,7 @@ use Rattle.registry_tables.specs.Archives.{HeldAreStored}
 use Rattle.registry_tables.specs.Changes.{all_stored}
 use Rattle.registry_tables.specs.Contents.{Contents, registry_of}
 use Rattle.registry_tables.proofs.StepFacts.{changes_make}
-use Rattle.registry_history.specs.Apart.{is_about}
+use Rattle.registry_laws_history.specs.Apart.{is_about}
 use Rattle.registry_desk.specs.Caches.{ArePackuments, IsPut, KeepsLatest, KeepsNoMore, LeavesTextsRight, live_packument, without_changed, without_touched}
 use Rattle.registry_desk.proofs.LivingFacts.{live_of_others}
 

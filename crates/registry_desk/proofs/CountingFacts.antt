@@ -8,7 +8,7 @@ use Rattle.registry_rules.specs.declared.request.Request.{Request}
 use Rattle.registry_tables.specs.Changes.{all_stored, stored_by}
 use Rattle.registry_tables.specs.Contents.{Contents, registry_of}
 use Rattle.registry_tables.proofs.StepFacts.{change_counts}
-use Rattle.registry_history.specs.Runs.{enters}
+use Rattle.registry_laws_history.specs.Runs.{enters}
 use Rattle.registry_desk.specs.Counting.{OpensCountArchivesAlone, OutcomesKeepCounters, StopsKeepCounters}
 use Rattle.registry_desk.specs.Resting.{stepped, unless}
 

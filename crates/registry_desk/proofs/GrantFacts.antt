@@ -31,8 +31,8 @@ use Rattle.registry_rules.proofs.AllowedFacts.{may_grant, state_passed}
 use Rattle.registry_tables.specs.Changes.{all_stored, stored_by}
 use Rattle.registry_tables.specs.Contents.{Contents, registry_of}
 use Rattle.registry_tables.specs.Teams.{GrantsInScope}
-use Rattle.registry_history.specs.Runs.{Outcome, IsAnswer, enters}
-use Rattle.registry_history.proofs.RunFacts.{accepted}
+use Rattle.registry_laws_history.specs.Runs.{Outcome, IsAnswer, enters}
+use Rattle.registry_laws_history.proofs.RunFacts.{accepted}
 use Rattle.registry_desk.specs.Resting.{next_stored, stepped}
 
 -- ---- changes

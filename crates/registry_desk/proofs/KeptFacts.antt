@@ -17,9 +17,9 @@ use Rattle.registry_tables.specs.Changes.{all_stored}
 use Rattle.registry_tables.specs.Contents.{Contents, registry_of}
 use Rattle.registry_tables.specs.Effects.{stored}
 use Rattle.registry_tables.specs.Teams.{AreTeamsSound}
-use Rattle.registry_history.specs.Answers.{archive_in, reply_to}
-use Rattle.registry_history.specs.Apart.{is_about}
-use Rattle.registry_history.specs.Runs.{Outcome}
+use Rattle.registry_laws_history.specs.Answers.{archive_in, reply_to}
+use Rattle.registry_laws_history.specs.Apart.{is_about}
+use Rattle.registry_laws_history.specs.Runs.{Outcome}
 use Rattle.registry_desk.specs.Caches.{AreAnswers, AreArchives, AreLeftBy, ArePackuments, HasAnswers, IsSoundFor, KeepNoMore, KeepsReply, LeavesCacheRight, live_packument, moves}
 use Rattle.registry_desk.specs.Sending.{IsPackument}
 use Rattle.registry_desk.specs.declared.cache.Caches.{Caches}

@@ -26,9 +26,9 @@ use Rattle.registry_tables.proofs.LiveFacts.{fresh_is_nothing}
 use Rattle.registry_tables.proofs.StepFacts.{change_keeps}
 use Rattle.registry_tables.proofs.TeamFacts.{sound_teams}
 use Rattle.registry_rules.proofs.SoundSteps.{nothing_sound}
-use Rattle.registry_history.specs.Answers.{answer}
-use Rattle.registry_history.specs.Runs.{Outcome, HaveOutcomes, IsAnswer, Ran, end_of, enters, next}
-use Rattle.registry_history.proofs.RunFacts.{headline_from, run_says}
+use Rattle.registry_laws_history.specs.Answers.{answer}
+use Rattle.registry_laws_history.specs.Runs.{Outcome, HaveOutcomes, IsAnswer, Ran, end_of, enters, next}
+use Rattle.registry_laws_history.proofs.RunFacts.{headline_from, run_says}
 use Rattle.registry_desk.specs.Promises.{HoldsSound}
 use Rattle.registry_desk.specs.Resting.{IsRegistryOf, end_stored, left_by, next_stored, settled_by, stepped}
 use Rattle.registry_desk.specs.Lives.{AreFaults, AreInForm, AreLives, AskedInTurn, ComesTo, Did, DidAll, Follows, HasLived, HasRun, IsInOrder, IsOpenedAgain, Life, LivesAreOneRun, LivesComeToRuns, LivesHaveHeadline, StopsKeepOutcomes, StopsLeaveAllOrNothing, TurnsAreRuns}

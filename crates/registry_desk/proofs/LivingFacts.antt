@@ -10,9 +10,9 @@ use Rattle.registry_rules.specs.Actions.{version_of}
 use Rattle.registry_rules.specs.Changes.{Change, AddUser, AddToken, AddOrg, PutMember, DropMember, AddTeam, PutTeamMember, DropTeamMember, DropTeam, PutGrant, DropGrant, PutOwner, DropOwner, PutStatus, AddVersion, RetireVersion, PutDeprecation, PutTag, DropTag, made, all_made, release_of}
 use Rattle.registry_rules.specs.Operations.{with_member, with_role, with_grant, regranted, with_status, restated, with_tag, moved}
 use Rattle.registry_rules.specs.State.{State, Release, has_live, is_empty}
-use Rattle.registry_history.specs.Answers.{packument_in}
-use Rattle.registry_history.specs.Apart.{are_about, is_about}
-use Rattle.registry_history.proofs.ApartFacts.{changes_of_others}
+use Rattle.registry_laws_history.specs.Answers.{packument_in}
+use Rattle.registry_laws_history.specs.Apart.{are_about, is_about}
+use Rattle.registry_laws_history.proofs.ApartFacts.{changes_of_others}
 use Rattle.registry_desk.specs.Caches.{live_packument}
 
 -- ---- the packument of a package of which a version lives

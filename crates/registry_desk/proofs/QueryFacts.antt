@@ -15,8 +15,8 @@ use Rattle.registry_rules.specs.declared.request.Action.{Action}
 use Rattle.registry_rules.specs.declared.request.Action.TheVariants.{Packument}
 use Rattle.registry_rules.specs.declared.request.Request.{Request}
 use Rattle.registry_tables.specs.Effects.{stored}
-use Rattle.registry_history.specs.Answers.{answer}
-use Rattle.registry_history.specs.Runs.{Outcome}
+use Rattle.registry_laws_history.specs.Answers.{answer}
+use Rattle.registry_laws_history.specs.Runs.{Outcome}
 use Rattle.registry_desk.specs.Caches.{live_packument}
 use Rattle.registry_desk.specs.Promises.{Stepped, SurvivesOne, Unchanged}
 use Rattle.registry_desk.specs.Sending.{IsFrom, IsMadeOf, IsOrigin, IsShownBy, LeavesAll, ShowsAlone}

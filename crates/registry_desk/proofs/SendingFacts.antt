@@ -45,13 +45,13 @@ use Rattle.registry_tables.specs.Schema.{schema}
 use Rattle.registry_tables.specs.Spelled.{document, row_entry}
 use Rattle.registry_tables.specs.Teams.{GrantsInScope}
 use Rattle.registry_tables.specs.Walks.{IsLeftAlone}
-use Rattle.registry_history.specs.Answers as answers
-use Rattle.registry_history.specs.Answers.{answer, packument_in, reply_to}
-use Rattle.registry_history.specs.History.{Entry}
-use Rattle.registry_history.specs.Runs.{IsAnswer, Outcome, accepts, enters, entered, grown, next}
-use Rattle.registry_history.specs.Says.{Says}
-use Rattle.registry_history.proofs.RunFacts.{history_says}
-use Rattle.registry_hidden.specs.Laws.{RepliesAreAlike}
+use Rattle.registry_laws_history.specs.Answers as answers
+use Rattle.registry_laws_history.specs.Answers.{answer, packument_in, reply_to}
+use Rattle.registry_laws_history.specs.History.{Entry}
+use Rattle.registry_laws_history.specs.Runs.{IsAnswer, Outcome, accepts, enters, entered, grown, next}
+use Rattle.registry_laws_history.specs.Says.{Says}
+use Rattle.registry_laws_history.proofs.RunFacts.{history_says}
+use Rattle.registry_laws_hidden.specs.Laws.{RepliesAreAlike}
 use Rattle.registry_desk.specs.Caches.{HasAnswers, KeepNoMore, KeepsNoMore}
 use Rattle.registry_desk.specs.Lives.{HasAnswered}
 use Rattle.registry_desk.specs.Promises.{Answered, HoldsReferences, HoldsSoundFor, Served}

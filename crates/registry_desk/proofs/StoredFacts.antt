@@ -17,8 +17,8 @@ use Rattle.registry_desk.specs.Lives.{HasAnswered, HasRun}
 use Rattle.registry_desk.specs.Promises.{HoldsReferences, HoldsSound, HoldsSoundFor, HoldsSoundForEach, NeedsForEach}
 use Rattle.registry_desk.specs.Resting.{IsRegistryOf, Serves, end_stored, left_by, next_stored, settled_by}
 use Rattle.registry_desk.proofs.SettlingFacts.{faulted_next}
-use Rattle.registry_history.specs.Runs.{Outcome, HaveOutcomes, IsAnswer, next}
-use Rattle.registry_history.proofs.RunFacts.{ran_none, ran_push}
+use Rattle.registry_laws_history.specs.Runs.{Outcome, HaveOutcomes, IsAnswer, next}
+use Rattle.registry_laws_history.proofs.RunFacts.{ran_none, ran_push}
 
 -- ---- what decides requests
 

@@ -17,8 +17,8 @@ use Rattle.registry_rules.specs.declared.request.Action.TheVariants.{Archive, Pa
 use Rattle.registry_tables.specs.Contents.{Contents, registry_of}
 use Rattle.registry_tables.specs.Effects.{stored}
 use Rattle.registry_tables.specs.Teams.{AreTeamsSound}
-use Rattle.registry_history.specs.Answers.{archive_in, packument_in}
-use Rattle.registry_history.specs.Apart.{is_about}
+use Rattle.registry_laws_history.specs.Answers.{archive_in, packument_in}
+use Rattle.registry_laws_history.specs.Apart.{is_about}
 use Rattle.registry_desk.specs.Resting.{Rests}
 use Rattle.registry_desk.specs.declared.cache.Caches.{Caches}
 

@@ -4,7 +4,7 @@ use Rattle.sqlite_trees.specs.Tree.{Trees}
 use Rattle.registry_rules.specs.declared.request.Request.{Request}
 use Rattle.registry_tables.specs.Contents.{Contents}
 use Rattle.registry_tables.specs.Fresh.{CountsArchivesAlone}
-use Rattle.registry_history.specs.Runs.{Outcome}
+use Rattle.registry_laws_history.specs.Runs.{Outcome}
 use Rattle.registry_desk.specs.Opened.{GivesFound}
 use Rattle.registry_desk.specs.Resting.{next_stored, settled_by}
 

@@ -15,10 +15,10 @@ use Rattle.registry_tables.specs.Effects.{stored}
 use Rattle.registry_tables.specs.Fresh.{fresh}
 use Rattle.registry_tables.specs.Needs.{HoldsNeeds}
 use Rattle.registry_tables.specs.Teams.{GrantsInScope}
-use Rattle.registry_history.specs.Headline.{Headline}
-use Rattle.registry_history.specs.History.{Entry, Legal, after}
-use Rattle.registry_history.specs.Runs.{Outcome, Ran, history}
-use Rattle.registry_history.specs.Says.{Says}
+use Rattle.registry_laws_history.specs.Headline.{Headline}
+use Rattle.registry_laws_history.specs.History.{Entry, Legal, after}
+use Rattle.registry_laws_history.specs.Runs.{Outcome, Ran, history}
+use Rattle.registry_laws_history.specs.Says.{Says}
 use Rattle.registry_desk.specs.Adopted.{IsMade}
 use Rattle.registry_desk.specs.Opened.{HoldsEach}
 use Rattle.registry_desk.specs.Promises.{Answered, HoldsReferences, HoldsSoundFor, IsSure, Keeps, KeepsForm, KeepsFormRun, KeepsRun, KeepsSure, Moves, RanTo, Served, ServedRun, ShutByFaults, StaysSure, Stepped, Stored, SurvivesOne, SurvivesRun, WasOpen}

@@ -53,13 +53,13 @@ use Rattle.registry_tables.specs.Contents.{Contents, registry_of}
 use Rattle.registry_tables.specs.Effects.{registry_in, stored}
 use Rattle.registry_tables.specs.Needs.{HoldsNeeds}
 use Rattle.registry_tables.specs.Teams.{GrantsInScope}
-use Rattle.registry_history.specs.Headline.{Headline}
-use Rattle.registry_history.specs.History.{Entry, Legal, after}
-use Rattle.registry_history.specs.Says.{Says}
-use Rattle.registry_history.specs.Runs.{Outcome, IsAnswer, Ran, enters, grown, history, next}
-use Rattle.registry_hidden.specs.Concerns.{is_shown}
-use Rattle.registry_hidden.specs.Levels.{IsStranger}
-use Rattle.registry_hidden.specs.Without.{state_without}
+use Rattle.registry_laws_history.specs.Headline.{Headline}
+use Rattle.registry_laws_history.specs.History.{Entry, Legal, after}
+use Rattle.registry_laws_history.specs.Says.{Says}
+use Rattle.registry_laws_history.specs.Runs.{Outcome, IsAnswer, Ran, enters, grown, history, next}
+use Rattle.registry_laws_hidden.specs.Concerns.{is_shown}
+use Rattle.registry_laws_hidden.specs.Levels.{IsStranger}
+use Rattle.registry_laws_hidden.specs.Without.{state_without}
 use Rattle.registry_desk.specs.Found.{NeedsFor}
 use Rattle.registry_desk.specs.Resting.{IsRegistryOf, Serves, end_stored, left_by, next_stored, settled_by}
 

@@ -25,8 +25,8 @@ use Rattle.registry_tables.specs.Archives.{HoldsArchives}
 use Rattle.registry_tables.specs.Effects.{registry_in, stored}
 use Rattle.registry_tables.specs.Needs.{HoldsNeeds}
 use Rattle.registry_tables.specs.Teams.{GrantsInScope}
-use Rattle.registry_history.specs.Answers.{answer, head_of, packument_in, version_row}
-use Rattle.registry_history.specs.Runs.{Outcome}
+use Rattle.registry_laws_history.specs.Answers.{answer, head_of, packument_in, version_row}
+use Rattle.registry_laws_history.specs.Runs.{Outcome}
 use Rattle.registry_desk.specs.Caches.{live_packument}
 use Rattle.registry_desk.specs.Lives.{HasAnswered}
 use Rattle.registry_desk.specs.Promises.{Answered, GrowsHistory, HidesUnread, HoldsReferences, HoldsSoundFor, Keeps, KeepsForm, KeepsStored, Moves, Served, StaysSure, Stepped, SurvivesOne, Unchanged, WasOpen}

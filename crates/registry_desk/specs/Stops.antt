@@ -13,7 +13,7 @@ use Rattle.registry_tables.specs.Effects.{registry_in, stored}
 use Rattle.registry_migration.specs.Migration.{Migrates}
 use Rattle.registry_migration.specs.Older.{contents_of, schema_of}
 use Rattle.registry_migration.specs.declared.older.Older.{Older}
-use Rattle.registry_history.specs.History.{Entry, after}
+use Rattle.registry_laws_history.specs.History.{Entry, after}
 use Rattle.registry_desk.specs.Adopted.{IsMade}
 use Rattle.registry_desk.specs.Opened.{GivesFound, HoldsEach, LeavesFound}
 use Rattle.registry_desk.specs.Promises.{HoldsReferences, HoldsSound, IsSure}

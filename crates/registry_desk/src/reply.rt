@@ -13,9 +13,9 @@ ghost use Rattle.registry_rules.specs.Withdrawals as definitions;
 ghost use Rattle.registry_rules.specs.Withdrawals.{selected};
 ghost use Rattle.registry_tables.specs.Spelled.{member_entry, tag_entry};
 ghost use Rattle.registry_tables.specs.Teams.{granted_entry};
-ghost use Rattle.registry_history.specs.Answers as answers;
-ghost use Rattle.registry_history.specs.Answers.{members_in, tags_in, team_packages_in};
-ghost use Rattle.registry_history.specs.Runs.{accepts};
+ghost use Rattle.registry_laws_history.specs.Answers as answers;
+ghost use Rattle.registry_laws_history.specs.Answers.{members_in, tags_in, team_packages_in};
+ghost use Rattle.registry_laws_history.specs.Runs.{accepts};
 ghost use Rattle.registry_desk.specs.Found.{AreRowsOf};
 
 use crate::rows::Rows;

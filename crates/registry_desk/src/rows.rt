@@ -2,7 +2,7 @@
 
 ghost use Rattle.std.specs.Prelude.{◌≡◌, List, map, option_map, IfSome};
 ghost use Rattle.registry_access.specs.declared.caller.Caller.{Caller};
-ghost use Rattle.registry_history.specs.Answers.{asked_release};
+ghost use Rattle.registry_laws_history.specs.Answers.{asked_release};
 ghost use Rattle.registry_names.specs.Maps.{of, seen};
 ghost use Rattle.registry_names.specs.Texts.{Text as SpecText};
 ghost use Rattle.registry_packument.specs.Heads.{time_entry};

@@ -30,7 +30,7 @@ use crate::policy::standing_if_allowed;
 use crate::rows::{cached_text, pack_times};
 use registry_access::Ask;
 use registry_cache::{SharedText, TextCache};
-use registry_hidden::laws::unread_packages_are_unheard_of;
+use registry_laws_hidden::laws::unread_packages_are_unheard_of;
 use registry_names::{ByteOut, DistTag, Fault, Name, Refusal, Text};
 use registry_packument::{
     Opener, PackHead, PackTimes, PackumentWithin, Sent, packument_within, send_counted, send_text,

@@ -8,7 +8,7 @@ ghost use Rattle.sqlite.specs.State.{HasCleanDisk};
 ghost use Rattle.registry_packument.specs.Packuments.{pack_len, pack_text};
 ghost use Rattle.registry_packument.specs.declared.opener.Sent.TheVariants.{Whole};
 ghost use Rattle.registry_rules.specs.declared.request.Action.TheVariants as asked;
-ghost use Rattle.registry_history.specs.Answers.{answer};
+ghost use Rattle.registry_laws_history.specs.Answers.{answer};
 ghost use Rattle.registry_tables.specs.Effects.{registry_in};
 ghost use Rattle.registry_tables.specs.Walks.{IsLeftAlone};
 ghost use Rattle.registry_desk.specs.Caches.{HasAnswers, HasPackuments, KeepNoMore, KeepsAnswer};

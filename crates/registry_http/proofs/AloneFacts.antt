@@ -7,12 +7,12 @@ use Rattle.registry_rules.specs.Callers.{caller_of}
 use Rattle.registry_rules.specs.State.{State}
 use Rattle.registry_rules.specs.declared.reply.Reply.{Reply}
 use Rattle.registry_rules.specs.declared.request.Request.{Request}
-use Rattle.registry_history.specs.History.{after}
-use Rattle.registry_history.specs.Runs.{IsAnswer, Outcome, end_of, next}
-use Rattle.registry_history.proofs.RunFacts.{end_push}
-use Rattle.registry_hidden.specs.Concerns.{is_shown}
-use Rattle.registry_hidden.specs.Runs.{AreAlikeTo, IsTheirs}
-use Rattle.registry_hidden.proofs.RunFacts.{AreOneTo, one_answer, one_next, one_start, runs_are_alike}
+use Rattle.registry_laws_history.specs.History.{after}
+use Rattle.registry_laws_history.specs.Runs.{IsAnswer, Outcome, end_of, next}
+use Rattle.registry_laws_history.proofs.RunFacts.{end_push}
+use Rattle.registry_laws_hidden.specs.Concerns.{is_shown}
+use Rattle.registry_laws_hidden.specs.Runs.{AreAlikeTo, IsTheirs}
+use Rattle.registry_laws_hidden.proofs.RunFacts.{AreOneTo, one_answer, one_next, one_start, runs_are_alike}
 use Rattle.registry_service.specs.HttpAnswers.{response_to}
 use Rattle.registry_service.specs.Turns.{Turn}
 use Rattle.registry_http.specs.Alone.{AreAnsweredAlikeTo, IsAlone, IsTheirTurn, OneIsAnsweredTheSame, RunsAreAnsweredAlike}

@@ -17,7 +17,7 @@ use Rattle.registry_rules.specs.declared.reply.Reply.TheVariants.{Refused}
 use Rattle.registry_rules.specs.declared.request.Action.{Action}
 use Rattle.registry_rules.specs.declared.request.Action.TheVariants.{UserAdd, TokenAdd, OrgCreate, OrgSet, OrgRemove, TeamCreate, TeamDestroy, TeamAdd, TeamRemove, Grant, Revoke, SetAccess, OwnerAdd, OwnerRemove, Publish, TagSet, TagRemove, Withdraw, Deprecate, Packument, VersionDoc, Archive, Tags, Members, Teams, TeamMembers, TeamPackages}
 use Rattle.registry_rules.specs.declared.request.Request.{Request}
-use Rattle.registry_history.specs.Answers.{answer, reply, reply_to, unless_refused}
+use Rattle.registry_laws_history.specs.Answers.{answer, reply, reply_to, unless_refused}
 use Rattle.registry_service.specs.HttpAnswers.{response_to}
 use Rattle.registry_http.specs.Hiding.{HiddenAreUnheardOf, IsUnread, IsQueryOf, IsUnheardOf}
 

@@ -11,8 +11,8 @@ use Rattle.registry_tables.specs.Contents.{Contents, registry_of}
 use Rattle.registry_tables.specs.Effects.{registry_in}
 use Rattle.registry_tables.specs.Needs.{HoldsNeeds}
 use Rattle.registry_tables.specs.Teams.{GrantsInScope}
-use Rattle.registry_history.specs.Runs.{grown}
-use Rattle.registry_history.specs.Says.{Says}
+use Rattle.registry_laws_history.specs.Runs.{grown}
+use Rattle.registry_laws_history.specs.Says.{Says}
 use Rattle.registry_desk.specs.Promises.{HoldsReferences, KeepsStored, WasOpen}
 use Rattle.registry_desk.specs.Resting.{IsRegistryOf}
 use Rattle.registry_http.specs.Services.{Applies, EndsBy}

@@ -5,8 +5,8 @@ use Rattle.registry_rules.proofs.SoundSteps.{nothing_sound}
 use Rattle.registry_rules.specs.Kept.{IsSound}
 use Rattle.registry_rules.specs.State.{State}
 use Rattle.registry_rules.specs.declared.request.Request.{Request}
-use Rattle.registry_history.specs.Runs.{Outcome}
-use Rattle.registry_history.proofs.RunFacts.{headline_from, history_says, run_says}
+use Rattle.registry_laws_history.specs.Runs.{Outcome}
+use Rattle.registry_laws_history.proofs.RunFacts.{headline_from, history_says, run_says}
 use Rattle.registry_desk.specs.Lives.{HasAnswered, HasRun}
 use Rattle.registry_desk.proofs.StoredFacts.{has_run_more, has_run_none, refers_for_each}
 use Rattle.registry_wire.specs.declared.wanted.Wanted.{Wanted}

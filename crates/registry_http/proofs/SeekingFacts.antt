@@ -9,8 +9,8 @@ use Rattle.registry_tables.specs.Contents.{Contents, registry_of}
 use Rattle.registry_tables.specs.Effects.{registry_in, stored}
 use Rattle.registry_tables.specs.Needs.{HoldsNeeds}
 use Rattle.registry_tables.specs.Teams.{GrantsInScope}
-use Rattle.registry_history.specs.Runs.{IsAnswer, Outcome, grown, next}
-use Rattle.registry_history.specs.Says.{Says}
+use Rattle.registry_laws_history.specs.Runs.{IsAnswer, Outcome, grown, next}
+use Rattle.registry_laws_history.specs.Says.{Says}
 use Rattle.registry_desk.specs.Found.{NeedsFor}
 use Rattle.registry_desk.specs.Promises.{Answered, HidesUnread, HoldsReferences, HoldsSoundFor, KeepsStored, Served, WasOpen}
 use Rattle.registry_desk.specs.Resting.{IsRegistryOf, next_stored, settled_by}

@@ -8,7 +8,7 @@ use Rattle.registry_rules.specs.declared.request.Request.{Request}
 use Rattle.sqlite.specs.Held.{Held, state}
 use Rattle.sqlite.specs.State.{State as Shown, Survives}
 use Rattle.sqlite_trees.specs.declared.store.Store.{Ghosts}
-use Rattle.registry_history.specs.Runs.{Outcome}
+use Rattle.registry_laws_history.specs.Runs.{Outcome}
 use Rattle.registry_desk.specs.Promises.{KeepsStored, WasOpen}
 use Rattle.registry_desk.specs.Sending as desk
 use Rattle.registry_desk.specs.Sending.{AnswersAsApply}

@@ -5,10 +5,10 @@ use Rattle.sqlite.specs.State.{State as Shown}
 use Rattle.registry_names.specs.Texts.{Text}
 use Rattle.registry_rules.specs.State.{State}
 use Rattle.registry_rules.specs.declared.request.Request.{Request}
-use Rattle.registry_history.specs.History.{Entry, after}
-use Rattle.registry_history.specs.Runs.{HaveOutcomes, IsAnswer, Outcome, end_of, next}
-use Rattle.registry_history.proofs.RunFacts.{end_push}
-use Rattle.registry_hidden.proofs.ArrivalFacts.{AreNear, answered_alike, near_both, near_first, near_second, near_start}
+use Rattle.registry_laws_history.specs.History.{Entry, after}
+use Rattle.registry_laws_history.specs.Runs.{HaveOutcomes, IsAnswer, Outcome, end_of, next}
+use Rattle.registry_laws_history.proofs.RunFacts.{end_push}
+use Rattle.registry_laws_hidden.proofs.ArrivalFacts.{AreNear, answered_alike, near_both, near_first, near_second, near_start}
 use Rattle.registry_service.specs.Courses.{written}
 use Rattle.registry_service.specs.Histories.{FollowAll, IsOneHistory, LogEntry, World, is_last, turns_of}
 use Rattle.registry_service.specs.HttpAnswers.{response_to}

@@ -9,10 +9,10 @@ use Rattle.registry_access.specs.declared.levels.Level.TheVariants.{Nothing}
 use Rattle.registry_rules.specs.Callers.{caller_of}
 use Rattle.registry_rules.specs.State.{State}
 use Rattle.registry_rules.specs.declared.request.Request.{Request}
-use Rattle.registry_history.specs.History.{Entry, after}
-use Rattle.registry_history.specs.Runs.{Outcome, HaveOutcomes, next}
-use Rattle.registry_hidden.specs.Concerns.{is_shown}
-use Rattle.registry_hidden.specs.Runs.{DifferInPackage, IsTheirs}
+use Rattle.registry_laws_history.specs.History.{Entry, after}
+use Rattle.registry_laws_history.specs.Runs.{Outcome, HaveOutcomes, next}
+use Rattle.registry_laws_hidden.specs.Concerns.{is_shown}
+use Rattle.registry_laws_hidden.specs.Runs.{DifferInPackage, IsTheirs}
 use Rattle.registry_service.specs.Histories.{World}
 use Rattle.registry_service.specs.HttpAnswers.{response_to}
 use Rattle.registry_service.specs.Turns.{Turn}

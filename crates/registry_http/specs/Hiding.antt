@@ -11,7 +11,7 @@ use Rattle.registry_rules.specs.declared.request.Action.{Action}
 use Rattle.registry_rules.specs.declared.request.Action.TheVariants.{Packument, VersionDoc, Archive, Tags}
 use Rattle.registry_rules.specs.declared.request.Credential.{Credential}
 use Rattle.registry_rules.specs.declared.request.Request.{Request}
-use Rattle.registry_history.specs.Answers.{answer}
+use Rattle.registry_laws_history.specs.Answers.{answer}
 use Rattle.registry_service.specs.HttpAnswers.{response_to}
 
 -- the query is about this package

@@ -5,12 +5,12 @@ use Rattle.registry_names.specs.Texts.{Text}
 use Rattle.registry_rules.specs.State.{State}
 use Rattle.registry_rules.specs.declared.request.Request.{Request}
 use Rattle.registry_tables.specs.Effects.{registry_in}
-use Rattle.registry_history.specs.History.{Entry, after}
-use Rattle.registry_history.specs.Runs.{Outcome, end_of}
-use Rattle.registry_hidden.specs.Arrivals.{StaysClose, leaves_the_rest}
-use Rattle.registry_hidden.specs.Concerns.{is_shown}
-use Rattle.registry_hidden.specs.Levels.{IsStranger}
-use Rattle.registry_hidden.specs.Runs.{DifferInPackage}
+use Rattle.registry_laws_history.specs.History.{Entry, after}
+use Rattle.registry_laws_history.specs.Runs.{Outcome, end_of}
+use Rattle.registry_laws_hidden.specs.Arrivals.{StaysClose, leaves_the_rest}
+use Rattle.registry_laws_hidden.specs.Concerns.{is_shown}
+use Rattle.registry_laws_hidden.specs.Levels.{IsStranger}
+use Rattle.registry_laws_hidden.specs.Runs.{DifferInPackage}
 use Rattle.registry_desk.specs.Promises.{HoldsSoundForEach}
 use Rattle.registry_service.specs.Histories.{LogEntry, Reached, World}
 use Rattle.registry_service.specs.Turns.{Turn}

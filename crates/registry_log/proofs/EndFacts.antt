@@ -1,7 +1,7 @@
 -- A look-up before a request, and how the service ends.
 use Rattle.std.proofs.Common.{◌≡◌, ◌∙◌, ◌≤◌, Bool, Ok, Err, subst}
 use Rattle.sqlite_trees.specs.declared.store.Store.{Ghosts}
-use Rattle.registry_history.specs.Runs.{Outcome}
+use Rattle.registry_laws_history.specs.Runs.{Outcome}
 use Rattle.registry_http.specs.Services.{EndsBy, EndsByFault, Serving, shown}
 use Rattle.registry_http.proofs.LookFacts.{ends-later}
 

@@ -31,8 +31,8 @@ use Rattle.registry_rows.proofs.ListFacts.{has_mapped, map_has}
 use Rattle.registry_rows.proofs.ListingFacts.{first_risen}
 use Rattle.registry_rows.proofs.OrderFacts.{found_has}
 use Rattle.registry_rows.proofs.RowFacts.{some_same}
-use Rattle.registry_sql_laws.specs.Joins.{Side, given, first, second, comparisons, join, joins, IsJoined}
-use Rattle.registry_sql_laws.proofs.JoinFacts.{select_joins}
+use Rattle.registry_laws_sql.specs.Joins.{Side, given, first, second, comparisons, join, joins, IsJoined}
+use Rattle.registry_laws_sql.proofs.JoinFacts.{select_joins}
 use Rattle.registry_tables.specs.Schema.{schema}
 use Rattle.registry_tables.specs.Contents.{Contents, access_of}
 use Rattle.registry_tables.specs.Effects.{stored}

@@ -12,8 +12,8 @@ use Rattle.registry_names.specs.Maps.{keep}
 use Rattle.registry_rows.specs.Frames.{Wrote}
 use Rattle.registry_rows.specs.Ready.{Ready, Leaves}
 use Rattle.registry_rows.specs.Statements.{Means, scan, by_texts}
-use Rattle.registry_sql_laws.specs.Cascades.{Child, IsChild, HasChildren, links, link_of}
-use Rattle.registry_sql_laws.proofs.CascadeFacts.{mapped_child, delete_cascades}
+use Rattle.registry_laws_sql.specs.Cascades.{Child, IsChild, HasChildren, links, link_of}
+use Rattle.registry_laws_sql.proofs.CascadeFacts.{mapped_child, delete_cascades}
 use Rattle.registry_tables.specs.Schema.{schema}
 use Rattle.registry_tables.specs.Schema as table
 use Rattle.registry_tables.specs.Contents.{Contents, contents}

@@ -24,8 +24,8 @@ use Rattle.registry_rows.specs.Statements.{Means, MeansQuery, IsUncascaded, dele
 use Rattle.registry_rows.proofs.KeyedFacts.{by_number_given, by_texts_given}
 use Rattle.registry_rows.proofs.LookUpFacts.{select_has_by}
 use Rattle.registry_rows.proofs.StatementFacts.{insert_puts, insert_meets_none, delete_erases_by}
-use Rattle.registry_sql_laws.specs.Cascades.{Child, IsChild, HasChildren, links, link_of}
-use Rattle.registry_sql_laws.proofs.CascadeFacts.{mapped_child, delete_cascades}
+use Rattle.registry_laws_sql.specs.Cascades.{Child, IsChild, HasChildren, links, link_of}
+use Rattle.registry_laws_sql.proofs.CascadeFacts.{mapped_child, delete_cascades}
 use Rattle.registry_tables.specs.Changes.{IsUntagged}
 use Rattle.registry_tables.specs.Contents.{Contents, contents}
 use Rattle.registry_tables.specs.Effects.{stored}

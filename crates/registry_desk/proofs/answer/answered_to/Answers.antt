@@ -8,7 +8,7 @@ use Rattle.registry_rules.specs.Facts.{FactsTell}
 use Rattle.registry_tables.specs.Contents.{Contents, contents, registry_of}
 use Rattle.registry_tables.specs.Effects.{shown, stored_in}
 use Rattle.registry_tables.specs.Schema.{schema}
-use Rattle.registry_history.specs.Answers.{answer}
+use Rattle.registry_laws_history.specs.Answers.{answer}
 use Rattle.registry_desk.specs.Resting.{settled_by}
 use Rattle.registry_desk.specs.Caches.{IsSoundFor, LeavesCacheRight}
 use Rattle.registry_desk.proofs.AnswerFacts.{known_stands, refused}

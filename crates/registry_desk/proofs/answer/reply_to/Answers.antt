@@ -6,7 +6,7 @@ use Rattle.registry_rules.specs.declared.reply.Reply.{Reply}
 use Rattle.registry_rules.specs.declared.request.Action.{Action}
 use Rattle.registry_tables.specs.Contents.{registry_of}
 use Rattle.registry_tables.specs.Effects.{stored_in}
-use Rattle.registry_history.specs.Answers as answers
+use Rattle.registry_laws_history.specs.Answers as answers
 use Rattle.registry_desk.specs.Found.{AreRowsOf}
 use Rattle.registry_desk.specs.declared.rows.Rows.{Rows}
 use Rattle.registry_desk.proofs.answer.reply_to.Goals as goal

@@ -1,7 +1,7 @@
 use Rattle.std.proofs.Common.{◌∙◌, List, ap, map, take_all}
 use Rattle.registry_rules.specs.Changes.{change_of}
 use Rattle.registry_rules.specs.declared.change.Change.{Change}
-use Rattle.registry_history.specs.Apart.{is_about}
+use Rattle.registry_laws_history.specs.Apart.{is_about}
 use Rattle.registry_desk.specs.Caches.{without_changed}
 use Rattle.registry_desk.proofs.CacheFacts.{forgets_next, untouched_none}
 use Rattle.registry_desk.proofs.cache.forget_packuments.Goals as goal

@@ -10,8 +10,8 @@ use Rattle.registry_tables.specs.Contents.{Contents, contents, registry_of}
 use Rattle.registry_tables.specs.Effects.{stored}
 use Rattle.registry_tables.specs.Teams.{AreTeamsSound}
 use Rattle.registry_tables.proofs.TeamReferenceFacts.{teams_sound}
-use Rattle.registry_history.specs.Answers.{answer}
-use Rattle.registry_history.specs.Runs.{Outcome, enters}
+use Rattle.registry_laws_history.specs.Answers.{answer}
+use Rattle.registry_laws_history.specs.Runs.{Outcome, enters}
 use Rattle.registry_desk.specs.Found.{NeedsFor}
 use Rattle.registry_desk.specs.Promises.{HoldsSoundFor}
 use Rattle.registry_desk.specs.Resting.{IsRegistryOf, Rests, next_stored, settled_by}

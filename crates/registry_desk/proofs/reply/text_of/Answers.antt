@@ -3,7 +3,7 @@ use Rattle.std.proofs.lemmas.Result.{IfOk-weaker}
 use Rattle.registry_names.specs.Texts.{Text}
 use Rattle.registry_rules.specs.declared.reply.Reply.TheVariants.{Doc}
 use Rattle.registry_rules.specs.declared.request.Action.{Action}
-use Rattle.registry_history.specs.Answers.{reply}
+use Rattle.registry_laws_history.specs.Answers.{reply}
 use Rattle.registry_desk.specs.Found.{AreRowsOf}
 use Rattle.registry_desk.specs.declared.rows.Rows.{Rows}
 use Rattle.registry_desk.proofs.reply.text_of.Goals as goal

@@ -1,9 +1,0 @@
-//! Tests that need a registry and can't be told as stories: lists of requests that are answered by
-//! `run` as by `apply`, registries in the machine's files, and the program over streams that fail.
-//!
-//! The stories of `registry_stories` have what the program answers to requests. Calls on rows and
-//! tables are tested in `registry_table_tests`, and files that stop in `registry_stops`.
-#![tactic(auto)]
-
-#[cfg(test)]
-mod tests;

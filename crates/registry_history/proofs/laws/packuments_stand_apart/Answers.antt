@@ -1,8 +1,0 @@
-use Rattle.registry_history.proofs.ApartFacts.{changes_of_others, steps_of_others}
-use Rattle.registry_history.proofs.laws.packuments_stand_apart.Goals as goal
-
-pub returns-clause-changes : goal.returns-clause-changes
-returns-clause-changes c = changes_of_others
-
-pub returns-clause-steps : goal.returns-clause-steps
-returns-clause-steps c = steps_of_others

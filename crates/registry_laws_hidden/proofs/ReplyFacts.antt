@@ -1,0 +1,98 @@
+-- What the registry replies to somebody who doesn't read a package, of all else: the same with the
+-- package and without it.
+use Rattle.std.proofs.Common.{◌≡◌, Bool, true, false, cond, not, refl, sym, ap, ap₂, ◌∙◌, true≢false, Some, None, Option, option_map, List, [], ◌∷◌, length, map, filter, if◌then◌else◌}
+use Rattle.std.specs.Prelude.{option_and_then, unwrap_or}
+use Rattle.registry_names.specs.Keys.{Pair}
+use Rattle.registry_names.specs.Maps.{at, keys, pairs_of, parts}
+use Rattle.registry_names.specs.Texts.{Text, is}
+use Rattle.registry_names.specs.Versions.{text_of_version}
+use Rattle.registry_names.proofs.KeyFacts.{pair_key, text_key, same_true}
+use Rattle.registry_names.proofs.PartFacts.{part-keep}
+use Rattle.registry_packument.specs.Documents.{document_text}
+use Rattle.registry_packument.specs.Lists.{tags_text, grants_text}
+use Rattle.registry_access.specs.Access.{Access}
+use Rattle.registry_access.specs.Hiding as access
+use Rattle.registry_access.specs.Levels.{reads}
+use Rattle.registry_access.specs.Positions.{level_at, level_in}
+use Rattle.registry_access.specs.declared.caller.Caller.{Caller}
+use Rattle.registry_access.specs.declared.grant.Grant.{Grant}
+use Rattle.registry_access.specs.declared.levels.Level.TheVariants.{Nothing}
+use Rattle.registry_rules.specs.State.{State, Release, asked_version}
+use Rattle.registry_rules.specs.Withdrawals.{selected}
+use Rattle.registry_rules.specs.declared.reply.Reply.TheVariants.{Count, Doc, Bytes}
+use Rattle.registry_rules.specs.declared.request.Action.{Action}
+use Rattle.registry_rules.specs.declared.request.Action.TheVariants.{Deprecate, Packument, VersionDoc, Archive, Tags, TeamPackages}
+use Rattle.registry_rules.specs.declared.request.Asked.{Asked}
+use Rattle.registry_laws_history.specs.Answers.{asked_release, dist_tag, listed_grant, packument_of, reply}
+use Rattle.registry_laws_hidden.specs.Without.{state_without}
+use Rattle.registry_laws_hidden.proofs.AcceptedFacts.{position_other, same_asked}
+use Rattle.registry_laws_hidden.proofs.NamedFacts.{other_triple}
+use Rattle.registry_laws_hidden.proofs.OtherFacts.{at_other, of_other}
+use Rattle.registry_laws_hidden.proofs.RefusedFacts.{nothing_left}
+use Rattle.registry_laws_hidden.proofs.Subjects.{concerns}
+
+-- ---- levels
+
+module _ (A : Access) (who : Caller) (p : Text) (nothing : level_in A who p ≡ Nothing) where
+  level_by_name : (q : Text) (b : Bool) → is q p ≡ b → level_in (access.access_without A p) who q ≡ level_in A who q
+  level_by_name q true here =
+      let same = same_true text_key q p here in
+      ap (level_in (access.access_without A p) who) same ∙ nothing_left A who p ∙ sym nothing ∙ ap (level_in A who) (sym same)
+  level_by_name q false other = ap level_at (position_other A p q other who)
+
+  pub same_level : (q : Text) → level_in (access.access_without A p) who q ≡ level_in A who q
+  same_level q = level_by_name q (is q p) refl
+
+  unread : (q : Text) → is q p ≡ true → reads (level_in A who q) ≡ false
+  unread q here = ap (λ r. reads (level_in A who r)) (same_true text_key q p here) ∙ ap reads nothing
+
+-- ---- the packages of a team that the caller reads
+
+-- of grants, those on other packages, and those that pass
+abbrev shown : (Text → Bool) → List (Text × Grant) → List (Text × Grant)
+shown test es = filter (λ (e : Text × Grant). test e.0) es
+
+module _ (p t : Text) (with_it without_it : Text → Bool) (same : (q : Text) → without_it q ≡ with_it q) (hidden : (q : Text) → is q p ≡ true → with_it q ≡ false) where
+  -- one grant more, of this team or another, on this package or another
+  one_shown : (e : Pair × Grant) (here ours passes : Bool) (xs ys : List (Pair × Grant)) → is e.0.1 p ≡ here → with_it e.0.1 ≡ passes
+      → shown without_it (parts xs t) ≡ shown with_it (parts ys t)
+      → is e.0.0 t ≡ ours
+      → shown without_it (parts (if not here then e ∷ xs else xs) t) ≡ shown with_it (cond ours ((e.0.1, e.1) ∷ parts ys t) (parts ys t))
+  one_shown e true true true xs ys h w rest o = absurd (true≢false (sym w ∙ hidden e.0.1 h))
+  one_shown e true true false xs ys h w rest o = rest ∙ sym (ap (λ b. if b then (e.0.1, e.1) ∷ shown with_it (parts ys t) else shown with_it (parts ys t)) w)
+  one_shown e true false passes xs ys h w rest o = rest
+  one_shown e false true passes xs ys h w rest o =
+      ap (λ b. shown without_it (cond b ((e.0.1, e.1) ∷ parts xs t) (parts xs t))) o
+      ∙ ap₂ (λ b (es : List (Text × Grant)). if b then (e.0.1, e.1) ∷ es else es) (same e.0.1) rest
+  one_shown e false false passes xs ys h w rest o = ap (λ b. shown without_it (cond b ((e.0.1, e.1) ∷ parts xs t) (parts xs t))) o ∙ rest
+
+  all_shown : (es : List (Pair × Grant)) → shown without_it (parts (filter (λ (e : Pair × Grant). not (is e.0.1 p)) es) t) ≡ shown with_it (parts es t)
+  all_shown [] = refl
+  all_shown (e ∷ es) = one_shown e (is e.0.1 p) (is e.0.0 t) (with_it e.0.1) (filter (λ (d : Pair × Grant). not (is d.0.1 p)) es) es refl refl (all_shown es) refl
+
+team_packages_alike : (A : Access) (who : Caller) (p o t : Text) → level_in A who p ≡ Nothing
+    → shown (λ q. reads (level_in (access.access_without A p) who q)) (parts (pairs_of (access.access_without A p).grants o) t) ≡ shown (λ q. reads (level_in A who q)) (parts (pairs_of A.grants o) t)
+team_packages_alike A who p o t nothing =
+    ap (λ (es : List (Pair × Grant)). shown (λ q. reads (level_in (access.access_without A p) who q)) (parts es t)) (part-keep pair_key A.grants (other_triple p) o)
+    ∙ all_shown p t (λ q. reads (level_in A who q)) (λ q. reads (level_in (access.access_without A p) who q)) (λ q. ap reads (same_level A who p nothing q)) (unread A who p nothing) (pairs_of A.grants o)
+
+-- ---- each reply
+
+module _ (S : State) (p q : Text) (other : is q p ≡ false) where
+  named_release : (v : Option Text) → option_and_then (λ v. at (state_without S p).live (q, v)) v ≡ option_and_then (λ v. at S.live (q, v)) v
+  named_release None = refl
+  named_release (Some v) = at_other p q other S.live v
+
+  same_release : (asked : Asked) → asked_release (state_without S p) q asked ≡ asked_release S q asked
+  same_release asked = ap (option_and_then (λ v. at (state_without S p).live (q, v))) (same_asked S p q other asked) ∙ named_release (asked_version S q asked)
+
+pub reply_other : (S : State) (who : Caller) (what : Action) (p : Text) → concerns what p ≡ false → level_in S.access who p ≡ Nothing → reply (state_without S p) who what ≡ reply S who what
+reply_other S who (Deprecate q selector message) p other nothing = ap (λ (es : List (Text × Release)). Count (length (selected (keys es) selector))) (of_other p q other S.live)
+reply_other S who (Packument q) p other nothing =
+    λ i. Doc (packument_of q (of_other p q other S.tags i) (of_other p q other S.live i) (of_other p q other S.spent i))
+reply_other S who (VersionDoc q asked) p other nothing =
+    ap (λ o. Doc (unwrap_or (option_and_then (λ (r : Release). document_text r.manifest r.message) o) [])) (same_release S p q other asked)
+reply_other S who (Archive q v) p other nothing = ap (λ o. Bytes (unwrap_or (option_map (λ (r : Release). r.archive) o) [])) (at_other p q other S.live (text_of_version v))
+reply_other S who (Tags q) p other nothing = ap (λ (ts : List (Text × Text)). Doc (tags_text (map dist_tag ts))) (of_other p q other S.tags)
+reply_other S who (TeamPackages o t) p other nothing = ap (λ (es : List (Text × Grant)). Doc (grants_text (map listed_grant es))) (team_packages_alike S.access who p o t nothing)
+reply_other S who _ p other nothing = refl

@@ -1,0 +1,94 @@
+-- A packument depends on its own package alone.
+use Rattle.std.proofs.Common.{◌≡◌, ℕ, Bool, true, false, cond, ◌&&◌, ◌||◌, [], ◌∷◌, is_some, Option, Some, None, option_map, refl, ap, ◌∙◌, true≢false}
+use Rattle.registry_names.specs.Keys.{pair_is}
+use Rattle.registry_names.specs.Texts.{Text, is}
+use Rattle.registry_names.specs.Maps.{at, of}
+use Rattle.registry_names.proofs.KeyFacts.{text_key, pair_key}
+use Rattle.registry_names.proofs.MapFacts.{at-revise}
+use Rattle.registry_names.proofs.PartFacts.{part-put, part-erase, same_part}
+use Rattle.registry_access.specs.declared.caller.Caller.{Caller}
+use Rattle.registry_rules.specs.Actions.{names_package, version_of}
+use Rattle.registry_rules.specs.Callers.{caller_of}
+use Rattle.registry_rules.specs.Changes.{Change, AddUser, AddToken, AddOrg, PutMember, DropMember, AddTeam, PutTeamMember, DropTeamMember, DropTeam, PutGrant, DropGrant, PutOwner, DropOwner, PutStatus, AddVersion, RetireVersion, PutDeprecation, PutTag, DropTag, made, all_made, release_of}
+use Rattle.registry_rules.specs.Effects.{effects_for, step}
+use Rattle.registry_rules.specs.Operations.{with_member, with_role, with_grant, regranted, with_status, restated, with_tag, moved}
+use Rattle.registry_rules.specs.State.{State, Release}
+use Rattle.registry_rules.specs.declared.request.Action.{Action}
+use Rattle.registry_rules.proofs.LawFacts.{commands_leave_other_packages}
+use Rattle.registry_laws_history.specs.Answers.{packument_in, packument_of}
+use Rattle.registry_laws_history.specs.Apart.{ChangesOfOthers, StepsOfOthers, are_about, is_about}
+
+-- the versions of the package, live and withdrawn, and its tags are the same
+record IsSame (S T : State) (p : Text) : Type 0 where
+  live : of T.live p ≡ of S.live p
+  spent : of T.spent p ≡ of S.spent p
+  tags : of T.tags p ≡ of S.tags p
+
+same_packument : (S T : State) (p : Text) → IsSame S T p → packument_in T p ≡ packument_in S p
+same_packument S T p same = λ i. packument_of p (same.tags i) (same.live i) (same.spent i)
+
+unchanged : (S : State) (p : Text) → IsSame S S p
+unchanged S p = record { live = refl; spent = refl; tags = refl }
+
+either : (b : Bool) (S T U : State) (p : Text) → IsSame S T p → IsSame S U p → IsSame S (cond b T U) p
+either true S T U p one other = one
+either false S T U p one other = other
+
+unmarked : (b : Bool) (mark : Release → Release) (o : Option Release) → b ≡ false → option_map (λ (r : Release). cond b (mark r) r) o ≡ o
+unmarked b mark None e = refl
+unmarked true mark (Some r) e = absurd (true≢false e)
+unmarked false mark (Some r) e = refl
+
+-- a change that is about no version and no tag of the package
+made_same : (S : State) (change : Change) (p : Text) → is_about change p ≡ false → IsSame S (made S change) p
+made_same S (AddUser u) p e = record { live = refl; spent = refl; tags = refl }
+made_same S (AddToken digest u) p e = record { live = refl; spent = refl; tags = refl }
+made_same S (AddOrg o) p e = record { live = refl; spent = refl; tags = refl }
+made_same S (PutMember o u role stands) p e =
+    let here : IsSame S (with_member S o u role) p = record { live = refl; spent = refl; tags = refl } in
+    either stands S (with_role S o u role) (with_member S o u role) p (either (is_some (at S.access.roles (o, u))) S (with_member S o u role) S p here (unchanged S p)) here
+made_same S (DropMember o u) p e = record { live = refl; spent = refl; tags = refl }
+made_same S (AddTeam o t) p e = record { live = refl; spent = refl; tags = refl }
+made_same S (PutTeamMember o t u) p e = record { live = refl; spent = refl; tags = refl }
+made_same S (DropTeamMember o t u) p e = record { live = refl; spent = refl; tags = refl }
+made_same S (DropTeam o t) p e = record { live = refl; spent = refl; tags = refl }
+made_same S (PutGrant o t q grant stands) p e =
+    let here : IsSame S (with_grant S o t q grant) p = record { live = refl; spent = refl; tags = refl } in
+    either stands S (regranted S o t q grant) (with_grant S o t q grant) p (either (is_some (at S.access.grants (o, (t, q)))) S (with_grant S o t q grant) S p here (unchanged S p)) here
+made_same S (DropGrant o t q) p e = record { live = refl; spent = refl; tags = refl }
+made_same S (PutOwner q u) p e = record { live = refl; spent = refl; tags = refl }
+made_same S (DropOwner q u) p e = record { live = refl; spent = refl; tags = refl }
+made_same S (PutStatus q status stands) p e =
+    let here : IsSame S (with_status S q status) p = record { live = refl; spent = refl; tags = refl } in
+    either stands S (restated S q status) (with_status S q status) p (either (is_some (at S.access.statuses q)) S (with_status S q status) S p here (unchanged S p)) here
+made_same S (AddVersion f now) p e = record { live = part-put text_key S.live f.name (version_of f) (release_of f now) p e; spent = refl; tags = refl }
+made_same S (RetireVersion q v published withdrawn) p e = record { live = part-erase text_key S.live q v p e; spent = part-put text_key S.spent q v _ p e; tags = refl }
+made_same S (PutDeprecation q v message) p e = record {
+  live = same_part text_key _ S.live p (λ w. at-revise pair_key S.live (λ k (r : Release). cond (pair_is (q, v) k) (record r { message = message }) r) (p, w)
+      ∙ unmarked (pair_is (q, v) (p, w)) (λ r. record r { message = message }) (at S.live (p, w)) (ap (λ b. b && is v w) e));
+  spent = refl;
+  tags = refl;
+}
+made_same S (PutTag q t v stands) p e =
+    let here : IsSame S (with_tag S q t v) p = record { live = refl; spent = refl; tags = part-put text_key S.tags q t v p e } in
+    either stands S (moved S q t v) (with_tag S q t v) p (either (is_some (at S.tags (q, t))) S (with_tag S q t v) S p here (unchanged S p)) here
+made_same S (DropTag q t) p e = record { live = refl; spent = refl; tags = part-erase text_key S.tags q t p e }
+
+neither : (a b : Bool) → (a || b) ≡ false → (a ≡ false) × (b ≡ false)
+neither true b e = absurd (true≢false e)
+neither false b e = (refl, e)
+
+pub changes_of_others : ChangesOfOthers
+changes_of_others S [] p e = refl
+changes_of_others S (change ∷ changes) p e =
+    let apart = neither (is_about change p) (are_about changes p) e in
+    changes_of_others (made S change) changes p apart.1 ∙ same_packument S (made S change) p (made_same S change p apart.0)
+
+step_same : (S : State) (now : ℕ) (who : Option Caller) (what : Action) (p : Text) → names_package what p ≡ false → IsSame S (all_made S (effects_for S now who what)) p
+step_same S now None what p e = unchanged S p
+step_same S now (Some who) what p e =
+    let apart = commands_leave_other_packages S now who what p e in
+    record { live = same_part text_key _ S.live p apart.live; spent = same_part text_key _ S.spent p apart.spent; tags = same_part text_key _ S.tags p apart.tags }
+
+pub steps_of_others : StepsOfOthers
+steps_of_others S r p e = same_packument S (step S r) p (step_same S r.at (caller_of S r.who) r.what p e)

@@ -1,0 +1,231 @@
+//! The log of a registry that is served.
+
+ghost use Rattle.std.specs.Prelude.{None, ◌≤◌, length};
+
+use crate::tests::lists::LAB_KIT;
+use registry_desk::Registry;
+use registry_http::RegistryService;
+use registry_log::{Entry, LineSink, Log, LogClock, LoggedService};
+use registry_names::{Method, Moment, Text};
+use registry_server::{ConnectionState, Progress};
+use registry_service::{Clock, Service};
+use registry_tests_requests::{outcomes_of, requests_of};
+use registry_tests_support::same;
+use std::alloc::Global;
+use std::fs::OpenOptions;
+use std::io::Write;
+use std::test::Fail;
+use std::{fs, io, str};
+
+/// 2026-11-26, at 10:00.
+const TEN: i64 = 1_795_687_200;
+
+/// A file that takes this many bytes of each text, and all bytes after the last of these numbers.
+#[derive(Drop)]
+struct Paper {
+    rt: HostRuntime,
+    path: Text,
+    takes: Vec<usize>,
+    calls: usize,
+}
+
+impl LineSink for Paper {
+    fn append(&mut self, bytes: &[u8]) -> usize {
+        let most = match self.takes.get(self.calls) {
+            Some(count) => *count,
+            None => bytes.len(),
+        };
+        self.calls = self.calls.saturating_add(1);
+        let count = most.min(bytes.len());
+        match put(&self.rt, self.path.as_str(), &bytes[..count]) {
+            Ok(()) => count,
+            Err(_) => 0,
+        }
+    }
+}
+
+fn put(rt: &HostRuntime, path: &str, bytes: &[u8]) -> io::Result<()> {
+    OpenOptions::new()
+        .append(true)
+        .create(true)
+        .open(rt, path)?
+        .write_all(bytes)
+}
+
+/// Clocks that stand still, except that each reading of the microseconds is 1,250 more.
+#[derive(Drop)]
+struct Still {
+    micros: u64,
+}
+
+impl LogClock for Still {
+    fn moment(&mut self) -> Moment {
+        Moment::clamped(TEN)
+    }
+
+    fn micros(&mut self) -> u64 {
+        self.micros = self.micros.saturating_add(1_250);
+        self.micros
+    }
+}
+
+impl Clock for Still {
+    ghost readings = { λ _. None };
+
+    fn now(&mut self) -> Moment {
+        Moment::clamped(TEN)
+    }
+}
+
+// The line for the target of a request of nobody.
+fn line_of(alloc: Global, target: &[u8]) -> Result<Vec<u8>, Fail> {
+    let entry = Entry {
+        at: Moment::clamped(TEN),
+        user: "",
+        method: Some(Method::Get),
+        target,
+        status: 404,
+        length: 20,
+        micros: None,
+    };
+    Ok(entry.line(alloc)?)
+}
+
+/// Targets, and how the log shows them.
+static TARGETS: [(&[u8], &str); 10] = [
+    (b"/@lab%2fkit", "/@lab%2fkit"),
+    (b"/a b\n\x7f\xffc", "/a?b???c"),
+    (b"/-/npm/v1/tokens/token/npm_ann_000000001", "/-/npm/v1/***"),
+    (b"/-/npm/v1/tokens", "/-/npm/v1/tokens"),
+    (b"/-/user/token/whatever/it=is", "/-/***"),
+    (b"/kit?token=npm_ann_000000001&at=1", "/kit?token=***"),
+    (b"/npm_ann_000000001", "/***"),
+    (b"/my_npm_kit", "/my_npm_kit"),
+    (b"/npm-kit/npm_", "/npm-kit/***"),
+    (b"*", "*"),
+];
+
+#[test]
+fn targets_are_put_without_tokens(rt: HostRuntime) -> Result<(), Fail> {
+    for (target, put) in &TARGETS {
+        let line = line_of(rt.alloc(), target)?;
+        let wanted = format!(in rt.alloc(); "2026-11-26T10:00:00.000Z - GET {put} 404 20 -\n")?;
+        same(*put, str::from_utf8(&line)?, wanted.as_str())?;
+    }
+    Ok(())
+}
+
+#[test]
+fn a_line_has_what_is_known(rt: HostRuntime) -> Result<(), Fail> {
+    let whole = Entry {
+        at: Moment::clamped(TEN),
+        user: "ann",
+        method: Some(Method::Put),
+        target: b"/kit",
+        status: 201,
+        length: 11,
+        micros: Some(12_399),
+    };
+    let line = whole.line(rt.alloc())?;
+    same(
+        "all",
+        str::from_utf8(&line)?,
+        "2026-11-26T10:00:00.000Z ann PUT /kit 201 11 12.3\n",
+    )?;
+    let none = Entry {
+        at: Moment::clamped(0),
+        user: "",
+        method: None,
+        target: b"",
+        status: 400,
+        length: 22,
+        micros: None,
+    };
+    let line = none.line(rt.alloc())?;
+    same(
+        "nothing",
+        str::from_utf8(&line)?,
+        "1970-01-01T00:00:00.000Z - - - 400 22 -\n",
+    )
+}
+
+/// A request with bob's token, one without a token, one that has no route, one with a token of
+/// nobody, and input that isn't a request.
+const ASKS: &[u8] =
+    b"GET /-/package/@lab%2fkit/dist-tags HTTP/1.1\r\nauthorization: Bearer npm_bob_000000001\r\n\r\nGET /-/package/kit/dist-tags HTTP/1.1\r\n\r\nGET /-/ping HTTP/1.1\r\n\r\nGET /-/package/kit/dist-tags HTTP/1.1\r\nauthorization: Bearer npm_zed_000000001\r\n\r\nwhat\r\n\r\n";
+
+/// Serves these bytes with a registry in which `@lab/kit` 1.0.0 is published, with a round for each
+/// turn, and returns the log. Its file is at this path, and takes this many bytes of each text.
+fn logged(rt: &HostRuntime, path: &str, asks: &[u8], takes: &[usize]) -> Result<String, Fail> {
+    let alloc = rt.alloc();
+    let mut registry = Registry::in_memory(alloc)?;
+    let requests = requests_of(alloc, LAB_KIT)?;
+    let _outcomes = outcomes_of(alloc, &mut registry, &requests)?;
+    let paper = Paper {
+        rt: *rt,
+        path: Text::from_str(alloc, path)?,
+        takes: Vec::from_slice(alloc, takes)?,
+        calls: 0,
+    };
+    let log = Log::new(alloc, Still { micros: 0 }, paper)?;
+    let mut service = LoggedService::new(RegistryService::new(registry), Some(log));
+    service.say("begun");
+    serve(alloc, &mut service, asks)?;
+    service.say("ended");
+    let text = fs::read_to_string(rt, path)?;
+    fs::remove_file(rt, path)?;
+    Ok(text)
+}
+
+// Takes the turns of these bytes, after which the connection gets no more.
+fn serve<D: Service>(alloc: Global, service: &mut D, asks: &[u8]) -> Result<(), Fail> {
+    let mut clock = Still { micros: 0 };
+    let mut state = ConnectionState::new(alloc);
+    state.came(asks)?;
+    for _ in 0..10 {
+        if !state.may_take_turn() {
+            return Ok(());
+        }
+        match state.take_turn(alloc, service, &mut clock, true) {
+            Progress::Answered => send(&mut state),
+            Progress::Waits | Progress::Closed => return Ok(()),
+        }
+        service.rest();
+    }
+    Ok(())
+}
+
+// Sends a response whole.
+fn send(state: &mut ConnectionState) {
+    for _ in 0..2 {
+        let (head, body) = state.outgoing().parts();
+        let count = if head.is_empty() {
+            body.len()
+        } else {
+            head.len()
+        };
+        state.sent(count);
+    }
+}
+
+#[test]
+fn each_turn_has_a_line(rt: HostRuntime) -> Result<(), Fail> {
+    let text = logged(&rt, "requests.log", ASKS, &[])?;
+    same(
+        "the log",
+        text.as_str(),
+        "2026-11-26T10:00:00.000Z # begun\n2026-11-26T10:00:00.000Z bob GET /-/package/@lab%2fkit/dist-tags 200 18 1.2\n2026-11-26T10:00:00.000Z - GET /-/package/kit/dist-tags 404 20 1.2\n2026-11-26T10:00:00.000Z - GET /-/ping 404 20 -\n2026-11-26T10:00:00.000Z - GET /-/package/kit/dist-tags 401 20 1.2\n2026-11-26T10:00:00.000Z - - - 400 19 -\n2026-11-26T10:00:00.000Z # ended\n",
+    )
+}
+
+/// The first line is written; then the disk is full in the middle of the second line, and for the
+/// third.
+#[test]
+fn lost_lines_are_told(rt: HostRuntime) -> Result<(), Fail> {
+    let text = logged(&rt, "lost-requests.log", ASKS, &[1_000, 30, 0])?;
+    same(
+        "the log",
+        text.as_str(),
+        "2026-11-26T10:00:00.000Z # begun\n2026-11-26T10:00:00.000Z bob G\n2026-11-26T10:00:00.000Z # lost lines: 2\n2026-11-26T10:00:00.000Z - GET /-/ping 404 20 -\n2026-11-26T10:00:00.000Z - GET /-/package/kit/dist-tags 401 20 1.2\n2026-11-26T10:00:00.000Z - - - 400 19 -\n2026-11-26T10:00:00.000Z # ended\n",
+    )
+}

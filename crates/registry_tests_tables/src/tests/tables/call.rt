@@ -1,0 +1,440 @@
+//! Calls on new tables, one after another, and what each answers.
+
+ghost use Rattle.std.specs.Prelude.{◌≡◌, OnOk};
+ghost use Rattle.sqlite.specs.Held.{state};
+ghost use Rattle.sqlite.specs.Steps.{IsEmpty};
+ghost use Rattle.registry_tables.specs.Effects.{InForm};
+
+use super::rights::{self, RightCall};
+use super::teams::{self, TeamCall};
+use super::text::{
+    Body, archive_text, done, form_of, push_word, status_text, tags_text, times_text,
+    versions_text, word_text,
+};
+use registry_names::{Fault, Message, Moment, Name, Status, Stop, Ver};
+use registry_rows::write;
+use registry_rules::Change;
+use registry_tables::{
+    create, has_live, has_tag, has_version, is_spent, load_archive, load_status, load_tags,
+    load_times, load_versions, make, put_version,
+};
+use registry_tests_support::{otherwise, same};
+use sqlite::{Alter, Connection, Row, Transaction, params};
+use sqlite_value::value::ValueRef;
+use std::alloc::Global;
+use std::test::Fail;
+
+/// Gives the name of its table for each row; for a need, the target and the range on which versions
+/// depend. They are in byte order.
+const TABLE_OF_EACH_ROW: &str =
+    "SELECT 'users' FROM users UNION ALL SELECT 'tokens' FROM tokens UNION ALL SELECT 'orgs' FROM orgs UNION ALL SELECT 'members' FROM members UNION ALL SELECT 'teams' FROM teams UNION ALL SELECT 'team_members' FROM team_members UNION ALL SELECT 'packages' FROM packages UNION ALL SELECT 'grants' FROM grants UNION ALL SELECT 'owners' FROM owners UNION ALL SELECT 'versions' FROM versions UNION ALL SELECT 'spent' FROM spent UNION ALL SELECT 'tags' FROM tags UNION ALL SELECT 'needs' FROM needs UNION ALL SELECT 'meta' FROM meta UNION ALL SELECT target || ' ' || range FROM need_ranges UNION ALL SELECT 'held' FROM held UNION ALL SELECT 'archives' FROM archives ORDER BY 1";
+
+/// Calls on an empty database, one after another.
+pub struct Case {
+    /// What they show.
+    pub shows: &'static str,
+    /// The calls, each with the name of its package, and its answer.
+    pub calls: &'static [(&'static str, Call, &'static str)],
+    /// What follows them.
+    pub end: End,
+}
+
+/// A call on a package.
+#[derive(Clone, Copy, Debug)]
+pub enum Call {
+    /// Puts its first status.
+    NewStatus(Status),
+    /// Puts another status.
+    OtherStatus(Status),
+    /// A statement keeps this number for its first status.
+    Number(i64),
+    /// Puts the version of this body as a change, published in this second.
+    Add(Body, i64),
+    /// Puts it on its own.
+    Publish(Body, i64),
+    /// A statement makes the version a withdrawn one.
+    Withdrawn(&'static str),
+    /// The live version, published at second 1, is withdrawn at second 2.
+    Retire(&'static str),
+    /// The version gets this message of deprecation.
+    Deprecate(&'static str, &'static str),
+    /// A new tag is to name the version.
+    NewTag(&'static str, &'static str),
+    /// A tag that exists is to name the version.
+    MovedTag(&'static str, &'static str),
+    /// Drops the tag.
+    DropTag(&'static str),
+    /// Its status.
+    Status,
+    /// Whether a version of it lives.
+    HasLive,
+    /// Whether the version lives.
+    Lives(&'static str),
+    /// Whether the version was withdrawn.
+    IsSpent(&'static str),
+    /// Whether it has the tag.
+    HasTag(&'static str),
+    /// Its tags, each with its version.
+    Tags,
+    /// Its versions, each with its manifest and its message, and then each with the second in which
+    /// it was published.
+    Versions,
+    /// Its versions, each with the second in which it was published.
+    Times,
+    /// The length of the version's archive, and its last bytes.
+    Archive(&'static str),
+    /// A call over the teams that may be granted something on it.
+    Teams(TeamCall),
+    /// A call over what callers may do with it.
+    Rights(RightCall),
+}
+
+/// What follows the calls of a case.
+#[derive(Clone, Copy)]
+pub enum End {
+    /// Nothing.
+    Nothing,
+    /// A call that returns a fault of the database.
+    Fault(&'static str, Call),
+    /// A look at every row that is there: the tables of these rows, and what versions depend on.
+    Rows(&'static str),
+}
+
+/// Checks that all cases come out as they say.
+pub fn all_come_out(alloc: Global, cases: &[Case]) -> Result<(), Fail> {
+    for case in cases {
+        let mut conn = Connection::open_in_memory(alloc)?;
+        comes_out_on(alloc, &mut conn, case)?;
+    }
+    Ok(())
+}
+
+fn comes_out_on<S: Alter>(alloc: Global, conn: &mut Connection<S>, case: &Case) -> Result<(), Fail>
+    requires empty { IsEmpty (state S.Store conn.old) }
+{
+    let mut tx = conn.transaction();
+    create(&mut tx)?;
+    comes_out_inside(alloc, &mut tx, case)
+}
+
+fn comes_out_inside<S: Alter>(
+    alloc: Global,
+    tx: &mut Transaction<'_, S>,
+    case: &Case,
+) -> Result<(), Fail>
+    requires in_form { InForm S.Store tx.old }
+    ensures same_reference { tx.new.conn.ghost_name ≡ tx.old.conn.ghost_name }
+{
+    all_tell(alloc, tx, case)?;
+    ends(alloc, tx, case)
+}
+
+/// Makes the calls, each of which has to answer what the case says.
+pub fn all_tell<S: Alter>(
+    alloc: Global,
+    tx: &mut Transaction<'_, S>,
+    case: &Case,
+) -> Result<(), Fail>
+    requires in_form { InForm S.Store tx.old }
+    ensures same_reference { tx.new.conn.ghost_name ≡ tx.old.conn.ghost_name }
+    ensures in_form { OnOk result (InForm S.Store tx.new) }
+{
+    for (name, call, wanted) in case.calls {
+        loads(alloc, tx, (case.shows, *name, *call), *wanted)?;
+    }
+    Ok(())
+}
+
+// What a case shows, the name of a package, and a call on it.
+type Asked = (&'static str, &'static str, Call);
+
+fn loads<S: Alter>(
+    alloc: Global,
+    tx: &mut Transaction<'_, S>,
+    asked: Asked,
+    wanted: &'static str,
+) -> Result<(), Fail>
+    requires in_form { InForm S.Store tx.old }
+    ensures same_reference { tx.new.conn.ghost_name ≡ tx.old.conn.ghost_name }
+    ensures in_form { OnOk result (InForm S.Store tx.new) }
+{
+    match told(alloc, tx, asked.1, asked.2) {
+        Ok(text) => same(asked, text.as_str(), wanted),
+        Err(stop) => Err(otherwise(asked, stop, wanted)),
+    }
+}
+
+fn ends<S: Alter>(alloc: Global, tx: &mut Transaction<'_, S>, case: &Case) -> Result<(), Fail>
+    requires in_form { InForm S.Store tx.old }
+    ensures same_reference { tx.new.conn.ghost_name ≡ tx.old.conn.ghost_name }
+{
+    match case.end {
+        End::Nothing => Ok(()),
+        End::Fault(name, call) => is_fault(alloc, tx, (case.shows, name, call)),
+        End::Rows(wanted) => {
+            let rows = tx.query_all(TABLE_OF_EACH_ROW, &[])?;
+            same(case.shows, words_in(alloc, &rows)?.as_str(), wanted)
+        }
+    }
+}
+
+fn is_fault<S: Alter>(alloc: Global, tx: &mut Transaction<'_, S>, asked: Asked) -> Result<(), Fail>
+    requires in_form { InForm S.Store tx.old }
+    ensures same_reference { tx.new.conn.ghost_name ≡ tx.old.conn.ghost_name }
+{
+    let told = told(alloc, tx, asked.1, asked.2);
+    same(asked, told, Err(Stop::Fault(Fault::Database)))
+}
+
+// The words of the rows, one after another.
+fn words_in(alloc: Global, rows: &[Row]) -> Result<String, Fail> {
+    let mut text = String::new(alloc);
+    for row in rows {
+        push_word(&mut text, word_in(row)?)?;
+    }
+    Ok(text)
+}
+
+fn word_in(row: &Row) -> Result<&str, Fail> {
+    match row.get_ref(0)? {
+        ValueRef::Text(word) => Ok(str::from_utf8(word)?),
+        _ => Ok(""),
+    }
+}
+
+fn told<S: Alter>(
+    alloc: Global,
+    tx: &mut Transaction<'_, S>,
+    name: &str,
+    call: Call,
+) -> Result<String, Stop>
+    requires in_form { InForm S.Store tx.old }
+    ensures same_reference { tx.new.conn.ghost_name ≡ tx.old.conn.ghost_name }
+    ensures in_form { OnOk result (InForm S.Store tx.new) }
+{
+    let name = Name::parse(alloc, name)?;
+    told_of(alloc, tx, &name, call)
+}
+
+fn told_of<S: Alter>(
+    alloc: Global,
+    tx: &mut Transaction<'_, S>,
+    name: &Name,
+    call: Call,
+) -> Result<String, Stop>
+    requires in_form { InForm S.Store tx.old }
+    ensures same_reference { tx.new.conn.ghost_name ≡ tx.old.conn.ghost_name }
+    ensures in_form { OnOk result (InForm S.Store tx.new) }
+{
+    match call {
+        Call::Status => status_text(alloc, load_status(tx, name)?),
+        Call::HasLive => word_text(alloc, has_live(tx, name)?),
+        Call::Lives(version) => word_text(alloc, has_version(tx, name, version)?),
+        Call::IsSpent(version) => word_text(alloc, is_spent(tx, name, version)?),
+        Call::HasTag(tag) => word_text(alloc, has_tag(tx, name, tag)?),
+        Call::Tags => tags_text(alloc, &load_tags(alloc, tx, name)?),
+        Call::Versions => versions_text(alloc, &load_versions(alloc, tx, name)?),
+        Call::Times => times_text(alloc, &load_times(alloc, tx, name)?),
+        Call::Archive(version) => archive_text(alloc, &load_archive(tx, name, version)?),
+        Call::Teams(call) => teams::told(alloc, tx, name, call),
+        Call::Rights(call) => rights::told(alloc, tx, name, call),
+        _ => {
+            put(alloc, tx, name, call)?;
+            done(alloc)
+        }
+    }
+}
+
+// Makes a call that only writes.
+fn put<S: Alter>(
+    alloc: Global,
+    tx: &mut Transaction<'_, S>,
+    package: &Name,
+    call: Call,
+) -> Result<(), Stop>
+    requires in_form { InForm S.Store tx.old }
+    ensures same_reference { tx.new.conn.ghost_name ≡ tx.old.conn.ghost_name }
+    ensures in_form { OnOk result (InForm S.Store tx.new) }
+{
+    match call {
+        Call::NewStatus(status) => put_status(tx, package, status, false),
+        Call::OtherStatus(status) => put_status(tx, package, status, true),
+        Call::Number(number) => Ok(put_number(tx, package, number)?),
+        Call::Add(body, at) => add(alloc, tx, package, body, at),
+        Call::Publish(body, at) => publish(alloc, tx, package, body, at),
+        Call::Withdrawn(version) => Ok(withdraw(tx, package, version)?),
+        Call::Retire(version) => retire(alloc, tx, package, version),
+        Call::Deprecate(version, message) => deprecate(alloc, tx, package, (version, message)),
+        Call::NewTag(tag, version) => put_tag(alloc, tx, package, (tag, version), false),
+        Call::MovedTag(tag, version) => put_tag(alloc, tx, package, (tag, version), true),
+        Call::DropTag(tag) => made(tx, &Change::DropTag { package, tag }),
+        _ => Ok(()),
+    }
+}
+
+/// Makes a change.
+pub fn made<S: Alter>(tx: &mut Transaction<'_, S>, change: &Change<'_>) -> Result<(), Stop>
+    requires in_form { InForm S.Store tx.old }
+    ensures same_reference { tx.new.conn.ghost_name ≡ tx.old.conn.ghost_name }
+    ensures in_form { OnOk result (InForm S.Store tx.new) }
+{
+    Ok(make(tx, change)?)
+}
+
+fn put_status<S: Alter>(
+    tx: &mut Transaction<'_, S>,
+    package: &Name,
+    status: Status,
+    stands: bool,
+) -> Result<(), Stop>
+    requires in_form { InForm S.Store tx.old }
+    ensures same_reference { tx.new.conn.ghost_name ≡ tx.old.conn.ghost_name }
+    ensures in_form { OnOk result (InForm S.Store tx.new) }
+{
+    made(
+        tx,
+        &Change::PutStatus {
+            package,
+            status,
+            stands,
+        },
+    )
+}
+
+fn put_number<S: Alter>(
+    tx: &mut Transaction<'_, S>,
+    package: &Name,
+    number: i64,
+) -> Result<(), Fault>
+    requires in_form { InForm S.Store tx.old }
+    ensures same_reference { tx.new.conn.ghost_name ≡ tx.old.conn.ghost_name }
+    ensures in_form { OnOk result (InForm S.Store tx.new) }
+{
+    write(
+        tx,
+        "INSERT INTO packages VALUES (?1, ?2)",
+        params![package.text(), number],
+    )
+}
+
+fn add<S: Alter>(
+    alloc: Global,
+    tx: &mut Transaction<'_, S>,
+    package: &Name,
+    body: Body,
+    at: i64,
+) -> Result<(), Stop>
+    requires in_form { InForm S.Store tx.old }
+    ensures same_reference { tx.new.conn.ghost_name ≡ tx.old.conn.ghost_name }
+    ensures in_form { OnOk result (InForm S.Store tx.new) }
+{
+    let form = form_of(alloc, package.text(), body)?;
+    let at = Moment::clamped(at);
+    made(
+        tx,
+        &Change::AddVersion {
+            form: &form,
+            at: &at,
+        },
+    )
+}
+
+fn publish<S: Alter>(
+    alloc: Global,
+    tx: &mut Transaction<'_, S>,
+    package: &Name,
+    body: Body,
+    at: i64,
+) -> Result<(), Stop>
+    requires in_form { InForm S.Store tx.old }
+    ensures same_reference { tx.new.conn.ghost_name ≡ tx.old.conn.ghost_name }
+    ensures in_form { OnOk result (InForm S.Store tx.new) }
+{
+    let form = form_of(alloc, package.text(), body)?;
+    Ok(put_version(tx, &form, Moment::clamped(at))?)
+}
+
+fn withdraw<S: Alter>(
+    tx: &mut Transaction<'_, S>,
+    package: &Name,
+    version: &str,
+) -> Result<(), Fault>
+    requires in_form { InForm S.Store tx.old }
+    ensures same_reference { tx.new.conn.ghost_name ≡ tx.old.conn.ghost_name }
+    ensures in_form { OnOk result (InForm S.Store tx.new) }
+{
+    write(
+        tx,
+        "INSERT INTO spent VALUES (?1, ?2, 1, 2)",
+        params![package.text(), version],
+    )
+}
+
+fn retire<S: Alter>(
+    alloc: Global,
+    tx: &mut Transaction<'_, S>,
+    package: &Name,
+    version: &str,
+) -> Result<(), Stop>
+    requires in_form { InForm S.Store tx.old }
+    ensures same_reference { tx.new.conn.ghost_name ≡ tx.old.conn.ghost_name }
+    ensures in_form { OnOk result (InForm S.Store tx.new) }
+{
+    let version = Ver::parse(alloc, version)?;
+    let published = Moment::clamped(1);
+    let withdrawn = Moment::clamped(2);
+    made(
+        tx,
+        &Change::RetireVersion {
+            package,
+            version: &version,
+            published: &published,
+            withdrawn: &withdrawn,
+        },
+    )
+}
+
+fn deprecate<S: Alter>(
+    alloc: Global,
+    tx: &mut Transaction<'_, S>,
+    package: &Name,
+    told: (&str, &str),
+) -> Result<(), Stop>
+    requires in_form { InForm S.Store tx.old }
+    ensures same_reference { tx.new.conn.ghost_name ≡ tx.old.conn.ghost_name }
+    ensures in_form { OnOk result (InForm S.Store tx.new) }
+{
+    let version = Ver::parse(alloc, told.0)?;
+    let message = Message::parse(alloc, told.1)?;
+    made(
+        tx,
+        &Change::PutDeprecation {
+            package,
+            version: &version,
+            message: &message,
+        },
+    )
+}
+
+fn put_tag<S: Alter>(
+    alloc: Global,
+    tx: &mut Transaction<'_, S>,
+    package: &Name,
+    named: (&str, &str),
+    stands: bool,
+) -> Result<(), Stop>
+    requires in_form { InForm S.Store tx.old }
+    ensures same_reference { tx.new.conn.ghost_name ≡ tx.old.conn.ghost_name }
+    ensures in_form { OnOk result (InForm S.Store tx.new) }
+{
+    let version = Ver::parse(alloc, named.1)?;
+    made(
+        tx,
+        &Change::PutTag {
+            package,
+            tag: named.0,
+            version: &version,
+            stands,
+        },
+    )
+}
