@@ -162,7 +162,7 @@ const PORT: Parameter = Parameter {
 
 const CONNECTIONS: Parameter = Parameter {
     id: "CONNECTIONS",
-    help: "How many connections are served, from 1 to 999999; 1000000 means no limit",
+    help: "End after this many connections, from 1 to 1000000 (no limit)",
     need: Need::Number {
         option: "connections",
         greatest: 1_000_000,
