@@ -1,7 +1,7 @@
 //! A server with connections over loopback and with commands beside it.
 
 use crate::client::{
-    ANSWER, LAST_ANSWER, client, command, connect, forget, heard, is_done, lay, send,
+    ANSWER, LAST_ANSWER, client, command, connect, forget, heard, is_done, lay, send, wait,
 };
 use crate::service::{Counting, one_more};
 use registry_guests::CommandListener;
@@ -67,9 +67,10 @@ fn nobody_is_answered_during_a_hold(rt: HostRuntime) -> Result<(), Fail> {
     let user = command(&rt, file)?;
     let clients = [client(&rt, &server)?, client(&rt, &server)?];
     for client in &clients {
-        send(&rt, client)?;
+        send(client)?;
         client.shutdown(Shutdown::Write)?;
     }
+    wait(&rt);
     let asked = Cell::new(0);
     let clock = Holding {
         rt: &rt,
@@ -103,10 +104,11 @@ fn a_command_is_answered_between_requests(rt: HostRuntime) -> Result<(), Fail> {
     let clients = [client(&rt, &server)?, client(&rt, &server)?];
     for client in &clients {
         for _ in 0..3 {
-            send(&rt, client)?;
+            send(client)?;
         }
         client.shutdown(Shutdown::Write)?;
     }
+    wait(&rt);
     let asked = Cell::new(0);
     let mut service = Counting {
         asked: &asked,
@@ -140,9 +142,10 @@ struct Stopping<'a> {
 impl Stopping<'_> {
     fn ask(&self) -> io::Result<()> {
         for client in self.clients {
-            send(self.rt, client)?;
+            send(client)?;
             client.shutdown(Shutdown::Write)?;
         }
+        wait(self.rt);
         Ok(())
     }
 }
@@ -172,8 +175,9 @@ fn who_has_asked_is_answered_at_a_stop(rt: HostRuntime) -> Result<(), Fail> {
     let stops = connect(&rt, file, "control")?;
     let clients = [client(&rt, &server)?, client(&rt, &server)?];
     for client in &clients {
-        send(&rt, client)?;
+        send(client)?;
     }
+    wait(&rt);
     let clock = Stopping {
         rt: &rt,
         readings: Cell::new(0),

@@ -12,7 +12,7 @@ use std::time::Duration;
 use std::{fs, io, thread};
 
 /// A request.
-pub const REQUEST: &str = "GET /-/package/kit/dist-tags HTTP/1.1\r\n\r\n";
+const REQUEST: &str = "GET /-/package/kit/dist-tags HTTP/1.1\r\n\r\n";
 
 /// The answer to it, where the connection goes on.
 pub const ANSWER: &str =
@@ -22,8 +22,8 @@ pub const ANSWER: &str =
 pub const LAST_ANSWER: &str =
     "HTTP/1.1 200 OK\r\ncontent-type: application/json\r\ncontent-length: 11\r\nconnection: close\r\n\r\n{\"ok\":true}";
 
-/// What was sent over loopback is there after this many milliseconds.
-const TRANSIT: u64 = 20;
+/// What was sent over loopback is there after this many milliseconds, also on a busy machine.
+const TRANSIT: u64 = 100;
 
 /// A client over HTTP.
 pub fn client(rt: &HostRuntime, server: &Server) -> Result<TcpStream, Fail> {
@@ -31,11 +31,14 @@ pub fn client(rt: &HostRuntime, server: &Server) -> Result<TcpStream, Fail> {
     Ok(rt.connect(address)?)
 }
 
-/// Sends a request over HTTP, and waits until it is there.
-pub fn send(rt: &HostRuntime, mut client: &TcpStream) -> io::Result<()> {
-    client.write_all(REQUEST.as_bytes())?;
+/// Sends a request over HTTP.
+pub fn send(mut client: &TcpStream) -> io::Result<()> {
+    client.write_all(REQUEST.as_bytes())
+}
+
+/// Waits until what was sent over loopback is there.
+pub fn wait(rt: &HostRuntime) {
     thread::sleep(rt, Duration::from_millis(TRANSIT));
-    Ok(())
 }
 
 /// Everything that a client over HTTP was sent, once its connection has ended.

@@ -2,7 +2,7 @@
 
 ghost use Rattle.std.specs.Prelude.{false};
 
-use crate::client::{ANSWER, REQUEST, client, heard, send};
+use crate::client::{ANSWER, client, heard, send, wait};
 use registry_names::{Fault, Moment};
 use registry_rules::{Reply, Request};
 use registry_server::{CONNECTION_COUNT, Ended, Server};
@@ -10,7 +10,6 @@ use registry_service::Service;
 use registry_tests_support::same;
 use std::alloc::Global;
 use std::io;
-use std::io::Write;
 use std::net::{Shutdown, TcpStream};
 use std::test::Fail;
 
@@ -31,8 +30,9 @@ struct Waking<'a> {
 impl Waking<'_> {
     fn play(&self) -> io::Result<()> {
         if self.asked == 1 {
-            send(self.rt, self.asks)?;
+            send(self.asks)?;
             self.asks.shutdown(Shutdown::Write)?;
+            wait(self.rt);
         }
         // It fails where the connection has ended, as it should have.
         if self.asked > GONE {
@@ -60,10 +60,10 @@ impl Service for Waking<'_> {
     }
 }
 
-// A client asks.
+// A client that has asked, and sends no more.
 fn ask(rt: &HostRuntime, server: &Server) -> Result<TcpStream, Fail> {
-    let mut client = client(rt, server)?;
-    client.write_all(REQUEST.as_bytes())?;
+    let client = client(rt, server)?;
+    send(&client)?;
     client.shutdown(Shutdown::Write)?;
     Ok(client)
 }
@@ -80,6 +80,7 @@ fn an_idle_connection_ends_for_a_newcomer(rt: HostRuntime) -> Result<(), Fail> {
         drop(ask(&rt, &server)?);
     }
     let newcomer = ask(&rt, &server)?;
+    wait(&rt);
     let mut service = Waking {
         rt: &rt,
         asked: 0,

@@ -2,7 +2,7 @@
 
 ghost use Rattle.std.specs.Prelude.{◌≡◌, false, true};
 
-use crate::client::{ANSWER, client, heard, send};
+use crate::client::{ANSWER, client, heard, send, wait};
 use crate::service::{Counting, one_more};
 use mio::Registry;
 use registry_names::Moment;
@@ -93,19 +93,23 @@ struct Passing<'a> {
 impl Passing<'_> {
     fn play(&self, reading: u32) -> io::Result<()> {
         match reading {
-            AFTER_50 => send(self.rt, self.asks),
-            AFTER_59 => {
-                self.after_59.set(is_ended(self.silent));
-                Ok(())
-            }
+            AFTER_50 => send(self.asks)?,
+            AFTER_59 => self.after_59.set(self.is_ended()),
             AFTER_61 => {
-                self.after_61.set(is_ended(self.silent));
+                self.after_61.set(self.is_ended());
+                send(self.asks)?;
+                self.asks.shutdown(Shutdown::Write)?;
                 self.silent.shutdown(Shutdown::Write)?;
-                send(self.rt, self.asks)?;
-                self.asks.shutdown(Shutdown::Write)
             }
-            _ => Ok(()),
+            _ => {}
         }
+        Ok(())
+    }
+
+    // Whether the server has ended the silent client's connection.
+    fn is_ended(&self) -> bool {
+        wait(self.rt);
+        matches!(self.silent.peek(&mut [0; 1]), Ok(0))
     }
 }
 
@@ -119,11 +123,6 @@ impl Clock for Passing<'_> {
     fn since_1970(&self) -> io::Result<Duration> {
         self.rt.since_1970()
     }
-}
-
-// Whether the server has ended a connection on which nothing was sent. The call doesn't wait.
-fn is_ended(client: &TcpStream) -> bool {
-    matches!(client.peek(&mut [0; 1]), Ok(0))
 }
 
 #[test]
