@@ -165,7 +165,7 @@ module _ {S : Type 0} (store : Ghosts S) (old : Shown) (h : Held S) (settled : (
         archives = λ sound clean on holds. subst HoldsArchives (sym (left.same clean on)) holds;
         form = λ needs clean on kept. subst IsKept (sym (state_stays clean on)) kept;
         survives = survives_weaker old new _ _ (λ clean db it. (it.0, λ sound. (it.1.0, it.1.1 ∙ sym (query_settles r query (stored old))))) left.survives;
-        stays = λ clean on. rests_sure store h (λ db. settled db on) left.rests clean on;
+        durable = λ clean on. rests_sure store h (λ db. settled db on) left.rests clean on;
       }
 
 -- what is left alone is left as it is
@@ -388,7 +388,7 @@ asked_as old new r o a = record {
   archives = a.archives;
   form = a.form;
   survives = a.survives;
-  stays = a.stays;
+  durable = a.durable;
 }
 
 pub sent_are_asked : {S : Type 0} (store : Ghosts S) → SentAreAsked store

@@ -121,7 +121,7 @@ has_run_none s = record {
   archives = λ sound clean on holds. holds;
   form = λ needs clean on kept. kept;
   survives = λ sound clean db left. left;
-  stays = λ sure. sure;
+  durable = λ sure. sure;
   closes = record { clean = omega arith; shield = λ h. h; counts = omega arith; limit = refl; closes = λ _ on. inl on; crash = λ _ db left. inl left };
 }
 
@@ -169,7 +169,7 @@ has_run_more old mid new rs os r o run made =
             | inl earlier ↦ inl (run.survives (first sound) (before clean) db earlier)
             | inr (on, makes) ↦ inr (opened clean on, subst (IsRegistryOf db) (ap (settled_by r) (same sound clean on)) (makes (still sound clean on)))
           ])
-          (on_answer o (λ on. subst (IsRegistryOf db) (made.step (still sound clean on.0) clean on.1 ∙ ap (next_stored r o) (same sound clean on.0)) (made.stays clean on.1 db left)) (made.served clean)));
-      stays = λ sure. made.stays;
+          (on_answer o (λ on. subst (IsRegistryOf db) (made.step (still sound clean on.0) clean on.1 ∙ ap (next_stored r o) (same sound clean on.0)) (made.durable clean on.1 db left)) (made.served clean)));
+      durable = λ sure. made.durable;
       closes = survives_then old mid new _ _ (λ db. Unit {0}) (λ _ _ any. any) (λ _ _ made. tt) run.closes made.survives;
     }

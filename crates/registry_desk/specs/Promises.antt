@@ -20,8 +20,8 @@
 -- | archives  | a r | the archives stay those of live versions                        | S, open   |
 -- | form      | a r | each text that is held stays in form                            | N, open   |
 -- | survives  | a r | what a crash leaves, by the outcomes; no reply is lost          | S         |
--- | stays     | a   | a crash leaves what is stored, and nothing else                 | open      |
--- | stays     | r   | it still does, where it did at the entry                        | open      |
+-- | durable   | a   | a crash leaves what is stored, and nothing else                 | open      |
+-- | durable   | r   | it still does, where it did at the entry                        | open      |
 -- | closes    | r   | only a fault of the disk shuts it                               |           |
 --
 -- Of: a is `Registry::apply`, and r is `Registry::run`. Needs: each clause supposes a clean disk at

@@ -104,7 +104,7 @@ impl Registry<FileStore<File>> {
     pub fn open(rt: &HostRuntime, path: &str) -> Result<Registry<FileStore<File>>, Fault>
         ensures served { IfOk result (λ r. HasCleanDisk (file_state r)
             → IsTrue (file_state r).is_open) }
-        ensures stays { IfOk result (λ r. HasCleanDisk (file_state r) → IsSure (file_state r)) }
+        ensures durable { IfOk result (λ r. HasCleanDisk (file_state r) → IsSure (file_state r)) }
         ensures guarded { IfOk result (λ r. IsGuarded (file_state r)) }
         ensures unlimited { IfOk result (λ r. IsUnlimited (file_state r)) }
         ensures memory { path.now ≡ codes ":memory:" → result ≡ Err Fault.Database }
@@ -126,7 +126,7 @@ impl<S: Start> Registry<FileStore<FileFrom<S>>> {
         ensures empty { IfOk result (λ r. IsFreshIfEmpty (image_at S.Start) (file_state r)) }
         ensures served { IfOk result (λ r. HasCleanDisk (file_state r)
             → IsTrue (file_state r).is_open) }
-        ensures stays { IfOk result (λ r. HasCleanDisk (file_state r) → IsSure (file_state r)) }
+        ensures durable { IfOk result (λ r. HasCleanDisk (file_state r) → IsSure (file_state r)) }
         ensures guarded { IfOk result (λ r. IsGuarded (file_state r)) }
         ensures unlimited { IfOk result (λ r. IsUnlimited (file_state r)) }
         ensures memory { path.now ≡ codes ":memory:" → result ≡ Err Fault.Database }
@@ -159,7 +159,7 @@ impl<D: Disk + Drop> Registry<FileStore<D>> {
         ensures empty { IfOk result (λ r. IsFreshIfEmpty (image_of D.Disk files) (file_state r)) }
         ensures served { IfOk result (λ r. HasCleanDisk (file_state r)
             → IsTrue (file_state r).is_open) }
-        ensures stays { IfOk result (λ r. HasCleanDisk (file_state r) → IsSure (file_state r)) }
+        ensures durable { IfOk result (λ r. HasCleanDisk (file_state r) → IsSure (file_state r)) }
         ensures guarded { IfOk result (λ r. IsGuarded (file_state r)) }
         ensures unlimited { IfOk result (λ r. IsUnlimited (file_state r)) }
         ensures left { IfErr result (λ e. LeavesAtMost files e.1) }
@@ -228,7 +228,7 @@ impl<S: Alter> Registry<S> {
         ensures made { IfOk result (λ r. IsMade (state S.Store conn) (state S.Store r)) }
         ensures served { IfOk result (λ r. HasCleanDisk (state S.Store r)
             → IsTrue (state S.Store r).is_open) }
-        ensures stays { IfOk result (λ r. HasCleanDisk (state S.Store r) → IsSure (state S.Store r)) }
+        ensures durable { IfOk result (λ r. HasCleanDisk (state S.Store r) → IsSure (state S.Store r)) }
         ensures idle { conn.in_transaction ≡ true → result ≡ Err (Fault.Database, conn) }
         ensures back { IfErr result (λ e. IsHandedBack (state S.Store conn) (state S.Store e.1)) }
         ensures again { IfErr result (λ e. e.1.in_transaction ≡ false

@@ -26,7 +26,7 @@ use sqlite::{Alter, Transaction};
 use std::alloc::Global;
 
 /// Of a status that is to be set.
-pub(crate) fn new_status<S: Alter>(
+pub(crate) fn facts_for_set_access<S: Alter>(
     alloc: Global,
     tx: &mut Transaction<'_, S>,
     caller: &Caller,
@@ -44,7 +44,7 @@ pub(crate) fn new_status<S: Alter>(
 }
 
 /// Of a publish, by a caller whom the policy allows it.
-pub(crate) fn new_version<S: Alter>(
+pub(crate) fn facts_for_publish<S: Alter>(
     alloc: Global,
     tx: &mut Transaction<'_, S>,
     caller: &Caller,
@@ -153,7 +153,7 @@ fn has_some<S: Alter>(
 }
 
 /// Of a tag that is to name a version.
-pub(crate) fn new_tag<S: Alter>(
+pub(crate) fn facts_for_tag_set<S: Alter>(
     alloc: Global,
     tx: &mut Transaction<'_, S>,
     caller: &Caller,
@@ -175,7 +175,7 @@ pub(crate) fn new_tag<S: Alter>(
 }
 
 /// Of a tag that is to go.
-pub(crate) fn old_tag<S: Alter>(
+pub(crate) fn facts_for_tag_remove<S: Alter>(
     alloc: Global,
     tx: &mut Transaction<'_, S>,
     caller: &Caller,
@@ -194,7 +194,7 @@ pub(crate) fn old_tag<S: Alter>(
 }
 
 /// Of a query about a package.
-pub(crate) fn seen_package<S: Alter>(
+pub(crate) fn facts_about_package<S: Alter>(
     alloc: Global,
     tx: &mut Transaction<'_, S>,
     caller: &Caller,
@@ -214,7 +214,7 @@ pub(crate) fn seen_package<S: Alter>(
 }
 
 /// Of a query for the document of a version.
-pub(crate) fn seen_document<S: Alter>(
+pub(crate) fn facts_about_document<S: Alter>(
     alloc: Global,
     tx: &mut Transaction<'_, S>,
     caller: &Caller,
@@ -266,7 +266,7 @@ fn latest_lives<S: Alter>(tx: &mut Transaction<'_, S>, name: &Name) -> Result<bo
 }
 
 /// Of a query for the archive of a version.
-pub(crate) fn seen_archive<S: Alter>(
+pub(crate) fn facts_about_archive<S: Alter>(
     alloc: Global,
     tx: &mut Transaction<'_, S>,
     caller: &Caller,

@@ -55,7 +55,7 @@ looked-applies old mid new r met told opened keeps look a =
       form = λ needs clean on holds.
           subst (λ (c : Contents). IsKept (registry_of c)) (sym (keeps clean on)) (a.form needs (was clean) (opened clean on) holds);
       survives = survives_then old mid new _ _ _ (λ _ db may. may) (λ _ db none. absurd none) a.survives look;
-      stays = λ clean on db left.
+      durable = λ clean on db left.
           subst (IsRegistryOf db) (sym (keeps clean on))
-          (a.stays (was clean) (opened clean on) db (left-before mid.may_leave db (look.crash clean db left)));
+          (a.durable (was clean) (opened clean on) db (left-before mid.may_leave db (look.crash clean db left)));
     }

@@ -86,5 +86,5 @@ sought_applies old mid new r o opened keeps look a =
                 let was = same clean made.0 in
                 subst (λ (c : Contents). IsRegistryOf db (settled_by r c)) was (made.1 (sound_again old mid r was sound)),
           )) look a.survives;
-      stays = a.stays;
+      durable = a.durable;
     }
