@@ -20,11 +20,11 @@ use std::alloc::{AllocError, Global};
 const LAST_SECOND: i64 = 253_402_300_799;
 
 /// What the program is, with its version.
-const ABOUT: &str = "registry 0.1.0, a private npm-compatible package registry";
+const ABOUT: &str = "registry 0.1.0, a package registry for one house, in npm's manner";
 
 /// The end of the help: an example, and the commands that ask for no request.
 const MORE: &str =
-    "Example: registry --db registry.db --operator user-add ann\n\nAdministrators also have token-new, check, backup and stop: registry check --help";
+    "Example: registry --db registry.db --operator user-add ann\n\nFor whoever runs it there are token-new, check, backup and stop, too: registry check --help";
 
 // The argument of `clap` for a parameter.
 fn argument<'a>(alloc: Global, parameter: &Parameter) -> Arg<'a>
@@ -144,7 +144,7 @@ fn with_names<'a>(alloc: Global, command: Command<'a>) -> Result<Command<'a>, Al
 {
     let db = Arg::new(alloc, "PATH")
         .long("db")
-        .help("The file that holds the registry")
+        .help("The file that keeps the registry")
         .default_value("registry.db");
     let command = with_argument(command, db)?;
     let user = Arg::new(alloc, "USER").long("as").help("Ask as this user");
@@ -165,7 +165,7 @@ fn with_moment<'a>(alloc: Global, command: Command<'a>) -> Result<Command<'a>, A
     let command = with_argument(command, operator)?;
     let at = Arg::new(alloc, "SECONDS")
         .long("at")
-        .help("Ask at this moment (seconds since 1970) instead of now")
+        .help("Ask at this second since 1970, and not now")
         .value_parser(ValueParser::Signed(0, LAST_SECOND));
     with_argument(command, at)
 }

@@ -122,31 +122,31 @@ const TAG: Parameter = Parameter {
 
 const VERSION: Parameter = Parameter {
     id: "VERSION",
-    help: "A version, such as 1.0.0",
+    help: "A version, as 1.0.0",
     need: Need::Required,
 };
 
 const VERSION_OR_LATEST: Parameter = Parameter {
     id: "VERSION",
-    help: "A version, such as 1.0.0, or latest",
+    help: "A version, as 1.0.0, or latest",
     need: Need::Required,
 };
 
 const SELECTOR: Parameter = Parameter {
     id: "SELECTOR",
-    help: "Versions, such as 1.x or \">=1.0.0 <2.0.0\"",
+    help: "Versions, as 1.x or \">=1.0.0 <2.0.0\"",
     need: Need::Required,
 };
 
 const MESSAGE: Parameter = Parameter {
     id: "MESSAGE",
-    help: "At most 1,024 bytes; the empty text undoes a deprecation",
+    help: "At most 1,024 bytes; the empty text takes a deprecation back",
     need: Need::Required,
 };
 
 const COPY: Parameter = Parameter {
     id: "COPY",
-    help: "The path of the copy, where no file exists yet",
+    help: "The path of the copy, where no file is yet",
     need: Need::Required,
 };
 
@@ -162,7 +162,7 @@ const PORT: Parameter = Parameter {
 
 const CONNECTIONS: Parameter = Parameter {
     id: "CONNECTIONS",
-    help: "End after this many connections, from 1 to 1000000 (no limit)",
+    help: "How many connections are served, from 1 to 1000000",
     need: Need::Number {
         option: "connections",
         greatest: 1_000_000,
@@ -180,13 +180,13 @@ static ORGANISATIONS: [Subcommand; 5] = [
     Subcommand {
         name: "token-add",
         parameters: &[USER, TOKEN],
-        about: "Add a token, with which npm acts as the user (the operator)",
+        about: "Add a token, by which npm shows that it is the user (the operator)",
         example: "Example: registry --operator token-add ann npm_ann_000000001",
     },
     Subcommand {
         name: "org-create",
         parameters: &[ORGANISATION, USER],
-        about: "Create an organisation with its first owner (the operator)",
+        about: "Make an organisation with its first owner (the operator)",
         example: "Example: registry --operator org-create lab ann",
     },
     Subcommand {
@@ -198,7 +198,7 @@ static ORGANISATIONS: [Subcommand; 5] = [
     Subcommand {
         name: "org-rm",
         parameters: &[ORGANISATION, USER],
-        about: "Remove a user from an organisation and its teams (an owner)",
+        about: "Take a user out of an organisation and its teams (an owner)",
         example: "Example: registry --as ann org-rm lab bob",
     },
 ];
@@ -207,37 +207,37 @@ static TEAMS: [Subcommand; 6] = [
     Subcommand {
         name: "team-create",
         parameters: &[ORGANISATION, TEAM],
-        about: "Create a team (an owner or admin)",
+        about: "Make a team (an owner or admin)",
         example: "Example: registry --as ann team-create lab ops",
     },
     Subcommand {
         name: "team-destroy",
         parameters: &[ORGANISATION, TEAM],
-        about: "Destroy a team and its grants (an owner or admin)",
+        about: "Destroy a team, with what it was granted (an owner or admin)",
         example: "Example: registry --as ann team-destroy lab ops",
     },
     Subcommand {
         name: "team-add",
         parameters: &[ORGANISATION, TEAM, USER],
-        about: "Add a member of the organisation to a team (an owner or admin)",
+        about: "Put a member of the organisation into a team (an owner or admin)",
         example: "Example: registry --as ann team-add lab ops bob",
     },
     Subcommand {
         name: "team-rm",
         parameters: &[ORGANISATION, TEAM, USER],
-        about: "Remove a member from a team (an owner or admin)",
+        about: "Take a member out of a team (an owner or admin)",
         example: "Example: registry --as ann team-rm lab ops bob",
     },
     Subcommand {
         name: "grant",
         parameters: &[ORGANISATION, TEAM, PACKAGE, LEVEL],
-        about: "Grant a team access to a package of the organisation's scope (an owner or admin)",
+        about: "Grant a team a package of the organisation's scope (an owner or admin)",
         example: "Example: registry --as ann grant lab ops @lab/kit read-write",
     },
     Subcommand {
         name: "revoke",
         parameters: &[ORGANISATION, TEAM, PACKAGE],
-        about: "Revoke a team's grant on a package (an owner or admin)",
+        about: "Take back what a team is granted on a package (an owner or admin)",
         example: "Example: registry --as ann revoke lab ops @lab/kit",
     },
 ];
@@ -246,7 +246,7 @@ static PACKAGES: [Subcommand; 8] = [
     Subcommand {
         name: "access",
         parameters: &[PACKAGE, STATUS],
-        about: "Make a package public or restricted (whoever may write it)",
+        about: "Make a package public or restricted (who may write it)",
         example: "Example: registry --as ann access @lab/kit public",
     },
     Subcommand {
@@ -258,37 +258,37 @@ static PACKAGES: [Subcommand; 8] = [
     Subcommand {
         name: "owner-rm",
         parameters: &[PACKAGE, USER],
-        about: "Remove a maintainer of a package (a maintainer)",
+        about: "Take a maintainer from a package (a maintainer)",
         example: "Example: registry --as bob owner-rm tool eve",
     },
     Subcommand {
         name: "publish",
         parameters: &[FILE],
-        about: "Publish a version of a package (whoever may write it)",
+        about: "Publish a version of a package (who may write it)",
         example: "Example: registry --as bob publish lab-kit-1.0.0.publish.json",
     },
     Subcommand {
         name: "tag-set",
         parameters: &[PACKAGE, TAG, VERSION],
-        about: "Set a dist-tag to a version (whoever may write the package)",
+        about: "Let a dist-tag name a version (who may write the package)",
         example: "Example: registry --as bob tag-set @lab/kit next 1.1.0",
     },
     Subcommand {
         name: "tag-rm",
         parameters: &[PACKAGE, TAG],
-        about: "Remove a dist-tag other than latest (whoever may write the package)",
+        about: "Remove a dist-tag other than latest (who may write the package)",
         example: "Example: registry --as bob tag-rm @lab/kit next",
     },
     Subcommand {
         name: "deprecate",
         parameters: &[PACKAGE, SELECTOR, MESSAGE],
-        about: "Deprecate versions of a package with a message (whoever may write it)",
+        about: "Deprecate versions of a package with a message (who may write it)",
         example: "Example: registry --as bob deprecate @lab/kit 1.x \"use 2.x\"",
     },
     Subcommand {
         name: "withdraw",
         parameters: &[PACKAGE, VERSION],
-        about: "Withdraw a version within 72 hours, for good (whoever may write the package)",
+        about: "Withdraw a version within 72 hours, for good (who may write the package)",
         example: "Example: registry --as bob withdraw @lab/kit 1.0.0",
     },
 ];
@@ -297,25 +297,25 @@ static QUERIES: [Subcommand; 8] = [
     Subcommand {
         name: "packument",
         parameters: &[PACKAGE],
-        about: "Print the packument of a package (whoever may read it)",
+        about: "Print the packument of a package (who reads it)",
         example: "Example: registry --as bob packument @lab/kit",
     },
     Subcommand {
         name: "version-doc",
         parameters: &[PACKAGE, VERSION_OR_LATEST],
-        about: "Print the document of a version (whoever may read the package)",
+        about: "Print the document of a version (who reads the package)",
         example: "Example: registry --as bob version-doc @lab/kit latest",
     },
     Subcommand {
         name: "archive",
         parameters: &[PACKAGE, VERSION],
-        about: "Print the archive of a version (whoever may read the package)",
+        about: "Print the archive of a version (who reads the package)",
         example: "Example: registry --as bob archive @lab/kit 1.0.0 > kit-1.0.0.tgz",
     },
     Subcommand {
         name: "tags",
         parameters: &[PACKAGE],
-        about: "Print the dist-tags of a package (whoever may read it)",
+        about: "Print the dist-tags of a package (who reads it)",
         example: "Example: registry --as bob tags @lab/kit",
     },
     Subcommand {
@@ -333,13 +333,13 @@ static QUERIES: [Subcommand; 8] = [
     Subcommand {
         name: "team-members",
         parameters: &[ORGANISATION, TEAM],
-        about: "Print the members of a team (a member of the organisation)",
+        about: "Print who is in a team (a member of the organisation)",
         example: "Example: registry --as bob team-members lab ops",
     },
     Subcommand {
         name: "team-packages",
         parameters: &[ORGANISATION, TEAM],
-        about: "Print the grants of a team (a member of the organisation)",
+        about: "Print what a team is granted (a member of the organisation)",
         example: "Example: registry --as bob team-packages lab ops",
     },
 ];
@@ -347,13 +347,13 @@ static QUERIES: [Subcommand; 8] = [
 static SERVE: [Subcommand; 1] = [Subcommand {
     name: "serve",
     parameters: &[PORT, CONNECTIONS],
-    about: "Serve npm over HTTP on 127.0.0.1: up to 512 connections at once, one request at a time",
-    example: "Example: registry serve --port 8080\n\n--log FILE appends a line to FILE for each request, and --socket PATH listens at a Unix socket:\nregistry serve --socket PATH --help",
+    about: "Serve npm over HTTP on 127.0.0.1: up to 512 connections at once, a request at a time",
+    example: "Example: registry serve --port 8080\n\nWith --log FILE a line is written to the end of FILE for each request, too. With --socket PATH it\nlistens at a Unix socket: registry serve --socket PATH --help",
 }];
 
 const PORT_BESIDE: Parameter = Parameter {
     id: "PORT",
-    help: "The port of 127.0.0.1, from 1 to 65535; 8080 if neither this nor --socket is given",
+    help: "The port of 127.0.0.1, from 1 to 65535; 8080 where neither it nor --socket is said",
     need: Need::NumberIfSaid {
         option: "port",
         greatest: 65_535,
@@ -362,13 +362,13 @@ const PORT_BESIDE: Parameter = Parameter {
 
 const SOCKET: Parameter = Parameter {
     id: "SOCKET",
-    help: "The path of a Unix socket, to which its owner and group may connect",
+    help: "The path of a Unix socket, to which the owner and the group may connect",
     need: Need::WordIfSaid { option: "socket" },
 };
 
 const LOG: Parameter = Parameter {
     id: "LOG",
-    help: "The file to which a line is appended for each request",
+    help: "The file to whose end a line is written for each request",
     need: Need::WordIfSaid { option: "log" },
 };
 
@@ -388,19 +388,19 @@ static ERRANDS: [Subcommand; 5] = [
     Subcommand {
         name: "backup",
         parameters: &[COPY],
-        about: "Copy the file, and see that the copy opens",
+        about: "Copy the file, and check the copy",
         example: "Example: registry --db registry.db backup copy.db",
     },
     Subcommand {
         name: "stop",
         parameters: &[],
-        about: "End the server that has the file, once pending requests are answered",
+        about: "End the server that has the file, once what is under way is answered",
         example: "Example: registry --db registry.db stop",
     },
     Subcommand {
         name: "serve",
         parameters: &[PORT_BESIDE, SOCKET, CONNECTIONS, LOG],
-        about: "Serve npm over HTTP, with a log of the requests or at a Unix socket",
+        about: "Serve npm over HTTP, and keep a log of the requests or listen at a Unix socket",
         example: "Example: registry serve --socket http.socket --log requests.log",
     },
 ];
