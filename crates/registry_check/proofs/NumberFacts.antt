@@ -2,7 +2,7 @@
 -- contents have them.
 use Rattle.std.proofs.Common.{◌≡◌, ◌∙◌, ℕ, ℤ, pos, negsuc, ◌≤◌, List, [], ◌∷◌, drop, map, refl, sym, ap, Option, Some, None, option_map, cond, Bool, true, false}
 use Rattle.sqlite.specs.declared.types.Value.{Value}
-use Rattle.sqlite.specs.declared.types.Value.TheVariants.{Int}
+use Rattle.sqlite.specs.declared.types.Value.TheVariants.{Blob, Int, Null, Real, Text}
 use Rattle.sqlite_value.specs.Order.{Row, column}
 use Rattle.sqlite_trees.specs.Tree.{Trees}
 use Rattle.registry_names.specs.Maps.{at, first_at, rows}
@@ -71,4 +71,9 @@ row_of value None x h = absurd cc
 row_of value (Some vs) x h = let same : value vs ≡ x = cc in (vs, (refl, same))
 
 pub number_read : (v : Value) → number_in v ≡ natural_in (int_in v)
-number_read v = search
+number_read (Int (pos n)) = refl
+number_read (Int (negsuc n)) = refl
+number_read Null = refl
+number_read (Real x) = refl
+number_read (Text t) = refl
+number_read (Blob b) = refl

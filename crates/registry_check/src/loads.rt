@@ -17,6 +17,9 @@ use registry_rows::{RowKind, read, values_of_rows};
 use sqlite::{Alter, Transaction, params};
 use std::alloc::Global;
 
+/// The members of organisations, each with the number of their role.
+const MEMBERS: &str = "SELECT org, user, role FROM members ORDER BY org, user";
+
 /// The rows of all tables, in the order of their keys.
 pub(crate) fn load_tables<S: Alter>(
     alloc: Global,
@@ -64,11 +67,7 @@ fn load_groups<S: Alter>(alloc: Global, tx: &mut Transaction<'_, S>) -> Result<G
     ensures stays { Stays S.Store tx.old tx.new }
     ensures loads { Loads S.Store tx.old tx.new result AreGroups }
 {
-    let members = load::<Members, S>(
-        alloc,
-        tx,
-        "SELECT org, user, role FROM members ORDER BY org, user",
-    )?;
+    let members = load::<Members, S>(alloc, tx, MEMBERS)?;
     let teams = load::<Teams, S>(alloc, tx, "SELECT org, team FROM teams ORDER BY org, team")?;
     let team_members = load::<TeamMembers, S>(
         alloc,
@@ -165,11 +164,7 @@ fn load_grades<S: Alter>(alloc: Global, tx: &mut Transaction<'_, S>) -> Result<G
     ensures stays { Stays S.Store tx.old tx.new }
     ensures loads { Tells S.Store tx.old tx.new result AreGrades }
 {
-    let roles = load::<Roles, S>(
-        alloc,
-        tx,
-        "SELECT org, user, role FROM members ORDER BY org, user",
-    )?;
+    let roles = load::<Roles, S>(alloc, tx, MEMBERS)?;
     let statuses = load::<Statuses, S>(
         alloc,
         tx,

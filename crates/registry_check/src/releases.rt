@@ -1,11 +1,12 @@
 //! The texts of versions, of tags and of what an older schema had.
 
-ghost use Rattle.std.specs.Prelude.{◌≡◌, ℤ, IfOk};
+ghost use Rattle.std.specs.Prelude.{◌≡◌, ◌&&◌, ℤ, IfOk};
 ghost use Rattle.registry_names.specs.Keys.{Pair, Triple};
 ghost use Rattle.registry_names.specs.Texts.{Text as Bytes};
 ghost use Rattle.registry_rules.specs.State.{Release};
 ghost use Rattle.registry_check.specs.FormRules as rules;
 ghost use Rattle.registry_check.specs.FormRules.{spent_forms, tag_forms, target_forms, version_forms};
+ghost use Rattle.registry_check.specs.Forms as forms;
 ghost use Rattle.registry_check.specs.Problems as spec;
 ghost use Rattle.registry_check.specs.Rows.{live_entry, rows_of, spent_entry, tag_entry, target_entry};
 ghost use Rattle.registry_check.specs.Spelled.{spent_spelled, tag_spelled, triple_spelled};
@@ -123,7 +124,7 @@ impl Checked for Withdrawn {
             },
             Test {
                 rule: Rule::HasMoment,
-                holds: is_moment(row.published) && is_moment(row.withdrawn)
+                holds: are_moments(row.published, row.withdrawn)
             },
         ]?)
     }
@@ -150,6 +151,13 @@ impl RowKind for Withdrawn {
             withdrawn,
         })
     }
+}
+
+// Whether both are the numbers of seconds of moments.
+fn are_moments(published: i64, withdrawn: i64) -> bool
+    ensures { result ≡ (forms.is_moment published && forms.is_moment withdrawn) }
+{
+    is_moment(published) && is_moment(withdrawn)
 }
 
 /// Tags of packages.
