@@ -101,7 +101,7 @@ pub manifest_text_is : (name v : Text) (version : VersionParts) (t : Text) → v
 manifest_text_is name v version t e h = manifest_read name version t (read t) refl (ap (λ (x : Text). is_manifest_text name x t) (sym e) ∙ h)
 
 pub is_manifest_text_of : (name v : Text) (version : VersionParts) (t : Text) → v ≡ text_of_version version → IsManifestText name version t → is_manifest_text name v t ≡ true
-is_manifest_text_of name v version t e (m, (is_one, (text, back))) =
+is_manifest_text_of name v version t e (m, is_one, (text, back)) =
     ap (λ (x : Text). is_manifest_text name x t) e ∙ ap (is_manifest_read name (text_of_version version) t) back
     ∙ and_from _ _ is_one (ap (is t) (sym text) ∙ same_self text_key t)
 

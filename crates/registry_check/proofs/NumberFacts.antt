@@ -44,7 +44,7 @@ spent_numbered = record { found = refl; shape = refl; index = 10; indexed = refl
 -- ---- what a table says in two ways
 
 -- what a number is read as
-pub natural_in : ℤ → ℕ
+abbrev pub natural_in : ℤ → ℕ
 natural_in (pos n) = n
 natural_in (negsuc n) = 0
 
@@ -52,12 +52,12 @@ module _ {X : Type 0} (more : ℕ) (value : Row → X) where
   first_valued : (table : List Row) (k : Texts more) → first_at (texts_are more) (map (λ r. (key_of more r, value (drop 1 r))) table) k
       ≡ option_map value (first_at (texts_are more) (map (λ r. (key_of more r, drop 1 r)) table) k)
   first_valued [] k = refl
-  first_valued (r ∷ table) k = each (texts_are more (key_of more r) k)
+  first_valued (r ∷ table) k = each (first_valued table k) (texts_are more (key_of more r) k)
     where
-      each : (b : Bool) → cond b (Some (value (drop 1 r))) (first_at (texts_are more) (map (λ r. (key_of more r, value (drop 1 r))) table) k)
+      each : (first_at (texts_are more) (map (λ r. (key_of more r, value (drop 1 r))) table) k ≡ option_map value (first_at (texts_are more) (map (λ r. (key_of more r, drop 1 r)) table) k)) → (b : Bool) → cond b (Some (value (drop 1 r))) (first_at (texts_are more) (map (λ r. (key_of more r, value (drop 1 r))) table) k)
           ≡ option_map value (cond b (Some (drop 1 r)) (first_at (texts_are more) (map (λ r. (key_of more r, drop 1 r)) table) k))
-      each true = refl
-      each false = first_valued table k
+      each next true = refl
+      each next false = next
 
   -- the value at a key is that of the row that is there
   pub at_valued : (table : List Row) (k : Texts more) → at (map_of more value table) k ≡ option_map value (at (map_of more (λ (vs : Row). vs) table) k)

@@ -66,20 +66,20 @@ never b h = true≢false (sym h)
 -- the value of the first row with a key, by either search
 found_first : {K X : Type 0} (same : K → K → Bool) (es : List (K × X)) (k : K) → option_map (λ (e : K × X). e.1) (find (λ (e : K × X). same e.0 k) es) ≡ first_at same es k
 found_first same [] k = refl
-found_first {K} {X} same (e ∷ es) k = each (same e.0 k)
+found_first {K} {X} same (e ∷ es) k = each (found_first same es k) (same e.0 k)
   where
-    each : (b : Bool) → option_map (λ (e : K × X). e.1) (cond b (Some e) (find (λ (e : K × X). same e.0 k) es)) ≡ cond b (Some e.1) (first_at same es k)
-    each true = refl
-    each false = found_first same es k
+    each : (option_map (λ (e : K × X). e.1) (find (λ (e : K × X). same e.0 k) es) ≡ first_at same es k) → (b : Bool) → option_map (λ (e : K × X). e.1) (cond b (Some e) (find (λ (e : K × X). same e.0 k) es)) ≡ cond b (Some e.1) (first_at same es k)
+    each next true = refl
+    each next false = next
 
 found_integrity : (es : List (ℤ × Archive)) (n : ℤ) → option_map (λ (e : ℤ × Archive). e.1.integrity) (find (λ (e : ℤ × Archive). int_eq e.0 n) es) ≡ option_map (λ (a : Archive). a.integrity) (first_at int_eq es n)
 found_integrity [] n = refl
-found_integrity (e ∷ es) n = each (int_eq e.0 n)
+found_integrity (e ∷ es) n = each (found_integrity es n) (int_eq e.0 n)
   where
-    each : (b : Bool) → option_map (λ (e : ℤ × Archive). e.1.integrity) (cond b (Some e) (find (λ (e : ℤ × Archive). int_eq e.0 n) es))
+    each : (option_map (λ (e : ℤ × Archive). e.1.integrity) (find (λ (e : ℤ × Archive). int_eq e.0 n) es) ≡ option_map (λ (a : Archive). a.integrity) (first_at int_eq es n)) → (b : Bool) → option_map (λ (e : ℤ × Archive). e.1.integrity) (cond b (Some e) (find (λ (e : ℤ × Archive). int_eq e.0 n) es))
         ≡ option_map (λ (a : Archive). a.integrity) (cond b (Some e.1) (first_at int_eq es n))
-    each true = refl
-    each false = found_integrity es n
+    each next true = refl
+    each next false = next
 
 -- ---- lists of problems
 
