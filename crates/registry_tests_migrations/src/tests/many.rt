@@ -18,7 +18,8 @@ static ROWS: [&str; 4] = [
 ];
 
 /// A manifest, up to the text of its version.
-const MANIFEST: &str = r#"{"dependencies":{"a":"1","b":"2","c":"3","d":"4","e":"5","f":"6","g":"7"},"name":"kit","version":""#;
+const MANIFEST: &str =
+    r#"{"dependencies":{"a":"1","b":"2","c":"3","d":"4","e":"5","f":"6","g":"7"},"name":"kit","version":""#;
 
 /// What it shows afterwards.
 static SHOWN: [(&str, &str); 5] = [
