@@ -129,7 +129,7 @@ static SHOWN: [Shown; 18] = [
 static ASKED: [Asked; 24] = [
     (
         "--at 125 --as bob packument @lab/kit",
-        r#"{"_id":"@lab/kit","dist-tags":{"beta":"1.1.0-beta","latest":"1.0.0"},"name":"@lab/kit","time":{"1.0.0":"1970-01-01T00:01:40.000Z","1.1.0-beta":"1970-01-01T00:01:41.000Z","created":"1970-01-01T00:01:30.000Z","modified":"1970-01-01T00:01:41.000Z"},"versions":{"1.0.0":{"dependencies":{"tool":"^1"},"name":"@lab/kit","optionalDependencies":{"@lab/pad":"~2"},"peerDependencies":{"tool":">=1.0.0"},"version":"1.0.0"},"1.1.0-beta":{"deprecated":"old","dependencies":{"tool":"^2"},"name":"@lab/kit","optionalDependencies":{"tool":"2.x"},"version":"1.1.0-beta"}}}"#,
+        r#"{"_id":"@lab/kit","dist-tags":{"beta":"1.1.0-beta","latest":"1.0.0"},"name":"@lab/kit","time":{"1.0.0":"1970-01-01T00:01:40.000Z","1.1.0-beta":"1970-01-01T00:01:41.000Z","created":"1970-01-01T00:01:30.000Z","modified":"1970-01-01T00:01:41.000Z"},"versions":{"1.0.0":{"dependencies":{"tool":"^1"},"name":"@lab/kit","optionalDependencies":{"@lab/pad":"~2"},"peerDependencies":{"tool":">=1.0.0"},"version":"1.0.0"},"1.1.0-beta":{"dependencies":{"tool":"^2"},"deprecated":"old","name":"@lab/kit","optionalDependencies":{"tool":"2.x"},"version":"1.1.0-beta"}}}"#,
     ),
     (
         "--at 125 --as eve packument tool",
@@ -142,7 +142,7 @@ static ASKED: [Asked; 24] = [
     ),
     (
         "--at 125 --as bob version-doc @lab/kit 1.1.0-beta",
-        r#"{"deprecated":"old","dependencies":{"tool":"^2"},"name":"@lab/kit","optionalDependencies":{"tool":"2.x"},"version":"1.1.0-beta"}"#,
+        r#"{"dependencies":{"tool":"^2"},"deprecated":"old","name":"@lab/kit","optionalDependencies":{"tool":"2.x"},"version":"1.1.0-beta"}"#,
     ),
     ("--at 125 --as bob version-doc @lab/kit 0.9.0", "NotFound"),
     ("--at 125 --as bob archive @lab/kit 1.0.0", "abc"),
@@ -177,7 +177,7 @@ static ASKED: [Asked; 24] = [
     ("--at 130 --as bob withdraw @lab/kit 1.0.0", "done"),
     (
         "--at 130 --as bob packument @lab/kit",
-        r#"{"_id":"@lab/kit","dist-tags":{"beta":"1.1.0-beta","latest":"1.1.0-beta"},"name":"@lab/kit","time":{"1.1.0-beta":"1970-01-01T00:01:41.000Z","created":"1970-01-01T00:01:30.000Z","modified":"1970-01-01T00:02:10.000Z"},"versions":{"1.1.0-beta":{"deprecated":"old","dependencies":{"tool":"^2"},"name":"@lab/kit","optionalDependencies":{"tool":"2.x"},"version":"1.1.0-beta"}}}"#,
+        r#"{"_id":"@lab/kit","dist-tags":{"beta":"1.1.0-beta","latest":"1.1.0-beta"},"name":"@lab/kit","time":{"1.1.0-beta":"1970-01-01T00:01:41.000Z","created":"1970-01-01T00:01:30.000Z","modified":"1970-01-01T00:02:10.000Z"},"versions":{"1.1.0-beta":{"dependencies":{"tool":"^2"},"deprecated":"old","name":"@lab/kit","optionalDependencies":{"tool":"2.x"},"version":"1.1.0-beta"}}}"#,
     ),
     ("--at 130 --as bob archive @lab/kit 1.0.0", "NotFound"),
     ("--at 130 --as bob archive @lab/kit 1.1.0-beta", "abc"),

@@ -123,7 +123,7 @@ static SHOWN: [Shown; 18] = [
 static ASKED: [Asked; 20] = [
     (
         "--at 125 --as bob packument @lab/kit",
-        r#"{"_id":"@lab/kit","dist-tags":{"latest":"1.0.0"},"name":"@lab/kit","time":{"1.0.0":"1970-01-01T00:01:40.000Z","created":"1970-01-01T00:01:30.000Z","modified":"1970-01-01T00:01:40.000Z"},"versions":{"1.0.0":{"deprecated":"old","dependencies":{"tool":"^1"},"name":"@lab/kit","version":"1.0.0"}}}"#,
+        r#"{"_id":"@lab/kit","dist-tags":{"latest":"1.0.0"},"name":"@lab/kit","time":{"1.0.0":"1970-01-01T00:01:40.000Z","created":"1970-01-01T00:01:30.000Z","modified":"1970-01-01T00:01:40.000Z"},"versions":{"1.0.0":{"dependencies":{"tool":"^1"},"deprecated":"old","name":"@lab/kit","version":"1.0.0"}}}"#,
     ),
     (
         "--at 125 --as eve packument tool",
@@ -132,7 +132,7 @@ static ASKED: [Asked; 20] = [
     ("--at 125 --as bob packument gone", "NotFound"),
     (
         "token npm_bob_000000001 --at 125 version-doc @lab/kit latest",
-        r#"{"deprecated":"old","dependencies":{"tool":"^1"},"name":"@lab/kit","version":"1.0.0"}"#,
+        r#"{"dependencies":{"tool":"^1"},"deprecated":"old","name":"@lab/kit","version":"1.0.0"}"#,
     ),
     (
         "--at 125 --as bob version-doc tool 1.1.0",
