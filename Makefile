@@ -15,7 +15,7 @@ SECONDS := 600
 
 help:
 	@echo 'Build:'
-	@echo '  make demo     serves a new registry for a look with npm: minutes, and nothing is proved'
+	@echo '  make demo     serves a new registry to try with npm: minutes, and nothing is proved'
 	@echo '  make try      runs the program before any proof: a few minutes, and nothing is proved'
 	@echo '  make run      proves and builds the program, and publishes $(BODY)'
 	@echo '  make build    proves and builds the program as out/registry'
@@ -25,8 +25,8 @@ help:
 	@echo '  make check    proves every crate over what earlier checks kept'
 	@echo '  make quick    runs every test and story over builds without a proof (JOBS=2: two at once)'
 	@echo '  make stories  runs the stories alone: FILES=tags.txt runs one file'
-	@echo '  make stops    stops a disk at each of its calls, and a page gives back another byte'
-	@echo '  make plants   tries the wrong bodies that were not tried since they changed'
+	@echo '  make stops    stops a disk at each of its calls, and changes a byte of a page that is read'
+	@echo '  make plants   tries each wrong body that was not tried since it changed'
 	@echo '  make fmt      formats the files'
 	@echo
 	@echo 'Try the built program out/registry:'
@@ -39,14 +39,14 @@ help:
 	@echo '  make files    fills a disk, and opens files that hold no registry'
 	@echo '  make older    migrates files of older schemas, and kills that at any moment: two minutes'
 	@echo '  make limits   tries the limits of connections, and hostile clients: 5 minutes'
-	@echo '  make large    two million bytes of each thing, and whether they are refused soon'
-	@echo '  make soak     a hundred clients for ten minutes, and whether memory and answers hold'
+	@echo '  make large    sends two million bytes of each thing, which must be refused soon'
+	@echo '  make soak     runs a hundred clients for ten minutes: memory and answers must hold'
 	@echo '  make starve   refuses each piece of memory in turn (EVERY=20: every 20th; JOBS=4: four at once)'
-	@echo '  make fuzz     lets afl++ at it for ten minutes (SECONDS=3600: an hour; 0: the examples alone)'
+	@echo '  make fuzz     fuzzes it with afl++ for ten minutes (SECONDS=3600: an hour; 0: the examples alone)'
 	@echo
 	@echo 'Measure the built program out/registry:'
-	@echo '  make bench    how long requests and the reading of bodies take: 5 minutes'
-	@echo '  make compare  its speed beside nginx and SQLite: 15 minutes'
+	@echo '  make bench    measures how long requests and the reading of bodies take: 5 minutes'
+	@echo '  make compare  measures its speed beside nginx and SQLite: 15 minutes'
 
 kit:
 ifeq ($(KIT),)

@@ -78,7 +78,7 @@ says() { grep -q "$2" "$1" 2>/dev/null; }
 # Whether a log is refused, with status 2.
 is_refused() {
     status=0
-    timeout 10 "$program" --db "$work/registry.db" serve --port "$port" --log "$1" > "$work/out" 2> "$work/err" || status=$?
+    timeout 60 "$program" --db "$work/registry.db" serve --port "$port" --log "$1" > "$work/out" 2> "$work/err" || status=$?
     [ "$status" = 2 ] && [ "$(cat "$work/err")" = "error: --log takes a file that isn't one of the registry's" ]
 }
 

@@ -3,6 +3,7 @@ mod CommitFacts
 mod CountingFacts
 mod EarlyFacts
 mod GrantFacts
+mod HiddenFacts
 mod KeepingFacts
 mod LifeFacts
 mod LivingFacts
@@ -16,6 +17,7 @@ mod SettlingFacts
 mod ArchiveFacts
 mod CacheFacts
 pub mod AnswerFacts
+mod PlainFacts
 mod StopFacts
 pub mod StoredFacts
 mod KeptFacts

@@ -262,7 +262,7 @@ module _ (first last next : Shown) (life : Life) (lived : HasLived first last li
 
   comes : Follows last next → ComesTo life before (stored next)
   comes (inl again) = elim (cases_Bool last.is_open) [
-    | inl on ↦ left_open again.was_clean on (found_after last next (stored last) again clean (lived.stays again.was_clean on again.db again.left))
+    | inl on ↦ left_open again.was_clean on (found_after last next (stored last) again clean (lived.durable again.was_clean on again.db again.left))
     | inr shut ↦ left_shut again shut
   ]
   comes (inr (inl on)) = let seen = on.made clean in left_open seen.0 seen.1 (still_stored last next on.rests on.made clean)
@@ -341,12 +341,12 @@ module _ {C D : Type 0} (show : C → Shown) (show_next : D → Shown) where
   stops_leave_all_or_nothing first last next r sound sure survives again clean =
       elim (survives.crash again.was_clean again.db again.left) [
         | inl before ↦ inl (found_after (show last) (show_next next) (stored (show first)) again clean (sure again.db before))
-        | inr made ↦ inr (found_after (show last) (show_next next) (settled_by r (stored (show first))) again clean (made.1 sound))
+        | inr made ↦ inr (found_after (show last) (show_next next) (settled_by r (stored (show first))) again clean (made.form, made.settled sound))
       ]
 
   pub stops_keep_outcomes : StopsKeepOutcomes show show_next
-  stops_keep_outcomes first last next r o sound step stays on again clean =
-      found_after (show last) (show_next next) (stored (show last)) again clean (stays again.was_clean on again.db again.left) ∙ step sound again.was_clean on
+  stops_keep_outcomes first last next r o sound step durable on again clean =
+      found_after (show last) (show_next next) (stored (show last)) again clean (durable again.was_clean on again.db again.left) ∙ step sound again.was_clean on
 
 module _ {C : Type 0} (show : C → Shown) where
   -- requests that are asked after a run make it longer

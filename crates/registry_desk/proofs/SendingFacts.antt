@@ -47,14 +47,15 @@ use Rattle.registry_tables.specs.Teams.{GrantsInScope}
 use Rattle.registry_tables.specs.Walks.{IsLeftAlone}
 use Rattle.registry_laws_history.specs.Answers as answers
 use Rattle.registry_laws_history.specs.Answers.{answer, packument_in, reply_to}
-use Rattle.registry_laws_history.specs.History.{Entry}
+use Rattle.registry_laws_history.specs.History.{Entry, after}
 use Rattle.registry_laws_history.specs.Runs.{IsAnswer, Outcome, accepts, enters, entered, grown, next}
 use Rattle.registry_laws_history.specs.Says.{Says}
 use Rattle.registry_laws_history.proofs.RunFacts.{history_says}
 use Rattle.registry_laws_hidden.specs.Laws.{RepliesAreAlike}
+use Rattle.registry_laws_hidden.specs.Without.{state_without}
 use Rattle.registry_desk.specs.Caches.{HasAnswers, KeepNoMore, KeepsNoMore}
 use Rattle.registry_desk.specs.Lives.{HasAnswered}
-use Rattle.registry_desk.specs.Promises.{Answered, HoldsReferences, HoldsSoundFor, Served}
+use Rattle.registry_desk.specs.Promises.{Answered, HoldsReferences, HoldsSoundFor, LeavesOne, Served}
 use Rattle.registry_desk.specs.Resting.{IsRegistryOf, Rests, next_stored, settled_by, stepped}
 use Rattle.registry_desk.specs.Sending.{AnswersAsApply, BrokenBeginTheAnswer, IsOrigin, IsShownBy, LeavesAll, MayAnswer, Sends, SentAreAsked, answers_as_apply, head_in, versions_in}
 use Rattle.registry_desk.specs.declared.cache.Caches.{Caches}
@@ -64,6 +65,7 @@ use Rattle.registry_desk.proofs.AnswerFacts.{refused, unrefused, versions_are}
 use Rattle.registry_desk.proofs.KeptFacts.{right_unchanged}
 use Rattle.registry_desk.proofs.CommitFacts.{commit_rests, ready_again, registry_left, rests_sure, undone_open, undone_rests, undone_stored}
 use Rattle.registry_desk.proofs.LivingFacts.{live_so}
+use Rattle.registry_desk.proofs.HiddenFacts.{leaves_the_rest, same_answer}
 use Rattle.registry_desk.proofs.SettlingFacts.{settled_next}
 use Rattle.registry_desk.proofs.StoredFacts.{refers_for_one}
 
@@ -120,7 +122,7 @@ packument_from S p head text is written =
 -- ---- a query enters nothing
 
 module _ (r : Request) (query : is_command r.what ≡ false) where
-  never_enters : (o : Outcome) → enters r o ≡ false
+  pub never_enters : (o : Outcome) → enters r o ≡ false
   never_enters o = ap (λ b. b && accepts o) query
 
   pub query_stays : (c : Contents) (o : Outcome) → next_stored r o c ≡ c
@@ -132,12 +134,17 @@ module _ (r : Request) (query : is_command r.what ≡ false) where
   query_grown : (h : List Entry) (S : State) (o : Outcome) → grown h S r o ≡ h
   query_grown h S o = ap (λ b. if b then entered (caller_of S r.who) r h else h) (never_enters o)
 
-  pub query_settles : (c : Contents) → settled_by r c ≡ c
+  query_settles : (c : Contents) → settled_by r c ≡ c
   query_settles c = settled_next c r (answer (registry_of c) r) refl ∙ query_stays c (Ok (answer (registry_of c) r))
 
-same_answer : (S T : State) (r : Request) (o : Outcome) → answer S r ≡ answer T r → IsAnswer S r o → IsAnswer T r o
-same_answer S T r (Ok a) same is = is ∙ same
-same_answer S T r (Err f) same is = tt
+  -- so a crash finds all that was stored
+  pub query_leaves : (old : Shown) (db : Trees) → IsTrue old.is_open × IsRegistryOf db (stored old) → LeavesOne r old db
+  query_leaves old db it = record {
+    was_open = it.0;
+    form = it.1.0;
+    query = λ _. it.1.1;
+    settled = λ sound. it.1.1 ∙ sym (query_settles (stored old));
+  }
 
 -- a query that leaves all that was stored is answered as `apply` answers it
 module _ {S : Type 0} (store : Ghosts S) (old : Shown) (h : Held S) (settled : (db : Trees) → IsTrue (state store h).is_open → (state store h).may_leave db → db ≡ (state store h).committed.trees)
@@ -158,14 +165,17 @@ module _ {S : Type 0} (store : Ghosts S) (old : Shown) (h : Held S) (settled : (
             (subst (Says g) (sym is ∙ sym (state_stays clean on)) (history_says g legal));
         hidden = λ needs clean g legal is p stranger quiet.
             let refers = subst (λ (T : State). IsSound T.access) (sym is) (history_says g legal).sound in
-            same_answer _ _ r o (replies g p r legal stranger quiet) (subst (λ (T : State). IsAnswer T r o) is (told (refers_for_one r old refers needs) clean));
+            let answered = subst (λ (T : State). IsAnswer T r o) is (told (refers_for_one r old refers needs) clean) in (
+              same_answer _ _ r o (replies g p r legal stranger quiet) answered,
+              λ on. ap (λ (T : State). state_without T p) (state_stays clean on ∙ is ∙ sym (query_next r query (after g) o)) ∙ leaves_the_rest g p r o legal stranger quiet answered,
+            );
         grants = λ sound clean on holds. subst GrantsInScope (sym (left.same clean on)) holds;
         needs = λ sound clean on holds. subst HoldsNeeds (sym (left.same clean on)) holds;
         refers = λ sound clean on holds. subst HoldsReferences (sym (left.same clean on)) holds;
         archives = λ sound clean on holds. subst HoldsArchives (sym (left.same clean on)) holds;
         form = λ needs clean on kept. subst IsKept (sym (state_stays clean on)) kept;
-        survives = survives_weaker old new _ _ (λ clean db it. (it.0, λ sound. (it.1.0, it.1.1 ∙ sym (query_settles r query (stored old))))) left.survives;
-        stays = λ clean on. rests_sure store h (λ db. settled db on) left.rests clean on;
+        survives = survives_weaker old new _ _ (λ clean db it. query_leaves r query old db it) left.survives;
+        durable = λ clean on. rests_sure store h (λ db. settled db on) left.rests clean on;
       }
 
 -- what is left alone is left as it is
@@ -388,7 +398,7 @@ asked_as old new r o a = record {
   archives = a.archives;
   form = a.form;
   survives = a.survives;
-  stays = a.stays;
+  durable = a.durable;
 }
 
 pub sent_are_asked : {S : Type 0} (store : Ghosts S) → SentAreAsked store

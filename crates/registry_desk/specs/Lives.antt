@@ -40,7 +40,7 @@ pub record HasAnswered (old new : Shown) (r : Request) (o : Outcome) : Type 0 wh
   pub archives : Keeps old new r HoldsArchives
   pub form : KeepsForm old new r
   pub survives : SurvivesOne old new r
-  pub stays : StaysSure new
+  pub durable : StaysSure new
 
 -- what `run` promises of requests
 pub record HasRun (old new : Shown) (rs : List Request) (os : List Outcome) : Type 0 where
@@ -54,7 +54,7 @@ pub record HasRun (old new : Shown) (rs : List Request) (os : List Outcome) : Ty
   pub archives : KeepsRun old new rs HoldsArchives
   pub form : KeepsFormRun old new rs
   pub survives : SurvivesRun old new rs os
-  pub stays : KeepsSure old new
+  pub durable : KeepsSure old new
   pub closes : ShutByFaults old new
 
 -- ---- what a life does
@@ -101,7 +101,7 @@ pub record HasLived (first last : Shown) (life : Life) : Type 0 where
   pub ran : RanTo first last life.requests life.outcomes
   pub stored : Stored first last life.requests life.outcomes
   pub survives : SurvivesRun first last life.requests life.outcomes
-  pub stays : StaysSure last
+  pub durable : StaysSure last
   pub ends : life.is_open ≡ last.is_open
 
 -- It ends wherever it is stopped: a crash leaves one of the databases that it may leave there,

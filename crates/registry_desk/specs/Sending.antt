@@ -56,7 +56,7 @@ pub record AnswersAsApply (old new : Shown) (r : Request) (o : Outcome) : Type 0
   pub archives : Keeps old new r HoldsArchives
   pub form : KeepsForm old new r
   pub survives : SurvivesOne old new r
-  pub stays : StaysSure new
+  pub durable : StaysSure new
 
 -- this holds of the connections at the entry and at the exit
 abbrev pub answers_as_apply : {S : Type 0} → Ghosts S → Held S → Request → Outcome → Held S → Type 0

@@ -6,17 +6,24 @@ ghost use Rattle.registry_tables.specs.Effects.{InForm, Loads};
 ghost use Rattle.registry_tables.specs.Teams.{AreTeamsSound};
 ghost use Rattle.registry_desk.specs.Early.{FoundTells};
 ghost use Rattle.registry_desk.specs.Found.{NeedsFor};
+ghost use Rattle.registry_desk.specs.Sending.{IsPackument};
 
-use crate::grants::{new_grant, old_grant};
-use crate::maintainers::{new_maintainer, old_maintainer};
-use crate::organisations::{new_organisation, new_role, old_member, seen_organisation};
-use crate::packages::{
-    new_status, new_tag, new_version, old_tag, seen_archive, seen_document, seen_package,
+use crate::grants::{facts_for_grant, facts_for_revoke};
+use crate::maintainers::{facts_for_owner_add, facts_for_owner_remove};
+use crate::organisations::{
+    facts_about_organisation, facts_for_org_create, facts_for_org_remove, facts_for_org_set,
 };
-use crate::people::{new_token, new_user};
+use crate::packages::{
+    facts_about_archive, facts_about_document, facts_about_package, facts_for_publish,
+    facts_for_set_access, facts_for_tag_remove, facts_for_tag_set,
+};
+use crate::people::{facts_for_token_add, facts_for_user_add};
 use crate::policy::Found;
-use crate::teams::{new_team, new_team_member, old_team, old_team_member, seen_team};
-use crate::withdrawals::{live_versions, old_version};
+use crate::teams::{
+    facts_about_team, facts_for_team_add, facts_for_team_create, facts_for_team_destroy,
+    facts_for_team_remove,
+};
+use crate::withdrawals::{facts_for_deprecate, facts_for_withdraw};
 use registry_access::Caller;
 use registry_names::Fault;
 use registry_rules::{Action, Request};
@@ -25,13 +32,14 @@ use std::alloc::Global;
 
 /// Loads what decides a caller's request, and no more; or answers why it is refused before what is
 /// costly to load is loaded.
-pub(crate) fn facts<S: Alter>(
+pub(crate) fn load_facts<S: Alter>(
     alloc: Global,
     tx: &mut Transaction<'_, S>,
     caller: &Caller,
     request: &Request,
 ) -> Result<Found, Fault>
     requires in_form { InForm S.Store tx.old }
+    requires other { ¬ IsPackument request.now.what }
     ensures stays { Stays S.Store tx.old tx.new }
     ensures loads { Loads S.Store tx.old tx.new result
         (λ found c. AreTeamsSound c → NeedsFor request.now.what c
@@ -39,80 +47,86 @@ pub(crate) fn facts<S: Alter>(
 {
     let what = &request.what;
     match what {
-        Action::UserAdd { user } => new_user(tx, user).map(Found::About),
-        Action::TokenAdd { user, digest } => new_token(alloc, tx, user, digest).map(Found::About),
+        Action::UserAdd { user } => facts_for_user_add(tx, user).map(Found::About),
+        Action::TokenAdd { user, digest } => facts_for_token_add(alloc, tx, user, digest).map(
+            Found::About,
+        ),
         Action::OrgCreate {
             organisation,
             owner,
-        } => new_organisation(tx, organisation, owner).map(Found::About),
+        } => facts_for_org_create(tx, organisation, owner).map(Found::About),
         Action::OrgSet {
             organisation,
             user,
             ..
-        } => new_role(alloc, tx, caller, organisation, user),
+        } => facts_for_org_set(alloc, tx, caller, organisation, user),
         Action::OrgRemove { organisation, user } => {
-            old_member(alloc, tx, caller, organisation, user)
+            facts_for_org_remove(alloc, tx, caller, organisation, user)
         }
         Action::TeamCreate { organisation, team } => {
-            new_team(alloc, tx, caller, organisation, team).map(Found::About)
+            facts_for_team_create(alloc, tx, caller, organisation, team).map(Found::About)
         }
         Action::TeamDestroy { organisation, team } => {
-            old_team(alloc, tx, caller, organisation, team).map(Found::About)
+            facts_for_team_destroy(alloc, tx, caller, organisation, team).map(Found::About)
         }
         Action::TeamAdd {
             organisation,
             team,
             user,
-        } => new_team_member(alloc, tx, caller, organisation, team, user).map(Found::About),
+        } => facts_for_team_add(alloc, tx, caller, organisation, team, user).map(Found::About),
         Action::TeamRemove {
             organisation,
             team,
             user,
-        } => old_team_member(alloc, tx, caller, organisation, team, user).map(Found::About),
+        } => facts_for_team_remove(alloc, tx, caller, organisation, team, user).map(Found::About),
         Action::Grant {
             organisation,
             team,
             package,
             ..
-        } => new_grant(alloc, tx, caller, organisation, team, package).map(Found::About),
+        } => facts_for_grant(alloc, tx, caller, organisation, team, package).map(Found::About),
         Action::Revoke {
             organisation,
             team,
             package,
-        } => old_grant(alloc, tx, caller, organisation, team, package).map(Found::About),
+        } => facts_for_revoke(alloc, tx, caller, organisation, team, package).map(Found::About),
         Action::SetAccess { package, .. } => {
-            new_status(alloc, tx, caller, package).map(Found::About)
+            facts_for_set_access(alloc, tx, caller, package).map(Found::About)
         }
         Action::OwnerAdd { package, user } => {
-            new_maintainer(alloc, tx, caller, package, user).map(Found::About)
+            facts_for_owner_add(alloc, tx, caller, package, user).map(Found::About)
         }
-        Action::OwnerRemove { package, user } => old_maintainer(alloc, tx, caller, package, user),
-        Action::Publish { form } => new_version(alloc, tx, caller, form),
+        Action::OwnerRemove { package, user } => facts_for_owner_remove(
+            alloc, tx, caller, package, user,
+        ),
+        Action::Publish { form } => facts_for_publish(alloc, tx, caller, form),
         Action::TagSet {
             package,
             tag,
             version,
-        } => new_tag(alloc, tx, caller, package, tag, version).map(Found::About),
+        } => facts_for_tag_set(alloc, tx, caller, package, tag, version).map(Found::About),
         Action::TagRemove { package, tag } => {
-            old_tag(alloc, tx, caller, package, tag).map(Found::About)
+            facts_for_tag_remove(alloc, tx, caller, package, tag).map(Found::About)
         }
         Action::Withdraw { package, version } => {
-            old_version(alloc, tx, caller, package, version, &request.at)
+            facts_for_withdraw(alloc, tx, caller, package, version, &request.at)
         }
-        Action::Deprecate { package, .. } => live_versions(alloc, tx, caller, package),
-        Action::Packument { package } | Action::Tags { package } => {
-            seen_package(alloc, tx, caller, package).map(Found::About)
+        Action::Deprecate { package, .. } => facts_for_deprecate(alloc, tx, caller, package),
+        // Such a query doesn't come here: `queried` and `sent` answer it.
+        Action::Packument { .. } => unreachable!(),
+        Action::Tags { package } => {
+            facts_about_package(alloc, tx, caller, package).map(Found::About)
         }
         Action::VersionDoc { package, version } => {
-            seen_document(alloc, tx, caller, package, version).map(Found::About)
+            facts_about_document(alloc, tx, caller, package, version).map(Found::About)
         }
         Action::Archive { package, version } => {
-            seen_archive(alloc, tx, caller, package, version).map(Found::About)
+            facts_about_archive(alloc, tx, caller, package, version).map(Found::About)
         }
         Action::Members { organisation } | Action::Teams { organisation } => {
-            seen_organisation(alloc, tx, caller, organisation).map(Found::About)
+            facts_about_organisation(alloc, tx, caller, organisation).map(Found::About)
         }
         Action::TeamMembers { organisation, team } | Action::TeamPackages { organisation, team } =>
-            { seen_team(alloc, tx, caller, organisation, team).map(Found::About) }
+            { facts_about_team(alloc, tx, caller, organisation, team).map(Found::About) }
     }
 }

@@ -16,7 +16,7 @@ use sqlite::{Alter, Transaction};
 use std::alloc::Global;
 
 /// Of a grant that is to be given.
-pub(crate) fn new_grant<S: Alter>(
+pub(crate) fn facts_for_grant<S: Alter>(
     alloc: Global,
     tx: &mut Transaction<'_, S>,
     caller: &Caller,
@@ -67,7 +67,7 @@ fn find_grantable<S: Alter>(
 }
 
 /// Of a grant that is to be taken.
-pub(crate) fn old_grant<S: Alter>(
+pub(crate) fn facts_for_revoke<S: Alter>(
     alloc: Global,
     tx: &mut Transaction<'_, S>,
     caller: &Caller,

@@ -19,7 +19,7 @@ use sqlite::{Alter, Transaction};
 use std::alloc::Global;
 
 /// Of a user who is to be a maintainer.
-pub(crate) fn new_maintainer<S: Alter>(
+pub(crate) fn facts_for_owner_add<S: Alter>(
     alloc: Global,
     tx: &mut Transaction<'_, S>,
     caller: &Caller,
@@ -64,7 +64,7 @@ fn find_newcomer<S: Alter>(
 }
 
 /// Of a maintainer who is to be removed, by a caller whom the policy allows it.
-pub(crate) fn old_maintainer<S: Alter>(
+pub(crate) fn facts_for_owner_remove<S: Alter>(
     alloc: Global,
     tx: &mut Transaction<'_, S>,
     caller: &Caller,

@@ -1,6 +1,6 @@
 //! A registry in a file.
 
-ghost use Rattle.std.specs.Prelude.{◌≡◌, codes, false, true, Err, IfErr, IfOk, IsErrAnd, IsTrue, OnErr, OnOk};
+ghost use Rattle.std.specs.Prelude.{◌≡◌, ◌↔◌, codes, false, true, Err, IfErr, IfOk, IsErrAnd, IsOk, IsTrue, OnErr, OnOk, Some};
 ghost use Rattle.sqlite.specs.Files.{Finds, IsBlankAs, IsCleanLeft, IsOpened, LeavesFiles, file_state, image_of};
 ghost use Rattle.sqlite.specs.Held.{IsNew, state};
 ghost use Rattle.sqlite.specs.Start.{FindsIn};
@@ -104,7 +104,7 @@ impl Registry<FileStore<File>> {
     pub fn open(rt: &HostRuntime, path: &str) -> Result<Registry<FileStore<File>>, Fault>
         ensures served { IfOk result (λ r. HasCleanDisk (file_state r)
             → IsTrue (file_state r).is_open) }
-        ensures stays { IfOk result (λ r. HasCleanDisk (file_state r) → IsSure (file_state r)) }
+        ensures durable { IfOk result (λ r. HasCleanDisk (file_state r) → IsSure (file_state r)) }
         ensures guarded { IfOk result (λ r. IsGuarded (file_state r)) }
         ensures unlimited { IfOk result (λ r. IsUnlimited (file_state r)) }
         ensures memory { path.now ≡ codes ":memory:" → result ≡ Err Fault.Database }
@@ -126,7 +126,7 @@ impl<S: Start> Registry<FileStore<FileFrom<S>>> {
         ensures empty { IfOk result (λ r. IsFreshIfEmpty (image_at S.Start) (file_state r)) }
         ensures served { IfOk result (λ r. HasCleanDisk (file_state r)
             → IsTrue (file_state r).is_open) }
-        ensures stays { IfOk result (λ r. HasCleanDisk (file_state r) → IsSure (file_state r)) }
+        ensures durable { IfOk result (λ r. HasCleanDisk (file_state r) → IsSure (file_state r)) }
         ensures guarded { IfOk result (λ r. IsGuarded (file_state r)) }
         ensures unlimited { IfOk result (λ r. IsUnlimited (file_state r)) }
         ensures memory { path.now ≡ codes ":memory:" → result ≡ Err Fault.Database }
@@ -159,7 +159,7 @@ impl<D: Disk + Drop> Registry<FileStore<D>> {
         ensures empty { IfOk result (λ r. IsFreshIfEmpty (image_of D.Disk files) (file_state r)) }
         ensures served { IfOk result (λ r. HasCleanDisk (file_state r)
             → IsTrue (file_state r).is_open) }
-        ensures stays { IfOk result (λ r. HasCleanDisk (file_state r) → IsSure (file_state r)) }
+        ensures durable { IfOk result (λ r. HasCleanDisk (file_state r) → IsSure (file_state r)) }
         ensures guarded { IfOk result (λ r. IsGuarded (file_state r)) }
         ensures unlimited { IfOk result (λ r. IsUnlimited (file_state r)) }
         ensures left { IfErr result (λ e. LeavesAtMost files e.1) }
@@ -228,7 +228,7 @@ impl<S: Alter> Registry<S> {
         ensures made { IfOk result (λ r. IsMade (state S.Store conn) (state S.Store r)) }
         ensures served { IfOk result (λ r. HasCleanDisk (state S.Store r)
             → IsTrue (state S.Store r).is_open) }
-        ensures stays { IfOk result (λ r. HasCleanDisk (state S.Store r) → IsSure (state S.Store r)) }
+        ensures durable { IfOk result (λ r. HasCleanDisk (state S.Store r) → IsSure (state S.Store r)) }
         ensures idle { conn.in_transaction ≡ true → result ≡ Err (Fault.Database, conn) }
         ensures back { IfErr result (λ e. IsHandedBack (state S.Store conn) (state S.Store e.1)) }
         ensures again { IfErr result (λ e. e.1.in_transaction ≡ false
@@ -339,14 +339,14 @@ fn settle<S: Alter>(alloc: Global, conn: &mut Connection<S>) -> Result<(), Fault
 }
 
 fn has_nothing(schema: &Schema) -> bool
-    ensures { IsTrue result → schema.now ≡ no_tables }
+    ensures { IsTrue result ↔ (schema.now ≡ no_tables) }
 {
     schema.tables.is_empty() && schema.indexes.is_empty() && schema.views.is_empty()
 }
 
 // Whether the schema is that of a registry, as a fresh one in memory has it.
 fn has_our_tables(alloc: Global, schema: &Schema) -> Result<bool, Fault>
-    ensures { IfOk result (λ ours. IsTrue ours → schema.now ≡ tables.schema) }
+    ensures { IfOk result (λ ours. IsTrue ours ↔ (schema.now ≡ tables.schema)) }
 {
     let Ok(mut conn) = Connection::open_in_memory(alloc) else {
         return Err(Fault::Memory);
@@ -418,11 +418,21 @@ fn check_rows<S: Alter>(tx: &mut Transaction<'_, S>) -> Result<(), Fault>
     ensures numbered { OnlyWhere S.Store tx.old tx.new result IsNumbered }
     ensures counted { OnlyWhere S.Store tx.old tx.new result CountsArchivesAlone }
 {
-    if opened(tx)? != Some(SCHEMA) {
-        return Err(Fault::Database);
-    }
+    check_number(opened(tx)?)?;
     if !counts_archives_alone(tx)? {
         return Err(Fault::Database);
     }
     Ok(())
+}
+
+// `Database` is returned for another number of the schema than ours, and for none.
+fn check_number(number: Option<u32>) -> Result<(), Fault>
+    ensures ok { IsOk result ↔ (number ≡ Some SCHEMA) }
+    ensures err { IfErr result (λ fault. fault ≡ Fault.Database) }
+{
+    if number == Some(SCHEMA) {
+        Ok(())
+    } else {
+        Err(Fault::Database)
+    }
 }

@@ -20,7 +20,7 @@ use sqlite::{Alter, Transaction};
 use std::alloc::Global;
 
 /// Of an organisation that is to be created.
-pub(crate) fn new_organisation<S: Alter>(
+pub(crate) fn facts_for_org_create<S: Alter>(
     tx: &mut Transaction<'_, S>,
     organisation: &Ident,
     owner: &Ident,
@@ -37,7 +37,7 @@ pub(crate) fn new_organisation<S: Alter>(
 }
 
 /// Of a role that a user is to have in an organisation, by a caller whom the policy allows it.
-pub(crate) fn new_role<S: Alter>(
+pub(crate) fn facts_for_org_set<S: Alter>(
     alloc: Global,
     tx: &mut Transaction<'_, S>,
     caller: &Caller,
@@ -91,7 +91,7 @@ fn find_candidate<S: Alter>(
 }
 
 /// Of a member who is to leave an organisation, by a caller whom the policy allows it.
-pub(crate) fn old_member<S: Alter>(
+pub(crate) fn facts_for_org_remove<S: Alter>(
     alloc: Global,
     tx: &mut Transaction<'_, S>,
     caller: &Caller,
@@ -119,7 +119,7 @@ pub(crate) fn old_member<S: Alter>(
 }
 
 /// Of a query about an organisation.
-pub(crate) fn seen_organisation<S: Alter>(
+pub(crate) fn facts_about_organisation<S: Alter>(
     alloc: Global,
     tx: &mut Transaction<'_, S>,
     caller: &Caller,

@@ -26,7 +26,7 @@ use sqlite::{Alter, Transaction};
 use std::alloc::Global;
 
 /// Of a status that is to be set.
-pub(crate) fn new_status<S: Alter>(
+pub(crate) fn facts_for_set_access<S: Alter>(
     alloc: Global,
     tx: &mut Transaction<'_, S>,
     caller: &Caller,
@@ -44,7 +44,7 @@ pub(crate) fn new_status<S: Alter>(
 }
 
 /// Of a publish, by a caller whom the policy allows it.
-pub(crate) fn new_version<S: Alter>(
+pub(crate) fn facts_for_publish<S: Alter>(
     alloc: Global,
     tx: &mut Transaction<'_, S>,
     caller: &Caller,
@@ -153,7 +153,7 @@ fn has_some<S: Alter>(
 }
 
 /// Of a tag that is to name a version.
-pub(crate) fn new_tag<S: Alter>(
+pub(crate) fn facts_for_tag_set<S: Alter>(
     alloc: Global,
     tx: &mut Transaction<'_, S>,
     caller: &Caller,
@@ -175,7 +175,7 @@ pub(crate) fn new_tag<S: Alter>(
 }
 
 /// Of a tag that is to go.
-pub(crate) fn old_tag<S: Alter>(
+pub(crate) fn facts_for_tag_remove<S: Alter>(
     alloc: Global,
     tx: &mut Transaction<'_, S>,
     caller: &Caller,
@@ -193,8 +193,8 @@ pub(crate) fn old_tag<S: Alter>(
     })
 }
 
-/// Of a query about a package.
-pub(crate) fn seen_package<S: Alter>(
+/// Of a query for the tags of a package.
+pub(crate) fn facts_about_package<S: Alter>(
     alloc: Global,
     tx: &mut Transaction<'_, S>,
     caller: &Caller,
@@ -202,9 +202,7 @@ pub(crate) fn seen_package<S: Alter>(
 ) -> Result<About, Fault>
     requires in_form { InForm S.Store tx.old }
     ensures stays { Stays S.Store tx.old tx.new }
-    ensures packument { Loads S.Store tx.old tx.new result (λ about c. AreTeamsSound c
-        → AboutTells about (registry_of c) caller.now (asked.Packument name.now)) }
-    ensures tags { Loads S.Store tx.old tx.new result (λ about c. AreTeamsSound c
+    ensures loads { Loads S.Store tx.old tx.new result (λ about c. AreTeamsSound c
         → AboutTells about (registry_of c) caller.now (asked.Tags name.now)) }
 {
     Ok(About::Package {
@@ -214,7 +212,7 @@ pub(crate) fn seen_package<S: Alter>(
 }
 
 /// Of a query for the document of a version.
-pub(crate) fn seen_document<S: Alter>(
+pub(crate) fn facts_about_document<S: Alter>(
     alloc: Global,
     tx: &mut Transaction<'_, S>,
     caller: &Caller,
@@ -266,7 +264,7 @@ fn latest_lives<S: Alter>(tx: &mut Transaction<'_, S>, name: &Name) -> Result<bo
 }
 
 /// Of a query for the archive of a version.
-pub(crate) fn seen_archive<S: Alter>(
+pub(crate) fn facts_about_archive<S: Alter>(
     alloc: Global,
     tx: &mut Transaction<'_, S>,
     caller: &Caller,

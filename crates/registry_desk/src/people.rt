@@ -15,7 +15,10 @@ use sqlite::{Alter, Transaction};
 use std::alloc::Global;
 
 /// Of a user who is to be added.
-pub(crate) fn new_user<S: Alter>(tx: &mut Transaction<'_, S>, user: &Ident) -> Result<About, Fault>
+pub(crate) fn facts_for_user_add<S: Alter>(
+    tx: &mut Transaction<'_, S>,
+    user: &Ident,
+) -> Result<About, Fault>
     requires in_form { InForm S.Store tx.old }
     ensures stays { Stays S.Store tx.old tx.new }
     ensures loads { Loads S.Store tx.old tx.new result (λ about c. (who : Caller)
@@ -27,7 +30,7 @@ pub(crate) fn new_user<S: Alter>(tx: &mut Transaction<'_, S>, user: &Ident) -> R
 }
 
 /// Of a token that is to be added.
-pub(crate) fn new_token<S: Alter>(
+pub(crate) fn facts_for_token_add<S: Alter>(
     alloc: Global,
     tx: &mut Transaction<'_, S>,
     user: &Ident,

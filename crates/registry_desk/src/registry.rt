@@ -1,6 +1,6 @@
 //! A registry over a connection to its tables.
 
-ghost use Rattle.std.specs.Prelude.{◌≡◌, ◌≢◌, false, true, IfErr, IfOk, IsTrue, OnErr, OnOk};
+ghost use Rattle.std.specs.Prelude.{◌≡◌, ◌≢◌, false, true, length, IfErr, IfOk, IsTrue, OnErr, OnOk};
 ghost use Rattle.sqlite.specs.Held.{state};
 ghost use Rattle.sqlite.specs.State.{HasCleanDisk, Survives};
 ghost use Rattle.sqlite.specs.Steps.{over_memory};
@@ -14,7 +14,7 @@ ghost use Rattle.registry_tables.specs.Fresh.{fresh};
 ghost use Rattle.registry_tables.specs.Needs.{HoldsNeeds};
 ghost use Rattle.registry_tables.specs.Teams.{GrantsInScope};
 ghost use Rattle.registry_laws_history.specs.Headline.{Headline};
-ghost use Rattle.registry_desk.specs.Promises.{Answered, GrowsHistory, HasHeadline, HidesUnread, HoldsReferences, HoldsSound, Keeps, KeepsForm, KeepsFormRun, KeepsRun, KeepsStored, KeepsSure, LooksOpen, Moves, RanTo, Served, ServedRun, ShutByFaults, StaysSure, Stepped, Stored, StoppedByDisk, SurvivesOne, SurvivesRun, Unchanged, WasOpen, WritesHistory};
+ghost use Rattle.registry_desk.specs.Promises.{Answered, GrowsHistory, HasHeadline, HidesUnread, HidesUnreadRun, HoldsReferences, HoldsSound, Keeps, KeepsForm, KeepsFormRun, KeepsRun, KeepsStored, KeepsSure, LooksOpen, Moves, RanTo, Served, ServedRun, ShutByFaults, StaysSure, Stepped, Stored, StoppedByDisk, SurvivesOne, SurvivesRun, Unchanged, WasOpen, WritesHistory};
 ghost use Rattle.registry_desk.specs.Promises as promises;
 ghost use Rattle.registry_desk.specs.Resting.{IsRegistryOf, Rests, end_stored};
 ghost use Rattle.registry_desk.specs.Adopted.{CanBeAdopted, IsUndone};
@@ -23,11 +23,10 @@ ghost use Rattle.registry_desk.specs.Sending.{IsPackument, Sends, answers_as_app
 ghost use Rattle.registry_packument.specs.Sendings.{failures_after};
 ghost use Rattle.registry_packument.specs.declared.opener.Sent.TheVariants.{WriteFault};
 
-use crate::answer::answered_inside;
+use crate::answer::identify_and_answer;
 use crate::cache::{Caches, keep_reply};
 use crate::sending::sent;
 use crate::texts::queried;
-use registry_laws_hidden::laws::unread_packages_are_unheard_of;
 use registry_names::{ByteOut, Fault};
 use registry_packument::{Opener, Sent};
 use registry_rows::{commit, fault_of};
@@ -155,11 +154,10 @@ impl<S: Alter> Registry<S> {
         ensures form { KeepsForm (state S.Store self.old) (state S.Store self.new) request.now }
         ensures survives { SurvivesOne (state S.Store self.old) (state S.Store self.new)
             request.now }
-        ensures stays { StaysSure (state S.Store self.new) }
+        ensures durable { StaysSure (state S.Store self.new) }
     {
         requests_are_in_form(request);
-        unread_packages_are_unheard_of();
-        answered(alloc, &mut self.conn, &mut self.caches, request)
+        answer_request(alloc, &mut self.conn, &mut self.caches, request)
     }
 
     /// Answers a query for a packument, and writes that to a stream: first what opens it by its
@@ -219,9 +217,12 @@ impl<S: Alter> Registry<S> {
         alloc: Global,
         requests: &[Request],
     ) -> Result<Vec<Result<Reply, Fault>>, Fault>
+        ensures many { IfOk result (λ outcomes. length outcomes.items ≡ length requests.now) }
         ensures headline { IfOk result (λ outcomes. HasHeadline (state S.Store self.old)
             (state S.Store self.new) requests.now outcomes.items) }
         ensures history { IfOk result (λ outcomes. WritesHistory (state S.Store self.old)
+            (state S.Store self.new) requests.now outcomes.items) }
+        ensures hidden { IfOk result (λ outcomes. HidesUnreadRun (state S.Store self.old)
             (state S.Store self.new) requests.now outcomes.items) }
         ensures ran { IfOk result (λ outcomes. RanTo (state S.Store self.old)
             (state S.Store self.new) requests.now outcomes.items) }
@@ -242,7 +243,7 @@ impl<S: Alter> Registry<S> {
             requests.now }
         ensures survives { IfOk result (λ outcomes. SurvivesRun (state S.Store self.old)
             (state S.Store self.new) requests.now outcomes.items) }
-        ensures stays { KeepsSure (state S.Store self.old) (state S.Store self.new) }
+        ensures durable { KeepsSure (state S.Store self.old) (state S.Store self.new) }
         ensures closes { OnOk result
             (ShutByFaults (state S.Store self.old) (state S.Store self.new)) }
         ensures not_run { OnErr result (self.new ≡ self.old) }
@@ -336,7 +337,7 @@ fn seen_by(error: Error) -> Result<bool, Fault>
 
 // The reply, which is kept if it is a packument or an archive. Where a fault comes nothing is kept
 // that wasn't before.
-fn answered<S: Alter>(
+fn answer_request<S: Alter>(
     alloc: Global,
     conn: &mut Connection<S>,
     caches: &mut Caches,
@@ -361,13 +362,13 @@ fn answered<S: Alter>(
 {
     match &request.what {
         Action::Packument { package } => queried(alloc, conn, caches, request, package),
-        _ => transacted(alloc, conn, caches, request),
+        _ => answer_in_transaction(alloc, conn, caches, request),
     }
 }
 
 // The same of another request, in one transaction, which rolls back where `?` drops it. What is
 // replied is kept after the commit.
-fn transacted<S: Alter>(
+fn answer_in_transaction<S: Alter>(
     alloc: Global,
     conn: &mut Connection<S>,
     caches: &mut Caches,
@@ -392,7 +393,7 @@ fn transacted<S: Alter>(
     ensures kept { IfOk result (KeepsAnswer request.now.what caches.old caches.new) }
 {
     let mut tx = conn.transaction();
-    let reply = answered_inside(alloc, &mut tx, caches, request)?;
+    let reply = identify_and_answer(alloc, &mut tx, caches, request)?;
     match commit(tx) {
         Ok(()) => {
             keep_reply(alloc, caches, &request.what, &reply);

@@ -28,7 +28,7 @@ use registry_tables::DocumentRow;
 use std::alloc::Global;
 
 /// The reply to a caller's action, of the rows that answer it.
-pub(crate) fn reply(alloc: Global, what: &Action, rows: Rows) -> Result<Reply, Fault>
+pub(crate) fn reply_from_rows(alloc: Global, what: &Action, rows: Rows) -> Result<Reply, Fault>
     ensures is { IfOk result (λ told. (S : State) (who : Caller) → AreRowsOf rows S who what.now
         → told ≡ answers.reply S who what.now) }
     ensures accepts { IfOk result (λ told. accepts (Ok told) ≡ true) }
@@ -120,6 +120,7 @@ fn count(selector: &Selector, live: &[Ver]) -> u64
 fn selects(selector: &Selector, version: &Ver) -> bool
     ensures { result ≡ definitions.selects selector.now (text_of_version version.now) }
 {
+    // Reading the text tells the prover that the version is in form.
     version.text();
     selector.selects(version)
 }

@@ -16,7 +16,7 @@ use sqlite::{Alter, Transaction};
 use std::alloc::Global;
 
 /// Of a team that is to be created.
-pub(crate) fn new_team<S: Alter>(
+pub(crate) fn facts_for_team_create<S: Alter>(
     alloc: Global,
     tx: &mut Transaction<'_, S>,
     caller: &Caller,
@@ -35,7 +35,7 @@ pub(crate) fn new_team<S: Alter>(
 }
 
 /// Of a team that is to be destroyed.
-pub(crate) fn old_team<S: Alter>(
+pub(crate) fn facts_for_team_destroy<S: Alter>(
     alloc: Global,
     tx: &mut Transaction<'_, S>,
     caller: &Caller,
@@ -54,7 +54,7 @@ pub(crate) fn old_team<S: Alter>(
 }
 
 /// Of a member who is to be in a team.
-pub(crate) fn new_team_member<S: Alter>(
+pub(crate) fn facts_for_team_add<S: Alter>(
     alloc: Global,
     tx: &mut Transaction<'_, S>,
     caller: &Caller,
@@ -78,7 +78,7 @@ pub(crate) fn new_team_member<S: Alter>(
 }
 
 /// Of a member who is to leave a team.
-pub(crate) fn old_team_member<S: Alter>(
+pub(crate) fn facts_for_team_remove<S: Alter>(
     alloc: Global,
     tx: &mut Transaction<'_, S>,
     caller: &Caller,
@@ -127,7 +127,7 @@ fn find_place<S: Alter>(
 }
 
 /// Of a query about a team.
-pub(crate) fn seen_team<S: Alter>(
+pub(crate) fn facts_about_team<S: Alter>(
     alloc: Global,
     tx: &mut Transaction<'_, S>,
     caller: &Caller,

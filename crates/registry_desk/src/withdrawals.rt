@@ -29,7 +29,7 @@ const OLDEST: i64 = 259_200;
 
 /// Of a version that is to be withdrawn, by a caller whom the policy allows it. Who needs it is
 /// determined by the needs that are stored.
-pub(crate) fn old_version<S: Alter>(
+pub(crate) fn facts_for_withdraw<S: Alter>(
     alloc: Global,
     tx: &mut Transaction<'_, S>,
     caller: &Caller,
@@ -44,14 +44,14 @@ pub(crate) fn old_version<S: Alter>(
         (asked.Withdraw name.now version.now)) }
 {
     match standing_if_allowed(alloc, tx, caller, name, &Ask::Write(name))? {
-        Ok(standing) => young_version(alloc, tx, standing, name, version, now),
+        Ok(standing) => facts_if_young(alloc, tx, standing, name, version, now),
         Err(refusal) => Ok(Found::Refused(refusal)),
     }
 }
 
 // The same where the policy allows it. The needs aren't asked for if the version doesn't live, or
 // is too old.
-fn young_version<S: Alter>(
+fn facts_if_young<S: Alter>(
     alloc: Global,
     tx: &mut Transaction<'_, S>,
     standing: Standing,
@@ -129,7 +129,7 @@ fn find_life<S: Alter>(
 }
 
 /// Of versions that are to be deprecated, by a caller whom the policy allows it.
-pub(crate) fn live_versions<S: Alter>(
+pub(crate) fn facts_for_deprecate<S: Alter>(
     alloc: Global,
     tx: &mut Transaction<'_, S>,
     caller: &Caller,

@@ -29,7 +29,7 @@ answered-of old new r o a = record {
   archives = a.archives;
   form = a.form;
   survives = a.survives;
-  stays = a.stays;
+  durable = a.durable;
 }
 
 -- what is said of the requests of some turns
@@ -109,7 +109,7 @@ one-run old new ts runs = record {
   archives = runs.run.archives;
   form = runs.run.form;
   survives = runs.run.survives;
-  stays = runs.run.stays;
+  durable = runs.run.durable;
   closes = runs.run.closes;
 }
 

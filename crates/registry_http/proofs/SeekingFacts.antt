@@ -13,7 +13,7 @@ use Rattle.registry_laws_history.specs.Runs.{IsAnswer, Outcome, grown, next}
 use Rattle.registry_laws_history.specs.Says.{Says}
 use Rattle.registry_desk.specs.Found.{NeedsFor}
 use Rattle.registry_desk.specs.Promises.{Answered, HidesUnread, HoldsReferences, HoldsSoundFor, KeepsStored, Served, WasOpen}
-use Rattle.registry_desk.specs.Resting.{IsRegistryOf, next_stored, settled_by}
+use Rattle.registry_desk.specs.Resting.{next_stored, settled_by}
 use Rattle.registry_http.specs.Services.{Applies}
 
 -- what decides a request is read from what is stored alone
@@ -32,11 +32,16 @@ module _ (old mid new : Shown) (r : Request) (same : HasCleanDisk new → IsTrue
   answered_before (Err fault) served answered sound clean = tt
 
   -- and a package that isn't read is as hidden as it was
-  hidden_before : (o : Outcome) → Served mid new o → HidesUnread mid new r o → HidesUnread old new r o
-  hidden_before (Ok reply) served hidden needs clean h legal is p stranger quiet =
+  hidden_before : (o : Outcome) → Served mid new o → WasOpen mid new → HidesUnread mid new r o → HidesUnread old new r o
+  hidden_before (Ok reply) served opened hidden needs clean h legal is p stranger quiet =
       let was = same clean (served clean).0 in
       hidden (subst (λ (c : Contents). NeedsFor r.what c) (sym was) needs) clean h legal (ap registry_of was ∙ is) p stranger quiet
-  hidden_before (Err fault) served hidden needs clean h legal is p stranger quiet = tt
+  hidden_before (Err fault) served opened hidden needs clean h legal is p stranger quiet = (
+    tt,
+    λ on.
+        let was = same clean (opened clean on) in
+        (hidden (subst (λ (c : Contents). NeedsFor r.what c) (sym was) needs) clean h legal (ap registry_of was ∙ is) p stranger quiet).1 on,
+  )
 
   -- a reply comes from a registry that was open before the look-up
   served_before : (o : Outcome) → (HasCleanDisk new → IsTrue mid.is_open → IsTrue old.is_open) → Served mid new o → Served old new o
@@ -63,7 +68,7 @@ sought_applies old mid new r o opened keeps look a =
           let was = last clean on in
           subst (λ (c : Contents). Says (grown h (registry_of c) r o) (registry_in new)) was
           (a.history (subst (λ (c : Contents). NeedsFor r.what c) (sym was) needs) clean on h legal (ap registry_of was ∙ is));
-      hidden = hidden_before old mid new r same o a.served a.hidden;
+      hidden = hidden_before old mid new r same o a.served a.opened a.hidden;
       grants = λ sound clean on holds.
           let was = last clean on in
           a.grants (sound_again old mid r was sound) clean on (subst GrantsInScope (sym was) holds);
@@ -80,11 +85,13 @@ sought_applies old mid new r o opened keeps look a =
           let was = last clean on in
           a.form (subst (λ (c : Contents). NeedsFor r.what c) (sym was) needs) clean on (subst (λ (c : Contents). IsKept (registry_of c)) (sym was) kept);
       survives = survives_then old mid new _ _ _ (λ _ db none. absurd none)
-          (λ clean db made. (
-            opened (were clean) made.0,
-            λ sound.
-                let was = same clean made.0 in
-                subst (λ (c : Contents). IsRegistryOf db (settled_by r c)) was (made.1 (sound_again old mid r was sound)),
-          )) look a.survives;
-      stays = a.stays;
+          (λ clean db made.
+          let was = same clean made.was_open in
+          record {
+            was_open = opened (were clean) made.was_open;
+            form = made.form;
+            query = λ asks. made.query asks ∙ was;
+            settled = λ sound. made.settled (sound_again old mid r was sound) ∙ ap (settled_by r) was;
+          }) look a.survives;
+      durable = a.durable;
     }

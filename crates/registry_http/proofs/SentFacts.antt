@@ -33,7 +33,7 @@ applies old new r o a = record {
   archives = a.archives;
   form = a.form;
   survives = a.survives;
-  stays = a.stays;
+  durable = a.durable;
 }
 
 module _ {D E : Type 0} (A : D → Request → Outcome → D → Type 0) (B : E → Request → Outcome → E → Type 0) (opens : ℕ → List ℕ) (M : D) (K : E) (r : Request) (a b : Option (List ℕ)) (s : Bool) where

@@ -37,7 +37,7 @@ pub record Applies (old new : Shown) (r : Request) (o : Outcome) : Type 0 where
   pub archives : Keeps old new r HoldsArchives
   pub form : KeepsForm old new r
   pub survives : SurvivesOne old new r
-  pub stays : StaysSure new
+  pub durable : StaysSure new
 
 -- the same, of the connections at the entry and at the exit
 abbrev pub applies_over : {S : Type 0} → Ghosts S → Answering (Held S)
@@ -125,7 +125,7 @@ pub record IsOneRun (old new : Shown) (ts : List Turn) : Type 0 where
   pub archives : KeepsRun old new requests HoldsArchives
   pub form : KeepsFormRun old new requests
   pub survives : SurvivesRun old new requests outcomes
-  pub stays : KeepsSure old new
+  pub durable : KeepsSure old new
   pub closes : ShutByFaults old new
 
 module _ {D : Type 0} (show : D → Shown) where

@@ -92,7 +92,7 @@ answered-of old new r o a = record {
   archives = a.archives;
   form = a.form;
   survives = a.survives;
-  stays = a.stays;
+  durable = a.durable;
 }
 
 -- what is said of the requests of some turns

@@ -1,14 +1,14 @@
 //! Where a log may lie.
 
-use std::alloc::Global;
+ghost use Rattle.std.specs.Prelude.{◌≡◌, ◌++◌, IfOk};
+ghost use Rattle.registry_program.specs.LogPlaces as spec;
+
+use registry_names::Text;
+use std::alloc::{AllocError, Global};
 use std::fs::Metadata;
 use std::os::unix::fs::MetadataExt;
 use std::path::Path;
 use std::{fs, io};
-
-/// What is behind the path of a registry's file in the names of its own files: nothing, what the
-/// log, the index and the journal of SQLite have, and what the folder of a server has.
-const OWN_ENDS: [&str; 5] = ["", "-wal", "-shm", "-journal", "-server"];
 
 /// A file: its device, and its number there.
 #[derive(Clone, Copy, PartialEq, Eq)]
@@ -18,7 +18,7 @@ pub(crate) struct Place {
 }
 
 impl Place {
-    pub(crate) fn of(metadata: &Metadata) -> Place {
+    fn of(metadata: &Metadata) -> Place {
         Place {
             device: metadata.dev(),
             number: metadata.ino(),
@@ -37,69 +37,177 @@ pub(crate) enum Named {
     Other,
 }
 
+impl Named {
+    /// What has this metadata.
+    pub(crate) fn of(metadata: &Metadata) -> Named {
+        if metadata.is_file() {
+            Named::File(Place::of(metadata))
+        } else {
+            Named::Other
+        }
+    }
+}
+
+/// What is seen of a path: what it names, where a link leads; its last name, which is empty where it
+/// has none; and the folder that this is in, if it is there.
+#[derive(Drop)]
+struct SeenPath {
+    named: Named,
+    name: Text,
+    folder: Option<Place>,
+}
+
 /// What the path names now, where a link leads.
 pub(crate) fn found_at(rt: &HostRuntime, path: &str) -> Named {
     match fs::metadata(rt, path) {
-        Ok(found) if found.is_file() => Named::File(Place::of(&found)),
-        Ok(_) => Named::Other,
+        Ok(found) => Named::of(&found),
         Err(_) => Named::Nothing,
     }
 }
 
-/// Whether a log may be kept at the path beside a registry's file, which is open: nothing is there, or
-/// a file, and neither that nor the path is one of the registry's own.
-pub(crate) fn may_log(rt: &HostRuntime, alloc: Global, path: &str, db: &str) -> io::Result<bool> {
-    if found_at(rt, path) == Named::Other {
-        return Ok(false);
-    }
-    // The registry's files lie where a link to its file leads, and its server's folder beside that.
-    let real = fs::canonicalize(rt, db)?;
-    Ok(!is_own(rt, alloc, path, db)? && !is_own(rt, alloc, path, real.as_str())?)
-}
-
-// Whether the path is that of one of a registry's own files, or is in the folder of its server, also
-// where that isn't there.
-fn is_own(rt: &HostRuntime, alloc: Global, path: &str, db: &str) -> io::Result<bool> {
-    let folder = match Path::new(path).parent() {
-        Some(folder) => folder.as_str(),
+/// Whether a log may be kept at the path, which names this, beside a registry's file, which is open:
+/// nothing is there, or a file, and neither that nor the path is one of the registry's own.
+pub(crate) fn may_log(
+    rt: &HostRuntime,
+    alloc: Global,
+    path: &str,
+    named: Named,
+    db: &str,
+) -> io::Result<bool> {
+    let log = seen(rt, alloc, path, named)?;
+    let parent = match Path::new(path).parent() {
+        Some(parent) => parent.as_str(),
         None => "",
     };
-    for end in OWN_ENDS {
-        let own = format!(in alloc; "{}{}", db, end)?;
-        if is_same(rt, path, own.as_str()) || is_same(rt, folder, own.as_str()) {
-            return Ok(true);
-        }
-    }
-    let within = format!(in alloc; "{}-server/log", db)?;
-    Ok(is_beside(rt, path, within.as_str()))
+    let folder = seen(rt, alloc, parent, found_at(rt, parent))?;
+    // The registry's files lie where a link to its file leads, and its server's folder beside that.
+    let real = fs::canonicalize(rt, db)?;
+    Ok(
+        may_log_beside(rt, alloc, &log, &folder, db)?
+            && may_log_beside(rt, alloc, &log, &folder, real.as_str())?,
+    )
 }
 
-// Whether two paths lead to one file, or are one name in one folder.
-fn is_same(rt: &HostRuntime, one: &str, other: &str) -> bool {
-    match (found_at(rt, one), found_at(rt, other)) {
-        (Named::File(one), Named::File(other)) if one == other => return true,
-        _ => {}
-    }
-    Path::new(one).file_name() == Path::new(other).file_name() && is_beside(rt, one, other)
+fn may_log_beside(
+    rt: &HostRuntime,
+    alloc: Global,
+    log: &SeenPath,
+    folder: &SeenPath,
+    db: &str,
+) -> Result<bool, AllocError> {
+    let paths = own_paths(alloc, db)?;
+    let server = place_at(rt, paths[paths.len() - 1].as_str());
+    let own = seen_all(rt, alloc, &paths)?;
+    Ok(may_be_log(log, folder, &own, server))
 }
 
-// Whether two paths are in one folder, which is there.
-fn is_beside(rt: &HostRuntime, one: &str, other: &str) -> bool {
-    match (folder_of(rt, one), folder_of(rt, other)) {
-        (Some(one), Some(other)) => one == other,
-        _ => false,
+// What is seen of the paths.
+fn seen_all(rt: &HostRuntime, alloc: Global, paths: &[Text]) -> Result<Vec<SeenPath>, AllocError> {
+    let mut all = Vec::new(alloc);
+    for path in paths {
+        let path = path.as_str();
+        all.push(seen(rt, alloc, path, found_at(rt, path))?)?;
     }
+    Ok(all)
+}
+
+// What is seen of a path, which names this.
+fn seen(rt: &HostRuntime, alloc: Global, path: &str, named: Named) -> Result<SeenPath, AllocError> {
+    let name = match Path::new(path).file_name() {
+        Some(name) => name,
+        None => "",
+    };
+    Ok(SeenPath {
+        named,
+        name: Text::from_str(alloc, name)?,
+        folder: folder_of(rt, path),
+    })
 }
 
 // The folder that a path is in, if it is there.
 fn folder_of(rt: &HostRuntime, path: &str) -> Option<Place> {
-    let folder = match Path::new(path).parent() {
-        Some(folder) if !folder.as_str().is_empty() => folder.as_str(),
-        Some(_) => ".",
-        None => return None,
-    };
-    match fs::metadata(rt, folder) {
+    match Path::new(path).parent() {
+        Some(folder) if !folder.as_str().is_empty() => place_at(rt, folder.as_str()),
+        Some(_) => place_at(rt, "."),
+        None => None,
+    }
+}
+
+// What is at a path, whatever that is.
+fn place_at(rt: &HostRuntime, path: &str) -> Option<Place> {
+    match fs::metadata(rt, path) {
         Ok(found) => Some(Place::of(&found)),
         Err(_) => None,
+    }
+}
+
+// The paths of a registry's own files, by that of its file. The last one is that of a folder.
+fn own_paths(alloc: Global, file: &str) -> Result<[Text; 5], AllocError>
+    ensures { IfOk result (λ paths. paths ≡ spec.own_paths file.now) }
+{
+    Ok([
+        path_with(alloc, file, "")?,
+        path_with(alloc, file, "-wal")?,
+        path_with(alloc, file, "-shm")?,
+        path_with(alloc, file, "-journal")?,
+        path_with(alloc, file, "-server")?,
+    ])
+}
+
+// The path of a file with this behind it.
+fn path_with(alloc: Global, file: &str, end: &str) -> Result<Text, AllocError>
+    ensures { IfOk result (λ path. path ≡ file.now ++ end.now) }
+{
+    Ok(Text::from(format!(in alloc; "{file}{end}")?))
+}
+
+// Whether a log may be kept at a path in a folder, by what is seen of both, of the registry's own
+// paths, and of its server's folder, if that is there.
+fn may_be_log(path: &SeenPath, folder: &SeenPath, own: &[SeenPath], server: Option<Place>) -> bool
+    ensures { result ≡ spec.may_be_log path.now folder.now own.now server }
+{
+    !is_other(path.named) && !is_among(path, folder, own) && !is_one_folder(path.folder, server)
+}
+
+fn is_other(named: Named) -> bool
+    ensures { result ≡ spec.is_other named }
+{
+    match named {
+        Named::Nothing | Named::File(_) => false,
+        Named::Other => true,
+    }
+}
+
+// Whether a path, or the folder that it is in, is one of these.
+fn is_among(path: &SeenPath, folder: &SeenPath, own: &[SeenPath]) -> bool
+    ensures { result ≡ spec.is_among path.now folder.now own.now }
+{
+    own.iter()
+        .any(|it| is_same(path, it) || is_same(folder, it))
+}
+
+// Whether two paths lead to one file, or are one name in one folder.
+fn is_same(one: &SeenPath, other: &SeenPath) -> bool
+    ensures { result ≡ spec.is_same one.now other.now }
+{
+    is_one_file(one.named, other.named)
+        || one.name == other.name && is_one_folder(one.folder, other.folder)
+}
+
+fn is_one_file(one: Named, other: Named) -> bool
+    ensures { result ≡ spec.is_one_file one other }
+{
+    match (one, other) {
+        (Named::File(one), Named::File(other)) => one == other,
+        _ => false,
+    }
+}
+
+fn is_one_folder(one: Option<Place>, other: Option<Place>) -> bool
+    ensures { result ≡ spec.is_one_folder one other }
+{
+    match (one, other) {
+        (Some(one), Some(other)) => one == other,
+        _ => false,
     }
 }

@@ -63,7 +63,7 @@ pub(crate) fn is_allowed(
     if path == OUTPUT {
         return Ok(true);
     }
-    may_log(rt, alloc, path, db)
+    may_log(rt, alloc, path, found_at(rt, path), db)
 }
 
 /// Where the lines of a log go.
@@ -129,36 +129,52 @@ impl LineSink for LogFile {
     }
 }
 
-// Opens a log where one may be kept. What a link leads to that named nothing is seen once it is open.
+// Opens a log where one may be kept. What a link leads to that named nothing is seen once it is open,
+// and so is a file that came to the path meanwhile: nothing is written before.
 fn open_beside(rt: &HostRuntime, path: &str, db: &str) -> Option<(File, Place)> {
-    if !is_free(rt, path, db) {
+    if !is_free(rt, path, found_at(rt, path), db) {
         return None;
     }
-    match open(rt, path) {
-        Ok(opened) if is_free(rt, path, db) => Some(opened),
+    let Ok((file, named)) = open(rt, path) else {
+        return None;
+    };
+    match named {
+        Named::File(place) if is_free(rt, path, named, db) => {
+            with_whole_line(rt, path, file, place)
+        }
         _ => None,
     }
 }
 
-fn is_free(rt: &HostRuntime, path: &str, db: &str) -> bool {
-    match may_log(rt, rt.alloc(), path, db) {
+fn is_free(rt: &HostRuntime, path: &str, named: Named, db: &str) -> bool {
+    match may_log(rt, rt.alloc(), path, named, db) {
         Ok(may) => may,
         Err(_) => false,
     }
 }
 
-// Opens a file to write at its end. A line that is cut there is ended first.
-fn open(rt: &HostRuntime, path: &str) -> io::Result<(File, Place)> {
-    let mut file = OpenOptions::new()
+// Opens a file to write at its end.
+fn open(rt: &HostRuntime, path: &str) -> io::Result<(File, Named)> {
+    let file = OpenOptions::new()
         .append(true)
         .create(true)
         .mode(MODE)
         .open(rt, path)?;
-    let place = Place::of(&file.metadata()?);
-    if is_cut(rt, path) {
-        file.write_all(b"\n")?;
+    let named = Named::of(&file.metadata()?);
+    Ok((file, named))
+}
+
+// A line that is cut at the end of a file is ended. None where that can't be.
+fn with_whole_line(
+    rt: &HostRuntime,
+    path: &str,
+    mut file: File,
+    place: Place,
+) -> Option<(File, Place)> {
+    if is_cut(rt, path) && file.write_all(b"\n").is_err() {
+        return None;
     }
-    Ok((file, place))
+    Some((file, place))
 }
 
 // Whether a file can be seen to end within a line.

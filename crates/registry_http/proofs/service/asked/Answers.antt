@@ -16,5 +16,5 @@ returns g c = record {
   archives = c.apply.ensures.archives;
   form = c.apply.ensures.form;
   survives = c.apply.ensures.survives;
-  stays = c.apply.ensures.stays;
+  durable = c.apply.ensures.durable;
 }

@@ -5,8 +5,8 @@ use Rattle.registry_desk.specs.Adopted.{IsSettled}
 use Rattle.registry_desk.proofs.CommitFacts.{committed_left, handed_back, rests_sure, rises_again}
 use Rattle.registry_desk.proofs.registry.Registry.adopt.Goals as goal
 
-pub returns-in-Ok-settle-clause-stays : goal.returns-in-Ok-settle-clause-stays
-returns-in-Ok-settle-clause-stays g c clean =
+pub returns-in-Ok-settle-clause-durable : goal.returns-in-Ok-settle-clause-durable
+returns-in-Ok-settle-clause-durable g c clean =
     let on = c.in-Ok-settle.ensures.served clean in
     rests_sure g.S.Store c.settle.new.conn (λ db. g.met.S.Store.settled c.settle.new.conn.store db on) c.in-Ok-settle.ensures.rests clean on
 

@@ -1,0 +1,103 @@
+use Rattle.std.proofs.Common.{refl}
+use Rattle.registry_rows.specs.Ready.{Reads}
+use Rattle.registry_rules.specs.declared.request.Action.TheVariants as asked
+use Rattle.registry_tables.specs.Effects.{shown, stored_in}
+use Rattle.registry_tables.specs.Schema.{schema}
+use Rattle.registry_desk.proofs.EarlyFacts.{found_about, found_either, found_so}
+use Rattle.registry_desk.proofs.facts.load_facts.Goals as goal
+
+pub returns-in-UserAdd-clause-loads : goal.returns-in-UserAdd-clause-loads
+returns-in-UserAdd-clause-loads g c clean =
+    found_about (Reads schema (shown g.S.Store c.args.tx.now) (shown g.S.Store c.facts_for_user_add.new.tx)) (stored_in g.S.Store c.args.tx.now) c.args.request.now.at c.args.caller.now c.args.request.now.what (asked.UserAdd c.in-UserAdd.user) c.facts_for_user_add.result c.map.result c.in-UserAdd.is refl c.map.ensures.cases (λ x told sound. told c.args.caller.now) (c.facts_for_user_add.ensures.loads clean)
+
+pub returns-in-TokenAdd-clause-loads : goal.returns-in-TokenAdd-clause-loads
+returns-in-TokenAdd-clause-loads g c clean =
+    found_about (Reads schema (shown g.S.Store c.args.tx.now) (shown g.S.Store c.facts_for_token_add.new.tx)) (stored_in g.S.Store c.args.tx.now) c.args.request.now.at c.args.caller.now c.args.request.now.what (asked.TokenAdd c.in-TokenAdd.user c.in-TokenAdd.digest) c.facts_for_token_add.result c.map-in-TokenAdd.result c.in-TokenAdd.is refl c.map-in-TokenAdd.ensures.cases (λ x told sound. told c.args.caller.now) (c.facts_for_token_add.ensures.loads clean)
+
+pub returns-in-OrgCreate-clause-loads : goal.returns-in-OrgCreate-clause-loads
+returns-in-OrgCreate-clause-loads g c clean =
+    found_about (Reads schema (shown g.S.Store c.args.tx.now) (shown g.S.Store c.facts_for_org_create.new.tx)) (stored_in g.S.Store c.args.tx.now) c.args.request.now.at c.args.caller.now c.args.request.now.what (asked.OrgCreate c.in-OrgCreate.organisation c.in-OrgCreate.owner) c.facts_for_org_create.result c.map-in-OrgCreate.result c.in-OrgCreate.is refl c.map-in-OrgCreate.ensures.cases (λ x told sound. told c.args.caller.now) (c.facts_for_org_create.ensures.loads clean)
+
+pub returns-in-OrgSet-clause-loads : goal.returns-in-OrgSet-clause-loads
+returns-in-OrgSet-clause-loads g c clean =
+    found_so (Reads schema (shown g.S.Store c.args.tx.now) (shown g.S.Store c.facts_for_org_set.new.tx)) (stored_in g.S.Store c.args.tx.now) c.args.request.now.at c.args.caller.now c.args.request.now.what (asked.OrgSet c.in-OrgSet.organisation c.in-OrgSet.user c.in-OrgSet.role) c.facts_for_org_set.result c.in-OrgSet.is (λ y told sound needs. told c.in-OrgSet.role c.args.request.now.at) (c.facts_for_org_set.ensures.loads clean)
+
+pub returns-in-OrgRemove-clause-loads : goal.returns-in-OrgRemove-clause-loads
+returns-in-OrgRemove-clause-loads g c clean =
+    found_so (Reads schema (shown g.S.Store c.args.tx.now) (shown g.S.Store c.facts_for_org_remove.new.tx)) (stored_in g.S.Store c.args.tx.now) c.args.request.now.at c.args.caller.now c.args.request.now.what (asked.OrgRemove c.in-OrgRemove.organisation c.in-OrgRemove.user) c.facts_for_org_remove.result c.in-OrgRemove.is (λ y told sound needs. told c.args.request.now.at) (c.facts_for_org_remove.ensures.loads clean)
+
+pub returns-in-TeamCreate-clause-loads : goal.returns-in-TeamCreate-clause-loads
+returns-in-TeamCreate-clause-loads g c clean =
+    found_about (Reads schema (shown g.S.Store c.args.tx.now) (shown g.S.Store c.facts_for_team_create.new.tx)) (stored_in g.S.Store c.args.tx.now) c.args.request.now.at c.args.caller.now c.args.request.now.what (asked.TeamCreate c.in-TeamCreate.organisation c.in-TeamCreate.team) c.facts_for_team_create.result c.map-in-TeamCreate.result c.in-TeamCreate.is refl c.map-in-TeamCreate.ensures.cases (λ x told sound. told) (c.facts_for_team_create.ensures.loads clean)
+
+pub returns-in-TeamDestroy-clause-loads : goal.returns-in-TeamDestroy-clause-loads
+returns-in-TeamDestroy-clause-loads g c clean =
+    found_about (Reads schema (shown g.S.Store c.args.tx.now) (shown g.S.Store c.facts_for_team_destroy.new.tx)) (stored_in g.S.Store c.args.tx.now) c.args.request.now.at c.args.caller.now c.args.request.now.what (asked.TeamDestroy c.in-TeamDestroy.organisation c.in-TeamDestroy.team) c.facts_for_team_destroy.result c.map-in-TeamDestroy.result c.in-TeamDestroy.is refl c.map-in-TeamDestroy.ensures.cases (λ x told sound. told) (c.facts_for_team_destroy.ensures.loads clean)
+
+pub returns-in-TeamAdd-clause-loads : goal.returns-in-TeamAdd-clause-loads
+returns-in-TeamAdd-clause-loads g c clean =
+    found_about (Reads schema (shown g.S.Store c.args.tx.now) (shown g.S.Store c.facts_for_team_add.new.tx)) (stored_in g.S.Store c.args.tx.now) c.args.request.now.at c.args.caller.now c.args.request.now.what (asked.TeamAdd c.in-TeamAdd.organisation c.in-TeamAdd.team c.in-TeamAdd.user) c.facts_for_team_add.result c.map-in-TeamAdd.result c.in-TeamAdd.is refl c.map-in-TeamAdd.ensures.cases (λ x told sound. told) (c.facts_for_team_add.ensures.loads clean)
+
+pub returns-in-TeamRemove-clause-loads : goal.returns-in-TeamRemove-clause-loads
+returns-in-TeamRemove-clause-loads g c clean =
+    found_about (Reads schema (shown g.S.Store c.args.tx.now) (shown g.S.Store c.facts_for_team_remove.new.tx)) (stored_in g.S.Store c.args.tx.now) c.args.request.now.at c.args.caller.now c.args.request.now.what (asked.TeamRemove c.in-TeamRemove.organisation c.in-TeamRemove.team c.in-TeamRemove.user) c.facts_for_team_remove.result c.map-in-TeamRemove.result c.in-TeamRemove.is refl c.map-in-TeamRemove.ensures.cases (λ x told sound. told) (c.facts_for_team_remove.ensures.loads clean)
+
+pub returns-in-Grant-clause-loads : goal.returns-in-Grant-clause-loads
+returns-in-Grant-clause-loads g c clean =
+    found_about (Reads schema (shown g.S.Store c.args.tx.now) (shown g.S.Store c.facts_for_grant.new.tx)) (stored_in g.S.Store c.args.tx.now) c.args.request.now.at c.args.caller.now c.args.request.now.what (asked.Grant c.in-Grant.organisation c.in-Grant.team c.in-Grant.package c.in-Grant.grant) c.facts_for_grant.result c.map-in-Grant.result c.in-Grant.is refl c.map-in-Grant.ensures.cases (λ x told sound. told c.in-Grant.grant) (c.facts_for_grant.ensures.loads clean)
+
+pub returns-in-Revoke-clause-loads : goal.returns-in-Revoke-clause-loads
+returns-in-Revoke-clause-loads g c clean =
+    found_about (Reads schema (shown g.S.Store c.args.tx.now) (shown g.S.Store c.facts_for_revoke.new.tx)) (stored_in g.S.Store c.args.tx.now) c.args.request.now.at c.args.caller.now c.args.request.now.what (asked.Revoke c.in-Revoke.organisation c.in-Revoke.team c.in-Revoke.package) c.facts_for_revoke.result c.map-in-Revoke.result c.in-Revoke.is refl c.map-in-Revoke.ensures.cases (λ x told sound. told) (c.facts_for_revoke.ensures.loads clean)
+
+pub returns-in-SetAccess-clause-loads : goal.returns-in-SetAccess-clause-loads
+returns-in-SetAccess-clause-loads g c clean =
+    found_about (Reads schema (shown g.S.Store c.args.tx.now) (shown g.S.Store c.facts_for_set_access.new.tx)) (stored_in g.S.Store c.args.tx.now) c.args.request.now.at c.args.caller.now c.args.request.now.what (asked.SetAccess c.in-SetAccess.package c.in-SetAccess.status) c.facts_for_set_access.result c.map-in-SetAccess.result c.in-SetAccess.is refl c.map-in-SetAccess.ensures.cases (λ x told. told c.in-SetAccess.status) (c.facts_for_set_access.ensures.loads clean)
+
+pub returns-in-OwnerAdd-clause-loads : goal.returns-in-OwnerAdd-clause-loads
+returns-in-OwnerAdd-clause-loads g c clean =
+    found_about (Reads schema (shown g.S.Store c.args.tx.now) (shown g.S.Store c.facts_for_owner_add.new.tx)) (stored_in g.S.Store c.args.tx.now) c.args.request.now.at c.args.caller.now c.args.request.now.what (asked.OwnerAdd c.in-OwnerAdd.package c.in-OwnerAdd.user) c.facts_for_owner_add.result c.map-in-OwnerAdd.result c.in-OwnerAdd.is refl c.map-in-OwnerAdd.ensures.cases (λ x told. told) (c.facts_for_owner_add.ensures.loads clean)
+
+pub returns-in-OwnerRemove-clause-loads : goal.returns-in-OwnerRemove-clause-loads
+returns-in-OwnerRemove-clause-loads g c clean =
+    found_so (Reads schema (shown g.S.Store c.args.tx.now) (shown g.S.Store c.facts_for_owner_remove.new.tx)) (stored_in g.S.Store c.args.tx.now) c.args.request.now.at c.args.caller.now c.args.request.now.what (asked.OwnerRemove c.in-OwnerRemove.package c.in-OwnerRemove.user) c.facts_for_owner_remove.result c.in-OwnerRemove.is (λ y told sound needs. told c.args.request.now.at sound) (c.facts_for_owner_remove.ensures.loads clean)
+
+pub returns-in-Publish-clause-loads : goal.returns-in-Publish-clause-loads
+returns-in-Publish-clause-loads g c clean =
+    found_so (Reads schema (shown g.S.Store c.args.tx.now) (shown g.S.Store c.facts_for_publish.new.tx)) (stored_in g.S.Store c.args.tx.now) c.args.request.now.at c.args.caller.now c.args.request.now.what (asked.Publish c.in-Publish.form) c.facts_for_publish.result c.in-Publish.is (λ y told sound needs. told c.args.request.now.at sound) (c.facts_for_publish.ensures.loads clean)
+
+pub returns-in-TagSet-clause-loads : goal.returns-in-TagSet-clause-loads
+returns-in-TagSet-clause-loads g c clean =
+    found_about (Reads schema (shown g.S.Store c.args.tx.now) (shown g.S.Store c.facts_for_tag_set.new.tx)) (stored_in g.S.Store c.args.tx.now) c.args.request.now.at c.args.caller.now c.args.request.now.what (asked.TagSet c.in-TagSet.package c.in-TagSet.tag c.in-TagSet.version) c.facts_for_tag_set.result c.map-in-TagSet.result c.in-TagSet.is refl c.map-in-TagSet.ensures.cases (λ x told. told) (c.facts_for_tag_set.ensures.loads clean)
+
+pub returns-in-TagRemove-clause-loads : goal.returns-in-TagRemove-clause-loads
+returns-in-TagRemove-clause-loads g c clean =
+    found_about (Reads schema (shown g.S.Store c.args.tx.now) (shown g.S.Store c.facts_for_tag_remove.new.tx)) (stored_in g.S.Store c.args.tx.now) c.args.request.now.at c.args.caller.now c.args.request.now.what (asked.TagRemove c.in-TagRemove.package c.in-TagRemove.tag) c.facts_for_tag_remove.result c.map-in-TagRemove.result c.in-TagRemove.is refl c.map-in-TagRemove.ensures.cases (λ x told. told) (c.facts_for_tag_remove.ensures.loads clean)
+
+pub returns-in-Withdraw-clause-loads : goal.returns-in-Withdraw-clause-loads
+returns-in-Withdraw-clause-loads g c clean =
+    found_so (Reads schema (shown g.S.Store c.args.tx.now) (shown g.S.Store c.facts_for_withdraw.new.tx)) (stored_in g.S.Store c.args.tx.now) c.args.request.now.at c.args.caller.now c.args.request.now.what (asked.Withdraw c.in-Withdraw.package c.in-Withdraw.version) c.facts_for_withdraw.result c.in-Withdraw.is (λ y told. told) (c.facts_for_withdraw.ensures.loads clean)
+
+pub returns-in-Deprecate-clause-loads : goal.returns-in-Deprecate-clause-loads
+returns-in-Deprecate-clause-loads g c clean =
+    found_so (Reads schema (shown g.S.Store c.args.tx.now) (shown g.S.Store c.facts_for_deprecate.new.tx)) (stored_in g.S.Store c.args.tx.now) c.args.request.now.at c.args.caller.now c.args.request.now.what (asked.Deprecate c.in-Deprecate.package c.in-Deprecate.selector c.in-Deprecate.message) c.facts_for_deprecate.result c.in-Deprecate.is (λ y told sound needs. told c.in-Deprecate.selector c.in-Deprecate.message c.args.request.now.at sound) (c.facts_for_deprecate.ensures.loads clean)
+
+pub returns-in-Tags-clause-loads : goal.returns-in-Tags-clause-loads
+returns-in-Tags-clause-loads g c clean =
+    found_about (Reads schema (shown g.S.Store c.args.tx.now) (shown g.S.Store c.facts_about_package.new.tx)) (stored_in g.S.Store c.args.tx.now) c.args.request.now.at c.args.caller.now c.args.request.now.what (asked.Tags c.in-Tags.package) c.facts_about_package.result c.map-in-Tags.result c.in-Tags.is refl c.map-in-Tags.ensures.cases (λ x told. told) (c.facts_about_package.ensures.loads clean)
+
+pub returns-in-VersionDoc-clause-loads : goal.returns-in-VersionDoc-clause-loads
+returns-in-VersionDoc-clause-loads g c clean =
+    found_about (Reads schema (shown g.S.Store c.args.tx.now) (shown g.S.Store c.facts_about_document.new.tx)) (stored_in g.S.Store c.args.tx.now) c.args.request.now.at c.args.caller.now c.args.request.now.what (asked.VersionDoc c.in-VersionDoc.package c.in-VersionDoc.version) c.facts_about_document.result c.map-in-VersionDoc.result c.in-VersionDoc.is refl c.map-in-VersionDoc.ensures.cases (λ x told. told) (c.facts_about_document.ensures.loads clean)
+
+pub returns-in-Archive-clause-loads : goal.returns-in-Archive-clause-loads
+returns-in-Archive-clause-loads g c clean =
+    found_about (Reads schema (shown g.S.Store c.args.tx.now) (shown g.S.Store c.facts_about_archive.new.tx)) (stored_in g.S.Store c.args.tx.now) c.args.request.now.at c.args.caller.now c.args.request.now.what (asked.Archive c.in-Archive.package c.in-Archive.version) c.facts_about_archive.result c.map-in-Archive.result c.in-Archive.is refl c.map-in-Archive.ensures.cases (λ x told. told) (c.facts_about_archive.ensures.loads clean)
+
+pub returns-in-Members-clause-loads : goal.returns-in-Members-clause-loads
+returns-in-Members-clause-loads g c clean =
+    found_either (Reads schema (shown g.S.Store c.args.tx.now) (shown g.S.Store c.facts_about_organisation.new.tx)) (stored_in g.S.Store c.args.tx.now) c.args.request.now.at c.args.caller.now c.args.request.now.what (asked.Members c.in-Members.organisation) (asked.Teams c.in-Members.organisation) c.facts_about_organisation.result c.map-in-Members.result c.in-Members.is refl refl c.map-in-Members.ensures.cases (λ x told sound. told) (λ x told sound. told) (c.facts_about_organisation.ensures.members clean) (c.facts_about_organisation.ensures.teams clean)
+
+pub returns-in-TeamMembers-clause-loads : goal.returns-in-TeamMembers-clause-loads
+returns-in-TeamMembers-clause-loads g c clean =
+    found_either (Reads schema (shown g.S.Store c.args.tx.now) (shown g.S.Store c.facts_about_team.new.tx)) (stored_in g.S.Store c.args.tx.now) c.args.request.now.at c.args.caller.now c.args.request.now.what (asked.TeamMembers c.in-TeamMembers.organisation c.in-TeamMembers.team) (asked.TeamPackages c.in-TeamMembers.organisation c.in-TeamMembers.team) c.facts_about_team.result c.map-in-TeamMembers.result c.in-TeamMembers.is refl refl c.map-in-TeamMembers.ensures.cases (λ x told sound. told) (λ x told sound. told) (c.facts_about_team.ensures.members clean) (c.facts_about_team.ensures.packages clean)

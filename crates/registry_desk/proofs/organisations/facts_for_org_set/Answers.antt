@@ -1,0 +1,46 @@
+use Rattle.std.proofs.Common.{arith, subst, subst₂}
+use Rattle.sqlite.specs.Effect.{Database}
+use Rattle.sqlite.specs.State.{HasCleanDisk}
+use Rattle.registry_names.specs.Texts.{Text}
+use Rattle.registry_rows.proofs.QuietFacts.{stays_then, reads_then}
+use Rattle.registry_tables.specs.Contents.{contents, registry_of}
+use Rattle.registry_tables.specs.Effects.{shown}
+use Rattle.registry_tables.specs.Schema.{schema}
+use Rattle.registry_desk.specs.Found.{IsCandidate}
+use Rattle.registry_desk.proofs.organisations.facts_for_org_set.Goals as goal
+
+pub find_candidate-requires : goal.find_candidate-requires
+find_candidate-requires g c = record { in_form = λ clean on. (c.in_ok-rows.ensures.loads clean).0.ready }
+
+pub returns-in_err-candidate-clause-stays : goal.returns-in_err-candidate-clause-stays
+returns-in_err-candidate-clause-stays g c = stays_then g.S.Store c.args.tx.now c.rows_if_allowed.new.tx c.find_candidate.new.tx c.rows_if_allowed.ensures.stays c.find_candidate.ensures.stays
+
+pub returns-clause-stays : goal.returns-clause-stays
+returns-clause-stays g c = stays_then g.S.Store c.args.tx.now c.rows_if_allowed.new.tx c.find_candidate.new.tx c.rows_if_allowed.ensures.stays c.find_candidate.ensures.stays
+
+pub returns-clause-loads : goal.returns-clause-loads
+returns-clause-loads g c clean =
+    let was = shown g.S.Store c.args.tx.now in
+    let one = shown g.S.Store c.rows_if_allowed.new.tx in
+    let clean_one : HasCleanDisk one = omega (arith, c.find_candidate.ensures.stays.survives.clean, clean) in
+    let rows = c.in_ok-rows.ensures.loads clean_one in
+    let found = c.in_ok-candidate.ensures.loads clean in
+    let named = subst₂ (λ (a b : Text). IsCandidate c.in_ok-candidate.candidate (registry_of (contents one.now.trees)) a b) c.text.ensures.text c.text-2.ensures.text found.1 in
+    let candidate = subst (λ (d : Database). IsCandidate c.in_ok-candidate.candidate (registry_of (contents d.trees)) c.args.organisation.now c.args.user.now) rows.0.same named in (
+      reads_then schema was one (shown g.S.Store c.find_candidate.new.tx) rows.0 found.0,
+      λ rank at.
+          let allowed = rw c.in-Ok.is at rows.1 in (
+            allowed.0,
+            record {
+              rows_say = allowed.1;
+              user_exists = candidate.user_exists;
+              role = candidate.role;
+              other_owner = candidate.other_owner;
+            },
+          ),
+    )
+
+pub returns-in-Err-clause-loads : goal.returns-in-Err-clause-loads
+returns-in-Err-clause-loads g c clean =
+    let placed = c.in_ok-rows.ensures.loads clean in
+    (placed.0, λ rank at. rw c.in-Err.is at placed.1)

@@ -1,0 +1,25 @@
+use Rattle.std.proofs.Common.{◌∙◌, arith, ap}
+use Rattle.sqlite.specs.Effect.{Database}
+use Rattle.registry_rows.proofs.QuietFacts.{reads_then, stays_then}
+use Rattle.registry_rules.specs.State.{has_live}
+use Rattle.registry_tables.specs.Contents.{contents, registry_of}
+use Rattle.registry_tables.specs.Effects.{shown}
+use Rattle.registry_tables.specs.Schema.{schema}
+use Rattle.registry_desk.proofs.packages.facts_about_package.Goals as goal
+
+pub has_live-requires : goal.has_live-requires
+has_live-requires g c = record { in_form = λ clean on. (c.in_ok-load_standing.ensures.loads clean).0.ready }
+
+pub returns-in_err-has_live-clause-stays : goal.returns-in_err-has_live-clause-stays
+returns-in_err-has_live-clause-stays g c = stays_then g.S.Store c.args.tx.now c.load_standing.new.tx c.has_live.new.tx c.load_standing.ensures.stays c.has_live.ensures.stays
+
+pub returns-clause-stays : goal.returns-clause-stays
+returns-clause-stays g c = stays_then g.S.Store c.args.tx.now c.load_standing.new.tx c.has_live.new.tx c.load_standing.ensures.stays c.has_live.ensures.stays
+
+pub returns-clause-loads : goal.returns-clause-loads
+returns-clause-loads g c clean =
+    let standing = c.in_ok-load_standing.ensures.loads (omega (arith, c.has_live.ensures.stays.survives.clean, clean)) in
+    let lives = c.in_ok-has_live.ensures.loads clean in (
+      reads_then schema (shown g.S.Store c.args.tx.now) (shown g.S.Store c.load_standing.new.tx) (shown g.S.Store c.has_live.new.tx) standing.0 lives.0,
+      λ sound. (standing.1 sound, lives.1 ∙ ap (λ (d : Database). has_live (registry_of (contents d.trees)) c.args.name.now) standing.0.same),
+    )

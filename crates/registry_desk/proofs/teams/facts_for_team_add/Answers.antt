@@ -1,0 +1,38 @@
+use Rattle.std.proofs.Common.{arith, subst, subst₂}
+use Rattle.sqlite.specs.Effect.{Database}
+use Rattle.sqlite.specs.State.{HasCleanDisk}
+use Rattle.registry_names.specs.Texts.{Text}
+use Rattle.registry_rows.proofs.QuietFacts.{stays_then, reads_then}
+use Rattle.registry_tables.specs.Contents.{contents, registry_of}
+use Rattle.registry_tables.specs.Effects.{shown}
+use Rattle.registry_tables.specs.Schema.{schema}
+use Rattle.registry_desk.specs.Found.{IsPlace}
+use Rattle.registry_desk.proofs.teams.facts_for_team_add.Goals as goal
+
+pub find_place-requires : goal.find_place-requires
+find_place-requires g c = record { in_form = λ clean on. (c.in_ok-rows.ensures.loads clean).0.ready }
+
+pub returns-in_err-place-clause-stays : goal.returns-in_err-place-clause-stays
+returns-in_err-place-clause-stays g c = stays_then g.S.Store c.args.tx.now c.load_access.new.tx c.find_place.new.tx c.load_access.ensures.stays c.find_place.ensures.stays
+
+pub returns-clause-stays : goal.returns-clause-stays
+returns-clause-stays g c = stays_then g.S.Store c.args.tx.now c.load_access.new.tx c.find_place.new.tx c.load_access.ensures.stays c.find_place.ensures.stays
+
+pub returns-clause-loads : goal.returns-clause-loads
+returns-clause-loads g c clean =
+    let was = shown g.S.Store c.args.tx.now in
+    let one = shown g.S.Store c.load_access.new.tx in
+    let clean_one : HasCleanDisk one = omega (arith, c.find_place.ensures.stays.survives.clean, clean) in
+    let rows = c.in_ok-rows.ensures.loads clean_one in
+    let found = c.in_ok-place.ensures.loads clean in
+    let named = subst₂ (λ (a b : Text). IsPlace c.in_ok-place.place (registry_of (contents one.now.trees)) a b c.text-4.result.now) c.text-2.ensures.text c.text-3.ensures.text found.1 in
+    let named_all = subst (λ (a : Text). IsPlace c.in_ok-place.place (registry_of (contents one.now.trees)) c.args.organisation.now c.args.team.now a) c.text-4.ensures.text named in
+    let place = subst (λ (d : Database). IsPlace c.in_ok-place.place (registry_of (contents d.trees)) c.args.organisation.now c.args.team.now c.args.user.now) rows.0.same named_all in (
+      reads_then schema was one (shown g.S.Store c.find_place.new.tx) rows.0 found.0,
+      record {
+        rows_say = rw c.text.ensures.text at rows.1;
+        team_exists = place.team_exists;
+        is_member = place.is_member;
+        is_in_team = place.is_in_team;
+      },
+    )

@@ -1,0 +1,200 @@
+//! A server with connections over loopback and with commands beside it.
+
+use crate::client::{
+    ANSWER, LAST_ANSWER, client, command, connect, forget, heard, is_done, lay, send, wait,
+};
+use crate::service::{Counting, one_more};
+use registry_guests::CommandListener;
+use registry_names::Moment;
+use registry_server::{Ended, Server};
+use registry_tests_support::same;
+use std::cell::Cell;
+use std::io;
+use std::io::{Read, Write};
+use std::net::{Shutdown, TcpStream};
+use std::os::unix::net::UnixStream;
+use std::test::Fail;
+use std::time::{Clock, Duration};
+
+/// The time is read once at first, and then twice a round: this is the first reading of the fifth. By
+/// then everything is answered that may be.
+const FIFTH_ROUND: u32 = 10;
+
+/// The first reading of the sixth round, which comes before that round looks at who holds or stops
+/// the server.
+const SIXTH_ROUND: u32 = 12;
+
+// A server for two connections, which listens for commands of a file, too.
+fn server(rt: &HostRuntime, file: &str) -> Result<(Server, CommandListener), Fail> {
+    lay(rt, file)?;
+    let server = Server::bind(rt, rt.alloc(), 0, 2)?;
+    let mut listener = CommandListener::closed(rt.alloc())?;
+    listener.open(rt, rt.alloc(), server.registry(), file)?;
+    Ok((server, listener))
+}
+
+/// A clock that ends a hold in the fifth round.
+#[derive(Drop)]
+struct Holding<'a> {
+    rt: &'a HostRuntime,
+    readings: Cell<u32>,
+    holder: &'a UnixStream,
+    asked: &'a Cell<u32>,
+    // How often the service was asked until then.
+    asked_meanwhile: Cell<u32>,
+}
+
+impl Clock for Holding<'_> {
+    fn monotonic(&self) -> io::Result<Duration> {
+        if one_more(&self.readings) == FIFTH_ROUND {
+            self.asked_meanwhile.set(self.asked.get());
+            self.holder.shutdown(Shutdown::Write)?;
+        }
+        self.rt.monotonic()
+    }
+
+    fn since_1970(&self) -> io::Result<Duration> {
+        self.rt.since_1970()
+    }
+}
+
+#[test]
+fn nobody_is_answered_during_a_hold(rt: HostRuntime) -> Result<(), Fail> {
+    let file = "hold.db";
+    let (server, mut listener) = server(&rt, file)?;
+    let mut holder = connect(&rt, file, "control")?;
+    holder.write_all(b"h")?;
+    let user = command(&rt, file)?;
+    let clients = [client(&rt, &server)?, client(&rt, &server)?];
+    for client in &clients {
+        send(client)?;
+        client.shutdown(Shutdown::Write)?;
+    }
+    wait(&rt);
+    let asked = Cell::new(0);
+    let clock = Holding {
+        rt: &rt,
+        readings: Cell::new(0),
+        holder: &holder,
+        asked: &asked,
+        asked_meanwhile: Cell::new(u32::MAX),
+    };
+    let mut service = Counting {
+        asked: &asked,
+        command: 0,
+    };
+    let at = Moment::clamped(0);
+    let ended = server.run_beside(&clock, rt.alloc(), at, &mut service, &mut listener)?;
+    same("it ended", ended, Ended::Enough)?;
+    same("asked during the hold", clock.asked_meanwhile.get(), 0)?;
+    same("asked after it", asked.get(), 3)?;
+    for client in &clients {
+        same("a client", heard(&rt, client)?.as_str(), ANSWER)?;
+    }
+    is_done(&rt, &user)?;
+    forget(&rt, file)
+}
+
+// Each client sends three requests, and in each round one of them is answered.
+#[test]
+fn a_command_is_answered_between_requests(rt: HostRuntime) -> Result<(), Fail> {
+    let file = "between.db";
+    let (server, mut listener) = server(&rt, file)?;
+    let user = command(&rt, file)?;
+    let clients = [client(&rt, &server)?, client(&rt, &server)?];
+    for client in &clients {
+        for _ in 0..3 {
+            send(client)?;
+        }
+        client.shutdown(Shutdown::Write)?;
+    }
+    wait(&rt);
+    let asked = Cell::new(0);
+    let mut service = Counting {
+        asked: &asked,
+        command: 0,
+    };
+    let at = Moment::clamped(0);
+    let ended = server.run_beside(&rt, rt.alloc(), at, &mut service, &mut listener)?;
+    same("it ended", ended, Ended::Enough)?;
+    let turn = service.command;
+    same("after the first of both", turn > 2, true)?;
+    same("before the last of both", turn < 6, true)?;
+    same("asked in all", asked.get(), 7)?;
+    let all = format!(in rt.alloc(); "{ANSWER}{ANSWER}{ANSWER}")?;
+    for client in &clients {
+        same("a client", heard(&rt, client)?.as_str(), all.as_str())?;
+    }
+    is_done(&rt, &user)?;
+    forget(&rt, file)
+}
+
+/// A clock that stops the server in the fifth round. Two clients ask when the sixth has begun: before
+/// the server has seen either.
+#[derive(Drop)]
+struct Stopping<'a> {
+    rt: &'a HostRuntime,
+    readings: Cell<u32>,
+    stops: &'a UnixStream,
+    clients: &'a [TcpStream; 2],
+}
+
+impl Stopping<'_> {
+    fn ask(&self) -> io::Result<()> {
+        for client in self.clients {
+            send(client)?;
+            client.shutdown(Shutdown::Write)?;
+        }
+        wait(self.rt);
+        Ok(())
+    }
+}
+
+impl Clock for Stopping<'_> {
+    fn monotonic(&self) -> io::Result<Duration> {
+        match one_more(&self.readings) {
+            FIFTH_ROUND => {
+                let mut stops = self.stops;
+                stops.write_all(b"s")?;
+            }
+            SIXTH_ROUND => self.ask()?,
+            _ => {}
+        }
+        self.rt.monotonic()
+    }
+
+    fn since_1970(&self) -> io::Result<Duration> {
+        self.rt.since_1970()
+    }
+}
+
+#[test]
+fn who_has_asked_is_answered_at_a_stop(rt: HostRuntime) -> Result<(), Fail> {
+    let file = "stop.db";
+    let (server, mut listener) = server(&rt, file)?;
+    let stops = connect(&rt, file, "control")?;
+    let clients = [client(&rt, &server)?, client(&rt, &server)?];
+    for client in &clients {
+        send(client)?;
+    }
+    wait(&rt);
+    let clock = Stopping {
+        rt: &rt,
+        readings: Cell::new(0),
+        stops: &stops,
+        clients: &clients,
+    };
+    let asked = Cell::new(0);
+    let mut service = Counting {
+        asked: &asked,
+        command: 0,
+    };
+    let at = Moment::clamped(0);
+    let ended = server.run_beside(&clock, rt.alloc(), at, &mut service, &mut listener)?;
+    same("it ended", ended, Ended::Stopped)?;
+    let both = format!(in rt.alloc(); "{ANSWER}{LAST_ANSWER}")?;
+    for client in &clients {
+        same("a client", heard(&rt, client)?.as_str(), both.as_str())?;
+    }
+    forget(&rt, file)
+}

@@ -1,0 +1,96 @@
+//! A server whose places are all taken.
+
+ghost use Rattle.std.specs.Prelude.{false};
+
+use crate::client::{ANSWER, client, heard, send, wait};
+use registry_names::{Fault, Moment};
+use registry_rules::{Reply, Request};
+use registry_server::{CONNECTION_COUNT, Ended, Server};
+use registry_service::Service;
+use registry_tests_support::same;
+use std::alloc::Global;
+use std::io;
+use std::net::{Shutdown, TcpStream};
+use std::test::Fail;
+
+/// So many clients have asked and have gone before the server saw them. They take all places but two,
+/// and no descriptor here: a process may often have 1,024, so it can't have both ends of each.
+const GONE: usize = CONNECTION_COUNT - 2;
+
+/// A service that does whatever it is asked. When it is asked first, a client asks that was idle until
+/// then; and once those who have gone are answered, the other idle client ends.
+#[derive(Drop)]
+struct Waking<'a> {
+    rt: &'a HostRuntime,
+    asked: usize,
+    asks: &'a TcpStream,
+    idle: &'a TcpStream,
+}
+
+impl Waking<'_> {
+    fn play(&self) -> io::Result<()> {
+        if self.asked == 1 {
+            send(self.asks)?;
+            self.asks.shutdown(Shutdown::Write)?;
+            wait(self.rt);
+        }
+        // It fails where the connection has ended, as it should have.
+        if self.asked > GONE {
+            let _ = self.idle.shutdown(Shutdown::Write);
+        }
+        Ok(())
+    }
+}
+
+impl Service for Waking<'_> {
+    ghost answers = { λ M r o N. Unit {0} };
+
+    ghost over = { λ _. false };
+
+    fn answer(&mut self, _alloc: Global, _request: &Request) -> Result<Reply, Fault> {
+        self.asked = self.asked.saturating_add(1);
+        match self.play() {
+            Ok(()) => Ok(Reply::Done),
+            Err(_) => Err(Fault::Database),
+        }
+    }
+
+    fn is_over(&self) -> bool {
+        false
+    }
+}
+
+// A client that has asked, and sends no more.
+fn ask(rt: &HostRuntime, server: &Server) -> Result<TcpStream, Fail> {
+    let client = client(rt, server)?;
+    send(&client)?;
+    client.shutdown(Shutdown::Write)?;
+    Ok(client)
+}
+
+// Each client comes in the order in which it connects. The server has looked at the first two, on which
+// nothing had come, when it comes to those who have gone.
+#[test]
+fn an_idle_connection_ends_for_a_newcomer(rt: HostRuntime) -> Result<(), Fail> {
+    let count = CONNECTION_COUNT as u64 + 1;
+    let server = Server::bind(&rt, rt.alloc(), 0, count)?;
+    let asks = client(&rt, &server)?;
+    let idle = client(&rt, &server)?;
+    for _ in 0..GONE {
+        drop(ask(&rt, &server)?);
+    }
+    let newcomer = ask(&rt, &server)?;
+    wait(&rt);
+    let mut service = Waking {
+        rt: &rt,
+        asked: 0,
+        asks: &asks,
+        idle: &idle,
+    };
+    let ended = server.run(&rt, rt.alloc(), Moment::clamped(0), &mut service)?;
+    same("it ended", ended, Ended::Enough)?;
+    same("asked", service.asked, CONNECTION_COUNT)?;
+    same("who has asked", heard(&rt, &asks)?.as_str(), ANSWER)?;
+    same("who is idle", heard(&rt, &idle)?.as_str(), "")?;
+    same("the newcomer", heard(&rt, &newcomer)?.as_str(), ANSWER)
+}
