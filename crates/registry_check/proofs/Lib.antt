@@ -1,7 +1,10 @@
 mod EachFacts
+mod FormFacts
 mod LoadFacts
+mod NumberFacts
 mod PremiseFacts
 mod QueryFacts
+mod RightFacts
 mod ScopeFacts
 mod SearchFacts
 mod StepFacts

@@ -20,8 +20,10 @@ use Rattle.registry_tables.specs.Contents.{Archive}
 use Rattle.registry_tables.specs.Effects.{stored}
 use Rattle.registry_tables.specs.Schema as table
 use Rattle.registry_tables.specs.Schema.{schema}
-use Rattle.registry_tables.proofs.MappedFacts.{archives_numbered, grants_mapped, held_mapped, members_mapped, need_ranges_mapped, organisations_mapped, owners_mapped, packages_mapped, team_members_mapped, teams_mapped, tokens_mapped, users_mapped, versions_mapped}
-use Rattle.registry_check.specs.Spelled.{archive_spelled, grant_spelled, held_spelled, live_spelled, member_spelled, name_spelled, need_spelled, package_spelled, pair_spelled, token_spelled, triple_spelled}
+use Rattle.registry_tables.proofs.MappedFacts.{archives_numbered, grants_mapped, held_mapped, members_mapped, need_ranges_mapped, needs_mapped, organisations_mapped, owners_mapped, packages_mapped, tags_mapped, team_members_mapped, teams_mapped, tokens_mapped, users_mapped, versions_mapped}
+use Rattle.registry_check.proofs.NumberFacts.{levels_mapped, moments_mapped, roles_mapped, spent_numbered, statuses_mapped}
+use Rattle.registry_check.specs.Numbers.{numbers_in}
+use Rattle.registry_check.specs.Spelled.{archive_spelled, grant_spelled, held_spelled, level_spelled, live_spelled, member_spelled, name_spelled, need_spelled, package_spelled, pair_spelled, role_spelled, spent_spelled, status_spelled, tag_spelled, token_spelled, triple_spelled}
 
 -- ---- users
 
@@ -243,3 +245,88 @@ pub archives_listed : (old new : Shown) (rows : List Row) → Ready schema old �
 archives_listed old new rows form call clean =
     let it = select_all_by (by_number_given archives_numbered) archives_text archives_columns _ archives_means archive_spelled (λ (v : Archive). v) (λ id vs. refl) old new rows form call clean in
     (it.0, it.1 ∙ seen_as_is (entries (stored old).archives))
+
+-- ---- tags
+
+abbrev tags_text : List ℕ
+tags_text = codes "SELECT package, tag, version FROM tags ORDER BY package, tag"
+
+abbrev tags_columns : List Term
+tags_columns = col 1 1 ∷ col 1 2 ∷ col 1 3 ∷ []
+
+tags_means : MeansQuery schema tags_text (select_where table.tags tags_columns [] (in_order 1 1) (codes "package" ∷ codes "tag" ∷ codes "version" ∷ []))
+unfolding understood everything
+tags_means = ((refl, (refl, refl)), refl)
+
+pub tags_listed : (old new : Shown) (rows : List Row) → Ready schema old → Queried tags_text [] old new rows → HasCleanDisk new → Reads schema old new × (map tag_spelled rows ≡ entries (stored old).tags)
+tags_listed old new rows form call clean =
+    let it = select_all tags_mapped tags_text tags_columns _ tags_means tag_spelled (λ (v : Text). v) (λ id vs. refl) old new rows form call clean in
+    (it.0, it.1 ∙ seen_as_is (entries (stored old).tags))
+
+-- ---- targets
+
+abbrev targets_text : List ℕ
+targets_text = codes "SELECT package, version, target FROM needs ORDER BY package, version, target"
+
+abbrev targets_columns : List Term
+targets_columns = col 1 1 ∷ col 1 2 ∷ col 1 3 ∷ []
+
+targets_means : MeansQuery schema targets_text (select_where table.needs targets_columns [] (in_order 2 1) (codes "package" ∷ codes "version" ∷ codes "target" ∷ []))
+unfolding understood everything
+targets_means = ((refl, (refl, refl)), refl)
+
+pub targets_listed : (old new : Shown) (rows : List Row) → Ready schema old → Queried targets_text [] old new rows → HasCleanDisk new → Reads schema old new × (map triple_spelled rows ≡ entries (stored old).needs)
+targets_listed old new rows form call clean =
+    let it = select_all needs_mapped targets_text targets_columns _ targets_means triple_spelled (λ (v : Unit {0}). v) (λ id vs. refl) old new rows form call clean in
+    (it.0, it.1 ∙ seen_as_is (entries (stored old).needs))
+
+-- ---- numbers
+
+pub roles_listed : (old new : Shown) (rows : List Row) → Ready schema old → Queried members_text [] old new rows → HasCleanDisk new → Reads schema old new × (map role_spelled rows ≡ entries (numbers_in old.now.trees).roles)
+roles_listed old new rows form call clean =
+    let it = select_all roles_mapped members_text members_columns _ members_means role_spelled (λ (v : ℤ). v) (λ id vs. refl) old new rows form call clean in
+    (it.0, it.1 ∙ seen_as_is (entries (numbers_in old.now.trees).roles))
+
+pub statuses_listed : (old new : Shown) (rows : List Row) → Ready schema old → Queried packages_text [] old new rows → HasCleanDisk new → Reads schema old new × (map status_spelled rows ≡ entries (numbers_in old.now.trees).statuses)
+statuses_listed old new rows form call clean =
+    let it = select_all statuses_mapped packages_text packages_columns _ packages_means status_spelled (λ (v : ℤ). v) (λ id vs. refl) old new rows form call clean in
+    (it.0, it.1 ∙ seen_as_is (entries (numbers_in old.now.trees).statuses))
+
+pub levels_listed : (old new : Shown) (rows : List Row) → Ready schema old → Queried grants_text [] old new rows → HasCleanDisk new → Reads schema old new × (map level_spelled rows ≡ entries (numbers_in old.now.trees).levels)
+levels_listed old new rows form call clean =
+    let it = select_all levels_mapped grants_text grants_columns _ grants_means level_spelled (λ (v : ℤ). v) (λ id vs. refl) old new rows form call clean in
+    (it.0, it.1 ∙ seen_as_is (entries (numbers_in old.now.trees).levels))
+
+-- ---- moments
+
+abbrev moments_text : List ℕ
+moments_text = codes "SELECT package, version, published FROM versions ORDER BY package, version"
+
+abbrev moments_columns : List Term
+moments_columns = col 1 1 ∷ col 1 2 ∷ col 1 3 ∷ []
+
+moments_means : MeansQuery schema moments_text (select_where table.versions moments_columns [] (in_order 1 1) (codes "package" ∷ codes "version" ∷ codes "published" ∷ []))
+unfolding understood everything
+moments_means = ((refl, (refl, refl)), refl)
+
+pub moments_listed : (old new : Shown) (rows : List Row) → Ready schema old → Queried moments_text [] old new rows → HasCleanDisk new → Reads schema old new × (map role_spelled rows ≡ entries (numbers_in old.now.trees).moments)
+moments_listed old new rows form call clean =
+    let it = select_all moments_mapped moments_text moments_columns _ moments_means role_spelled (λ (v : ℤ). v) (λ id vs. refl) old new rows form call clean in
+    (it.0, it.1 ∙ seen_as_is (entries (numbers_in old.now.trees).moments))
+
+-- ---- spent
+
+abbrev spent_text : List ℕ
+spent_text = codes "SELECT package, version, published, withdrawn FROM spent ORDER BY package, version"
+
+abbrev spent_columns : List Term
+spent_columns = col 1 1 ∷ col 1 2 ∷ col 1 3 ∷ col 1 4 ∷ []
+
+spent_means : MeansQuery schema spent_text (select_where table.spent spent_columns [] (in_order 1 1) (codes "package" ∷ codes "version" ∷ codes "published" ∷ codes "withdrawn" ∷ []))
+unfolding understood everything
+spent_means = ((refl, (refl, refl)), refl)
+
+pub spent_listed : (old new : Shown) (rows : List Row) → Ready schema old → Queried spent_text [] old new rows → HasCleanDisk new → Reads schema old new × (map spent_spelled rows ≡ entries (numbers_in old.now.trees).spent)
+spent_listed old new rows form call clean =
+    let it = select_all spent_numbered spent_text spent_columns _ spent_means spent_spelled (λ (v : ℤ × ℤ). v) (λ id vs. refl) old new rows form call clean in
+    (it.0, it.1 ∙ seen_as_is (entries (numbers_in old.now.trees).spent))

@@ -1,6 +1,10 @@
+pub mod FormRules
+pub mod Forms
 pub mod Loaded
+pub mod Numbers
 pub mod Premises
 pub mod Problems
+pub mod Right
 pub mod Rows
 pub mod Rules
 pub mod Spelled

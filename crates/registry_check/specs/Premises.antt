@@ -6,13 +6,13 @@ use Rattle.registry_tables.specs.Archives.{HoldsArchives}
 use Rattle.registry_tables.specs.Contents.{Contents, access_of}
 use Rattle.registry_tables.specs.Needs.{HoldsNeeds}
 use Rattle.registry_tables.specs.Teams.{GrantsInScope}
-use Rattle.registry_check.specs.Problems.{problems}
+use Rattle.registry_check.specs.Numbers.{Numbers}
 use Rattle.registry_check.specs.Rows.{Rows}
 use Rattle.registry_check.specs.declared.problem.Problem.{Problem}
 
 -- the rows of everything that is stored, in the order of their keys
-abbrev pub rows_in : Contents → Rows
-rows_in c = record {
+abbrev pub rows_in : Contents → Numbers → Rows
+rows_in c n = record {
   users = entries c.users;
   tokens = entries c.tokens;
   organisations = entries c.organisations;
@@ -26,6 +26,13 @@ rows_in c = record {
   needs = entries c.need_ranges;
   held = entries c.held;
   archives = entries c.archives;
+  tags = entries c.tags;
+  targets = entries c.needs;
+  roles = entries n.roles;
+  statuses = entries n.statuses;
+  levels = entries n.levels;
+  moments = entries n.moments;
+  spent = entries n.spent;
 }
 
 -- References hold, and what each organisation and each package needs is there; each grant is on a
@@ -37,14 +44,6 @@ pub record MeetsPremises (c : Contents) : Type 0 where
   pub needs : HoldsNeeds c
   pub archives : HoldsArchives c
 
--- these are the problems of everything that is stored
-abbrev pub AreProblems : List Problem → Contents → Type 0
-AreProblems found c = found ≡ problems (rows_in c)
-
--- there is no problem exactly where the premises hold
+-- none of these is a problem of references, needs or archives exactly where the premises hold
 abbrev pub TellsPremises : List Problem → Contents → Type 0
 TellsPremises found c = (found ≡ [] → MeetsPremises c) × (MeetsPremises c → found ≡ [])
-
--- the law of all contents
-abbrev pub NoneMeansPremises : Type 0
-NoneMeansPremises = (c : Contents) → TellsPremises (problems (rows_in c)) c

@@ -8,6 +8,7 @@ use Rattle.registry_access.specs.declared.grant.Grant.{Grant}
 use Rattle.registry_access.specs.declared.role.Role.{Role}
 use Rattle.registry_rules.specs.State.{Release}
 use Rattle.registry_tables.specs.Contents.{Archive}
+use Rattle.registry_check.specs.FormRules.{level_forms, maintainer_forms, moment_forms, organisation_forms, package_forms, role_forms, spent_forms, status_forms, tag_forms, target_forms, team_forms, token_forms, user_forms, version_forms}
 use Rattle.registry_check.specs.Rows.{NeedKey, Rows}
 use Rattle.registry_check.specs.Rules.{token_tests, organisation_tests, member_tests, team_tests, team_member_tests, package_tests, grant_tests, maintainer_tests, live_tests, need_tests, held_tests, archive_tests}
 use Rattle.registry_check.specs.declared.problem.Problem.{Problem}
@@ -65,6 +66,30 @@ held e = thing.Held e.0.0 e.0.1
 abbrev pub archive : ℤ × Archive → Thing
 archive e = thing.Archive e.0
 
+abbrev pub user : Text × Unit {0} → Thing
+user e = thing.User e.0
+
+abbrev pub role : Pair × ℤ → Thing
+role e = thing.Member e.0.0 e.0.1
+
+abbrev pub status : Text × ℤ → Thing
+status e = thing.Package e.0
+
+abbrev pub level : Triple × ℤ → Thing
+level e = thing.Grant e.0.0 e.0.1.0 e.0.1.1
+
+abbrev pub moment : Pair × ℤ → Thing
+moment e = thing.Version e.0.0 e.0.1
+
+abbrev pub withdrawn : Pair × (ℤ × ℤ) → Thing
+withdrawn e = thing.Withdrawn e.0.0 e.0.1
+
+abbrev pub tag : Pair × Text → Thing
+tag e = thing.Tag e.0.0 e.0.1
+
+abbrev pub target : Triple × Unit {0} → Thing
+target e = thing.Target e.0.0 e.0.1.0 e.0.1.1
+
 -- ---- the problems of each table
 
 abbrev pub token_problems : Rows → List Problem
@@ -103,7 +128,65 @@ held_problems R = problems_of held (held_tests R) R.held
 abbrev pub archive_problems : Rows → List Problem
 archive_problems R = problems_of archive (archive_tests R) R.archives
 
--- of all of them
-abbrev pub problems : Rows → List Problem
-problems R = token_problems R ++ organisation_problems R ++ member_problems R ++ team_problems R ++ team_member_problems R
+-- of references, needs and archives
+abbrev pub premise_problems : Rows → List Problem
+premise_problems R = token_problems R ++ organisation_problems R ++ member_problems R ++ team_problems R ++ team_member_problems R
     ++ published_problems R ++ grant_problems R ++ maintainer_problems R ++ live_problems R ++ need_problems R ++ held_problems R ++ archive_problems R
+
+-- ---- the problems of form of each table
+
+abbrev pub user_form_problems : Rows → List Problem
+user_form_problems R = problems_of user (user_forms R) R.users
+
+abbrev pub token_form_problems : Rows → List Problem
+token_form_problems R = problems_of token (token_forms R) R.tokens
+
+abbrev pub organisation_form_problems : Rows → List Problem
+organisation_form_problems R = problems_of organisation (organisation_forms R) R.organisations
+
+abbrev pub team_form_problems : Rows → List Problem
+team_form_problems R = problems_of team (team_forms R) R.teams
+
+abbrev pub package_form_problems : Rows → List Problem
+package_form_problems R = problems_of package_of (package_forms R) R.packages
+
+abbrev pub maintainer_form_problems : Rows → List Problem
+maintainer_form_problems R = problems_of maintainer (maintainer_forms R) R.maintainers
+
+abbrev pub role_problems : Rows → List Problem
+role_problems R = problems_of role (role_forms R) R.roles
+
+abbrev pub status_problems : Rows → List Problem
+status_problems R = problems_of status (status_forms R) R.statuses
+
+abbrev pub level_problems : Rows → List Problem
+level_problems R = problems_of level (level_forms R) R.levels
+
+abbrev pub moment_problems : Rows → List Problem
+moment_problems R = problems_of moment (moment_forms R) R.moments
+
+abbrev pub version_form_problems : Rows → List Problem
+version_form_problems R = problems_of version (version_forms R) R.live
+
+abbrev pub spent_problems : Rows → List Problem
+spent_problems R = problems_of withdrawn (spent_forms R) R.spent
+
+abbrev pub tag_problems : Rows → List Problem
+tag_problems R = problems_of tag (tag_forms R) R.tags
+
+abbrev pub target_problems : Rows → List Problem
+target_problems R = problems_of target (target_forms R) R.targets
+
+-- ---- of one subject after another
+
+-- and after those before, of names
+abbrev pub name_problems : Rows → List Problem
+name_problems R = premise_problems R ++ user_form_problems R ++ token_form_problems R ++ organisation_form_problems R ++ team_form_problems R ++ package_form_problems R ++ maintainer_form_problems R
+
+-- of numbers
+abbrev pub number_problems : Rows → List Problem
+number_problems R = name_problems R ++ role_problems R ++ status_problems R ++ level_problems R ++ moment_problems R
+
+-- of versions and tags: all of them
+abbrev pub problems : Rows → List Problem
+problems R = number_problems R ++ version_form_problems R ++ spent_problems R ++ tag_problems R ++ target_problems R

@@ -12,6 +12,13 @@ use Rattle.registry_check.specs.declared.tables.ArchiveRow.{ArchiveRow}
 use Rattle.registry_check.specs.declared.tables.HeldRow.{HeldRow}
 use Rattle.registry_check.specs.declared.tables.LiveRow.{LiveRow}
 use Rattle.registry_check.specs.declared.tables.NeedRow.{NeedRow}
+use Rattle.registry_check.specs.declared.tables.LevelRow.{LevelRow}
+use Rattle.registry_check.specs.declared.tables.MomentRow.{MomentRow}
+use Rattle.registry_check.specs.declared.tables.RoleRow.{RoleRow}
+use Rattle.registry_check.specs.declared.tables.SpentRow.{SpentRow}
+use Rattle.registry_check.specs.declared.tables.StatusRow.{StatusRow}
+use Rattle.registry_check.specs.declared.tables.TagRow.{TagRow}
+use Rattle.registry_check.specs.declared.tables.TargetRow.{TargetRow}
 use Rattle.registry_check.specs.declared.tables.Tables.{Tables}
 use Rattle.registry_check.specs.declared.tables.TokenRow.{TokenRow}
 
@@ -42,6 +49,18 @@ pub record Rows : Type 0 where
   -- the number of the archive that a version has, under package and version
   pub held : List (Pair × ℤ)
   pub archives : List (ℤ × Archive)
+  -- the version that a tag names, under package and tag
+  pub tags : List (Pair × Text)
+  -- package, version and target of the table `needs`
+  pub targets : List (Triple × Unit {0})
+  -- the numbers of roles, of statuses and of what is granted, under the same keys as these
+  pub roles : List (Pair × ℤ)
+  pub statuses : List (Text × ℤ)
+  pub levels : List (Triple × ℤ)
+  -- the number of the moment at which a live version was published
+  pub moments : List (Pair × ℤ)
+  -- the numbers of those at which a withdrawn version was published and withdrawn
+  pub spent : List (Pair × (ℤ × ℤ))
 
 -- ---- the key and the value of each row
 
@@ -63,6 +82,27 @@ held_entry r = ((r.package, r.version), r.archive)
 abbrev pub archive_entry : ArchiveRow → ℤ × Archive
 archive_entry r = (r.number, record { integrity = r.integrity; bytes = r.bytes })
 
+abbrev pub tag_entry : TagRow → Pair × Text
+tag_entry r = ((r.package, r.tag), r.version)
+
+abbrev pub target_entry : TargetRow → Triple × Unit {0}
+target_entry r = ((r.package, (r.version, r.target)), tt)
+
+abbrev pub role_entry : RoleRow → Pair × ℤ
+role_entry r = ((r.organisation, r.user), r.role)
+
+abbrev pub status_entry : StatusRow → Text × ℤ
+status_entry r = (r.package, r.status)
+
+abbrev pub level_entry : LevelRow → Triple × ℤ
+level_entry r = ((r.organisation, (r.team, r.package)), r.level)
+
+abbrev pub moment_entry : MomentRow → Pair × ℤ
+moment_entry r = ((r.package, r.version), r.published)
+
+abbrev pub spent_entry : SpentRow → Pair × (ℤ × ℤ)
+spent_entry r = ((r.package, r.version), (r.published, r.withdrawn))
+
 abbrev pub rows_of : Tables → Rows
 rows_of t = record {
   users = map user_entry t.accounts.users.items;
@@ -78,4 +118,11 @@ rows_of t = record {
   needs = map need_entry t.versions.needs.items;
   held = map held_entry t.versions.held.items;
   archives = map archive_entry t.versions.archives.items;
+  tags = map tag_entry t.marks.tags.items;
+  targets = map target_entry t.marks.targets.items;
+  roles = map role_entry t.grades.roles.items;
+  statuses = map status_entry t.grades.statuses.items;
+  levels = map level_entry t.grades.levels.items;
+  moments = map moment_entry t.times.moments.items;
+  spent = map spent_entry t.times.spent.items;
 }

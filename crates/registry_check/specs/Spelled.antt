@@ -43,3 +43,18 @@ held_spelled r = ((text_in (column r 0), text_in (column r 1)), int_in (column r
 
 abbrev pub archive_spelled : Row → ℤ × Archive
 archive_spelled r = (int_in (column r 0), record { integrity = text_in (column r 1); bytes = blob_in (column r 2) })
+
+abbrev pub tag_spelled : Row → Pair × Text
+tag_spelled r = ((text_in (column r 0), text_in (column r 1)), text_in (column r 2))
+
+abbrev pub role_spelled : Row → Pair × ℤ
+role_spelled r = ((text_in (column r 0), text_in (column r 1)), int_in (column r 2))
+
+abbrev pub status_spelled : Row → Text × ℤ
+status_spelled r = (text_in (column r 0), int_in (column r 1))
+
+abbrev pub level_spelled : Row → Triple × ℤ
+level_spelled r = ((text_in (column r 0), (text_in (column r 1), text_in (column r 2))), int_in (column r 3))
+
+abbrev pub spent_spelled : Row → Pair × (ℤ × ℤ)
+spent_spelled r = ((text_in (column r 0), text_in (column r 1)), (int_in (column r 2), int_in (column r 3)))

@@ -2,7 +2,7 @@
 use Rattle.std.specs.Prelude.{codes}
 use Rattle.registry_names.specs.Texts.{Text}
 use Rattle.registry_check.specs.declared.rule.Rule.{Rule}
-use Rattle.registry_check.specs.declared.rule.Rule.TheVariants.{HasUser, HasOrganisation, HasTeam, HasPackage, HasOwner, HasFirstTeam, IsMember, IsPublic, HasMaintainer, IsInScope, IsNamed, HasNeeds, HasArchive, IsBare, Lives, IsStored, IsHeld, HasIntegrity, IsFirst}
+use Rattle.registry_check.specs.declared.rule.Rule.TheVariants.{HasUser, HasOrganisation, HasTeam, HasPackage, HasOwner, HasFirstTeam, IsMember, IsPublic, HasMaintainer, IsInScope, IsNamed, HasNeeds, HasArchive, IsBare, Lives, IsStored, IsHeld, HasIntegrity, IsFirst, IsSpelled, HasDigest, HasRole, HasStatus, HasLevel, HasMoment, HasScope, HasLatest, IsUnscoped, HasManifest, HasStated, HasMessage, IsGone, NamesLive, IsUnused}
 
 abbrev pub rule_text : Rule → Text
 rule_text HasUser = codes "names a user who is not there"
@@ -24,3 +24,18 @@ rule_text IsStored = codes "names an archive that is not stored"
 rule_text IsHeld = codes "is the archive of no version"
 rule_text HasIntegrity = codes "has another integrity than its bytes"
 rule_text IsFirst = codes "is stored under a lower number, too"
+rule_text IsSpelled = codes "is not spelled in form"
+rule_text HasDigest = codes "has a digest of another length than 32 bytes"
+rule_text HasRole = codes "has a role out of range"
+rule_text HasStatus = codes "has a status out of range"
+rule_text HasLevel = codes "has a level out of range"
+rule_text HasMoment = codes "has a moment out of range"
+rule_text HasScope = codes "has a scope without an organisation"
+rule_text HasLatest = codes "has a live version and no tag latest"
+rule_text IsUnscoped = codes "is of a package with a scope"
+rule_text HasManifest = codes "has no manifest of its name and version"
+rule_text HasStated = codes "has another archive than its manifest says"
+rule_text HasMessage = codes "has a message that is too long"
+rule_text IsGone = codes "is withdrawn and lives"
+rule_text NamesLive = codes "names a version that does not live"
+rule_text IsUnused = codes "is in a table that stays empty"

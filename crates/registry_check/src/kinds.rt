@@ -1,6 +1,6 @@
 //! How the rows of each table are read.
 
-ghost use Rattle.std.specs.Prelude.{◌≡◌, ℤ, IfOk, pos};
+ghost use Rattle.std.specs.Prelude.{◌≡◌, ℤ};
 ghost use Rattle.registry_access.specs.RowMaps.{grant_entry, maintainer_entry, member_entry, organisation_entry, package_entry, team_entry, team_member_entry};
 ghost use Rattle.registry_access.specs.declared.grant.Grant.{Grant as Right};
 ghost use Rattle.registry_access.specs.declared.role.Role.{Role as Rank};
@@ -8,12 +8,13 @@ ghost use Rattle.registry_names.specs.Keys.{Pair, Triple};
 ghost use Rattle.registry_names.specs.Texts.{Text as Bytes};
 ghost use Rattle.registry_names.specs.declared.status.Status.{Status as Readers};
 ghost use Rattle.registry_rules.specs.State.{Release};
+ghost use Rattle.registry_tables.specs.Contents as contents;
 ghost use Rattle.registry_tables.specs.Contents.{Archive};
-ghost use Rattle.registry_tables.specs.Spelled.{grant_number, role_number, status_number};
 ghost use Rattle.registry_check.specs.Rows.{NeedKey, archive_entry, held_entry, live_entry, need_entry, token_entry, user_entry};
 ghost use Rattle.registry_check.specs.Spelled.{archive_spelled, grant_spelled, held_spelled, live_spelled, member_spelled, name_spelled, need_spelled, package_spelled, pair_spelled, token_spelled, triple_spelled};
 
 use crate::archives::{Archives, Held};
+use crate::forms::natural;
 use crate::packages::{Grants, Maintainers, Published};
 use crate::people::{Members, Organisations, TeamMembers, Teams, Tokens, Users};
 use crate::tables::{ArchiveRow, HeldRow, LiveRow, NeedRow, TokenRow};
@@ -86,7 +87,7 @@ impl RowKind for Members {
     fn read(row: &Row) -> Result<MemberRow, Error> {
         let organisation: String = row.get(0)?;
         let user: String = row.get(1)?;
-        let role = role_of(row.get(2)?)?;
+        let role = role_of(natural(row.get(2)?));
         Ok(MemberRow {
             organisation: Text::from(organisation),
             user: Text::from(user),
@@ -146,7 +147,7 @@ impl RowKind for Published {
 
     fn read(row: &Row) -> Result<PackageRow, Error> {
         let name: String = row.get(0)?;
-        let status = status_of(row.get(1)?)?;
+        let status = status_of(natural(row.get(1)?));
         Ok(PackageRow {
             package: Text::from(name),
             status,
@@ -167,7 +168,7 @@ impl RowKind for Grants {
         let organisation: String = row.get(0)?;
         let team: String = row.get(1)?;
         let name: String = row.get(2)?;
-        let grant = grant_of(row.get(3)?)?;
+        let grant = grant_of(natural(row.get(3)?));
         Ok(GrantRow {
             organisation: Text::from(organisation),
             team: Text::from(team),
@@ -208,7 +209,7 @@ impl RowKind for Live {
     fn read(row: &Row) -> Result<LiveRow, Error> {
         let name: String = row.get(0)?;
         let version: String = row.get(1)?;
-        let at = seconds_of(row.get(2)?)?;
+        let at = natural(row.get(2)?);
         let manifest: String = row.get(3)?;
         let message: String = row.get(4)?;
         let archive: Vec<u8> = row.get(5)?;
@@ -288,44 +289,35 @@ impl RowKind for Archives {
     }
 }
 
-// No number of seconds below 0 is ever written.
-fn seconds_of(number: i64) -> Result<u64, Error>
-    ensures { IfOk result (λ seconds. number ≡ pos seconds) }
+// What the registry reads the number of a role as.
+fn role_of(number: u64) -> Role
+    ensures { result ≡ contents.role_of number }
 {
-    match u64::try_from(number) {
-        Ok(seconds) => Ok(seconds),
-        Err(_) => Err(Error::IntegralValueOutOfRange(2)),
+    if number == 2 {
+        Role::Owner
+    } else if number == 1 {
+        Role::Admin
+    } else {
+        Role::Developer
     }
 }
 
-// No other number is ever written.
-fn role_of(number: i64) -> Result<Role, Error>
-    ensures { IfOk result (λ role. number ≡ pos (role_number role)) }
+fn status_of(number: u64) -> Status
+    ensures { result ≡ contents.status_of number }
 {
-    match number {
-        0 => Ok(Role::Developer),
-        1 => Ok(Role::Admin),
-        2 => Ok(Role::Owner),
-        _ => Err(Error::IntegralValueOutOfRange(2)),
+    if number == 1 {
+        Status::Public
+    } else {
+        Status::Restricted
     }
 }
 
-fn status_of(number: i64) -> Result<Status, Error>
-    ensures { IfOk result (λ status. number ≡ pos (status_number status)) }
+fn grant_of(number: u64) -> Grant
+    ensures { result ≡ contents.grant_of number }
 {
-    match number {
-        0 => Ok(Status::Restricted),
-        1 => Ok(Status::Public),
-        _ => Err(Error::IntegralValueOutOfRange(1)),
-    }
-}
-
-fn grant_of(number: i64) -> Result<Grant, Error>
-    ensures { IfOk result (λ grant. number ≡ pos (grant_number grant)) }
-{
-    match number {
-        1 => Ok(Grant::ReadOnly),
-        2 => Ok(Grant::ReadWrite),
-        _ => Err(Error::IntegralValueOutOfRange(3)),
+    if number == 2 {
+        Grant::ReadWrite
+    } else {
+        Grant::ReadOnly
     }
 }

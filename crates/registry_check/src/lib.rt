@@ -8,12 +8,17 @@
 
 mod archives;
 mod checked;
+mod forms;
 mod kinds;
 pub mod laws;
 mod loads;
+mod manifest;
+mod names;
+mod numbers;
 mod packages;
 mod people;
 mod problem;
+mod releases;
 mod rule;
 mod scope;
 mod search;

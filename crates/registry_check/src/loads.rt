@@ -3,17 +3,22 @@
 ghost use Rattle.std.specs.Prelude.{◌≡◌, IfOk, IsErr, map};
 ghost use Rattle.registry_rows.specs.Frames.{Stays};
 ghost use Rattle.registry_tables.specs.Effects.{InForm, Loads};
-ghost use Rattle.registry_check.specs.Loaded.{AreAccounts, AreGroups, ArePackages, AreTables, AreVersions, Finds};
+ghost use Rattle.registry_check.specs.Loaded.{AreAccounts, AreGrades, AreGroups, AreMarks, ArePackages, AreTables, AreTimes, AreVersions, Finds, Tells};
 
 use crate::archives::{Archives, Held};
+use crate::numbers::{Levels, Moments, Roles, Statuses};
 use crate::packages::{Grants, Maintainers, Published};
 use crate::people::{Members, Organisations, TeamMembers, Teams, Tokens, Users};
-use crate::tables::{Accounts, Groups, Packages, Tables, Versions};
+use crate::releases::{Tags, Targets, Withdrawn};
+use crate::tables::{Accounts, Grades, Groups, Marks, Packages, Tables, Times, Versions};
 use crate::versions::{Live, Needs};
 use registry_names::Fault;
 use registry_rows::{RowKind, read, values_of_rows};
 use sqlite::{Alter, Transaction, params};
 use std::alloc::Global;
+
+/// The members of organisations, each with the number of their role.
+const MEMBERS: &str = "SELECT org, user, role FROM members ORDER BY org, user";
 
 /// The rows of all tables, in the order of their keys.
 pub(crate) fn load_tables<S: Alter>(
@@ -22,17 +27,23 @@ pub(crate) fn load_tables<S: Alter>(
 ) -> Result<Tables, Fault>
     requires in_form { InForm S.Store tx.old }
     ensures stays { Stays S.Store tx.old tx.new }
-    ensures loads { Loads S.Store tx.old tx.new result AreTables }
+    ensures loads { Tells S.Store tx.old tx.new result AreTables }
 {
     let accounts = load_accounts(alloc, tx)?;
     let groups = load_groups(alloc, tx)?;
     let packages = load_packages(alloc, tx)?;
     let versions = load_versions(alloc, tx)?;
+    let marks = load_marks(alloc, tx)?;
+    let grades = load_grades(alloc, tx)?;
+    let times = load_times(alloc, tx)?;
     Ok(Tables {
         accounts,
         groups,
         packages,
         versions,
+        marks,
+        grades,
+        times,
     })
 }
 
@@ -56,11 +67,7 @@ fn load_groups<S: Alter>(alloc: Global, tx: &mut Transaction<'_, S>) -> Result<G
     ensures stays { Stays S.Store tx.old tx.new }
     ensures loads { Loads S.Store tx.old tx.new result AreGroups }
 {
-    let members = load::<Members, S>(
-        alloc,
-        tx,
-        "SELECT org, user, role FROM members ORDER BY org, user",
-    )?;
+    let members = load::<Members, S>(alloc, tx, MEMBERS)?;
     let teams = load::<Teams, S>(alloc, tx, "SELECT org, team FROM teams ORDER BY org, team")?;
     let team_members = load::<TeamMembers, S>(
         alloc,
@@ -132,6 +139,65 @@ fn load_versions<S: Alter>(alloc: Global, tx: &mut Transaction<'_, S>) -> Result
         held,
         archives,
     })
+}
+
+fn load_marks<S: Alter>(alloc: Global, tx: &mut Transaction<'_, S>) -> Result<Marks, Fault>
+    requires in_form { InForm S.Store tx.old }
+    ensures stays { Stays S.Store tx.old tx.new }
+    ensures loads { Loads S.Store tx.old tx.new result AreMarks }
+{
+    let tags = load::<Tags, S>(
+        alloc,
+        tx,
+        "SELECT package, tag, version FROM tags ORDER BY package, tag",
+    )?;
+    let targets = load::<Targets, S>(
+        alloc,
+        tx,
+        "SELECT package, version, target FROM needs ORDER BY package, version, target",
+    )?;
+    Ok(Marks { tags, targets })
+}
+
+fn load_grades<S: Alter>(alloc: Global, tx: &mut Transaction<'_, S>) -> Result<Grades, Fault>
+    requires in_form { InForm S.Store tx.old }
+    ensures stays { Stays S.Store tx.old tx.new }
+    ensures loads { Tells S.Store tx.old tx.new result AreGrades }
+{
+    let roles = load::<Roles, S>(alloc, tx, MEMBERS)?;
+    let statuses = load::<Statuses, S>(
+        alloc,
+        tx,
+        "SELECT name, status FROM packages ORDER BY name",
+    )?;
+    let levels = load::<Levels, S>(
+        alloc,
+        tx,
+        "SELECT org, team, package, level FROM grants ORDER BY org, team, package",
+    )?;
+    Ok(Grades {
+        roles,
+        statuses,
+        levels,
+    })
+}
+
+fn load_times<S: Alter>(alloc: Global, tx: &mut Transaction<'_, S>) -> Result<Times, Fault>
+    requires in_form { InForm S.Store tx.old }
+    ensures stays { Stays S.Store tx.old tx.new }
+    ensures loads { Tells S.Store tx.old tx.new result AreTimes }
+{
+    let moments = load::<Moments, S>(
+        alloc,
+        tx,
+        "SELECT package, version, published FROM versions ORDER BY package, version",
+    )?;
+    let spent = load::<Withdrawn, S>(
+        alloc,
+        tx,
+        "SELECT package, version, published, withdrawn FROM spent ORDER BY package, version",
+    )?;
+    Ok(Times { moments, spent })
 }
 
 // The rows that a query returns, as values of this kind.

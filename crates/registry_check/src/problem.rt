@@ -90,6 +90,34 @@ pub enum Thing {
         /// Its number.
         number: i64,
     },
+    /// A user.
+    User {
+        /// Their name.
+        user: Text,
+    },
+    /// A version that was withdrawn.
+    Withdrawn {
+        /// The package.
+        package: Text,
+        /// The version.
+        version: Text,
+    },
+    /// A tag of a package.
+    Tag {
+        /// The package.
+        package: Text,
+        /// The tag.
+        tag: Text,
+    },
+    /// A row of `needs`, the table of schema 1 for what a version needs.
+    Target {
+        /// The package.
+        package: Text,
+        /// The version.
+        version: Text,
+        /// The package that it needs.
+        target: Text,
+    },
 }
 
 /// A rule that is broken, and what breaks it.

@@ -46,6 +46,36 @@ pub enum Rule {
     HasIntegrity,
     /// No archive before it has the same integrity and bytes.
     IsFirst,
+    /// A name, a version or a tag is in form.
+    IsSpelled,
+    /// The digest of a token has 32 bytes.
+    HasDigest,
+    /// The number of a role is one of 0 to 2.
+    HasRole,
+    /// The number of a status is 0 or 1.
+    HasStatus,
+    /// The number of a level that is granted is 1 or 2.
+    HasLevel,
+    /// The number of seconds is a moment.
+    HasMoment,
+    /// The organisation of a package's scope is there.
+    HasScope,
+    /// A package with a live version has the tag `latest`.
+    HasLatest,
+    /// A package that has a maintainer has no scope.
+    IsUnscoped,
+    /// The manifest is the compact JSON of one of that name and version.
+    HasManifest,
+    /// The archive has the integrity that the manifest states, if it states one.
+    HasStated,
+    /// The message of a deprecation has at most 1,024 bytes.
+    HasMessage,
+    /// A version that was withdrawn doesn't live.
+    IsGone,
+    /// A tag names a live version.
+    NamesLive,
+    /// The table `needs` has no row.
+    IsUnused,
 }
 
 impl Rule {
@@ -73,6 +103,21 @@ impl Rule {
             Rule::IsHeld => "is the archive of no version",
             Rule::HasIntegrity => "has another integrity than its bytes",
             Rule::IsFirst => "is stored under a lower number, too",
+            Rule::IsSpelled => "is not spelled in form",
+            Rule::HasDigest => "has a digest of another length than 32 bytes",
+            Rule::HasRole => "has a role out of range",
+            Rule::HasStatus => "has a status out of range",
+            Rule::HasLevel => "has a level out of range",
+            Rule::HasMoment => "has a moment out of range",
+            Rule::HasScope => "has a scope without an organisation",
+            Rule::HasLatest => "has a live version and no tag latest",
+            Rule::IsUnscoped => "is of a package with a scope",
+            Rule::HasManifest => "has no manifest of its name and version",
+            Rule::HasStated => "has another archive than its manifest says",
+            Rule::HasMessage => "has a message that is too long",
+            Rule::IsGone => "is withdrawn and lives",
+            Rule::NamesLive => "names a version that does not live",
+            Rule::IsUnused => "is in a table that stays empty",
         }
     }
 }

@@ -7,7 +7,7 @@ ghost use Rattle.registry_rules.specs.Refusals as spec;
 
 /// The scope of the text, which need not be a name: what follows an `@` at its beginning, up to the
 /// first slash, if there is one.
-fn scope(text: &str) -> Option<&str>
+pub(crate) fn scope(text: &str) -> Option<&str>
     ensures { option_map (λ s. s.now) result ≡ scope_of text.now }
 {
     let rest = text.strip_prefix('@')?;

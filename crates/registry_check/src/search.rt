@@ -7,11 +7,12 @@ ghost use Rattle.registry_access.specs.Levels as levels;
 ghost use Rattle.registry_names.specs.Keys.{pair_is};
 ghost use Rattle.registry_names.specs.Texts as texts;
 ghost use Rattle.registry_tables.specs.Archives.{is_archive};
+ghost use Rattle.registry_check.specs.FormRules as forms;
 ghost use Rattle.registry_check.specs.Rows.{archive_entry, rows_of};
 ghost use Rattle.registry_check.specs.Rules as spec;
 ghost use Rattle.registry_check.specs.Rules.{has, need_is};
 
-use crate::tables::{ArchiveRow, HeldRow, LiveRow, NeedRow, Tables};
+use crate::tables::{ArchiveRow, HeldRow, LiveRow, NeedRow, Tables, TagRow};
 use registry_access::{MaintainerRow, MemberRow, PackageRow, Role, TeamRow};
 use registry_names::Text;
 use registry_publish::Need;
@@ -36,7 +37,7 @@ fn is_owner(role: Role) -> bool
     matches!(role, Role::Owner)
 }
 
-fn is_number(number: i64, other: i64) -> bool
+pub(crate) fn is_number(number: i64, other: i64) -> bool
     ensures { result ≡ int_eq number other }
 {
     number == other
@@ -146,6 +147,40 @@ fn is_same(archive: &ArchiveRow, other: &ArchiveRow) -> bool
         && is_bytes(archive.bytes.as_slice(), other.bytes.as_slice())
 }
 
+fn any_tag(rows: &[TagRow], name: &str, tag: &str) -> bool
+    ensures { result ≡ list_any (λ r. texts.is r.package name.now
+        && texts.is r.tag tag.now) rows.now }
+{
+    rows.iter()
+        .any(|row| is(&row.package, name) && is(&row.tag, tag))
+}
+
+fn any_of(rows: &[LiveRow], name: &str) -> bool
+    ensures { result ≡ list_any (λ r. texts.is r.package name.now) rows.now }
+{
+    rows.iter().any(|row| is(&row.package, name))
+}
+
+// The number of the archive that the version has.
+fn number_in(rows: &[HeldRow], name: &str, version: &str) -> Option<i64>
+    ensures { result ≡ option_map (λ r. r.archive) (find (λ r. texts.is r.package name.now
+        && texts.is r.version version.now) rows.now) }
+{
+    rows.iter()
+        .find(|row| is(&row.package, name) && is(&row.version, version))
+        .map(|row| row.archive)
+}
+
+// The integrity that is stored with the archive of this number.
+fn integrity_in(rows: &[ArchiveRow], number: i64) -> Option<&Text>
+    ensures { option_map (λ t. t.now) result ≡ option_map (λ r. r.integrity)
+        (find (λ r. int_eq r.number number) rows.now) }
+{
+    rows.iter()
+        .find(|row| is_number(row.number, number))
+        .map(|row| &row.integrity)
+}
+
 impl Tables {
     pub(crate) fn has_user(&self, user: &str) -> bool
         ensures { result ≡ has texts.is (rows_of self.now).users user.now }
@@ -238,5 +273,42 @@ impl Tables {
             Some(number) => is_number(number, archive.number),
             None => false,
         }
+    }
+
+    pub(crate) fn has_tag(&self, name: &str, tag: &str) -> bool
+        ensures { result ≡ has pair_is (rows_of self.now).tags (name.now, tag.now) }
+    {
+        any_tag(&self.marks.tags, name, tag)
+    }
+
+    /// Whether a version of the package lives.
+    pub(crate) fn has_live(&self, name: &str) -> bool
+        ensures { result ≡ forms.has_live (rows_of self.now) name.now }
+    {
+        any_of(&self.versions.live, name)
+    }
+
+    // The number of the archive that the version has.
+    fn held_number(&self, name: &str, version: &str) -> Option<i64>
+        ensures { result ≡ forms.held_number (rows_of self.now) (name.now, version.now) }
+    {
+        number_in(&self.versions.held, name, version)
+    }
+
+    // The integrity that is stored with the archive of this number.
+    fn integrity_under(&self, number: i64) -> Option<&Text>
+        ensures { option_map (λ t. t.now) result
+            ≡ forms.integrity_under (rows_of self.now) number }
+    {
+        integrity_in(&self.versions.archives, number)
+    }
+
+    /// The integrity that is stored with the archive that the version has.
+    pub(crate) fn held_integrity(&self, name: &str, version: &str) -> Option<&Text>
+        ensures { option_map (λ t. t.now) result
+            ≡ forms.held_integrity (rows_of self.now) (name.now, version.now) }
+    {
+        let number = self.held_number(name, version)?;
+        self.integrity_under(number)
     }
 }

@@ -64,6 +64,85 @@ pub(crate) struct ArchiveRow {
     pub(crate) bytes: Blob,
 }
 
+/// A tag of a package.
+#[derive(Drop)]
+pub(crate) struct TagRow {
+    /// The package.
+    pub(crate) package: Text,
+    /// The tag.
+    pub(crate) tag: Text,
+    /// The version that it names.
+    pub(crate) version: Text,
+}
+
+/// A row of the table `needs`, in which no request puts one.
+#[derive(Drop)]
+pub(crate) struct TargetRow {
+    /// The package.
+    pub(crate) package: Text,
+    /// The version.
+    pub(crate) version: Text,
+    /// The package that it needs.
+    pub(crate) target: Text,
+}
+
+/// The number of a member's role, as it is stored.
+#[derive(Drop)]
+pub(crate) struct RoleRow {
+    /// The organisation.
+    pub(crate) organisation: Text,
+    /// The member.
+    pub(crate) user: Text,
+    /// The number.
+    pub(crate) role: i64,
+}
+
+/// The number of a package's status, as it is stored.
+#[derive(Drop)]
+pub(crate) struct StatusRow {
+    /// The package.
+    pub(crate) package: Text,
+    /// The number.
+    pub(crate) status: i64,
+}
+
+/// The number of what a team is granted, as it is stored.
+#[derive(Drop)]
+pub(crate) struct LevelRow {
+    /// The organisation.
+    pub(crate) organisation: Text,
+    /// The team.
+    pub(crate) team: Text,
+    /// The package.
+    pub(crate) package: Text,
+    /// The number.
+    pub(crate) level: i64,
+}
+
+/// When a live version was published, as it is stored.
+#[derive(Drop)]
+pub(crate) struct MomentRow {
+    /// The package.
+    pub(crate) package: Text,
+    /// The version.
+    pub(crate) version: Text,
+    /// The seconds.
+    pub(crate) published: i64,
+}
+
+/// A version that was withdrawn, as it is stored.
+#[derive(Drop)]
+pub(crate) struct SpentRow {
+    /// The package.
+    pub(crate) package: Text,
+    /// The version.
+    pub(crate) version: Text,
+    /// When it was published, in seconds.
+    pub(crate) published: i64,
+    /// When it was withdrawn, in seconds.
+    pub(crate) withdrawn: i64,
+}
+
 /// Users, tokens and organisations.
 #[derive(Drop)]
 pub(crate) struct Accounts {
@@ -110,6 +189,35 @@ pub(crate) struct Versions {
     pub(crate) archives: Vec<ArchiveRow>,
 }
 
+/// What versions are called besides, and what an older schema had of them.
+#[derive(Drop)]
+pub(crate) struct Marks {
+    /// The tags.
+    pub(crate) tags: Vec<TagRow>,
+    /// The rows of the table `needs`.
+    pub(crate) targets: Vec<TargetRow>,
+}
+
+/// The numbers of roles, statuses and what is granted.
+#[derive(Drop)]
+pub(crate) struct Grades {
+    /// Those of roles.
+    pub(crate) roles: Vec<RoleRow>,
+    /// Those of statuses.
+    pub(crate) statuses: Vec<StatusRow>,
+    /// Those of what is granted.
+    pub(crate) levels: Vec<LevelRow>,
+}
+
+/// The numbers of moments.
+#[derive(Drop)]
+pub(crate) struct Times {
+    /// Those of live versions.
+    pub(crate) moments: Vec<MomentRow>,
+    /// Those of withdrawn versions.
+    pub(crate) spent: Vec<SpentRow>,
+}
+
 /// All rows.
 #[derive(Drop)]
 pub(crate) struct Tables {
@@ -121,4 +229,10 @@ pub(crate) struct Tables {
     pub(crate) packages: Packages,
     /// The live versions.
     pub(crate) versions: Versions,
+    /// Their tags.
+    pub(crate) marks: Marks,
+    /// The numbers of roles, statuses and what is granted.
+    pub(crate) grades: Grades,
+    /// The numbers of moments.
+    pub(crate) times: Times,
 }

@@ -2,33 +2,41 @@
 
 ghost use Rattle.std.specs.Prelude.{◌≡◌, ◌++◌, IfOk, OnOk};
 ghost use Rattle.registry_rows.specs.Frames.{Stays};
-ghost use Rattle.registry_tables.specs.Effects.{InForm, Loads};
-ghost use Rattle.registry_check.specs.Premises.{AreProblems, TellsPremises};
+ghost use Rattle.registry_tables.specs.Effects.{InForm};
+ghost use Rattle.registry_check.specs.Loaded.{Tells};
 ghost use Rattle.registry_check.specs.Problems as spec;
+ghost use Rattle.registry_check.specs.Right.{AreProblems, TellsRight};
 ghost use Rattle.registry_check.specs.Rows.{rows_of};
 
 use crate::archives::{Archives, Held};
 use crate::checked::push_problems;
 use crate::loads::load_tables;
+use crate::names::{
+    MaintainerForms, OrganisationForms, PackageForms, TeamForms, TokenForms, UserForms,
+};
+use crate::numbers::{Levels, Moments, Roles, Statuses};
 use crate::packages::{Grants, Maintainers, Published};
 use crate::people::{Members, Organisations, TeamMembers, Teams, Tokens};
 use crate::problem::Problem;
+use crate::releases::{Tags, Targets, VersionForms, Withdrawn};
 use crate::tables::Tables;
 use crate::versions::{Live, Needs};
 use registry_names::Fault;
 use sqlite::{Alter, Transaction};
 use std::alloc::Global;
 
-/// Tries all rules on everything that is stored, and returns what breaks one, in the order of the
-/// tables and of their keys.
+/// Tries all rules on everything that is stored, and returns what breaks one: first the rules of
+/// references, needs and archives, and then those of form, each in the order of the tables and of
+/// their keys.
 ///
-/// There is no problem exactly where everything holds that a request supposes of the tables.
-/// Nothing is changed. A fault says nothing about what is stored.
+/// There is no problem exactly where the registry is right (`IsRight` of its specification): everything holds
+/// that the promises of a request suppose of the tables. Nothing is changed. A fault says nothing
+/// about what is stored.
 pub fn check<S: Alter>(alloc: Global, tx: &mut Transaction<'_, S>) -> Result<Vec<Problem>, Fault>
     requires in_form { InForm S.Store tx.old }
     ensures stays { Stays S.Store tx.old tx.new }
-    ensures loads { Loads S.Store tx.old tx.new result (λ found c. AreProblems found.items c) }
-    ensures met { Loads S.Store tx.old tx.new result (λ found c. TellsPremises found.items c) }
+    ensures loads { Tells S.Store tx.old tx.new result (λ found db. AreProblems found.items db) }
+    ensures met { Tells S.Store tx.old tx.new result (λ found db. TellsRight found.items db) }
 {
     let tables = load_tables(alloc, tx)?;
     problems_in(alloc, &tables)
@@ -42,6 +50,9 @@ fn problems_in(alloc: Global, all: &Tables) -> Result<Vec<Problem>, Fault>
     push_people(alloc, &mut problems, all)?;
     push_packages(alloc, &mut problems, all)?;
     push_versions(alloc, &mut problems, all)?;
+    push_names(alloc, &mut problems, all)?;
+    push_numbers(alloc, &mut problems, all)?;
+    push_releases(alloc, &mut problems, all)?;
     Ok(problems)
 }
 
@@ -78,4 +89,45 @@ fn push_versions(alloc: Global, problems: &mut Vec<Problem>, all: &Tables) -> Re
     push_problems::<Needs>(alloc, problems, &all.versions.needs, all)?;
     push_problems::<Held>(alloc, problems, &all.versions.held, all)?;
     push_problems::<Archives>(alloc, problems, &all.versions.archives, all)
+}
+
+fn push_names(alloc: Global, problems: &mut Vec<Problem>, all: &Tables) -> Result<(), Fault>
+    ensures { OnOk result (problems.new.items
+        ≡ problems.old.items ++ spec.user_form_problems (rows_of all.now)
+        ++ spec.token_form_problems (rows_of all.now)
+        ++ spec.organisation_form_problems (rows_of all.now)
+        ++ spec.team_form_problems (rows_of all.now)
+        ++ spec.package_form_problems (rows_of all.now)
+        ++ spec.maintainer_form_problems (rows_of all.now)) }
+{
+    push_problems::<UserForms>(alloc, problems, &all.accounts.users, all)?;
+    push_problems::<TokenForms>(alloc, problems, &all.accounts.tokens, all)?;
+    push_problems::<OrganisationForms>(alloc, problems, &all.accounts.organisations, all)?;
+    push_problems::<TeamForms>(alloc, problems, &all.groups.teams, all)?;
+    push_problems::<PackageForms>(alloc, problems, &all.packages.published, all)?;
+    push_problems::<MaintainerForms>(alloc, problems, &all.packages.maintainers, all)
+}
+
+fn push_numbers(alloc: Global, problems: &mut Vec<Problem>, all: &Tables) -> Result<(), Fault>
+    ensures { OnOk result (problems.new.items
+        ≡ problems.old.items ++ spec.role_problems (rows_of all.now)
+        ++ spec.status_problems (rows_of all.now) ++ spec.level_problems (rows_of all.now)
+        ++ spec.moment_problems (rows_of all.now)) }
+{
+    push_problems::<Roles>(alloc, problems, &all.grades.roles, all)?;
+    push_problems::<Statuses>(alloc, problems, &all.grades.statuses, all)?;
+    push_problems::<Levels>(alloc, problems, &all.grades.levels, all)?;
+    push_problems::<Moments>(alloc, problems, &all.times.moments, all)
+}
+
+fn push_releases(alloc: Global, problems: &mut Vec<Problem>, all: &Tables) -> Result<(), Fault>
+    ensures { OnOk result (problems.new.items
+        ≡ problems.old.items ++ spec.version_form_problems (rows_of all.now)
+        ++ spec.spent_problems (rows_of all.now) ++ spec.tag_problems (rows_of all.now)
+        ++ spec.target_problems (rows_of all.now)) }
+{
+    push_problems::<VersionForms>(alloc, problems, &all.versions.live, all)?;
+    push_problems::<Withdrawn>(alloc, problems, &all.times.spent, all)?;
+    push_problems::<Tags>(alloc, problems, &all.marks.tags, all)?;
+    push_problems::<Targets>(alloc, problems, &all.marks.targets, all)
 }

@@ -1,10 +1,10 @@
 -- The lines of a log.
-use Rattle.std.specs.Prelude.{ℕ, ◌/◌, ◌%◌, ◌||◌, nat_eq, Bool, List, [], ◌∷◌, ◌++◌, map, codes, decimal, Option, Some, None, if◌then◌else◌}
+use Rattle.std.specs.Prelude.{ℕ, ◌/◌, ◌%◌, List, [], ◌∷◌, ◌++◌, map, codes, decimal, Option, Some, None, if◌then◌else◌}
 use Rattle.std.specs.Char.{is_ascii_graphic}
-use Rattle.std.specs.List.{starts_with}
 use Rattle.registry_names.specs.declared.method.Method.{Method}
 use Rattle.registry_names.specs.declared.method.Method.TheVariants.{Get, Put, Post, Delete, Other}
 use Rattle.registry_packument.specs.Calendar.{utc_text}
+use Rattle.registry_log.specs.Targets.{shown}
 use Rattle.registry_log.specs.declared.entry.Entry.{Entry}
 
 -- ---- columns
@@ -24,20 +24,6 @@ cell text = column text ++ codes " "
 
 abbrev pub last_cell : List ℕ → List ℕ
 last_cell text = column text ++ codes "\n"
-
--- ---- targets
-
-abbrev pub begins : List ℕ → List ℕ → Bool
-begins text word = starts_with nat_eq text word
-
--- a token may stand after the first byte
-abbrev pub hides : List ℕ → Bool
-hides text = begins text (codes "/npm_") || (begins text (codes "=npm_") || (begins text (codes "/user/token/") || begins text (codes "/tokens/token/")))
-
--- a target up to where a token may stand, and `***` for everything after that
-abbrev pub masked : List ℕ → List ℕ
-masked [] = []
-masked (b ∷ bs) = b ∷ (if hides (b ∷ bs) then codes "***" else masked bs)
 
 -- ---- lines
 
@@ -59,7 +45,7 @@ time_text (Some n) = decimal (n / 1000) ++ codes "." ++ decimal (n / 100 % 10)
 -- answer, and for how long the registry was asked
 abbrev pub line_with : ℕ → List ℕ → Option Method → List ℕ → ℕ → ℕ → Option ℕ → List ℕ
 line_with at user method target status length micros =
-    cell (utc_text at) ++ cell user ++ cell (method_text method) ++ cell (masked target) ++ cell (decimal status) ++ cell (decimal length) ++ last_cell (time_text micros)
+    cell (utc_text at) ++ cell user ++ cell (method_text method) ++ cell (shown target) ++ cell (decimal status) ++ cell (decimal length) ++ last_cell (time_text micros)
 
 -- the line of a request
 abbrev pub line_of : Entry → List ℕ

@@ -3,9 +3,8 @@
 ghost use Rattle.std.specs.Prelude.{IfOk};
 ghost use Rattle.sqlite.specs.Held.{state};
 ghost use Rattle.sqlite.specs.State.{HasCleanDisk};
-ghost use Rattle.registry_check.specs.Premises.{TellsPremises};
+ghost use Rattle.registry_check.specs.Right.{TellsRight};
 ghost use Rattle.registry_desk.specs.Resting.{Rests};
-ghost use Rattle.registry_tables.specs.Effects.{stored};
 
 use crate::beside::{TRIES, busy, hold_server, is_busy, pause, require_no_other};
 use crate::checking_beside::problems_beside;
@@ -107,11 +106,11 @@ fn problems_within<S: Alter + Drop>(
 }
 
 // What is wrong in the tables of a connection that is between requests. Nothing is wrong exactly
-// where everything holds that requests suppose.
+// where everything holds that the promises suppose.
 fn problems_of<S: Alter>(alloc: Global, conn: &mut Connection<S>) -> Result<Vec<Problem>, Fault>
     requires rests { Rests (state S.Store conn.old) }
     ensures { HasCleanDisk (state S.Store conn.new)
-        → IfOk result (λ found. TellsPremises found.items (stored (state S.Store conn.old))) }
+        → IfOk result (λ found. TellsRight found.items (state S.Store conn.old).now.trees) }
 {
     let mut tx = conn.transaction();
     let problems = check(alloc, &mut tx);
@@ -152,6 +151,16 @@ fn thing_text(alloc: Global, thing: &Thing) -> Result<String, AllocError> {
         } => need_text(alloc, package, version, target, range),
         Thing::Held { package, version } => part(alloc, "archive of version ", version, package),
         Thing::Archive { number } => format!(in alloc; "archive {number}"),
+        Thing::User { user } => named(alloc, "user ", user),
+        Thing::Withdrawn { package, version } => {
+            part(alloc, "withdrawn version ", version, package)
+        }
+        Thing::Tag { package, tag } => part(alloc, "tag ", tag, package),
+        Thing::Target {
+            package,
+            version,
+            target,
+        } => target_text(alloc, package, version, target),
     }
 }
 
@@ -207,6 +216,16 @@ fn need_text(
             version.as_str(),
         ],
     )
+}
+
+fn target_text(
+    alloc: Global,
+    package: &Text,
+    version: &Text,
+    target: &Text,
+) -> Result<String, AllocError> {
+    let version = part(alloc, " of version ", version, package)?;
+    joined(alloc, &["need ", target.as_str(), version.as_str()])
 }
 
 // The pieces, joined into one text.

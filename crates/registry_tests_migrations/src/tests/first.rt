@@ -41,11 +41,11 @@ static ROWS: [&str; 39] = [
     "INSERT INTO grants VALUES ('lab', 'developers', '@lab/pad', 2)",
     "INSERT INTO grants VALUES ('lab', 'ops', '@lab/kit', 1)",
     "INSERT INTO owners VALUES ('tool', 'eve')",
-    r#"INSERT INTO versions VALUES ('@lab/kit', '1.0.0', 100, '{"name":"@lab/kit","version":"1.0.0","dependencies":{"tool":"^1"},"optionalDependencies":{"@lab/pad":"~2"},"peerDependencies":{"tool":">=1.0.0"}}', '', x'616263')"#,
-    r#"INSERT INTO versions VALUES ('@lab/kit', '1.1.0-beta', 101, '{"name":"@lab/kit","version":"1.1.0-beta","dependencies":{"tool":"^2"},"optionalDependencies":{"tool":"2.x"}}', 'old', x'616263')"#,
-    r#"INSERT INTO versions VALUES ('@lab/pad', '2.0.0', 102, '{"name":"@lab/pad","version":"2.0.0","dependencies":{}}', '', x'616264')"#,
+    r#"INSERT INTO versions VALUES ('@lab/kit', '1.0.0', 100, '{"dependencies":{"tool":"^1"},"name":"@lab/kit","optionalDependencies":{"@lab/pad":"~2"},"peerDependencies":{"tool":">=1.0.0"},"version":"1.0.0"}', '', x'616263')"#,
+    r#"INSERT INTO versions VALUES ('@lab/kit', '1.1.0-beta', 101, '{"dependencies":{"tool":"^2"},"name":"@lab/kit","optionalDependencies":{"tool":"2.x"},"version":"1.1.0-beta"}', 'old', x'616263')"#,
+    r#"INSERT INTO versions VALUES ('@lab/pad', '2.0.0', 102, '{"dependencies":{},"name":"@lab/pad","version":"2.0.0"}', '', x'616264')"#,
     r#"INSERT INTO versions VALUES ('tool', '1.0.0', 103, '{"name":"tool","version":"1.0.0"}', 'use 2', x'616263')"#,
-    r#"INSERT INTO versions VALUES ('tool', '2.0.0', 104, '{"name":"tool","version":"2.0.0","devDependencies":{"@lab/kit":"1"},"peerDependencies":{"@lab/kit":"^1.1.0-beta"}}', '', x'')"#,
+    r#"INSERT INTO versions VALUES ('tool', '2.0.0', 104, '{"devDependencies":{"@lab/kit":"1"},"name":"tool","peerDependencies":{"@lab/kit":"^1.1.0-beta"},"version":"2.0.0"}', '', x'')"#,
     "INSERT INTO spent VALUES ('@lab/kit', '0.9.0', 90, 95)",
     "INSERT INTO spent VALUES ('tool', '0.1.0', 80, 99)",
     "INSERT INTO tags VALUES ('@lab/kit', 'beta', '1.1.0-beta')",
@@ -97,7 +97,7 @@ static SHOWN: [Shown; 18] = [
     ),
     (
         "SELECT * FROM versions ORDER BY package, version",
-        r#" @lab/kit|1.0.0|100|{"name":"@lab/kit","version":"1.0.0","dependencies":{"tool":"^1"},"optionalDependencies":{"@lab/pad":"~2"},"peerDependencies":{"tool":">=1.0.0"}}|| @lab/kit|1.1.0-beta|101|{"name":"@lab/kit","version":"1.1.0-beta","dependencies":{"tool":"^2"},"optionalDependencies":{"tool":"2.x"}}|old| @lab/pad|2.0.0|102|{"name":"@lab/pad","version":"2.0.0","dependencies":{}}|| tool|1.0.0|103|{"name":"tool","version":"1.0.0"}|use 2| tool|2.0.0|104|{"name":"tool","version":"2.0.0","devDependencies":{"@lab/kit":"1"},"peerDependencies":{"@lab/kit":"^1.1.0-beta"}}||"#,
+        r#" @lab/kit|1.0.0|100|{"dependencies":{"tool":"^1"},"name":"@lab/kit","optionalDependencies":{"@lab/pad":"~2"},"peerDependencies":{"tool":">=1.0.0"},"version":"1.0.0"}|| @lab/kit|1.1.0-beta|101|{"dependencies":{"tool":"^2"},"name":"@lab/kit","optionalDependencies":{"tool":"2.x"},"version":"1.1.0-beta"}|old| @lab/pad|2.0.0|102|{"dependencies":{},"name":"@lab/pad","version":"2.0.0"}|| tool|1.0.0|103|{"name":"tool","version":"1.0.0"}|use 2| tool|2.0.0|104|{"devDependencies":{"@lab/kit":"1"},"name":"tool","peerDependencies":{"@lab/kit":"^1.1.0-beta"},"version":"2.0.0"}||"#,
     ),
     (
         "SELECT * FROM spent ORDER BY package, version",
@@ -129,20 +129,20 @@ static SHOWN: [Shown; 18] = [
 static ASKED: [Asked; 24] = [
     (
         "--at 125 --as bob packument @lab/kit",
-        r#"{"_id":"@lab/kit","dist-tags":{"beta":"1.1.0-beta","latest":"1.0.0"},"name":"@lab/kit","time":{"1.0.0":"1970-01-01T00:01:40.000Z","1.1.0-beta":"1970-01-01T00:01:41.000Z","created":"1970-01-01T00:01:30.000Z","modified":"1970-01-01T00:01:41.000Z"},"versions":{"1.0.0":{"name":"@lab/kit","version":"1.0.0","dependencies":{"tool":"^1"},"optionalDependencies":{"@lab/pad":"~2"},"peerDependencies":{"tool":">=1.0.0"}},"1.1.0-beta":{"deprecated":"old","name":"@lab/kit","version":"1.1.0-beta","dependencies":{"tool":"^2"},"optionalDependencies":{"tool":"2.x"}}}}"#,
+        r#"{"_id":"@lab/kit","dist-tags":{"beta":"1.1.0-beta","latest":"1.0.0"},"name":"@lab/kit","time":{"1.0.0":"1970-01-01T00:01:40.000Z","1.1.0-beta":"1970-01-01T00:01:41.000Z","created":"1970-01-01T00:01:30.000Z","modified":"1970-01-01T00:01:41.000Z"},"versions":{"1.0.0":{"dependencies":{"tool":"^1"},"name":"@lab/kit","optionalDependencies":{"@lab/pad":"~2"},"peerDependencies":{"tool":">=1.0.0"},"version":"1.0.0"},"1.1.0-beta":{"deprecated":"old","dependencies":{"tool":"^2"},"name":"@lab/kit","optionalDependencies":{"tool":"2.x"},"version":"1.1.0-beta"}}}"#,
     ),
     (
         "--at 125 --as eve packument tool",
-        r#"{"_id":"tool","dist-tags":{"latest":"2.0.0","old":"1.0.0"},"name":"tool","time":{"1.0.0":"1970-01-01T00:01:43.000Z","2.0.0":"1970-01-01T00:01:44.000Z","created":"1970-01-01T00:01:20.000Z","modified":"1970-01-01T00:01:44.000Z"},"versions":{"1.0.0":{"deprecated":"use 2","name":"tool","version":"1.0.0"},"2.0.0":{"name":"tool","version":"2.0.0","devDependencies":{"@lab/kit":"1"},"peerDependencies":{"@lab/kit":"^1.1.0-beta"}}}}"#,
+        r#"{"_id":"tool","dist-tags":{"latest":"2.0.0","old":"1.0.0"},"name":"tool","time":{"1.0.0":"1970-01-01T00:01:43.000Z","2.0.0":"1970-01-01T00:01:44.000Z","created":"1970-01-01T00:01:20.000Z","modified":"1970-01-01T00:01:44.000Z"},"versions":{"1.0.0":{"deprecated":"use 2","name":"tool","version":"1.0.0"},"2.0.0":{"devDependencies":{"@lab/kit":"1"},"name":"tool","peerDependencies":{"@lab/kit":"^1.1.0-beta"},"version":"2.0.0"}}}"#,
     ),
     ("--at 125 --as bob packument gone", "NotFound"),
     (
         "token npm_bob_000000001 --at 125 version-doc @lab/kit latest",
-        r#"{"name":"@lab/kit","version":"1.0.0","dependencies":{"tool":"^1"},"optionalDependencies":{"@lab/pad":"~2"},"peerDependencies":{"tool":">=1.0.0"}}"#,
+        r#"{"dependencies":{"tool":"^1"},"name":"@lab/kit","optionalDependencies":{"@lab/pad":"~2"},"peerDependencies":{"tool":">=1.0.0"},"version":"1.0.0"}"#,
     ),
     (
         "--at 125 --as bob version-doc @lab/kit 1.1.0-beta",
-        r#"{"deprecated":"old","name":"@lab/kit","version":"1.1.0-beta","dependencies":{"tool":"^2"},"optionalDependencies":{"tool":"2.x"}}"#,
+        r#"{"deprecated":"old","dependencies":{"tool":"^2"},"name":"@lab/kit","optionalDependencies":{"tool":"2.x"},"version":"1.1.0-beta"}"#,
     ),
     ("--at 125 --as bob version-doc @lab/kit 0.9.0", "NotFound"),
     ("--at 125 --as bob archive @lab/kit 1.0.0", "abc"),
@@ -177,7 +177,7 @@ static ASKED: [Asked; 24] = [
     ("--at 130 --as bob withdraw @lab/kit 1.0.0", "done"),
     (
         "--at 130 --as bob packument @lab/kit",
-        r#"{"_id":"@lab/kit","dist-tags":{"beta":"1.1.0-beta","latest":"1.1.0-beta"},"name":"@lab/kit","time":{"1.1.0-beta":"1970-01-01T00:01:41.000Z","created":"1970-01-01T00:01:30.000Z","modified":"1970-01-01T00:02:10.000Z"},"versions":{"1.1.0-beta":{"deprecated":"old","name":"@lab/kit","version":"1.1.0-beta","dependencies":{"tool":"^2"},"optionalDependencies":{"tool":"2.x"}}}}"#,
+        r#"{"_id":"@lab/kit","dist-tags":{"beta":"1.1.0-beta","latest":"1.1.0-beta"},"name":"@lab/kit","time":{"1.1.0-beta":"1970-01-01T00:01:41.000Z","created":"1970-01-01T00:01:30.000Z","modified":"1970-01-01T00:02:10.000Z"},"versions":{"1.1.0-beta":{"deprecated":"old","dependencies":{"tool":"^2"},"name":"@lab/kit","optionalDependencies":{"tool":"2.x"},"version":"1.1.0-beta"}}}"#,
     ),
     ("--at 130 --as bob archive @lab/kit 1.0.0", "NotFound"),
     ("--at 130 --as bob archive @lab/kit 1.1.0-beta", "abc"),

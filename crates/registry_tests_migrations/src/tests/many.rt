@@ -17,8 +17,9 @@ static ROWS: [&str; 4] = [
     "INSERT INTO owners VALUES ('kit', 'ann')",
 ];
 
+/// A manifest, up to the text of its version.
 const MANIFEST: &str =
-    r#"{"dependencies":{"a":"1","b":"2","c":"3","d":"4","e":"5","f":"6","g":"7"}}"#;
+    r#"{"dependencies":{"a":"1","b":"2","c":"3","d":"4","e":"5","f":"6","g":"7"},"name":"kit","version":""#;
 
 /// What it shows afterwards.
 static SHOWN: [(&str, &str); 5] = [
@@ -45,18 +46,20 @@ fn put_all(alloc: Global, conn: &mut Connection<FileStore<Memory>>) -> Result<()
     for number in 0..VERSIONS {
         put(alloc, conn, number)?;
     }
+    conn.execute_batch("INSERT INTO tags VALUES ('kit', 'latest', '1.0.0')")?;
     Ok(conn.execute_batch("COMMIT")?)
 }
 
 fn put(alloc: Global, conn: &mut Connection<FileStore<Memory>>, number: u32) -> Result<(), Fail> {
     let version = format!(in alloc; "1.0.{number}")?;
+    let manifest = format!(in alloc; "{MANIFEST}{version}\"}}")?;
     let archive = format!(in alloc; "archive {}", number % 16)?;
     conn.execute(
         "INSERT INTO versions VALUES ('kit', ?1, ?2, ?3, '', ?4)",
         params![
             version.as_str(),
             i64::from(number),
-            MANIFEST,
+            manifest.as_str(),
             archive.as_bytes()
         ],
     )?;

@@ -37,9 +37,9 @@ static ROWS: [&str; 35] = [
     "INSERT INTO packages VALUES ('tool', 1)",
     "INSERT INTO grants VALUES ('lab', 'developers', '@lab/kit', 2)",
     "INSERT INTO owners VALUES ('tool', 'eve')",
-    r#"INSERT INTO versions VALUES ('@lab/kit', '1.0.0', 100, '{"name":"@lab/kit","version":"1.0.0","dependencies":{"tool":"^1"}}', 'old', x'')"#,
+    r#"INSERT INTO versions VALUES ('@lab/kit', '1.0.0', 100, '{"dependencies":{"tool":"^1"},"name":"@lab/kit","version":"1.0.0"}', 'old', x'')"#,
     r#"INSERT INTO versions VALUES ('tool', '1.0.0', 103, '{"name":"tool","version":"1.0.0"}', '', x'')"#,
-    r#"INSERT INTO versions VALUES ('tool', '1.1.0', 104, '{"name":"tool","version":"1.1.0","peerDependencies":{"@lab/kit":"^2"}}', '', x'')"#,
+    r#"INSERT INTO versions VALUES ('tool', '1.1.0', 104, '{"name":"tool","peerDependencies":{"@lab/kit":"^2"},"version":"1.1.0"}', '', x'')"#,
     "INSERT INTO spent VALUES ('@lab/kit', '0.9.0', 90, 95)",
     "INSERT INTO tags VALUES ('@lab/kit', 'latest', '1.0.0')",
     "INSERT INTO tags VALUES ('tool', 'latest', '1.0.0')",
@@ -91,7 +91,7 @@ static SHOWN: [Shown; 18] = [
     ),
     (
         "SELECT * FROM versions ORDER BY package, version",
-        r#" @lab/kit|1.0.0|100|{"name":"@lab/kit","version":"1.0.0","dependencies":{"tool":"^1"}}|old| tool|1.0.0|103|{"name":"tool","version":"1.0.0"}|| tool|1.1.0|104|{"name":"tool","version":"1.1.0","peerDependencies":{"@lab/kit":"^2"}}||"#,
+        r#" @lab/kit|1.0.0|100|{"dependencies":{"tool":"^1"},"name":"@lab/kit","version":"1.0.0"}|old| tool|1.0.0|103|{"name":"tool","version":"1.0.0"}|| tool|1.1.0|104|{"name":"tool","peerDependencies":{"@lab/kit":"^2"},"version":"1.1.0"}||"#,
     ),
     (
         "SELECT * FROM spent ORDER BY package, version",
@@ -123,20 +123,20 @@ static SHOWN: [Shown; 18] = [
 static ASKED: [Asked; 20] = [
     (
         "--at 125 --as bob packument @lab/kit",
-        r#"{"_id":"@lab/kit","dist-tags":{"latest":"1.0.0"},"name":"@lab/kit","time":{"1.0.0":"1970-01-01T00:01:40.000Z","created":"1970-01-01T00:01:30.000Z","modified":"1970-01-01T00:01:40.000Z"},"versions":{"1.0.0":{"deprecated":"old","name":"@lab/kit","version":"1.0.0","dependencies":{"tool":"^1"}}}}"#,
+        r#"{"_id":"@lab/kit","dist-tags":{"latest":"1.0.0"},"name":"@lab/kit","time":{"1.0.0":"1970-01-01T00:01:40.000Z","created":"1970-01-01T00:01:30.000Z","modified":"1970-01-01T00:01:40.000Z"},"versions":{"1.0.0":{"deprecated":"old","dependencies":{"tool":"^1"},"name":"@lab/kit","version":"1.0.0"}}}"#,
     ),
     (
         "--at 125 --as eve packument tool",
-        r#"{"_id":"tool","dist-tags":{"latest":"1.0.0","new":"1.1.0"},"name":"tool","time":{"1.0.0":"1970-01-01T00:01:43.000Z","1.1.0":"1970-01-01T00:01:44.000Z","created":"1970-01-01T00:01:43.000Z","modified":"1970-01-01T00:01:44.000Z"},"versions":{"1.0.0":{"name":"tool","version":"1.0.0"},"1.1.0":{"name":"tool","version":"1.1.0","peerDependencies":{"@lab/kit":"^2"}}}}"#,
+        r#"{"_id":"tool","dist-tags":{"latest":"1.0.0","new":"1.1.0"},"name":"tool","time":{"1.0.0":"1970-01-01T00:01:43.000Z","1.1.0":"1970-01-01T00:01:44.000Z","created":"1970-01-01T00:01:43.000Z","modified":"1970-01-01T00:01:44.000Z"},"versions":{"1.0.0":{"name":"tool","version":"1.0.0"},"1.1.0":{"name":"tool","peerDependencies":{"@lab/kit":"^2"},"version":"1.1.0"}}}"#,
     ),
     ("--at 125 --as bob packument gone", "NotFound"),
     (
         "token npm_bob_000000001 --at 125 version-doc @lab/kit latest",
-        r#"{"deprecated":"old","name":"@lab/kit","version":"1.0.0","dependencies":{"tool":"^1"}}"#,
+        r#"{"deprecated":"old","dependencies":{"tool":"^1"},"name":"@lab/kit","version":"1.0.0"}"#,
     ),
     (
         "--at 125 --as bob version-doc tool 1.1.0",
-        r#"{"name":"tool","version":"1.1.0","peerDependencies":{"@lab/kit":"^2"}}"#,
+        r#"{"name":"tool","peerDependencies":{"@lab/kit":"^2"},"version":"1.1.0"}"#,
     ),
     ("--at 125 --as bob version-doc @lab/kit 0.9.0", "NotFound"),
     ("--at 125 --as bob archive @lab/kit 1.0.0", "abc"),

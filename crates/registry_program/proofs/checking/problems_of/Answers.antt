@@ -2,9 +2,9 @@ use Rattle.std.proofs.Common.{◌≡◌, arith, refl, rules, subst, sym}
 use Rattle.std.proofs.lemmas.Result.{IfOk-weaker}
 use Rattle.sqlite.specs.Held.{state}
 use Rattle.sqlite.specs.State.{HasCleanDisk}
-use Rattle.registry_check.specs.Premises.{TellsPremises}
-use Rattle.registry_tables.specs.Contents.{Contents}
-use Rattle.registry_tables.specs.Effects.{InForm, stored}
+use Rattle.sqlite_trees.specs.Tree.{Trees}
+use Rattle.registry_check.specs.Right.{TellsRight}
+use Rattle.registry_tables.specs.Effects.{InForm}
 use Rattle.registry_program.proofs.CheckFacts.{begun_in_form}
 use Rattle.registry_program.proofs.checking.problems_of.Goals as goal
 
@@ -18,8 +18,8 @@ returns g c clean =
     let old = state g.S.Store c.args.conn.now in
     let begun = state g.S.Store c.transaction-tx.result.conn.now in
     let mid = state g.S.Store c.check-problems.new.tx.conn.now in
-    let seen : stored begun ≡ stored old = rw c.transaction-tx.ensures.begun refl in
+    let seen : begun.now.trees ≡ old.now.trees = rw c.transaction-tx.ensures.begun refl in
     let same : c.rollback.new.self.0 ≡ c.conn-1.given.0 = search rules in
     let after : HasCleanDisk (state g.S.Store c.rollback.new.self.0) = subst (λ h. HasCleanDisk (state g.S.Store h)) (sym same) clean in
     let were : HasCleanDisk mid = omega (arith, c.rollback.ensures.survives.clean, after) in
-    IfOk-weaker c.check-problems.result _ _ (λ found h. subst (λ (d : Contents). TellsPremises found.items d) seen h.1) (c.check-problems.ensures.met were)
+    IfOk-weaker c.check-problems.result _ _ (λ found h. subst (λ (d : Trees). TellsRight found.items d) seen h.1) (c.check-problems.ensures.met were)

@@ -1,0 +1,15 @@
+use Rattle.std.proofs.Common.{◌≡◌, ◌∙◌, ◌++◌, ap, List, OnOk}
+use Rattle.std.proofs.lemmas.Result.{on_ok_weaker}
+use Rattle.registry_check.specs.Problems.{spent_problems, tag_problems, target_problems, version_form_problems}
+use Rattle.registry_check.specs.Rows.{Rows, rows_of}
+use Rattle.registry_check.specs.declared.problem.Problem.{Problem}
+use Rattle.registry_check.proofs.whole.push_releases.Goals as goal
+
+pub returns : goal.returns
+returns c =
+    let rows : Rows = rows_of c.args.all.now in
+    let step1 : c.push_problems.new.problems.items ≡ c.args.problems.now.items ++ version_form_problems rows = rw c.deref.ensures.value at c.in_ok-push_problems.ensures in
+    let step2 : c.push_problems-2.new.problems.items ≡ c.push_problems.new.problems.items ++ spent_problems rows = rw c.deref-2.ensures.value at c.in_ok-push_problems-2.ensures in
+    let step3 : c.push_problems-3.new.problems.items ≡ c.push_problems-2.new.problems.items ++ tag_problems rows = rw c.deref-3.ensures.value at c.in_ok-push_problems-3.ensures in
+    let last : OnOk c.push_problems-4.result (c.push_problems-4.new.problems.items ≡ c.push_problems-3.new.problems.items ++ target_problems rows) = rw c.deref-4.ensures.value at c.push_problems-4.ensures in
+    on_ok_weaker c.push_problems-4.result (λ e. e ∙ ap (λ (l : List Problem). l ++ target_problems rows) (step3 ∙ ap (λ (l : List Problem). l ++ tag_problems rows) (step2 ∙ ap (λ (l : List Problem). l ++ spent_problems rows) step1))) last

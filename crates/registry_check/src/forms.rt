@@ -1,0 +1,106 @@
+//! Whether texts and numbers are in form.
+
+ghost use Rattle.std.specs.Prelude.{◌≡◌, IfOk};
+ghost use Rattle.sqlite.specs.declared.types.Value.TheVariants.{Int};
+ghost use Rattle.registry_names.specs.Idents as idents;
+ghost use Rattle.registry_names.specs.Messages as messages;
+ghost use Rattle.registry_names.specs.Tags as tags;
+ghost use Rattle.registry_rows.specs.Columns.{number_in};
+ghost use Rattle.registry_check.specs.Forms as spec;
+
+use crate::search::is_number;
+use registry_names::{Fault, Ident, Message, Moment, Name, Stop, TagText, Ver};
+use std::alloc::Global;
+
+/// Whether it is the name of a user, an organisation or a team.
+pub(crate) fn is_ident(alloc: Global, text: &str) -> Result<bool, Fault>
+    ensures { IfOk result (λ is. is ≡ idents.is_ident text.now) }
+{
+    match Ident::parse(alloc, text) {
+        Ok(_) => Ok(true),
+        Err(Stop::Refused(_)) => Ok(false),
+        Err(Stop::Fault(fault)) => Err(fault),
+    }
+}
+
+/// Whether it is the name of a package.
+pub(crate) fn is_name(alloc: Global, text: &str) -> Result<bool, Fault>
+    ensures { IfOk result (λ is. is ≡ spec.is_name text.now) }
+{
+    match Name::parse(alloc, text) {
+        Ok(_) => Ok(true),
+        Err(Stop::Refused(_)) => Ok(false),
+        Err(Stop::Fault(fault)) => Err(fault),
+    }
+}
+
+/// Whether it is a version.
+pub(crate) fn is_version(alloc: Global, text: &str) -> Result<bool, Fault>
+    ensures { IfOk result (λ is. is ≡ spec.is_version text.now) }
+{
+    match Ver::parse(alloc, text) {
+        Ok(_) => Ok(true),
+        Err(Stop::Refused(_)) => Ok(false),
+        Err(Stop::Fault(fault)) => Err(fault),
+    }
+}
+
+/// Whether it is in the form of a tag.
+pub(crate) fn is_tag(alloc: Global, text: &str) -> Result<bool, Fault>
+    ensures { IfOk result (λ is. is ≡ tags.is_tag text.now) }
+{
+    match TagText::shape(alloc, text) {
+        Ok(_) => Ok(true),
+        Err(Stop::Refused(_)) => Ok(false),
+        Err(Stop::Fault(fault)) => Err(fault),
+    }
+}
+
+/// Whether it is short enough for the message of a deprecation.
+pub(crate) fn is_message(alloc: Global, text: &str) -> Result<bool, Fault>
+    ensures { IfOk result (λ is. is ≡ messages.is_message text.now) }
+{
+    match Message::parse(alloc, text) {
+        Ok(_) => Ok(true),
+        Err(Stop::Refused(_)) => Ok(false),
+        Err(Stop::Fault(fault)) => Err(fault),
+    }
+}
+
+/// Whether it is the number of a role.
+pub(crate) fn is_role(number: i64) -> bool
+    ensures { result ≡ spec.is_role number }
+{
+    is_number(number, 0) || (is_number(number, 1) || is_number(number, 2))
+}
+
+/// Whether it is the number of a status.
+pub(crate) fn is_status(number: i64) -> bool
+    ensures { result ≡ spec.is_status number }
+{
+    is_number(number, 0) || is_number(number, 1)
+}
+
+/// Whether it is the number of what can be granted.
+pub(crate) fn is_level(number: i64) -> bool
+    ensures { result ≡ spec.is_level number }
+{
+    is_number(number, 1) || is_number(number, 2)
+}
+
+/// Whether it is the number of seconds of a moment.
+pub(crate) fn is_moment(number: i64) -> bool
+    ensures { result ≡ spec.is_moment number }
+{
+    Moment::new(number).is_some()
+}
+
+/// The number, or 0 where it is below 0: what the registry reads it as.
+pub(crate) fn natural(number: i64) -> u64
+    ensures { result ≡ number_in (Int number) }
+{
+    match u64::try_from(number) {
+        Ok(natural) => natural,
+        Err(_) => 0,
+    }
+}
