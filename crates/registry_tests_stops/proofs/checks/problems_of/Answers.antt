@@ -31,8 +31,8 @@ rises_again old mid new rests back clean on =
     subst (λ (d : Database). AllByRecursion (λ t. HasRowids (d.trees t.tree)) d.schema.tables) (sym same)
     (subst (λ (k : Schema). AllByRecursion (λ t. HasRowids (old.now.trees t.tree)) k.tables) (sym it.schema_is) it.rowids)
 
-pub returns-clause-rises : goal.returns-clause-rises
-returns-clause-rises g c =
+pub returns : goal.returns
+returns g c =
     let old = state g.S.Store c.args.connection.now in
     let mid = state g.S.Store c.check.new.tx.conn.now in
     let new = state g.S.Store c.drop-tx.new.self.0 in
