@@ -41,4 +41,4 @@ returns g c =
     let kept = rw c.transaction-tx.ensures.begun at c.check.ensures.stays.committed were in
     (omega (arith, (rw c.transaction-tx.ensures.begun at c.check.ensures.stays.survives).clean, were), record { was_open = kept.was_open; committed = kept.committed }, c.drop-tx.ensures.undone clean)) in
     let same : c.drop-tx.new.self.0 ≡ c.connection-1.given.0 = search rules in
-    subst (λ h. CanBeAdopted (state g.S.Store h)) same rises
+    record { rises = subst (λ h. CanBeAdopted (state g.S.Store h)) same rises }
