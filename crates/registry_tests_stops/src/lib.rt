@@ -2,8 +2,9 @@
 //! calls, one after another; a disk that gives back other bytes than it was given; and connections
 //! that are taken over.
 //!
-//! After each stop the files are opened again. What was answered is there; the request that was
-//! stopped was done whole or not at all; and the requests that follow are answered as in memory.
+//! After each stop the files are opened again. No row of the tables breaks a rule of
+//! [`registry_check`]; what was answered is there; the request that was stopped was done whole or
+//! not at all; and the requests that follow are answered as in memory.
 //!
 //! A function that asks a registry has its store as a parameter, and one that opens and closes a
 //! registry has its disk. The check of a call from the second kind to the first takes a quarter of
@@ -11,6 +12,8 @@
 //! a registry or files are alive, a function has one `?` as a rule.
 #![tactic(auto)]
 
+#[cfg(test)]
+mod checks;
 #[cfg(test)]
 mod disks;
 #[cfg(test)]

@@ -27,12 +27,15 @@ token npm_bob_000000001 --at 100 tag-set @lab/kit beta 2.0.0-rc.1
 --at 106 --as bob deprecate @lab/kit 1.x old
 "#;
 
-/// Queries of each kind, by several callers.
+/// Queries of each kind, by several callers. They ask for the archive of each version.
 pub(crate) const QUERIES: &str = "
 --at 200 --as bob packument @lab/kit
 token npm_bob_000000001 --at 200 version-doc @lab/kit latest
 --at 200 --as bob version-doc @lab/kit 2.0.0-rc.1
 --at 200 --as bob archive @lab/kit 1.9.0
+--at 200 --as bob archive @lab/kit 1.10.0
+--at 200 --as bob archive @lab/kit 2.0.0-beta
+--at 200 --as bob archive @lab/kit 2.0.0-rc.1
 --at 200 --as bob archive @lab/kit 3.0.0
 token npm_bob_000000001 --at 200 tags @lab/kit
 --at 200 --as ann members lab

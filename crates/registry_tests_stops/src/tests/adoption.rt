@@ -5,6 +5,7 @@ ghost use Rattle.sqlite.specs.Files.{file_state};
 ghost use Rattle.sqlite.specs.Held.{state};
 ghost use Rattle.registry_desk.specs.Adopted.{CanBeAdopted};
 
+use crate::checks::adopted;
 use crate::disks::{
     Closed, Leaves, NEVER, Stopping, StoppingDisk, close, connected, empty_files, ended, left_of,
     opened, opens, refused,
@@ -55,7 +56,8 @@ fn shows_the_same<S: Alter + Drop>(
 ) -> Result<(), Fail> {
     let mut registry = registry;
     let shown = outcomes_of(alloc, &mut registry, queries)?;
-    shows_again(alloc, adopted_again(alloc, registry)?, queries, &shown)
+    let registry = adopted(alloc, registry.release())?;
+    shows_again(alloc, registry, queries, &shown)
 }
 
 fn shows_again<S: Alter + Drop>(
@@ -67,16 +69,6 @@ fn shows_again<S: Alter + Drop>(
     let mut registry = registry;
     let found = outcomes_of(alloc, &mut registry, queries)?;
     same("what is shown", found.as_slice() == shown, true)
-}
-
-fn adopted_again<S: Alter + Drop>(
-    alloc: Global,
-    registry: Registry<S>,
-) -> Result<Registry<S>, Fail> {
-    match Registry::adopt(alloc, registry.release()) {
-        Ok(registry) => Ok(registry),
-        Err((fault, _)) => Err(Fail::new(format_args!("{fault}"))),
-    }
 }
 
 // The fault of an adoption, and the connection; `None` where it becomes a registry. The contract of

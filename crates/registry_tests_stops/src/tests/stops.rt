@@ -1,6 +1,7 @@
 //! A stop at each call of the database file, and at each of its log. After some of them the open
 //! that follows stops at each of its calls, too.
 
+use crate::checks::checked;
 use crate::disks::{
     Closed, Leaves, Stopping, StoppingDisk, copied, empty_files, ended, left_of, opened,
 };
@@ -158,7 +159,7 @@ fn goes_on_after_stops(rt: &HostRuntime, story: &Story, stops: Stops) -> Result<
     make_stops::<Fuse<Memory>>(rt.alloc(), story, stops, &mut made)?;
     show(rt, stops, &made);
     show_places(rt, story.commands.len(), &made.stopped);
-    are_stopped(story, stops.stopping, &made.stopped)
+    are_wanted(story, stops.stopping, &made.stopped)
 }
 
 // Prints how many stops there were.
@@ -327,7 +328,7 @@ fn shows<S: Alter + Drop>(
     story: &Story,
     answered: usize,
 ) -> Result<(), Fail> {
-    let mut registry = registry;
+    let mut registry = checked(alloc, calls, registry)?;
     let shown = shown_by(alloc, &mut registry, story, answered)?;
     same(
         (calls, "after a second stop"),
@@ -355,11 +356,27 @@ fn is_at(shown: &[Vec<Outcome>], commands: usize, found: &Vec<Outcome>) -> bool 
     shown.get(commands) == Some(found)
 }
 
-// Each command that isn't refused was stopped in some run, if it writes the file that stops.
-fn are_stopped(story: &Story, stopping: Stopping, stopped: &[usize]) -> Result<(), Fail> {
-    if matches!(stopping, Stopping::Database) {
-        return Ok(());
+// Checks that the stops came where they are wanted. A command writes the log, and only a checkpoint
+// writes the database file.
+fn are_wanted(story: &Story, stopping: Stopping, stopped: &[usize]) -> Result<(), Fail> {
+    match stopping {
+        Stopping::Database => is_one_between(story.commands.len(), stopped),
+        Stopping::Log | Stopping::Both => are_all_stopped(story, stopped),
     }
+}
+
+// Some run was stopped between the first and the last of its commands.
+fn is_one_between(commands: usize, stopped: &[usize]) -> Result<(), Fail> {
+    for answered in stopped {
+        if 0 < *answered && *answered < commands {
+            return Ok(());
+        }
+    }
+    Err(Fail::new(format_args!("no stop is between two commands")))
+}
+
+// Each command that isn't refused was stopped in some run.
+fn are_all_stopped(story: &Story, stopped: &[usize]) -> Result<(), Fail> {
     for (place, reply) in story.answers.replies.iter().enumerate() {
         let is_refused = matches!(reply, Ok(Reply::Refused(_)));
         let is_stopped = is_refused || stopped.contains(&place);
@@ -529,7 +546,7 @@ fn holds_all<S: Alter + Drop>(
     story: &Story,
     answered: usize,
 ) -> Result<(), Fail> {
-    let mut registry = registry;
+    let mut registry = checked(alloc, calls, registry)?;
     holds(alloc, calls, &mut registry, story, answered)
 }
 
