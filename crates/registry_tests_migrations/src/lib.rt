@@ -1,4 +1,5 @@
-//! Tests of migrations: registries of older schemas, as they were left, in files in memory.
+//! Tests of registries in files in memory: those of older schemas, as they were left, and those in
+//! which a row is broken.
 #![tactic(auto)]
 
 #[cfg(test)]

@@ -5,6 +5,7 @@ ghost use Rattle.sqlite.specs.Held.{state};
 ghost use Rattle.registry_desk.specs.Resting.{Rests};
 
 mod asked;
+mod broken;
 mod faults;
 mod first;
 mod many;

@@ -42,7 +42,8 @@ fn push_value(alloc: Global, text: &mut String, value: ValueRef<'_>) -> Result<(
     Ok(())
 }
 
-fn push_digits(alloc: Global, text: &mut String, bytes: &[u8]) -> Result<(), Fail> {
+/// Adds the hexadecimal digits of the bytes.
+pub fn push_digits(alloc: Global, text: &mut String, bytes: &[u8]) -> Result<(), Fail> {
     for byte in bytes {
         text.push_str(format!(in alloc; "{byte:02x}")?.as_str())?;
     }
