@@ -679,7 +679,7 @@ answers_an_upload_first() {
     python3 "$work/upload.py" "$(port)" "$token" 2 > "$work/uploaded" 2>> "$work/said" &
     others=$!
     for _ in $(seq 1 400); do
-        if grep -q half "$work/uploaded"; then break; fi
+        if grep -qs half "$work/uploaded"; then break; fi
         sleep 0.01
     done
     sleep 0.2
