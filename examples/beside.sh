@@ -72,8 +72,9 @@ begin() {
 # The same, and waits until it listens.
 serve() {
     begin "$@"
-    for _ in $(seq 1 400); do
+    for _ in $(seq 1 3000); do
         if grep -q listening "$work/server"; then return 0; fi
+        if ! kill -0 "$server" 2>/dev/null; then break; fi
         sleep 0.01
     done
     cat "$work/server" "$work/server.errors" >> "$work/said"
@@ -278,15 +279,18 @@ try 'a command whose server is killed before it is ready is done without it' end
 loses_nothing() {
     : > "$work/answered"
     for time in $(seq 1 10); do
+        rm -f "$work/over"
         (for number in $(seq 1 50); do
+            [ ! -e "$work/over" ] || exit 0
             "$program" --db "$db" --operator user-add "u$time-$number" > /dev/null 2>&1 || exit 0
             echo "u$time-$number" >> "$work/answered"
         done) &
         client=$!
         sleep "0.$((time * 2 + 10))"
         stop
-        kill "$client" 2>/dev/null || true
-        wait "$client" 2>/dev/null || true
+        # A server is refused the file while a command has it.
+        : > "$work/over"
+        wait "$client"
         serve "$db" || return 1
         while read -r user; do
             run one "$db" --operator user-add "$user"
@@ -675,7 +679,7 @@ answers_an_upload_first() {
     python3 "$work/upload.py" "$(port)" "$token" 2 > "$work/uploaded" 2>> "$work/said" &
     others=$!
     for _ in $(seq 1 400); do
-        if grep -q half "$work/uploaded"; then break; fi
+        if grep -qs half "$work/uploaded"; then break; fi
         sleep 0.01
     done
     sleep 0.2

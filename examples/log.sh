@@ -84,6 +84,9 @@ is_refused() {
 
 registry --operator user-add ann > "$work/out"
 registry --operator token-add ann npm_ann_000000001 > "$work/out"
+# A token of the usual form, and its 40 digits.
+token=$(registry --operator token-new ann)
+digits=${token#npm_}
 
 # ---- what is in a line
 
@@ -102,17 +105,27 @@ get /%6epm_ann_000000001 npm_ann_000000001
 try 'nor one that is escaped' soon last_is "$log" 'ann GET /*** 404 20'
 get '/@lab%2fnpm_ann_000000001' npm_ann_000000001
 try 'nor one behind an escaped slash' soon last_is "$log" 'ann GET /@lab%2f*** 404 20'
+get "/$token?all" "$token"
+try 'nor one of 40 digits' soon last_is "$log" 'ann GET /***?all 404 20'
+get "/kit?of=%6epm_$digits" "$token"
+try 'nor one of these that is escaped' soon last_is "$log" 'ann GET /kit?of=*** 404 20'
 get /npm_helper npm_ann_000000001
 try 'a name that begins as a token does is seen' soon last_is "$log" 'ann GET /npm_helper 404 20'
-get "/kit?$(printf '%016000d' 0)" npm_ann_000000001
-try 'a target of 16 KB is cut' soon last_is "$log" "ann GET /kit?$(printf '%0507d' 0)... 404 20"
+get '/kit?of=npm_helper_kits&npm_helper_tools' npm_ann_000000001
+try 'but no part that is as long as a token' soon last_is "$log" 'ann GET /kit?of=npm_helper_kits&*** 404 20'
+get "/kit?$(printf '%0507d' 1)" npm_ann_000000001
+try 'a target of 512 bytes is seen whole' soon last_is "$log" "ann GET /kit?$(printf '%0507d' 1) 404 20"
+get "/kit?$(printf '%01995d' 0)" npm_ann_000000001
+try 'one of 2,000 bytes is cut' soon last_is "$log" "ann GET /kit?$(printf '%0507d' 0)... 404 20"
+get "/kit?all=$(printf '%015996d' 0)" npm_ann_000000001
+try 'as one of 16 KB is' soon last_is "$log" "ann GET /kit?all=$(printf '%0503d' 0)... 404 20"
 get /-/package/kit/dist-tags npm_nobody_0000001
 try 'a token of nobody has no user' soon last_is "$log" '- GET /-/package/kit/dist-tags 401 20'
 send_none
 try 'what is no request has a line' soon last_is "$log" '- - - 400 19'
 registry --operator user-add bob > "$work/out"
 try 'a command beside the server has none' last_is "$log" '- - - 400 19'
-try 'the log holds no token' sh -c "! grep -q npm_ann '$log'"
+try 'the log holds no token' sh -c "! grep -q -e npm_ann -e '$digits' '$log'"
 try 'its owner alone reads it' [ "$(stat -c %a "$log")" = 600 ]
 
 # ---- a log that is moved away, ends and begins
