@@ -40,8 +40,8 @@ pub record AreTimesOf (times : PackTimes) (S : State) (p : Text) : Type 0 where
   pub created : created_at (of S.live p) (of S.spent p) ≡ Some times.created
   pub modified : modified_at (of S.live p) (of S.spent p) ≡ Some times.modified
 
--- The rows are those that answer the caller's action. No rows answer a command, except that the
--- live versions answer a deprecation; and no rows answer a query for a packument
+-- The rows are those that answer the caller's action. `Nothing` answers a command, except
+-- that the live versions answer a deprecation; and no rows answer a query for a packument
 abbrev pub AreRowsOf : Rows → State → Caller → Action → Type 0
 AreRowsOf (rows.Document found) S who (VersionDoc p asked) = option_map document_entry found ≡ option_map document (asked_release S p asked)
 AreRowsOf (rows.KnownArchive archive) S who (Archive p v) = archive ≡ archive_in S p (text_of_version v)
@@ -53,6 +53,7 @@ AreRowsOf (rows.Names names) S who (TeamMembers o t) = names.items ≡ keys (par
 AreRowsOf (rows.Grants granted) S who (TeamPackages o t) =
     map granted_entry granted.items ≡ filter (λ (e : Text × Grant). reads (level_in S.access who e.0)) (parts (pairs_of S.access.grants o) t)
 AreRowsOf (rows.Live live) S who (Deprecate p selector message) = map text_of_version live.items ≡ live_versions S p
+AreRowsOf rows.Nothing S who (Deprecate p selector message) = ⊥
 AreRowsOf rows.Nothing S who what = is_command what ≡ true
 AreRowsOf _ S who _ = ⊥
 

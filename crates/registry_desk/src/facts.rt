@@ -6,6 +6,7 @@ ghost use Rattle.registry_tables.specs.Effects.{InForm, Loads};
 ghost use Rattle.registry_tables.specs.Teams.{AreTeamsSound};
 ghost use Rattle.registry_desk.specs.Early.{FoundTells};
 ghost use Rattle.registry_desk.specs.Found.{NeedsFor};
+ghost use Rattle.registry_desk.specs.Sending.{IsPackument};
 
 use crate::grants::{facts_for_grant, facts_for_revoke};
 use crate::maintainers::{facts_for_owner_add, facts_for_owner_remove};
@@ -38,6 +39,7 @@ pub(crate) fn load_facts<S: Alter>(
     request: &Request,
 ) -> Result<Found, Fault>
     requires in_form { InForm S.Store tx.old }
+    requires other { ¬ IsPackument request.now.what }
     ensures stays { Stays S.Store tx.old tx.new }
     ensures loads { Loads S.Store tx.old tx.new result
         (λ found c. AreTeamsSound c → NeedsFor request.now.what c
@@ -110,7 +112,9 @@ pub(crate) fn load_facts<S: Alter>(
             facts_for_withdraw(alloc, tx, caller, package, version, &request.at)
         }
         Action::Deprecate { package, .. } => facts_for_deprecate(alloc, tx, caller, package),
-        Action::Packument { package } | Action::Tags { package } => {
+        // Such a query doesn't come here: `queried` and `sent` answer it.
+        Action::Packument { .. } => unreachable!(),
+        Action::Tags { package } => {
             facts_about_package(alloc, tx, caller, package).map(Found::About)
         }
         Action::VersionDoc { package, version } => {

@@ -193,7 +193,7 @@ pub(crate) fn facts_for_tag_remove<S: Alter>(
     })
 }
 
-/// Of a query about a package.
+/// Of a query for the tags of a package.
 pub(crate) fn facts_about_package<S: Alter>(
     alloc: Global,
     tx: &mut Transaction<'_, S>,
@@ -202,9 +202,7 @@ pub(crate) fn facts_about_package<S: Alter>(
 ) -> Result<About, Fault>
     requires in_form { InForm S.Store tx.old }
     ensures stays { Stays S.Store tx.old tx.new }
-    ensures packument { Loads S.Store tx.old tx.new result (λ about c. AreTeamsSound c
-        → AboutTells about (registry_of c) caller.now (asked.Packument name.now)) }
-    ensures tags { Loads S.Store tx.old tx.new result (λ about c. AreTeamsSound c
+    ensures loads { Loads S.Store tx.old tx.new result (λ about c. AreTeamsSound c
         → AboutTells about (registry_of c) caller.now (asked.Tags name.now)) }
 {
     Ok(About::Package {

@@ -1,6 +1,6 @@
 //! A registry over a connection to its tables.
 
-ghost use Rattle.std.specs.Prelude.{◌≡◌, ◌≢◌, false, true, IfErr, IfOk, IsTrue, OnErr, OnOk};
+ghost use Rattle.std.specs.Prelude.{◌≡◌, ◌≢◌, false, true, length, IfErr, IfOk, IsTrue, OnErr, OnOk};
 ghost use Rattle.sqlite.specs.Held.{state};
 ghost use Rattle.sqlite.specs.State.{HasCleanDisk, Survives};
 ghost use Rattle.sqlite.specs.Steps.{over_memory};
@@ -219,6 +219,7 @@ impl<S: Alter> Registry<S> {
         alloc: Global,
         requests: &[Request],
     ) -> Result<Vec<Result<Reply, Fault>>, Fault>
+        ensures many { IfOk result (λ outcomes. length outcomes.items ≡ length requests.now) }
         ensures headline { IfOk result (λ outcomes. HasHeadline (state S.Store self.old)
             (state S.Store self.new) requests.now outcomes.items) }
         ensures history { IfOk result (λ outcomes. WritesHistory (state S.Store self.old)

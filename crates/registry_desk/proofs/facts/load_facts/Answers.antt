@@ -82,9 +82,9 @@ pub returns-in-Deprecate-clause-loads : goal.returns-in-Deprecate-clause-loads
 returns-in-Deprecate-clause-loads g c clean =
     found_so (Reads schema (shown g.S.Store c.args.tx.now) (shown g.S.Store c.facts_for_deprecate.new.tx)) (stored_in g.S.Store c.args.tx.now) c.args.request.now.at c.args.caller.now c.args.request.now.what (asked.Deprecate c.in-Deprecate.package c.in-Deprecate.selector c.in-Deprecate.message) c.facts_for_deprecate.result c.in-Deprecate.is (λ y told sound needs. told c.in-Deprecate.selector c.in-Deprecate.message c.args.request.now.at sound) (c.facts_for_deprecate.ensures.loads clean)
 
-pub returns-in-Packument-clause-loads : goal.returns-in-Packument-clause-loads
-returns-in-Packument-clause-loads g c clean =
-    found_either (Reads schema (shown g.S.Store c.args.tx.now) (shown g.S.Store c.facts_about_package.new.tx)) (stored_in g.S.Store c.args.tx.now) c.args.request.now.at c.args.caller.now c.args.request.now.what (asked.Packument c.in-Packument.package) (asked.Tags c.in-Packument.package) c.facts_about_package.result c.map-in-Packument.result c.in-Packument.is refl refl c.map-in-Packument.ensures.cases (λ x told. told) (λ x told. told) (c.facts_about_package.ensures.packument clean) (c.facts_about_package.ensures.tags clean)
+pub returns-in-Tags-clause-loads : goal.returns-in-Tags-clause-loads
+returns-in-Tags-clause-loads g c clean =
+    found_about (Reads schema (shown g.S.Store c.args.tx.now) (shown g.S.Store c.facts_about_package.new.tx)) (stored_in g.S.Store c.args.tx.now) c.args.request.now.at c.args.caller.now c.args.request.now.what (asked.Tags c.in-Tags.package) c.facts_about_package.result c.map-in-Tags.result c.in-Tags.is refl c.map-in-Tags.ensures.cases (λ x told. told) (c.facts_about_package.ensures.loads clean)
 
 pub returns-in-VersionDoc-clause-loads : goal.returns-in-VersionDoc-clause-loads
 returns-in-VersionDoc-clause-loads g c clean =
