@@ -16,6 +16,7 @@ mod SettlingFacts
 mod ArchiveFacts
 mod CacheFacts
 pub mod AnswerFacts
+mod PlainFacts
 mod StopFacts
 pub mod StoredFacts
 mod KeptFacts

@@ -1,11 +1,11 @@
 //! A registry in a file.
 
-ghost use Rattle.std.specs.Prelude.{◌≡◌, codes, false, true, Err, IfErr, IfOk, IsErrAnd, IsTrue, OnErr, OnOk};
+ghost use Rattle.std.specs.Prelude.{◌≡◌, ◌↔◌, codes, false, true, Err, IfErr, IfOk, IfSome, IsErrAnd, IsOk, IsTrue, None, OnErr, OnOk, Some};
 ghost use Rattle.sqlite.specs.Files.{Finds, IsBlankAs, IsCleanLeft, IsOpened, LeavesFiles, file_state, image_of};
 ghost use Rattle.sqlite.specs.Held.{IsNew, state};
 ghost use Rattle.sqlite.specs.Start.{FindsIn};
 ghost use Rattle.sqlite.specs.State.{HasCleanDisk, Survives};
-ghost use Rattle.sqlite_std_file.specs.File.{IsFresh, file_is_usable};
+ghost use Rattle.sqlite_std_file.specs.File.{file_is_usable};
 ghost use Rattle.sqlite_store.specs.FileStore.{view};
 ghost use Rattle.sqlite_wal.specs.Files.{image_at};
 ghost use Rattle.registry_rows.specs.Frames.{Stays};
@@ -16,7 +16,7 @@ ghost use Rattle.registry_tables.specs.Fresh.{CountsArchivesAlone};
 ghost use Rattle.registry_tables.specs.Schema as tables;
 ghost use Rattle.registry_migration.specs.Older.{schema_of};
 ghost use Rattle.registry_desk.specs.Adopted.{AreFilesOf, CanBeAdopted, IsHandedBack, IsMade, IsSettled, IsUndone, LeavesCommitted, SurvivesAdoption};
-ghost use Rattle.registry_desk.specs.Opened.{FailsToConnect, FailsToOpen, HoldsEach, HoldsFound, IsFreshIfEmpty, IsGuarded, IsMadeOf, IsMigrated, IsNumbered, IsUnlimited, IsUri, LeavesAtMost, LeavesMigrated};
+ghost use Rattle.registry_desk.specs.Opened.{AreFresh, FailsToConnect, FailsToOpen, FailsToOpenSome, HoldsEach, HoldsFound, IsFreshIfEmpty, IsGuarded, IsMadeOf, IsMigrated, IsNumbered, IsUnlimited, IsUri, LeavesAtMost, LeavesAtMostOf, LeavesMigrated};
 ghost use Rattle.registry_desk.specs.Promises.{IsSure};
 ghost use Rattle.registry_desk.specs.Resting.{Rests};
 
@@ -110,17 +110,22 @@ impl Registry<FileStore<File>> {
         ensures memory { path.now ≡ codes ":memory:" → result ≡ Err Fault.Database }
         ensures uri { IsUri path.now → result ≡ Err Fault.Database }
     {
-        Registry::open_from(rt, path, Unknown)
+        match Registry::open_from(rt, path, Unknown) {
+            Ok(registry) => Ok(registry),
+            Err((fault, _)) => Err(fault),
+        }
     }
 }
 
 impl<S: Start> Registry<FileStore<FileFrom<S>>> {
-    /// The same over a `start`, which represents what the files held and how a crash is read.
+    /// The same over a `start`, which represents what the files held and how a crash is read. A
+    /// fault hands back what is left of the files, as that of
+    /// [`open_files`](Registry::open_files) does, or `None` where none were opened.
     pub fn open_from(
         rt: &HostRuntime,
         path: &str,
         start: S,
-    ) -> Result<Registry<FileStore<FileFrom<S>>>, Fault>
+    ) -> Result<Registry<FileStore<FileFrom<S>>>, (Fault, Option<Unopened<FileFrom<S>>>)>
         ensures found { IfOk result (λ r. HoldsFound (image_at S.Start) (file_state r)) }
         ensures each { IfOk result (λ r. HoldsEach (image_at S.Start) (file_state r)) }
         ensures empty { IfOk result (λ r. IsFreshIfEmpty (image_at S.Start) (file_state r)) }
@@ -129,14 +134,22 @@ impl<S: Start> Registry<FileStore<FileFrom<S>>> {
         ensures durable { IfOk result (λ r. HasCleanDisk (file_state r) → IsSure (file_state r)) }
         ensures guarded { IfOk result (λ r. IsGuarded (file_state r)) }
         ensures unlimited { IfOk result (λ r. IsUnlimited (file_state r)) }
-        ensures memory { path.now ≡ codes ":memory:" → result ≡ Err Fault.Database }
-        ensures uri { IsUri path.now → result ≡ Err Fault.Database }
+        ensures left { IfErr result (λ e. IfSome e.1 (LeavesAtMostOf AreFresh)) }
+        ensures cause { IfErr result (λ e. IfSome e.1 (FailsToOpenSome AreFresh e.0)) }
+        ensures memory { path.now ≡ codes ":memory:" → result ≡ Err (Fault.Database, None) }
+        ensures uri { IsUri path.now → result ≡ Err (Fault.Database, None) }
     {
-        let options = options(rt)?;
-        let files = files_at(rt, path, start)?;
+        let options = match options(rt) {
+            Ok(options) => options,
+            Err(fault) => return Err((fault, None)),
+        };
+        let files = match files_at(rt, path, start) {
+            Ok(files) => files,
+            Err(fault) => return Err((fault, None)),
+        };
         match Registry::open_files(rt.alloc(), files, options) {
             Ok(registry) => Ok(registry),
-            Err((fault, _)) => Err(fault),
+            Err((fault, left)) => Err((fault, Some(left))),
         }
     }
 }
@@ -278,7 +291,7 @@ fn files_at<S: Start>(rt: &HostRuntime, path: &str, start: S) -> Result<Files<Fi
     ensures uri { IsUri path.now → IsErrAnd result (λ fault. fault ≡ Fault.Database) }
     ensures log { IfOk result (λ files. IsTrue (file_is_usable S.Start files.log)) }
     ensures db { IfOk result (λ files. IsTrue (file_is_usable S.Start files.db)) }
-    ensures fresh { IfOk result (λ files. IsFresh true files.log × IsFresh false files.db) }
+    ensures fresh { IfOk result AreFresh }
 {
     if path == ":memory:" || path.starts_with("file:") {
         return Err(Fault::Database);
@@ -339,14 +352,14 @@ fn settle<S: Alter>(alloc: Global, conn: &mut Connection<S>) -> Result<(), Fault
 }
 
 fn has_nothing(schema: &Schema) -> bool
-    ensures { IsTrue result → schema.now ≡ no_tables }
+    ensures { IsTrue result ↔ (schema.now ≡ no_tables) }
 {
     schema.tables.is_empty() && schema.indexes.is_empty() && schema.views.is_empty()
 }
 
 // Whether the schema is that of a registry, as a fresh one in memory has it.
 fn has_our_tables(alloc: Global, schema: &Schema) -> Result<bool, Fault>
-    ensures { IfOk result (λ ours. IsTrue ours → schema.now ≡ tables.schema) }
+    ensures { IfOk result (λ ours. IsTrue ours ↔ (schema.now ≡ tables.schema)) }
 {
     let Ok(mut conn) = Connection::open_in_memory(alloc) else {
         return Err(Fault::Memory);
@@ -418,11 +431,21 @@ fn check_rows<S: Alter>(tx: &mut Transaction<'_, S>) -> Result<(), Fault>
     ensures numbered { OnlyWhere S.Store tx.old tx.new result IsNumbered }
     ensures counted { OnlyWhere S.Store tx.old tx.new result CountsArchivesAlone }
 {
-    if opened(tx)? != Some(SCHEMA) {
-        return Err(Fault::Database);
-    }
+    check_number(opened(tx)?)?;
     if !counts_archives_alone(tx)? {
         return Err(Fault::Database);
     }
     Ok(())
+}
+
+// `Database` is returned for another number of the schema than ours, and for none.
+fn check_number(number: Option<u32>) -> Result<(), Fault>
+    ensures ok { IsOk result ↔ (number ≡ Some SCHEMA) }
+    ensures err { IfErr result (λ fault. fault ≡ Fault.Database) }
+{
+    if number == Some(SCHEMA) {
+        Ok(())
+    } else {
+        Err(Fault::Database)
+    }
 }

@@ -250,7 +250,7 @@ fn write_spoiled(rt: &HostRuntime, whole: &[u8], place: usize) -> Result<(), Fai
 fn outcomes_at(rt: &HostRuntime, requests: &[Request]) -> Result<Vec<Outcome>, Fault> {
     match Registry::open_from(rt, PATH, Wary) {
         Ok(registry) => outcomes_closed(rt.alloc(), registry, requests),
-        Err(fault) => Err(fault),
+        Err((fault, _)) => Err(fault),
     }
 }
 

@@ -10,7 +10,7 @@ use Rattle.registry_desk.proofs.open.settle.Goals as goal
 
 pub returns-then-branch-clause-made : goal.returns-then-branch-clause-made
 returns-then-branch-clause-made g c clean =
-    let ours : (state g.S.Store c.args.conn.now).now.schema ≡ schema = sym c.schema-2.ensures.value ∙ c.in_ok-has_our_tables.ensures c.if-branch.true in
+    let ours : (state g.S.Store c.args.conn.now).now.schema ≡ schema = sym c.schema-2.ensures.value ∙ c.in_ok-has_our_tables.ensures.0 c.if-branch.true in
     both_ok c.check_contents.result (λ found same. inl (ours, found, ap (λ (d : Database). contents d.trees) same))
     (both_ok c.check_contents.result (λ number counts. (number, counts)) (c.check_contents.ensures.numbered clean) (c.check_contents.ensures.counted clean))
     (c.check_contents.ensures.same clean)

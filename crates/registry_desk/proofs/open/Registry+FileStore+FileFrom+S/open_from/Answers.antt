@@ -26,6 +26,16 @@ module _ {S : Type 0} {g : calls.Ghosts Host} {start : Ghosts S} where
   fresh_image : (files : Files (Modelled Host S g start)) → IsFresh true files.log → IsFresh false files.db → image (seen_in files.log) (seen_in files.db) ≡ image_at start
   fresh_image files log db = ap₂ image (ap₂ (seen start.log start.db) log.0 log.1) (ap₂ (seen start.log start.db) db.0 db.1)
 
+-- ---- what is left of the files
+
+pub returns-in-Err-clause-left : goal.returns-in-Err-clause-left
+returns-in-Err-clause-left g c = (c.in_ok-files.files, c.in_ok-files.ensures.fresh, c.in-Err.ensures.left)
+
+pub returns-in-Err-clause-cause : goal.returns-in-Err-clause-cause
+returns-in-Err-clause-cause g c = (c.in_ok-files.files, c.in_ok-files.ensures.fresh, c.in-Err.ensures.cause)
+
+-- ---- what the registry holds
+
 pub returns-in-Ok-clause-found : goal.returns-in-Ok-clause-found
 returns-in-Ok-clause-found g c = subst (λ i. HoldsFound i (file_state c.in-Ok.registry)) (fresh_image c.in_ok-files.files c.in_ok-files.ensures.fresh.0 c.in_ok-files.ensures.fresh.1) c.in-Ok.ensures.found
 
