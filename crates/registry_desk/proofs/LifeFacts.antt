@@ -341,7 +341,7 @@ module _ {C D : Type 0} (show : C → Shown) (show_next : D → Shown) where
   stops_leave_all_or_nothing first last next r sound sure survives again clean =
       elim (survives.crash again.was_clean again.db again.left) [
         | inl before ↦ inl (found_after (show last) (show_next next) (stored (show first)) again clean (sure again.db before))
-        | inr made ↦ inr (found_after (show last) (show_next next) (settled_by r (stored (show first))) again clean (made.1 sound))
+        | inr made ↦ inr (found_after (show last) (show_next next) (settled_by r (stored (show first))) again clean (made.form, made.settled sound))
       ]
 
   pub stops_keep_outcomes : StopsKeepOutcomes show show_next

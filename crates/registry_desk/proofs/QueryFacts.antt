@@ -23,7 +23,7 @@ use Rattle.registry_desk.specs.Sending.{IsFrom, IsMadeOf, IsOrigin, IsShownBy, L
 use Rattle.registry_desk.specs.declared.sending.Origin.{Origin}
 use Rattle.registry_desk.specs.declared.sending.Origin.TheVariants as origin
 use Rattle.registry_desk.proofs.LivingFacts.{live_shown}
-use Rattle.registry_desk.proofs.SendingFacts.{packument_from, query_settles, query_stays}
+use Rattle.registry_desk.proofs.SendingFacts.{packument_from, query_leaves, query_stays}
 
 -- ---- the text
 
@@ -71,7 +71,7 @@ module _ (old new : Shown) (r : Request) (query : is_command r.what ≡ false) (
   query_steps o sound clean on = left.same clean on ∙ sym (query_stays r query (stored old) o)
 
   pub query_survives : SurvivesOne old new r
-  query_survives = survives_weaker old new _ _ (λ clean db it. (it.0, λ sound. (it.1.0, it.1.1 ∙ sym (query_settles r query (stored old))))) left.survives
+  query_survives = survives_weaker old new _ _ (λ clean db it. query_leaves r query old db it) left.survives
 
 -- ---- what is kept of the reply
 

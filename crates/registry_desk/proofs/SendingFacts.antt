@@ -54,7 +54,7 @@ use Rattle.registry_laws_history.proofs.RunFacts.{history_says}
 use Rattle.registry_laws_hidden.specs.Laws.{RepliesAreAlike}
 use Rattle.registry_desk.specs.Caches.{HasAnswers, KeepNoMore, KeepsNoMore}
 use Rattle.registry_desk.specs.Lives.{HasAnswered}
-use Rattle.registry_desk.specs.Promises.{Answered, HoldsReferences, HoldsSoundFor, Served}
+use Rattle.registry_desk.specs.Promises.{Answered, HoldsReferences, HoldsSoundFor, LeavesOne, Served}
 use Rattle.registry_desk.specs.Resting.{IsRegistryOf, Rests, next_stored, settled_by, stepped}
 use Rattle.registry_desk.specs.Sending.{AnswersAsApply, BrokenBeginTheAnswer, IsOrigin, IsShownBy, LeavesAll, MayAnswer, Sends, SentAreAsked, answers_as_apply, head_in, versions_in}
 use Rattle.registry_desk.specs.declared.cache.Caches.{Caches}
@@ -120,7 +120,7 @@ packument_from S p head text is written =
 -- ---- a query enters nothing
 
 module _ (r : Request) (query : is_command r.what ≡ false) where
-  never_enters : (o : Outcome) → enters r o ≡ false
+  pub never_enters : (o : Outcome) → enters r o ≡ false
   never_enters o = ap (λ b. b && accepts o) query
 
   pub query_stays : (c : Contents) (o : Outcome) → next_stored r o c ≡ c
@@ -132,8 +132,17 @@ module _ (r : Request) (query : is_command r.what ≡ false) where
   query_grown : (h : List Entry) (S : State) (o : Outcome) → grown h S r o ≡ h
   query_grown h S o = ap (λ b. if b then entered (caller_of S r.who) r h else h) (never_enters o)
 
-  pub query_settles : (c : Contents) → settled_by r c ≡ c
+  query_settles : (c : Contents) → settled_by r c ≡ c
   query_settles c = settled_next c r (answer (registry_of c) r) refl ∙ query_stays c (Ok (answer (registry_of c) r))
+
+  -- so a crash finds all that was stored
+  pub query_leaves : (old : Shown) (db : Trees) → IsTrue old.is_open × IsRegistryOf db (stored old) → LeavesOne r old db
+  query_leaves old db it = record {
+    was_open = it.0;
+    form = it.1.0;
+    query = λ _. it.1.1;
+    settled = λ sound. it.1.1 ∙ sym (query_settles (stored old));
+  }
 
 same_answer : (S T : State) (r : Request) (o : Outcome) → answer S r ≡ answer T r → IsAnswer S r o → IsAnswer T r o
 same_answer S T r (Ok a) same is = is ∙ same
@@ -164,7 +173,7 @@ module _ {S : Type 0} (store : Ghosts S) (old : Shown) (h : Held S) (settled : (
         refers = λ sound clean on holds. subst HoldsReferences (sym (left.same clean on)) holds;
         archives = λ sound clean on holds. subst HoldsArchives (sym (left.same clean on)) holds;
         form = λ needs clean on kept. subst IsKept (sym (state_stays clean on)) kept;
-        survives = survives_weaker old new _ _ (λ clean db it. (it.0, λ sound. (it.1.0, it.1.1 ∙ sym (query_settles r query (stored old))))) left.survives;
+        survives = survives_weaker old new _ _ (λ clean db it. query_leaves r query old db it) left.survives;
         durable = λ clean on. rests_sure store h (λ db. settled db on) left.rests clean on;
       }
 

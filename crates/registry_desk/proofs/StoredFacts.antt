@@ -167,7 +167,7 @@ has_run_more old mid new rs os r o run made =
           (left_by_one (IsTrue old.is_open) _ r o _ db
           (elim (made.survives.crash clean db left) [
             | inl earlier ↦ inl (run.survives (first sound) (before clean) db earlier)
-            | inr (on, makes) ↦ inr (opened clean on, subst (IsRegistryOf db) (ap (settled_by r) (same sound clean on)) (makes (still sound clean on)))
+            | inr leaves ↦ inr (opened clean leaves.was_open, subst (IsRegistryOf db) (ap (settled_by r) (same sound clean leaves.was_open)) (leaves.form, leaves.settled (still sound clean leaves.was_open)))
           ])
           (on_answer o (λ on. subst (IsRegistryOf db) (made.step (still sound clean on.0) clean on.1 ∙ ap (next_stored r o) (same sound clean on.0)) (made.durable clean on.1 db left)) (made.served clean)));
       durable = λ sure. made.durable;

@@ -19,7 +19,9 @@
 -- | refers    | a r | references go on to hold                                        | S, open   |
 -- | archives  | a r | the archives stay those of live versions                        | S, open   |
 -- | form      | a r | each text that is held stays in form                            | N, open   |
--- | survives  | a r | what a crash leaves, by the outcomes; no reply is lost          | S         |
+-- | survives  | a   | what a crash leaves: tables in form, and of a query all as it was |         |
+-- |           |     | and of a command what it makes                                  | S         |
+-- | survives  | r   | what a crash leaves, by the outcomes; no reply is lost          | S         |
 -- | durable   | a   | a crash leaves what is stored, and nothing else                 | open      |
 -- | durable   | r   | it still does, where it did at the entry                        | open      |
 -- | closes    | r   | only a fault of the disk shuts it                               |           |
@@ -45,11 +47,12 @@ use Rattle.sqlite_disk.specs.Disk.{MoreFaults}
 use Rattle.registry_names.specs.Texts.{Text}
 use Rattle.registry_names.specs.declared.stop.Fault.{Fault}
 use Rattle.registry_names.specs.declared.stop.Fault.TheVariants.{Database}
+use Rattle.registry_rules.specs.Actions.{is_command}
 use Rattle.registry_rules.specs.Kept.{IsKept, IsSound}
 use Rattle.registry_rules.specs.State.{nothing}
 use Rattle.registry_rules.specs.declared.request.Request.{Request}
 use Rattle.registry_rows.specs.Faults.{as_fault}
-use Rattle.registry_tables.specs.Contents.{Contents, registry_of}
+use Rattle.registry_tables.specs.Contents.{Contents, contents, registry_of}
 use Rattle.registry_tables.specs.Effects.{registry_in, stored}
 use Rattle.registry_tables.specs.Needs.{HoldsNeeds}
 use Rattle.registry_tables.specs.Teams.{GrantsInScope}
@@ -61,7 +64,7 @@ use Rattle.registry_laws_hidden.specs.Concerns.{is_shown}
 use Rattle.registry_laws_hidden.specs.Levels.{IsStranger}
 use Rattle.registry_laws_hidden.specs.Without.{state_without}
 use Rattle.registry_desk.specs.Found.{NeedsFor}
-use Rattle.registry_desk.specs.Resting.{IsRegistryOf, Serves, end_stored, left_by, next_stored, settled_by}
+use Rattle.registry_desk.specs.Resting.{HasTables, IsRegistryOf, Serves, end_stored, left_by, next_stored, settled_by}
 
 -- an open after a crash finds what is stored now, and nothing else
 abbrev pub IsSure : Shown → Type 0
@@ -96,6 +99,15 @@ pub record HoldsSoundForEach (rs : List Request) (s : Shown) : Type 0 where
 pub record HoldsSound (s : Shown) : Type 0 where
   pub grants : GrantsInScope (stored s)
   pub needs : HoldsNeeds (stored s)
+
+-- What a registry leaves of a request whose commit was begun. It was open, and its tables stay in
+-- form, however the request was decided. A query leaves all that was stored. A command leaves what
+-- it makes or, where it is refused, all that was stored, as long as what decides it holds
+pub record LeavesOne (r : Request) (old : Shown) (db : Trees) : Type 0 where
+  pub was_open : IsTrue old.is_open
+  pub form : HasTables db
+  pub query : is_command r.what ≡ false → contents db ≡ stored old
+  pub settled : HoldsSoundFor r old → contents db ≡ settled_by r (stored old)
 
 -- what an error says of whether a registry is open: only a shut one is closed
 abbrev pub seen_by : Error → Result Bool Fault
@@ -150,7 +162,7 @@ module _ (old new : Shown) where
 
   -- a crash leaves what it could have left before, or what an open registry makes of the request
   abbrev pub SurvivesOne : Request → Type 0
-  SurvivesOne r = Survives old new (λ db. IsTrue old.is_open × (HoldsSoundFor r old → IsRegistryOf db (settled_by r (stored old))))
+  SurvivesOne r = Survives old new (LeavesOne r old)
 
   -- ---- a look at whether it is open
 

@@ -13,7 +13,7 @@ use Rattle.registry_laws_history.specs.Runs.{IsAnswer, Outcome, grown, next}
 use Rattle.registry_laws_history.specs.Says.{Says}
 use Rattle.registry_desk.specs.Found.{NeedsFor}
 use Rattle.registry_desk.specs.Promises.{Answered, HidesUnread, HoldsReferences, HoldsSoundFor, KeepsStored, Served, WasOpen}
-use Rattle.registry_desk.specs.Resting.{IsRegistryOf, next_stored, settled_by}
+use Rattle.registry_desk.specs.Resting.{next_stored, settled_by}
 use Rattle.registry_http.specs.Services.{Applies}
 
 -- what decides a request is read from what is stored alone
@@ -80,11 +80,13 @@ sought_applies old mid new r o opened keeps look a =
           let was = last clean on in
           a.form (subst (λ (c : Contents). NeedsFor r.what c) (sym was) needs) clean on (subst (λ (c : Contents). IsKept (registry_of c)) (sym was) kept);
       survives = survives_then old mid new _ _ _ (λ _ db none. absurd none)
-          (λ clean db made. (
-            opened (were clean) made.0,
-            λ sound.
-                let was = same clean made.0 in
-                subst (λ (c : Contents). IsRegistryOf db (settled_by r c)) was (made.1 (sound_again old mid r was sound)),
-          )) look a.survives;
+          (λ clean db made.
+          let was = same clean made.was_open in
+          record {
+            was_open = opened (were clean) made.was_open;
+            form = made.form;
+            query = λ asks. made.query asks ∙ was;
+            settled = λ sound. made.settled (sound_again old mid r was sound) ∙ ap (settled_by r) was;
+          }) look a.survives;
       durable = a.durable;
     }

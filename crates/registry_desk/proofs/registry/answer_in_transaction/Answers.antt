@@ -13,10 +13,11 @@ use Rattle.registry_tables.proofs.TeamReferenceFacts.{teams_sound}
 use Rattle.registry_laws_history.specs.Answers.{answer}
 use Rattle.registry_laws_history.specs.Runs.{Outcome, enters}
 use Rattle.registry_desk.specs.Found.{NeedsFor}
-use Rattle.registry_desk.specs.Promises.{HoldsSoundFor}
-use Rattle.registry_desk.specs.Resting.{IsRegistryOf, Rests, next_stored, settled_by}
+use Rattle.registry_desk.specs.Promises.{HoldsSoundFor, LeavesOne}
+use Rattle.registry_desk.specs.Resting.{Rests, next_stored, settled_by}
 use Rattle.registry_desk.proofs.CommitFacts.{commit_rests, failed_undone, registry_left, undone_open, undone_rests, undone_stored}
 use Rattle.registry_desk.specs.Caches.{AreAnswers, HasAnswers}
+use Rattle.registry_desk.proofs.SendingFacts.{never_enters}
 use Rattle.registry_desk.proofs.SettlingFacts.{faulted_next, settled_next}
 use Rattle.registry_desk.proofs.KeptFacts.{reply_archive_limit, reply_limit, right_answered, right_kept, right_unchanged, shown_answered}
 use Rattle.registry_desk.proofs.registry.answer_in_transaction.Goals as goal
@@ -92,7 +93,7 @@ returns-in_err-reply-clause-survives g c =
     let old = state g.S.Store c.args.conn.now in
     let mid = state g.S.Store c.identify_and_answer.new.tx.conn.now in
     let new = state g.S.Store c.drop-tx.new.self.0 in
-    let P = λ (db : Trees). IsTrue old.is_open × (HoldsSoundFor c.args.request.now old → IsRegistryOf db (settled_by c.args.request.now (stored old))) in
+    let P : Trees → Type 0 = LeavesOne c.args.request.now old in
     let before = survives_begin g.S.Store c.args.conn.now mid _ (rw c.transaction-tx.ensures.begun at c.identify_and_answer.ensures.stays.survives) in
     let whole : Survives old new P = survives_then old mid new _ _ P (λ _ _ none. absurd none) (λ _ _ none. absurd none) before c.drop-tx.ensures.survives in
     let same : c.drop-tx.new.self.0 ≡ c.conn-1.given.0 = search rules in
@@ -103,18 +104,22 @@ returns-in-Ok-clause-survives g c =
     let old = state g.S.Store c.args.conn.now in
     let mid = state g.S.Store c.identify_and_answer.new.tx.conn.now in
     let new = state g.S.Store c.commit.new.tx.0 in
-    let P = λ (db : Trees). IsTrue old.is_open × (HoldsSoundFor c.args.request.now old → IsRegistryOf db (settled_by c.args.request.now (stored old))) in
+    let P : Trees → Type 0 = LeavesOne c.args.request.now old in
     let before = survives_begin g.S.Store c.args.conn.now mid _ (rw c.transaction-tx.ensures.begun at c.identify_and_answer.ensures.stays.survives) in
     let seen : stored (state g.S.Store c.transaction-tx.result.conn.now) ≡ stored old = rw c.transaction-tx.ensures.begun refl in
     let whole : Survives old new P = survives_then old mid new _ _ P (λ _ _ none. absurd none)
     (λ clean db is.
     let were : HasCleanDisk mid = omega (arith, c.commit.ensures.survives.clean, clean) in
     let first : HasCleanDisk old = omega (arith, (rw c.transaction-tx.ensures.begun at c.identify_and_answer.ensures.stays.survives).clean, were) in
-    let was_open : IsTrue old.is_open = rw c.transaction-tx.ensures.begun at c.in_ok-reply.ensures.served were in (
-      was_open,
-      λ sound. registry_left mid db _ (c.in_ok-reply.ensures.goes_on were).ready is
-          ((c.in_ok-reply.ensures.settles (subst AreTeamsSound (sym seen) (teams_sound old (c.requires.rests.in_form first was_open) sound.grants)) (subst (λ (d : Contents). NeedsFor c.args.request.now.what d) (sym seen) sound.needs) were).holds ∙ ap (settled_by c.args.request.now) seen),
-    )) before c.commit.ensures.survives in
+    let was_open : IsTrue old.is_open = rw c.transaction-tx.ensures.begun at c.in_ok-reply.ensures.served were in
+    let whole_left = λ (d : Contents). registry_left mid db d (c.in_ok-reply.ensures.goes_on were).ready is in
+    record {
+      was_open = was_open;
+      form = (whole_left (stored mid) refl).0;
+      query = λ asks. (whole_left (stored old) (c.in_ok-reply.ensures.unchanged were (never_enters c.args.request.now asks (Ok c.in_ok-reply.reply)) ∙ seen)).1;
+      settled = λ sound. (whole_left (settled_by c.args.request.now (stored old))
+          ((c.in_ok-reply.ensures.settles (subst AreTeamsSound (sym seen) (teams_sound old (c.requires.rests.in_form first was_open) sound.grants)) (subst (λ (d : Contents). NeedsFor c.args.request.now.what d) (sym seen) sound.needs) were).holds ∙ ap (settled_by c.args.request.now) seen)).1;
+    }) before c.commit.ensures.survives in
     let same : c.commit.new.tx.0 ≡ c.conn-2-1.given.0 = search rules in
     subst (λ h. Survives old (state g.S.Store h) P) same whole
 
@@ -123,18 +128,22 @@ returns-in-Err-clause-survives g c =
     let old = state g.S.Store c.args.conn.now in
     let mid = state g.S.Store c.identify_and_answer.new.tx.conn.now in
     let new = state g.S.Store c.commit.new.tx.0 in
-    let P = λ (db : Trees). IsTrue old.is_open × (HoldsSoundFor c.args.request.now old → IsRegistryOf db (settled_by c.args.request.now (stored old))) in
+    let P : Trees → Type 0 = LeavesOne c.args.request.now old in
     let before = survives_begin g.S.Store c.args.conn.now mid _ (rw c.transaction-tx.ensures.begun at c.identify_and_answer.ensures.stays.survives) in
     let seen : stored (state g.S.Store c.transaction-tx.result.conn.now) ≡ stored old = rw c.transaction-tx.ensures.begun refl in
     let whole : Survives old new P = survives_then old mid new _ _ P (λ _ _ none. absurd none)
     (λ clean db is.
     let were : HasCleanDisk mid = omega (arith, c.commit.ensures.survives.clean, clean) in
     let first : HasCleanDisk old = omega (arith, (rw c.transaction-tx.ensures.begun at c.identify_and_answer.ensures.stays.survives).clean, were) in
-    let was_open : IsTrue old.is_open = rw c.transaction-tx.ensures.begun at c.in_ok-reply.ensures.served were in (
-      was_open,
-      λ sound. registry_left mid db _ (c.in_ok-reply.ensures.goes_on were).ready is
-          ((c.in_ok-reply.ensures.settles (subst AreTeamsSound (sym seen) (teams_sound old (c.requires.rests.in_form first was_open) sound.grants)) (subst (λ (d : Contents). NeedsFor c.args.request.now.what d) (sym seen) sound.needs) were).holds ∙ ap (settled_by c.args.request.now) seen),
-    )) before c.commit.ensures.survives in
+    let was_open : IsTrue old.is_open = rw c.transaction-tx.ensures.begun at c.in_ok-reply.ensures.served were in
+    let whole_left = λ (d : Contents). registry_left mid db d (c.in_ok-reply.ensures.goes_on were).ready is in
+    record {
+      was_open = was_open;
+      form = (whole_left (stored mid) refl).0;
+      query = λ asks. (whole_left (stored old) (c.in_ok-reply.ensures.unchanged were (never_enters c.args.request.now asks (Ok c.in_ok-reply.reply)) ∙ seen)).1;
+      settled = λ sound. (whole_left (settled_by c.args.request.now (stored old))
+          ((c.in_ok-reply.ensures.settles (subst AreTeamsSound (sym seen) (teams_sound old (c.requires.rests.in_form first was_open) sound.grants)) (subst (λ (d : Contents). NeedsFor c.args.request.now.what d) (sym seen) sound.needs) were).holds ∙ ap (settled_by c.args.request.now) seen)).1;
+    }) before c.commit.ensures.survives in
     let same : c.commit.new.tx.0 ≡ c.conn-2-1.given.0 = search rules in
     subst (λ h. Survives old (state g.S.Store h) P) same whole
 
