@@ -3,6 +3,7 @@ mod CommitFacts
 mod CountingFacts
 mod EarlyFacts
 mod GrantFacts
+mod HiddenFacts
 mod KeepingFacts
 mod LifeFacts
 mod LivingFacts

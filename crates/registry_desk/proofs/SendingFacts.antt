@@ -47,11 +47,12 @@ use Rattle.registry_tables.specs.Teams.{GrantsInScope}
 use Rattle.registry_tables.specs.Walks.{IsLeftAlone}
 use Rattle.registry_laws_history.specs.Answers as answers
 use Rattle.registry_laws_history.specs.Answers.{answer, packument_in, reply_to}
-use Rattle.registry_laws_history.specs.History.{Entry}
+use Rattle.registry_laws_history.specs.History.{Entry, after}
 use Rattle.registry_laws_history.specs.Runs.{IsAnswer, Outcome, accepts, enters, entered, grown, next}
 use Rattle.registry_laws_history.specs.Says.{Says}
 use Rattle.registry_laws_history.proofs.RunFacts.{history_says}
 use Rattle.registry_laws_hidden.specs.Laws.{RepliesAreAlike}
+use Rattle.registry_laws_hidden.specs.Without.{state_without}
 use Rattle.registry_desk.specs.Caches.{HasAnswers, KeepNoMore, KeepsNoMore}
 use Rattle.registry_desk.specs.Lives.{HasAnswered}
 use Rattle.registry_desk.specs.Promises.{Answered, HoldsReferences, HoldsSoundFor, LeavesOne, Served}
@@ -64,6 +65,7 @@ use Rattle.registry_desk.proofs.AnswerFacts.{refused, unrefused, versions_are}
 use Rattle.registry_desk.proofs.KeptFacts.{right_unchanged}
 use Rattle.registry_desk.proofs.CommitFacts.{commit_rests, ready_again, registry_left, rests_sure, undone_open, undone_rests, undone_stored}
 use Rattle.registry_desk.proofs.LivingFacts.{live_so}
+use Rattle.registry_desk.proofs.HiddenFacts.{leaves_the_rest, same_answer}
 use Rattle.registry_desk.proofs.SettlingFacts.{settled_next}
 use Rattle.registry_desk.proofs.StoredFacts.{refers_for_one}
 
@@ -144,10 +146,6 @@ module _ (r : Request) (query : is_command r.what ≡ false) where
     settled = λ sound. it.1.1 ∙ sym (query_settles (stored old));
   }
 
-same_answer : (S T : State) (r : Request) (o : Outcome) → answer S r ≡ answer T r → IsAnswer S r o → IsAnswer T r o
-same_answer S T r (Ok a) same is = is ∙ same
-same_answer S T r (Err f) same is = tt
-
 -- a query that leaves all that was stored is answered as `apply` answers it
 module _ {S : Type 0} (store : Ghosts S) (old : Shown) (h : Held S) (settled : (db : Trees) → IsTrue (state store h).is_open → (state store h).may_leave db → db ≡ (state store h).committed.trees)
     (replies : RepliesAreAlike) (r : Request) (query : is_command r.what ≡ false) (left : LeavesAll old (state store h)) where
@@ -167,7 +165,10 @@ module _ {S : Type 0} (store : Ghosts S) (old : Shown) (h : Held S) (settled : (
             (subst (Says g) (sym is ∙ sym (state_stays clean on)) (history_says g legal));
         hidden = λ needs clean g legal is p stranger quiet.
             let refers = subst (λ (T : State). IsSound T.access) (sym is) (history_says g legal).sound in
-            same_answer _ _ r o (replies g p r legal stranger quiet) (subst (λ (T : State). IsAnswer T r o) is (told (refers_for_one r old refers needs) clean));
+            let answered = subst (λ (T : State). IsAnswer T r o) is (told (refers_for_one r old refers needs) clean) in (
+              same_answer _ _ r o (replies g p r legal stranger quiet) answered,
+              λ on. ap (λ (T : State). state_without T p) (state_stays clean on ∙ is ∙ sym (query_next r query (after g) o)) ∙ leaves_the_rest g p r o legal stranger quiet answered,
+            );
         grants = λ sound clean on holds. subst GrantsInScope (sym (left.same clean on)) holds;
         needs = λ sound clean on holds. subst HoldsNeeds (sym (left.same clean on)) holds;
         refers = λ sound clean on holds. subst HoldsReferences (sym (left.same clean on)) holds;

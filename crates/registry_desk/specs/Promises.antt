@@ -12,7 +12,8 @@
 -- | stored    | r   | and as all outcomes say                                         | S, open   |
 -- | moves     | a   | so is the registry's state                                      | S, open   |
 -- | history   | a r | a legal history of what was held goes on                        | N, open   |
--- | hidden    | a   | who may not read a package is answered as if it weren't there   | N         |
+-- | hidden    | a r | who may not read a package is answered as if it weren't there,  | N         |
+-- |           |     | and leaves the rest as if it weren't                            | N, open   |
 -- | headline  | r   | the theorem, of a registry of which nothing was asked           | N, open   |
 -- | grants    | a r | grants stay in scope                                            | S, open   |
 -- | needs     | a r | the needs that are stored stay those of live versions           | S, open   |
@@ -36,7 +37,7 @@
 --   open  the registry is open at the exit: a fault of the disk may have shut it.
 -- A new registry has S and N of every request (`HoldsSound`), and every request keeps that by
 -- `grants` and `needs`.
-use Rattle.std.specs.Prelude.{◌≡◌, false, Bool, List, IfErr, IfOk, OnOk, Result, Ok, Err, IsTrue}
+use Rattle.std.specs.Prelude.{◌≡◌, false, Bool, List, ◌∷◌, IfErr, IfOk, OnOk, Result, Ok, Err, IsTrue}
 use Rattle.std.specs.List.{AllByRecursion}
 use Rattle.sqlite_trees.specs.Tree.{Trees}
 use Rattle.sqlite.specs.State.{State as Shown, HasCleanDisk, Survives}
@@ -49,7 +50,7 @@ use Rattle.registry_names.specs.declared.stop.Fault.{Fault}
 use Rattle.registry_names.specs.declared.stop.Fault.TheVariants.{Database}
 use Rattle.registry_rules.specs.Actions.{is_command}
 use Rattle.registry_rules.specs.Kept.{IsKept, IsSound}
-use Rattle.registry_rules.specs.State.{nothing}
+use Rattle.registry_rules.specs.State.{State, nothing}
 use Rattle.registry_rules.specs.declared.request.Request.{Request}
 use Rattle.registry_rows.specs.Faults.{as_fault}
 use Rattle.registry_tables.specs.Contents.{Contents, contents, registry_of}
@@ -109,6 +110,20 @@ pub record LeavesOne (r : Request) (old : Shown) (db : Trees) : Type 0 where
   pub query : is_command r.what ≡ false → contents db ≡ stored old
   pub settled : HoldsSoundFor r old → contents db ≡ settled_by r (stored old)
 
+-- ---- a package that a caller doesn't read
+
+-- T agrees, in all but the package, with what the request makes of S without it
+abbrev pub LeavesTheRest : State → Request → Outcome → Text → State → Type 0
+LeavesTheRest S r o p T = state_without T p ≡ state_without (next (state_without S p) r o) p
+
+-- Along a run from S, each request of a caller who has no level on the package at that point, or of
+-- nobody, and that doesn't show it, is answered as on the registry without it, and leaves the rest
+-- as it would there
+abbrev pub HideAlong : State → Text → List Request → List Outcome → Type 0
+HideAlong S p (r ∷ rs) (o ∷ os) =
+    (IsStranger S r.who p → is_shown S r p ≡ false → IsAnswer (state_without S p) r o × LeavesTheRest S r o p (next S r o)) × HideAlong (next S r o) p rs os
+HideAlong S p _ _ = Unit {0}
+
 -- what an error says of whether a registry is open: only a shut one is closed
 abbrev pub seen_by : Error → Result Bool Fault
 seen_by (SqliteFailure Closed) = Ok false
@@ -147,10 +162,12 @@ module _ (old new : Shown) where
       → Says (grown h (registry_in old) r o) (registry_in new)
 
   -- of what a legal history led to: a caller who has no level on a package, or nobody, is answered
-  -- as on the registry without it, except by the two replies that show it
+  -- as on the registry without it, except by the two replies that show it. What is held then agrees,
+  -- in all but the package, with what the request makes of the registry without it
   abbrev pub HidesUnread : Request → Outcome → Type 0
   HidesUnread r o = NeedsFor r.what (stored old) → HasCleanDisk new → (h : List Entry) → Legal h → registry_in old ≡ after h
-      → (p : Text) → IsStranger (after h) r.who p → is_shown (after h) r p ≡ false → IsAnswer (state_without (after h) p) r o
+      → (p : Text) → IsStranger (after h) r.who p → is_shown (after h) r p ≡ false
+      → IsAnswer (state_without (after h) p) r o × (IsTrue new.is_open → LeavesTheRest (after h) r o p (registry_in new))
 
   -- where this held of all that was stored, it still does
   abbrev pub Keeps : Request → (Contents → Type 0) → Type 0
@@ -196,6 +213,12 @@ module _ (old new : Shown) where
   abbrev pub WritesHistory : List Request → List Outcome → Type 0
   WritesHistory rs os = NeedsForEach rs (stored old) → HasCleanDisk new → IsTrue new.is_open → (h : List Entry) → Legal h → registry_in old ≡ after h
       → Says (history h (registry_in old) rs os) (registry_in new)
+
+  -- of what a legal history led to: so are all requests of the run, each on what the earlier ones
+  -- left
+  abbrev pub HidesUnreadRun : List Request → List Outcome → Type 0
+  HidesUnreadRun rs os = NeedsForEach rs (stored old) → HasCleanDisk new → (h : List Entry) → Legal h → registry_in old ≡ after h
+      → (p : Text) → HideAlong (after h) p rs os
 
   -- an open registry answers, until a fault shuts it, and a shut one answers only by faults
   abbrev pub ServedRun : List Outcome → Type 0

@@ -14,7 +14,7 @@ ghost use Rattle.registry_tables.specs.Fresh.{fresh};
 ghost use Rattle.registry_tables.specs.Needs.{HoldsNeeds};
 ghost use Rattle.registry_tables.specs.Teams.{GrantsInScope};
 ghost use Rattle.registry_laws_history.specs.Headline.{Headline};
-ghost use Rattle.registry_desk.specs.Promises.{Answered, GrowsHistory, HasHeadline, HidesUnread, HoldsReferences, HoldsSound, Keeps, KeepsForm, KeepsFormRun, KeepsRun, KeepsStored, KeepsSure, LooksOpen, Moves, RanTo, Served, ServedRun, ShutByFaults, StaysSure, Stepped, Stored, StoppedByDisk, SurvivesOne, SurvivesRun, Unchanged, WasOpen, WritesHistory};
+ghost use Rattle.registry_desk.specs.Promises.{Answered, GrowsHistory, HasHeadline, HidesUnread, HidesUnreadRun, HoldsReferences, HoldsSound, Keeps, KeepsForm, KeepsFormRun, KeepsRun, KeepsStored, KeepsSure, LooksOpen, Moves, RanTo, Served, ServedRun, ShutByFaults, StaysSure, Stepped, Stored, StoppedByDisk, SurvivesOne, SurvivesRun, Unchanged, WasOpen, WritesHistory};
 ghost use Rattle.registry_desk.specs.Promises as promises;
 ghost use Rattle.registry_desk.specs.Resting.{IsRegistryOf, Rests, end_stored};
 ghost use Rattle.registry_desk.specs.Adopted.{CanBeAdopted, IsUndone};
@@ -27,7 +27,6 @@ use crate::answer::identify_and_answer;
 use crate::cache::{Caches, keep_reply};
 use crate::sending::sent;
 use crate::texts::queried;
-use registry_laws_hidden::laws::unread_packages_are_unheard_of;
 use registry_names::{ByteOut, Fault};
 use registry_packument::{Opener, Sent};
 use registry_rows::{commit, fault_of};
@@ -158,7 +157,6 @@ impl<S: Alter> Registry<S> {
         ensures durable { StaysSure (state S.Store self.new) }
     {
         requests_are_in_form(request);
-        unread_packages_are_unheard_of();
         answer_request(alloc, &mut self.conn, &mut self.caches, request)
     }
 
@@ -223,6 +221,8 @@ impl<S: Alter> Registry<S> {
         ensures headline { IfOk result (λ outcomes. HasHeadline (state S.Store self.old)
             (state S.Store self.new) requests.now outcomes.items) }
         ensures history { IfOk result (λ outcomes. WritesHistory (state S.Store self.old)
+            (state S.Store self.new) requests.now outcomes.items) }
+        ensures hidden { IfOk result (λ outcomes. HidesUnreadRun (state S.Store self.old)
             (state S.Store self.new) requests.now outcomes.items) }
         ensures ran { IfOk result (λ outcomes. RanTo (state S.Store self.old)
             (state S.Store self.new) requests.now outcomes.items) }

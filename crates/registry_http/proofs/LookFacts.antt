@@ -13,6 +13,7 @@ use Rattle.registry_tables.specs.Needs.{HoldsNeeds}
 use Rattle.registry_tables.specs.Teams.{GrantsInScope}
 use Rattle.registry_laws_history.specs.Runs.{grown}
 use Rattle.registry_laws_history.specs.Says.{Says}
+use Rattle.registry_laws_hidden.specs.Without.{state_without}
 use Rattle.registry_desk.specs.Promises.{HoldsReferences, KeepsStored, WasOpen}
 use Rattle.registry_desk.specs.Resting.{IsRegistryOf}
 use Rattle.registry_http.specs.Services.{Applies, EndsBy}
@@ -47,7 +48,9 @@ looked-applies old mid new r met told opened keeps look a =
       history = λ needs clean on h legal is.
           subst (λ (c : Contents). Says (grown h (registry_in old) r (Err told)) (registry_of c)) (sym (keeps clean on))
           (a.history needs (was clean) (opened clean on) h legal is);
-      hidden = λ needs clean. a.hidden needs (was clean);
+      hidden = λ needs clean h legal is p stranger quiet.
+          let before = a.hidden needs (was clean) h legal is p stranger quiet in
+          (before.0, λ on. ap (λ (c : Contents). state_without (registry_of c) p) (keeps clean on) ∙ before.1 (opened clean on));
       grants = λ sound clean on holds. subst GrantsInScope (sym (keeps clean on)) (a.grants sound (was clean) (opened clean on) holds);
       needs = λ sound clean on holds. subst HoldsNeeds (sym (keeps clean on)) (a.needs sound (was clean) (opened clean on) holds);
       refers = λ sound clean on holds. subst HoldsReferences (sym (keeps clean on)) (a.refers sound (was clean) (opened clean on) holds);

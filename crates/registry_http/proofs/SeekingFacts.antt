@@ -32,11 +32,16 @@ module _ (old mid new : Shown) (r : Request) (same : HasCleanDisk new → IsTrue
   answered_before (Err fault) served answered sound clean = tt
 
   -- and a package that isn't read is as hidden as it was
-  hidden_before : (o : Outcome) → Served mid new o → HidesUnread mid new r o → HidesUnread old new r o
-  hidden_before (Ok reply) served hidden needs clean h legal is p stranger quiet =
+  hidden_before : (o : Outcome) → Served mid new o → WasOpen mid new → HidesUnread mid new r o → HidesUnread old new r o
+  hidden_before (Ok reply) served opened hidden needs clean h legal is p stranger quiet =
       let was = same clean (served clean).0 in
       hidden (subst (λ (c : Contents). NeedsFor r.what c) (sym was) needs) clean h legal (ap registry_of was ∙ is) p stranger quiet
-  hidden_before (Err fault) served hidden needs clean h legal is p stranger quiet = tt
+  hidden_before (Err fault) served opened hidden needs clean h legal is p stranger quiet = (
+    tt,
+    λ on.
+        let was = same clean (opened clean on) in
+        (hidden (subst (λ (c : Contents). NeedsFor r.what c) (sym was) needs) clean h legal (ap registry_of was ∙ is) p stranger quiet).1 on,
+  )
 
   -- a reply comes from a registry that was open before the look-up
   served_before : (o : Outcome) → (HasCleanDisk new → IsTrue mid.is_open → IsTrue old.is_open) → Served mid new o → Served old new o
@@ -63,7 +68,7 @@ sought_applies old mid new r o opened keeps look a =
           let was = last clean on in
           subst (λ (c : Contents). Says (grown h (registry_of c) r o) (registry_in new)) was
           (a.history (subst (λ (c : Contents). NeedsFor r.what c) (sym was) needs) clean on h legal (ap registry_of was ∙ is));
-      hidden = hidden_before old mid new r same o a.served a.hidden;
+      hidden = hidden_before old mid new r same o a.served a.opened a.hidden;
       grants = λ sound clean on holds.
           let was = last clean on in
           a.grants (sound_again old mid r was sound) clean on (subst GrantsInScope (sym was) holds);
