@@ -1,11 +1,10 @@
 -- A registry's schema is plain: it has nothing that a comparison of schemas passes over.
-use Rattle.std.proofs.Common.{◌≡◌, Bool, true, ◌&&◌, List, [], ◌∷◌, refl, sym, true≢false}
+use Rattle.std.proofs.Common.{◌≡◌, Bool, false, true, ◌&&◌, List, [], ◌∷◌, refl, sym, true≢false}
 use Rattle.std.specs.List.{All, list_all}
 use Rattle.std.proofs.lemmas.Bool.{and_parts}
 use Rattle.std.proofs.lemmas.List.Elements.{All-cons, All-nil}
 use Rattle.sqlite_schema.specs.declared.schema.Column.{Column}
 use Rattle.sqlite_schema.specs.declared.schema.Table.{Table}
-use Rattle.sqlite_sql.specs.Ops.{is_null}
 use Rattle.sqlite_value.specs.declared.value.Value.{Value}
 use Rattle.sqlite_value.specs.declared.value.Value.TheVariants.{Null, Int, Real, Text, Blob}
 use Rattle.registry_rules.specs.State.{is_empty}
@@ -13,6 +12,13 @@ use Rattle.registry_migration.specs.Plain.{IsPlain, IsPlainColumn, IsPlainTable}
 use Rattle.registry_tables.specs.Schema.{schema}
 
 -- ---- plain
+
+abbrev is_null : Value → Bool
+is_null Null = true
+is_null (Int n) = false
+is_null (Real x) = false
+is_null (Text t) = false
+is_null (Blob b) = false
 
 null_is : (v : Value) → is_null v ≡ true → v ≡ Null
 null_is Null is = refl
