@@ -6,17 +6,31 @@ ghost use Rattle.registry_rules.specs.declared.reply.Reply.{Reply};
 ghost use Rattle.registry_rules.specs.declared.request.Request.{Request};
 ghost use Rattle.registry_service.specs.Servings.{IsTurnWith};
 ghost use Rattle.registry_service.specs.Turns as spec;
-ghost use Rattle.registry_service.specs.Turns.{IsAnswered, Turns, bad_input, no_memory, request};
+ghost use Rattle.registry_service.specs.Turns.{IsAnswered, KeepsAnswers, Turns, bad_input, no_memory, request};
 
 use crate::answer::Answer;
 use crate::request::request_of;
-use registry_names::{Fault, Moment, Refusal, Stop};
+use registry_names::{Fault, Moment, Refusal, Stop, Text};
 use registry_rules::{Reply, Request};
 use registry_wire::Wanted;
 use std::alloc::Global;
 
 /// The most requests of one connection.
 pub const REQUESTS_PER_CONNECTION: u32 = 1000;
+
+/// A command beside the server, as it was answered.
+#[derive(Clone, Copy)]
+pub struct AnsweredCommand<'a> {
+    /// Who asked: `operator`, or the name of a user. Empty where nobody is known.
+    pub caller: &'a str,
+    /// The subcommand's name, and those of its arguments that may be seen. Empty where the words of
+    /// the command are no line.
+    pub words: &'a [Text],
+    /// The exit status of its program.
+    pub status: u8,
+    /// How many bytes it prints.
+    pub length: u64,
+}
 
 /// Where requests are answered, one after the other.
 pub trait Service {
@@ -46,6 +60,23 @@ pub trait Service {
     /// default does nothing.
     fn note(&mut self, _wanted: Option<&Wanted>, _turned: &Turned)
         ensures { self.new ≡ self.old }
+    {}
+
+    /// A command beside the server was answered. Its guests call it once for each, after the call of
+    /// [`answer`](Service::answer), where it has one, and before anything of the answer is sent. What
+    /// [`note`](Service::note) says of an implementation is true of this one, too.
+    fn note_command(&mut self, _command: &AnsweredCommand<'_>)
+        ensures { self.new ≡ self.old }
+    {}
+
+    /// The turns of a round are taken. The server of many connections calls it once in each round in
+    /// which it isn't held, before [`rest`](Service::rest).
+    ///
+    /// An implementation may look up what it lacks of what it noted, such as who asked. Whatever it
+    /// answers afterwards, it could have answered without that. The default does nothing.
+    fn look_up(&mut self, _alloc: Global)
+        ensures answers { KeepsAnswers answers self.old self.new }
+        ensures over { over self.new ≡ over self.old }
     {}
 
     /// A round of turns is over. The server of many connections calls it once in each round in
