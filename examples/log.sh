@@ -96,13 +96,31 @@ get /-/user/token/npm_ann_000000001 npm_ann_000000001
 try 'a token in a path is not seen' soon last_is "$log" '- GET /-/*** 404 20'
 get '/kit?token=npm_ann_000000001' npm_ann_000000001
 try 'nor one in a query' soon last_is "$log" 'ann GET /kit?token=*** 404 20'
+get '/kit?token=npm_ann_000000001&at=1' npm_ann_000000001
+try 'what follows it is seen' soon last_is "$log" 'ann GET /kit?token=***&at=1 404 20'
+get /%6epm_ann_000000001 npm_ann_000000001
+try 'nor one that is escaped' soon last_is "$log" 'ann GET /*** 404 20'
+get '/@lab%2fnpm_ann_000000001' npm_ann_000000001
+try 'nor one behind an escaped slash' soon last_is "$log" 'ann GET /@lab%2f*** 404 20'
+get /npm_helper npm_ann_000000001
+try 'a name that begins as a token does is seen' soon last_is "$log" 'ann GET /npm_helper 404 20'
+get "/kit?$(printf '%016000d' 0)" npm_ann_000000001
+try 'a target of 16 KB is cut' soon last_is "$log" "ann GET /kit?$(printf '%0507d' 0)... 404 20"
 get /-/package/kit/dist-tags npm_nobody_0000001
 try 'a token of nobody has no user' soon last_is "$log" '- GET /-/package/kit/dist-tags 401 20'
 send_none
 try 'what is no request has a line' soon last_is "$log" '- - - 400 19'
 registry --operator user-add bob > "$work/out"
-try 'a command beside the server has none' last_is "$log" '- - - 400 19'
-try 'the log holds no token' sh -c "! grep -q npm_ '$log'"
+try 'a command beside the server has a line' soon last_is "$log" 'operator command /user-add/bob 0 12'
+registry --as ann org-create lab ann > "$work/out" 2>&1 || true
+try 'it names the user of --as' soon last_is "$log" 'ann command /org-create/lab/ann 1 18'
+registry --operator token-add bob npm_bob_000000001 > "$work/out"
+try 'the token that is added is not seen' soon last_is "$log" 'operator command /token-add/bob 0 12'
+registry --operator token-new bob > "$work/out"
+try 'nor one that is made' soon last_is "$log" 'operator command /token-add/bob 0 12'
+registry tags kit > "$work/out" 2>&1 || true
+try 'without a user it is the operator' soon last_is "$log" 'operator command /tags/kit 1 18'
+try 'the log holds no token' sh -c "! grep -q -e npm_ann -e npm_bob '$log'"
 try 'its owner alone reads it' [ "$(stat -c %a "$log")" = 600 ]
 
 # ---- a log that is moved away, ends and begins
@@ -110,7 +128,7 @@ try 'its owner alone reads it' [ "$(stat -c %a "$log")" = 600 ]
 mv "$log" "$log.1"
 get /-/package/kit/dist-tags npm_ann_000000001
 try 'a log that was moved away is begun anew' soon has_lines "$log" 1
-try 'and nothing more comes to the old one' last_is "$log.1" '- - - 400 19'
+try 'and nothing more comes to the old one' last_is "$log.1" 'operator command /tags/kit 1 18'
 end
 printf 'half a line' >> "$log"
 serve "$log"

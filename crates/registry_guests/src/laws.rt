@@ -4,6 +4,7 @@ ghost use Rattle.std.specs.Prelude.{ℕ};
 ghost use Rattle.registry_guests.specs.Beside.{AnswersOnce, GuestsFollow, GuestsGoOn, MakeOneHistory, VisitsFollow, beside_guests};
 ghost use Rattle.registry_guests.specs.Controls.{HoldersAskFirst, HoldersHaveAsked, StopsStay};
 ghost use Rattle.registry_guests.specs.GuestPools.{IsWithinAt, StayWithin, new_at};
+ghost use Rattle.registry_guests.specs.Notes.{TokensAreUnseen};
 ghost use Rattle.registry_server.specs.Worlds.{VisitsLead};
 
 use registry_server::Socket;
@@ -47,4 +48,9 @@ pub fn holders_have_asked<S: Socket>()
     ensures first { HoldersAskFirst S.received S.sent S.has_none S.is_ended S.is_broken }
     ensures asked { HoldersHaveAsked S.received S.sent S.has_none S.is_ended S.is_broken }
     ensures stay { StopsStay S.received S.sent S.has_none S.is_ended S.is_broken }
+{}
+
+/// What a service is told of a command that adds a token is the same for every token.
+pub fn added_tokens_are_unseen()
+    ensures { TokensAreUnseen }
 {}

@@ -1,5 +1,5 @@
 mod ColumnFacts
 mod TargetFacts
-mod TokenFacts
+mod MaskFacts
 mod EndFacts
 mod NoteFacts

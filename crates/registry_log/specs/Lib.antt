@@ -1,4 +1,6 @@
+pub mod Targets
 pub mod Lines
 pub mod Waitings
 pub mod Logs
 pub mod Laws
+pub mod TargetLaws

@@ -2,13 +2,15 @@
 use Rattle.std.specs.Prelude.{◌≡◌, ◌≤◌, ◌⊎◌, ◌-◌, ℕ, Bool, true, false, List, [], ◌++◌, Option, Some, None, IfSome, codes, decimal, length, if◌then◌else◌}
 use Rattle.std.specs.Borrow.{Bor}
 use Rattle.registry_names.specs.Texts.{Text}
-use Rattle.registry_names.specs.declared.method.Method.{Method}
 use Rattle.registry_packument.specs.Calendar.{utc_text}
 use Rattle.registry_wire.specs.declared.wanted.Wanted.{Wanted}
 use Rattle.registry_service.specs.HttpAnswers.{body_bytes}
+use Rattle.registry_service.specs.declared.turning.AnsweredCommand.{AnsweredCommand}
 use Rattle.registry_service.specs.declared.turning.Turned.{Turned}
-use Rattle.registry_log.specs.Lines.{line_with}
+use Rattle.registry_log.specs.Lines.{joined, line_with}
 use Rattle.registry_log.specs.Waitings.{Queue, adding, has_room, losing, queue, settling}
+use Rattle.registry_log.specs.declared.entry.Kind.{Kind}
+use Rattle.registry_log.specs.declared.entry.Kind.TheVariants.{Request, Command, Unread}
 use Rattle.registry_log.specs.declared.log.Answered.{Answered}
 
 -- what waits to be written, and what the registry answered that wasn't noted yet
@@ -36,10 +38,10 @@ abbrev pub micros_in : Option Answered → Option ℕ
 micros_in None = None
 micros_in (Some a) = Some a.micros
 
--- the method of the request, if one was read
-abbrev pub method_in : Option (Bor Wanted) → Option Method
-method_in None = None
-method_in (Some w) = Some w.now.method
+-- a request with its method, if one was read
+abbrev pub kind_in : Option (Bor Wanted) → Kind
+kind_in None = Unread
+kind_in (Some w) = Request w.now.method
 
 abbrev pub target_in : Option (Bor Wanted) → List ℕ
 target_in None = []
@@ -48,7 +50,12 @@ target_in (Some w) = w.now.target
 -- The line of a turn at this moment: who asked, what was asked for, and what was answered.
 abbrev pub turn_line : ℕ → Option Answered → Option (Bor Wanted) → Turned → List ℕ
 turn_line at answered wanted turned =
-    line_with at (user_in answered) (method_in wanted) (target_in wanted) turned.answer.status (length (body_bytes turned.answer.body)) (micros_in answered)
+    line_with at (user_in answered) (kind_in wanted) (target_in wanted) turned.answer.status (length (body_bytes turned.answer.body)) (micros_in answered)
+
+-- The line of a command at this moment: who asked, the words of it that may be seen, and what its
+-- program ends with.
+abbrev pub command_line : ℕ → Option Answered → AnsweredCommand → List ℕ
+command_line at answered c = line_with at c.caller.now Command (joined c.words.now) c.status c.length (micros_in answered)
 
 -- ---- lines that aren't a request's
 
@@ -89,6 +96,12 @@ pub record NotesTurn (wanted : Option (Bor Wanted)) (turned : Turned) (old new :
   pub at : ℕ
   pub asked : IfSome old.answered (λ a. at ≡ a.at)
   pub noted : IsNoted (turn_line at old.answered wanted turned) old.waiting new.waiting
+  pub taken : new.answered ≡ None
+
+-- a command was noted: exactly its line waits, or is lost
+pub record NotesCommand (c : AnsweredCommand) (old new : Logging) : Type 0 where
+  pub at : ℕ
+  pub noted : IsNoted (command_line at old.answered c) old.waiting new.waiting
   pub taken : new.answered ≡ None
 
 -- a line that isn't a request's was noted, and what waits was written

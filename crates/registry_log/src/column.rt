@@ -57,7 +57,7 @@ fn push_column(line: &mut Vec<u8>, text: &[u8]) -> Result<(), AllocError>
     }
 }
 
-fn push_seen(line: &mut Vec<u8>, text: &[u8]) -> Result<(), AllocError>
+pub(crate) fn push_seen(line: &mut Vec<u8>, text: &[u8]) -> Result<(), AllocError>
     ensures { OnOk result (line.new.items ≡ line.old.items ++ map spec.seen_byte text.now) }
 {
     for byte in text {
@@ -66,8 +66,8 @@ fn push_seen(line: &mut Vec<u8>, text: &[u8]) -> Result<(), AllocError>
     Ok(())
 }
 
-/// What is put for a byte: itself, or `?` where it can't be seen or is a space.
-pub(crate) fn seen_byte(byte: u8) -> u8
+// What is put for a byte: itself, or `?` where it can't be seen or is a space.
+fn seen_byte(byte: u8) -> u8
     ensures { result ≡ spec.seen_byte byte }
 {
     if byte.is_ascii_graphic() { byte } else { b'?' }

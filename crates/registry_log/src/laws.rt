@@ -1,6 +1,7 @@
 //! Laws of lines. Each is the contract of a function that does nothing.
 
-ghost use Rattle.registry_log.specs.Laws.{LinesAreSingle, LinesHaveColumns, TokensAreHidden};
+ghost use Rattle.registry_log.specs.Laws.{LinesAreSingle, LinesHaveColumns};
+ghost use Rattle.registry_log.specs.TargetLaws.{OthersAreShown, RevokedTokensAreHidden, TargetsAreShort, TokensAreHidden};
 
 /// Whatever a client sends, the line of a request is one line, and has seven columns: a reader who
 /// splits it at spaces finds them as they were put.
@@ -9,7 +10,21 @@ pub fn lines_have_seven_columns()
     ensures single { LinesAreSingle }
 {}
 
-/// Where a token may stand in a target, neither it nor anything after it is in the log.
+/// Of no target more than 515 bytes are put: 512 of what is shown, and what says that it is cut.
+pub fn targets_are_short()
+    ensures { TargetsAreShort }
+{}
+
+/// Where a part of a target begins with a token of npm's, plain or escaped, the line is the same
+/// whatever token it is, and where npm revokes a token it is the same whatever stands there. So nobody
+/// who reads the line learns anything of the token from there.
 pub fn tokens_are_hidden()
-    ensures { TokensAreHidden }
+    ensures tokens { TokensAreHidden }
+    ensures revoked { RevokedTokensAreHidden }
+{}
+
+/// A target in which no token stands there is shown as it came, up to where it is cut: so are names,
+/// also those that begin with `npm_` and are shorter than a token.
+pub fn others_are_shown()
+    ensures { OthersAreShown }
 {}

@@ -1,4 +1,5 @@
-//! A log of the requests that a registry answered over HTTP, with one line for each request.
+//! A log of the requests that a registry answered over HTTP, and of the commands beside its server,
+//! with one line for each.
 //!
 //! A [`LoggedService`] is a registry as a service, with or without a log. Contracts see the
 //! registry alone, so everything that is promised of it is promised with a log, too. What a turn
@@ -17,7 +18,7 @@ mod sink;
 mod target;
 mod waiting;
 
-pub use crate::entry::Entry;
+pub use crate::entry::{Entry, Kind};
 pub use crate::log::Log;
 pub use crate::log_clock::LogClock;
 pub use crate::logged_service::LoggedService;

@@ -1,17 +1,18 @@
 //! A log of what was answered.
 
 ghost use Rattle.std.specs.Prelude.{◌≡◌, ◌≤◌, [], length, string_bytes, None, IfErr, IfOk, IfSome, if◌then◌else◌};
+ghost use Rattle.registry_log.specs.Lines as lines;
 ghost use Rattle.registry_log.specs.Logs as spec;
-ghost use Rattle.registry_log.specs.Logs.{IsPut, IsWritten, NotesTurn, Remembers, Rests, SaysLine, logging, turn_line};
+ghost use Rattle.registry_log.specs.Logs.{IsPut, IsWritten, NotesCommand, NotesTurn, Remembers, Rests, SaysLine, logging, turn_line};
 ghost use Rattle.registry_log.specs.Waitings.{queue};
 
-use crate::entry::Entry;
+use crate::entry::{Entry, Kind};
 use crate::log_clock::LogClock;
 use crate::sink::LineSink;
 use crate::waiting::Waiting;
-use registry_names::{Fault, Ident, Method, Moment};
+use registry_names::{Fault, Ident, Moment, Text};
 use registry_packument::moment_text;
-use registry_service::Turned;
+use registry_service::{AnsweredCommand, Turned};
 use registry_wire::Wanted;
 use std::alloc::{AllocError, Global};
 use std::marker::Model;
@@ -106,11 +107,24 @@ impl<K: LogClock, W: LineSink> Log<K, W> {
         }
     }
 
+    /// A command beside the server was answered. Its line, at the present moment, waits. It is lost
+    /// where there is no memory or no room for it.
+    pub fn note_command(&mut self, command: &AnsweredCommand<'_>)
+        ensures { NotesCommand command.now self.old self.new }
+    {
+        let answered = self.answered.take();
+        let at = self.clock.moment();
+        match command_line(self.alloc, at, &answered, command) {
+            Ok(line) => self.add(line.as_slice()),
+            Err(_) => self.waiting.lose(1),
+        }
+    }
+
     /// A round of turns is over: what waits is written.
     pub fn rest(&mut self)
         ensures { Rests self.old self.new }
     {
-        // A command beside the server is answered, too, and has no line.
+        // What was answered and noted by nobody has no line.
         self.answered = None;
         self.write();
     }
@@ -203,13 +217,47 @@ fn line(
     let entry = Entry {
         at,
         user: user_in(answered),
-        method: method_in(wanted),
+        kind: kind_in(wanted),
         target: target_in(wanted),
         status: turned.answer.status.as_u16(),
         length: turned.answer.body.as_slice().len() as u64,
         micros: micros_in(answered),
     };
     entry.line(alloc)
+}
+
+// The line of a command at this moment.
+fn command_line(
+    alloc: Global,
+    at: Moment,
+    answered: &Option<Answered>,
+    command: &AnsweredCommand<'_>,
+) -> Result<Vec<u8>, Fault>
+    ensures { IfOk result (λ line. line.items ≡ spec.command_line at answered.now command.now) }
+{
+    let words = joined(alloc, command.words)?;
+    let entry = Entry {
+        at,
+        user: command.caller,
+        kind: Kind::Command,
+        target: words.as_slice(),
+        status: u16::from(command.status),
+        length: command.length,
+        micros: micros_in(answered),
+    };
+    entry.line(alloc)
+}
+
+// Words, with a `/` before each.
+fn joined(alloc: Global, words: &[Text]) -> Result<Vec<u8>, AllocError>
+    ensures { IfOk result (λ text. text.items ≡ lines.joined words.now) }
+{
+    let mut text = Vec::new(alloc);
+    for word in words {
+        text.push(b'/')?;
+        text.extend_from_slice(word.as_str().as_bytes())?;
+    }
+    Ok(text)
 }
 
 // The user who asked. Empty where the registry wasn't asked, or not by a user.
@@ -242,13 +290,13 @@ fn micros_in(answered: &Option<Answered>) -> Option<u64>
     }
 }
 
-// The method of a request, if one was read.
-fn method_in(wanted: Option<&Wanted>) -> Option<Method>
-    ensures { result ≡ spec.method_in wanted.entry }
+// A request with its method, if one was read.
+fn kind_in(wanted: Option<&Wanted>) -> Kind
+    ensures { result ≡ spec.kind_in wanted.entry }
 {
     match wanted {
-        Some(wanted) => Some(wanted.method),
-        None => None,
+        Some(wanted) => Kind::Request(wanted.method),
+        None => Kind::Unread,
     }
 }
 

@@ -11,7 +11,7 @@ use crate::sink::LineSink;
 use registry_http::RegistryService;
 use registry_names::{Fault, Ident};
 use registry_rules::{Credential, Reply, Request};
-use registry_service::{Service, Turned};
+use registry_service::{AnsweredCommand, Service, Turned};
 use registry_wire::Wanted;
 use sqlite::Alter;
 use std::alloc::Global;
@@ -99,6 +99,13 @@ impl<S: Alter, K: LogClock, W: LineSink> Service for LoggedService<S, K, W> {
     fn note(&mut self, wanted: Option<&Wanted>, turned: &Turned) {
         match &mut self.log {
             Some(log) => log.note(wanted, turned),
+            None => {}
+        }
+    }
+
+    fn note_command(&mut self, command: &AnsweredCommand<'_>) {
+        match &mut self.log {
+            Some(log) => log.note_command(command),
             None => {}
         }
     }

@@ -54,10 +54,6 @@ end_of (Ok reply) last closes = if last then Some Limit else (if closes then Som
 abbrev pub Answering : Type 0 → Type 1
 Answering D = D → Request → Outcome → D → Type 0
 
--- whatever is answered by what a service has become, it could have answered before
-abbrev pub KeepsAnswers : {D : Type 0} → Answering D → D → D → Type 0
-KeepsAnswers {D} answers old new = (r : Request) (o : Outcome) (N : D) → answers new r o N → answers old r o N
-
 -- the answer to input that isn't a request, after which the connection ends
 abbrev pub IsTurnAway : Cause → Outcome → Option End → Type 0
 IsTurnAway (request w at) o ended = ⊥

@@ -6,7 +6,7 @@ ghost use Rattle.registry_rules.specs.declared.reply.Reply.{Reply};
 ghost use Rattle.registry_rules.specs.declared.request.Request.{Request};
 ghost use Rattle.registry_service.specs.Servings.{IsTurnWith};
 ghost use Rattle.registry_service.specs.Turns as spec;
-ghost use Rattle.registry_service.specs.Turns.{IsAnswered, KeepsAnswers, Turns, bad_input, no_memory, request};
+ghost use Rattle.registry_service.specs.Turns.{IsAnswered, Turns, bad_input, no_memory, request};
 
 use crate::answer::Answer;
 use crate::request::request_of;
@@ -53,7 +53,8 @@ pub trait Service {
     ///
     /// The server of many connections calls it, once for each turn: after the call of
     /// [`answer`](Service::answer), where the turn has one, and before anything of the response is
-    /// sent. Neither [`serve`](crate::serve) nor a command beside the server calls it.
+    /// sent. Neither [`serve`](crate::serve) nor a command beside the server calls it; for a command
+    /// there is [`note_command`](Service::note_command).
     ///
     /// An implementation may keep a log of what was answered. It changes nothing that contracts see
     /// of the service, and can't fail. It should not wait, since nobody is answered meanwhile. The
@@ -63,20 +64,11 @@ pub trait Service {
     {}
 
     /// A command beside the server was answered. Its guests call it once for each, after the call of
-    /// [`answer`](Service::answer), where it has one, and before anything of the answer is sent. What
-    /// [`note`](Service::note) says of an implementation is true of this one, too.
+    /// [`answer`](Service::answer), where it has one, and before anything of its output is sent. Where
+    /// there was no memory to read a command, it isn't called. What [`note`](Service::note) says of an
+    /// implementation is true of this one, too.
     fn note_command(&mut self, _command: &AnsweredCommand<'_>)
         ensures { self.new ≡ self.old }
-    {}
-
-    /// The turns of a round are taken. The server of many connections calls it once in each round in
-    /// which it isn't held, before [`rest`](Service::rest).
-    ///
-    /// An implementation may look up what it lacks of what it noted, such as who asked. Whatever it
-    /// answers afterwards, it could have answered without that. The default does nothing.
-    fn look_up(&mut self, _alloc: Global)
-        ensures answers { KeepsAnswers answers self.old self.new }
-        ensures over { over self.new ≡ over self.old }
     {}
 
     /// A round of turns is over. The server of many connections calls it once in each round in

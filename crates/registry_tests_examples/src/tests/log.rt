@@ -5,7 +5,7 @@ ghost use Rattle.std.specs.Prelude.{None, ◌≤◌, length};
 use crate::tests::lists::LAB_KIT;
 use registry_desk::Registry;
 use registry_http::RegistryService;
-use registry_log::{Entry, LineSink, Log, LogClock, LoggedService};
+use registry_log::{Entry, Kind, LineSink, Log, LogClock, LoggedService};
 use registry_names::{Method, Moment, Text};
 use registry_server::{ConnectionState, Progress};
 use registry_service::{Clock, Service};
@@ -82,7 +82,7 @@ fn line_of(alloc: Global, target: &[u8]) -> Result<Vec<u8>, Fail> {
     let entry = Entry {
         at: Moment::clamped(TEN),
         user: "",
-        method: Some(Method::Get),
+        kind: Kind::Request(Method::Get),
         target,
         status: 404,
         length: 20,
@@ -92,16 +92,25 @@ fn line_of(alloc: Global, target: &[u8]) -> Result<Vec<u8>, Fail> {
 }
 
 /// Targets, and how the log shows them.
-static TARGETS: [(&[u8], &str); 10] = [
+static TARGETS: [(&[u8], &str); 19] = [
     (b"/@lab%2fkit", "/@lab%2fkit"),
     (b"/a b\n\x7f\xffc", "/a?b???c"),
     (b"/-/npm/v1/tokens/token/npm_ann_000000001", "/-/npm/v1/***"),
     (b"/-/npm/v1/tokens", "/-/npm/v1/tokens"),
     (b"/-/user/token/whatever/it=is", "/-/***"),
-    (b"/kit?token=npm_ann_000000001&at=1", "/kit?token=***"),
+    (b"/-/%75ser%2Ftoken/whatever", "/-/***"),
+    (b"/kit?token=npm_ann_000000001&at=1", "/kit?token=***&at=1"),
+    (b"/kit?npm_ann_000000001#npm_bob_000000001", "/kit?***#***"),
     (b"/npm_ann_000000001", "/***"),
-    (b"/my_npm_kit", "/my_npm_kit"),
-    (b"/npm-kit/npm_", "/npm-kit/***"),
+    (b"/npm_ann_000000001!/kit", "/***/kit"),
+    (b"/%6epm_ann_00000000%31/kit", "/***/kit"),
+    (b"/@lab%2fnpm_ann_000000001%2Fkit", "/@lab%2f***%2Fkit"),
+    (b"/npm_helper/-/npm_helper-1.0.0.tgz", "/npm_helper/-/***"),
+    (b"/npm_ann_0000001", "/npm_ann_0000001"),
+    (b"/npm_ann_00000001", "/***"),
+    (b"/my_npm_ann_000000001", "/my_npm_ann_000000001"),
+    (b"/npm-kit/npm_", "/npm-kit/npm_"),
+    (b"/%6epm_%zz%", "/%6epm_%zz%"),
     (b"*", "*"),
 ];
 
@@ -120,7 +129,7 @@ fn a_line_has_what_is_known(rt: HostRuntime) -> Result<(), Fail> {
     let whole = Entry {
         at: Moment::clamped(TEN),
         user: "ann",
-        method: Some(Method::Put),
+        kind: Kind::Request(Method::Put),
         target: b"/kit",
         status: 201,
         length: 11,
@@ -135,7 +144,7 @@ fn a_line_has_what_is_known(rt: HostRuntime) -> Result<(), Fail> {
     let none = Entry {
         at: Moment::clamped(0),
         user: "",
-        method: None,
+        kind: Kind::Unread,
         target: b"",
         status: 400,
         length: 22,
@@ -147,6 +156,28 @@ fn a_line_has_what_is_known(rt: HostRuntime) -> Result<(), Fail> {
         str::from_utf8(&line)?,
         "1970-01-01T00:00:00.000Z - - - 400 22 -\n",
     )
+}
+
+#[test]
+fn long_targets_are_cut(rt: HostRuntime) -> Result<(), Fail> {
+    let alloc = rt.alloc();
+    for (count, end) in [(511, ""), (512, "...")] {
+        let mut target = Vec::from_slice(alloc, b"/")?;
+        let mut shown = String::from_str(alloc, "/")?;
+        for at in 0..count {
+            target.push(b'a')?;
+            if at < 511 {
+                shown.push('a')?;
+            }
+        }
+        let line = line_of(alloc, &target)?;
+        let wanted = format!(in alloc;
+            "2026-11-26T10:00:00.000Z - GET {}{end} 404 20 -\n",
+            shown.as_str()
+        )?;
+        same("cut", str::from_utf8(&line)?, wanted.as_str())?;
+    }
+    Ok(())
 }
 
 /// A request with bob's token, one without a token, one that has no route, one with a token of

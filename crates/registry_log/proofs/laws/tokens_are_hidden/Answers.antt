@@ -1,5 +1,5 @@
-use Rattle.registry_log.proofs.TokenFacts.{tokens-hidden}
+use Rattle.registry_log.proofs.MaskFacts.{revoked-hidden, tokens-hidden}
 use Rattle.registry_log.proofs.laws.tokens_are_hidden.Goals as goal
 
 pub returns : goal.returns
-returns c = tokens-hidden
+returns c = record { tokens = tokens-hidden; revoked = revoked-hidden }
