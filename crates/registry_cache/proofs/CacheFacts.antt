@@ -1,5 +1,5 @@
 -- What is kept under each name after each change of a cache.
-use Rattle.std.proofs.Common.{◌≡◌, ℕ, ◌-◌, ◌≤◌, ◌<◌, nat_le, Bool, true, false, cond, not, ◌&&◌, [], ◌∷◌, ◌++◌, length, filter, MatchBool, Option, Some, None, refl, sym, ap, ap₂, ◌∙◌}
+use Rattle.std.proofs.Common.{◌≡◌, ℕ, ◌-◌, ◌≤◌, ◌<◌, nat_le, Bool, true, false, cond, not, ◌&&◌, [], ◌∷◌, ◌++◌, filter, MatchBool, Option, Some, None, refl, sym, ap, ap₂, ◌∙◌}
 use Rattle.std.specs.Option.{option_map_or, option_to_list}
 use Rattle.std.proofs.lemmas.Bool.{le-leb, lt-leb}
 use Rattle.registry_names.specs.Texts.{Text, is}

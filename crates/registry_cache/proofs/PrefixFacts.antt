@@ -1,5 +1,5 @@
 -- The longest prefix of a list of texts that takes no more than some.
-use Rattle.std.proofs.Common.{◌≡◌, ℕ, ◌+◌, ◌-◌, ◌<◌, ◌≤◌, nat_le, Bool, true, false, cond, [], ◌∷◌, ◌++◌, length, Option, refl, ap, ◌∙◌, subst, arith}
+use Rattle.std.proofs.Common.{◌≡◌, ℕ, ◌+◌, ◌-◌, ◌<◌, ◌≤◌, nat_le, Bool, true, false, cond, [], ◌∷◌, ◌++◌, Option, refl, ap, ◌∙◌, subst, arith}
 use Rattle.std.proofs.lemmas.Bool.{leb-true, leb-false, le-leb, lt-leb}
 use Rattle.registry_names.specs.Texts.{Text}
 use Rattle.registry_cache.specs.Caches.{Entries, Cache, cache, cost, entry_cost, size, prefix}

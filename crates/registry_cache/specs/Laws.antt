@@ -1,5 +1,5 @@
 -- What the words of a cache promise: the laws that the functions of `src/laws.rt` ensure.
-use Rattle.std.specs.Prelude.{◌≡◌, ◌≤◌, ◌<◌, ℕ, ◌+◌, false, cond, [], ◌∷◌, ◌++◌, length, Some, None, MatchBool}
+use Rattle.std.specs.Prelude.{◌≡◌, ◌≤◌, ◌<◌, ℕ, ◌+◌, false, cond, [], ◌∷◌, ◌++◌, Some, None, MatchBool}
 use Rattle.registry_names.specs.Texts.{Text, is}
 use Rattle.registry_names.specs.Maps.{first_at}
 use Rattle.registry_cache.specs.Caches.{Entries, Cache, cache, cost, texts, kept, size, prefix, is_large, forgotten, asked, with_text, with_room}
@@ -41,20 +41,20 @@ AreOnce (e ∷ es) = (first_at is es e.0 ≡ None) × AreOnce es
 abbrev pub NewKeepsOnce : Type 0
 NewKeepsOnce = (limit : ℕ) → AreOnce (texts (cache [] None limit))
 
-abbrev pub StaysOnce : (Cache → Cache) → Type 0
-StaysOnce change = (s : Cache) → AreOnce (texts s) → AreOnce (texts (change s))
+abbrev pub KeepsNamesUnique : (Cache → Cache) → Type 0
+KeepsNamesUnique change = (s : Cache) → AreOnce (texts s) → AreOnce (texts (change s))
 
 abbrev pub AskedKeepsOnce : Type 0
-AskedKeepsOnce = (name : Text) → StaysOnce (λ s. asked s name)
+AskedKeepsOnce = (name : Text) → KeepsNamesUnique (λ s. asked s name)
 
 abbrev pub ForgottenKeepsOnce : Type 0
-ForgottenKeepsOnce = (name : Text) → StaysOnce (λ s. forgotten s name)
+ForgottenKeepsOnce = (name : Text) → KeepsNamesUnique (λ s. forgotten s name)
 
 abbrev pub PutKeepsOnce : Type 0
-PutKeepsOnce = (name text : Text) → StaysOnce (λ s. with_text s name text)
+PutKeepsOnce = (name text : Text) → KeepsNamesUnique (λ s. with_text s name text)
 
 abbrev pub RoomKeepsOnce : Type 0
-RoomKeepsOnce = (name text : Text) → StaysOnce (λ s. with_room s name text)
+RoomKeepsOnce = (name text : Text) → KeepsNamesUnique (λ s. with_room s name text)
 
 -- ---- a text that alone takes more than the limit
 

@@ -123,7 +123,7 @@ impl<V: Shared> SharedCache<V> {
     }
 
     /// The number of bytes that all entries take together, without the large one.
-    pub fn size(&self) -> usize
+    pub fn bytes_without_large(&self) -> usize
         ensures size { result ≡ size self.now.entries }
         ensures limited { result ≤ self.now.limit }
     {

@@ -40,8 +40,8 @@ abbrev pub errands : List (Text × List Rule)
 errands = (codes "token-new", user ∷ []) ∷ (codes "check", []) ∷ (codes "backup", copy ∷ []) ∷ (codes "stop", []) ∷ (codes "serve", port_beside ∷ socket ∷ connections ∷ log ∷ []) ∷ []
 
 -- the options are those of requests
-abbrev pub house : App
-house = with_subcommands (with_rules bare options) errands
+abbrev pub admin_command : App
+admin_command = with_subcommands (with_rules bare options) errands
 
 -- ---- what was found of the options, and of the subcommand
 
@@ -95,7 +95,7 @@ errand_in rows found = errand_by (who_in rows) rows found
 -- ---- of the arguments
 
 abbrev pub errand_of : List Text → Option Errand
-errand_of arguments = errand_in (matches_of house arguments) (subcommand_of house arguments)
+errand_of arguments = errand_in (matches_of admin_command arguments) (subcommand_of admin_command arguments)
 
 -- ---- a token that is made
 

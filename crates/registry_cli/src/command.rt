@@ -4,7 +4,7 @@ ghost use Rattle.std.specs.Prelude.{◌≡◌, false, map, codes, IfOk};
 ghost use Rattle.clap.specs.Simple.{app_of, new_app, with_rule, with_subcommand};
 ghost use Rattle.clap.specs.Walk.{rule_of};
 ghost use Rattle.clap.specs.declared.builder.command.Command.TheViews.{out-Command};
-ghost use Rattle.registry_cli.specs.Errands.{house};
+ghost use Rattle.registry_cli.specs.Errands.{admin_command};
 ghost use Rattle.registry_cli.specs.Subcommands as spec;
 ghost use Rattle.registry_cli.specs.Subcommands.{bare, options, with_groups, with_rules, with_subcommands};
 ghost use Rattle.registry_cli.specs.Tables.{row_of, rows_of_group, rule_of_parameter};
@@ -20,7 +20,7 @@ use std::alloc::{AllocError, Global};
 const LAST_SECOND: i64 = 253_402_300_799;
 
 /// What the program is, with its version.
-const ABOUT: &str = "registry 0.1.0, a package registry for one house, in npm's manner";
+const ABOUT: &str = "registry 0.1.0, a private npm-compatible package registry";
 
 /// The end of the help: an example, and the commands that ask for no request.
 const MORE: &str =
@@ -201,8 +201,8 @@ pub(crate) fn registry<'a>(alloc: Global) -> Result<Command<'a>, AllocError>
 }
 
 /// The command of errands.
-pub(crate) fn house<'a>(alloc: Global) -> Result<Command<'a>, AllocError>
-    ensures app { IfOk result (λ c. app_of c ≡ house) }
+pub(crate) fn admin_command<'a>(alloc: Global) -> Result<Command<'a>, AllocError>
+    ensures app { IfOk result (λ c. app_of c ≡ admin_command) }
     ensures local { IfOk result (λ c. (out-Command c).has_globals ≡ false) }
 {
     with_rows(alloc, with_options(alloc)?, errands())

@@ -10,14 +10,14 @@ ghost use Rattle.clap.specs.Walk.{first_of, rows_of};
 ghost use Rattle.clap.specs.declared.error.kind.ErrorKind.TheVariants as kind;
 ghost use Rattle.registry_names.specs.Moments.{last_second};
 ghost use Rattle.registry_cli.specs.Errands as spec;
-ghost use Rattle.registry_cli.specs.Errands.{AddsTokenOf, MeansTokenAdd, errand_of, house, token_add, token_add_arguments};
+ghost use Rattle.registry_cli.specs.Errands.{AddsTokenOf, MeansTokenAdd, admin_command, errand_of, token_add, token_add_arguments};
 ghost use Rattle.registry_cli.specs.Lines.{IsWhole, are_both_in, asks_to_serve};
 ghost use Rattle.registry_cli.specs.Subcommands.{registry};
 ghost use Rattle.registry_cli.specs.Usages.{IsMemoryOrBoth};
 ghost use Rattle.registry_cli.specs.declared.usage.Usage.TheVariants as usage;
 
 use crate::arguments::{Arguments, push_text, push_word};
-use crate::command::{house, registry};
+use crate::command::{admin_command, registry};
 use crate::meaning::{Line, Who};
 use crate::reading::{at, caller, given, line_by, texts, value};
 use crate::usage::Usage;
@@ -164,15 +164,15 @@ fn token_add_words(alloc: Global, user: Text, token: Text) -> Result<Arguments, 
 pub fn errand_of(alloc: Global, arguments: &[Text]) -> Result<Option<Errand>, Usage>
     ensures ok { IfOk result (λ found. IfSome found (λ _. found ≡ errand_of arguments.now)) }
     ensures one { IfOk result (λ found. IfSome found (λ _.
-        are_both_in (matches_of house arguments.now) ≡ false)) }
+        are_both_in (matches_of admin_command arguments.now) ≡ false)) }
     ensures faultless { IfOk result (λ found. IfSome found (λ _.
-        fault_of house arguments.now ≡ [])) }
+        fault_of admin_command arguments.now ≡ [])) }
     ensures line { fault_of registry arguments.now ≡ []
         → MatchResult result (λ found. found ≡ None) (λ u. u ≡ usage.Memory) }
-    ensures named { fault_of registry arguments.now ≢ [] → takes house arguments.now ≡ true
+    ensures named { fault_of registry arguments.now ≢ [] → takes admin_command arguments.now ≡ true
         → IfOk result (λ found. found ≡ errand_of arguments.now) }
-    ensures err { IfErr result (λ u. takes house arguments.now ≡ true
-        → IsMemoryOrBoth u (are_both_in (matches_of house arguments.now))) }
+    ensures err { IfErr result (λ u. takes admin_command arguments.now ≡ true
+        → IsMemoryOrBoth u (are_both_in (matches_of admin_command arguments.now))) }
 {
     let texts = texts(alloc, arguments)?;
     errand_in_texts(alloc, texts.as_slice())
@@ -183,16 +183,16 @@ fn errand_in_texts(alloc: Global, texts: &[&str]) -> Result<Option<Errand>, Usag
     ensures ok { IfOk result (λ found. IfSome found (λ _.
         found ≡ errand_of (map (λ s. s.now) texts.now))) }
     ensures one { IfOk result (λ found. IfSome found (λ _.
-        are_both_in (matches_of house (map (λ s. s.now) texts.now)) ≡ false)) }
+        are_both_in (matches_of admin_command (map (λ s. s.now) texts.now)) ≡ false)) }
     ensures faultless { IfOk result (λ found. IfSome found (λ _.
-        fault_of house (map (λ s. s.now) texts.now) ≡ [])) }
+        fault_of admin_command (map (λ s. s.now) texts.now) ≡ [])) }
     ensures line { fault_of registry (map (λ s. s.now) texts.now) ≡ []
         → MatchResult result (λ found. found ≡ None) (λ u. u ≡ usage.Memory) }
     ensures named { fault_of registry (map (λ s. s.now) texts.now) ≢ []
-        → takes house (map (λ s. s.now) texts.now) ≡ true
+        → takes admin_command (map (λ s. s.now) texts.now) ≡ true
         → IfOk result (λ found. found ≡ errand_of (map (λ s. s.now) texts.now)) }
-    ensures err { IfErr result (λ u. takes house (map (λ s. s.now) texts.now) ≡ true
-        → IsMemoryOrBoth u (are_both_in (matches_of house (map (λ s. s.now) texts.now)))) }
+    ensures err { IfErr result (λ u. takes admin_command (map (λ s. s.now) texts.now) ≡ true
+        → IsMemoryOrBoth u (are_both_in (matches_of admin_command (map (λ s. s.now) texts.now)))) }
 {
     match registry(alloc)?.try_get_matches_from(texts) {
         Ok(_) => Ok(None),
@@ -205,15 +205,15 @@ fn read_beside(alloc: Global, texts: &[&str], refused: &Error) -> Result<Option<
     ensures ok { IfOk result (λ found. IfSome found (λ _.
         found ≡ errand_of (map (λ s. s.now) texts.now))) }
     ensures one { IfOk result (λ found. IfSome found (λ _.
-        are_both_in (matches_of house (map (λ s. s.now) texts.now)) ≡ false)) }
+        are_both_in (matches_of admin_command (map (λ s. s.now) texts.now)) ≡ false)) }
     ensures faultless { IfOk result (λ found. IfSome found (λ _.
-        fault_of house (map (λ s. s.now) texts.now) ≡ [])) }
+        fault_of admin_command (map (λ s. s.now) texts.now) ≡ [])) }
     ensures memory { kind_of refused.now ≡ kind.OutOfMemory
         → IsErrAnd result (λ u. u ≡ usage.Memory) }
-    ensures named { takes house (map (λ s. s.now) texts.now) ≡ true
+    ensures named { takes admin_command (map (λ s. s.now) texts.now) ≡ true
         → IfOk result (λ found. found ≡ errand_of (map (λ s. s.now) texts.now)) }
-    ensures err { IfErr result (λ u. takes house (map (λ s. s.now) texts.now) ≡ true
-        → IsMemoryOrBoth u (are_both_in (matches_of house (map (λ s. s.now) texts.now)))) }
+    ensures err { IfErr result (λ u. takes admin_command (map (λ s. s.now) texts.now) ≡ true
+        → IsMemoryOrBoth u (are_both_in (matches_of admin_command (map (λ s. s.now) texts.now)))) }
 {
     if is_memory(refused) {
         Err(Usage::Memory)
@@ -227,15 +227,15 @@ fn read(alloc: Global, texts: &[&str], refused: &Error) -> Result<Option<Errand>
     ensures ok { IfOk result (λ found. IfSome found (λ _.
         found ≡ errand_of (map (λ s. s.now) texts.now))) }
     ensures one { IfOk result (λ found. IfSome found (λ _.
-        are_both_in (matches_of house (map (λ s. s.now) texts.now)) ≡ false)) }
+        are_both_in (matches_of admin_command (map (λ s. s.now) texts.now)) ≡ false)) }
     ensures faultless { IfOk result (λ found. IfSome found (λ _.
-        fault_of house (map (λ s. s.now) texts.now) ≡ [])) }
-    ensures named { takes house (map (λ s. s.now) texts.now) ≡ true
+        fault_of admin_command (map (λ s. s.now) texts.now) ≡ [])) }
+    ensures named { takes admin_command (map (λ s. s.now) texts.now) ≡ true
         → IfOk result (λ found. found ≡ errand_of (map (λ s. s.now) texts.now)) }
-    ensures err { IfErr result (λ u. takes house (map (λ s. s.now) texts.now) ≡ true
-        → IsMemoryOrBoth u (are_both_in (matches_of house (map (λ s. s.now) texts.now)))) }
+    ensures err { IfErr result (λ u. takes admin_command (map (λ s. s.now) texts.now) ≡ true
+        → IsMemoryOrBoth u (are_both_in (matches_of admin_command (map (λ s. s.now) texts.now)))) }
 {
-    match house(alloc)?.try_get_matches_from(texts) {
+    match admin_command(alloc)?.try_get_matches_from(texts) {
         Ok(matches) => errand_in(alloc, &matches),
         Err(error) => unread(alloc, refused, &error),
     }

@@ -62,13 +62,13 @@ module _ {D : Type 0} (show : D → Shown) where
   one-more M K N (bad_input r) o ended last ts runs turn = record {
     requests = runs.requests;
     outcomes = runs.outcomes;
-    asked = (runs.requests, runs.outcomes, runs.asked, inr (tt, refl, refl));
+    asked = (runs.requests, runs.outcomes, runs.asked, inr (turn.0.0, refl, refl));
     run = subst (λ (N : D). HasRun (show M) (show N) runs.requests runs.outcomes) (sym turn.1) runs.run;
   }
   one-more M K N no_memory o ended last ts runs turn = record {
     requests = runs.requests;
     outcomes = runs.outcomes;
-    asked = (runs.requests, runs.outcomes, runs.asked, inr (tt, refl, refl));
+    asked = (runs.requests, runs.outcomes, runs.asked, inr (turn.0.0, refl, refl));
     run = subst (λ (N : D). HasRun (show M) (show N) runs.requests runs.outcomes) (sym turn.1) runs.run;
   }
 

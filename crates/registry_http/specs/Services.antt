@@ -6,10 +6,11 @@ use Rattle.sqlite.specs.State.{State as Shown, HasCleanDisk}
 use Rattle.sqlite_trees.specs.declared.store.Store.{Ghosts}
 use Rattle.sqlite_disk.specs.Disk.{MoreFaults}
 use Rattle.registry_names.specs.declared.stop.Fault.{Fault}
-use Rattle.registry_names.specs.declared.stop.Fault.TheVariants.{Database}
+use Rattle.registry_names.specs.declared.stop.Fault.TheVariants.{Database, Memory}
 use Rattle.registry_names.specs.declared.stop.Stop.{Stop}
 use Rattle.registry_packument.specs.declared.opener.Sent.{Sent}
 use Rattle.registry_packument.specs.declared.opener.Sent.TheVariants.{Broken}
+use Rattle.registry_rules.specs.declared.reply.Reply.TheVariants.{Refused}
 use Rattle.registry_rules.specs.declared.request.Request.{Request}
 use Rattle.registry_tables.specs.Archives.{HoldsArchives}
 use Rattle.registry_tables.specs.Needs.{HoldsNeeds}
@@ -92,11 +93,11 @@ Asks (request w at) r = reads_request w at (Ok r)
 Asks (bad_input refusal) r = ⊥
 Asks no_memory r = ⊥
 
--- the turn asked nothing of the registry
+-- the turn asked nothing of the registry, and came to what stopped it
 abbrev pub AsksNothing : Cause → Outcome → Type 0
 AsksNothing (request w at) o = (s : Stop) × reads_request w at (Err s) × (o ≡ stopped s)
-AsksNothing (bad_input refusal) o = Unit {0}
-AsksNothing no_memory o = Unit {0}
+AsksNothing (bad_input refusal) o = o ≡ Ok (Refused refusal)
+AsksNothing no_memory o = o ≡ Err Memory
 
 -- with one more turn, the requests and outcomes go on from the older ones
 abbrev pub AsksNext : Turn → List Request → List Outcome → List Request → List Outcome → Type 0

@@ -128,8 +128,8 @@ module _ {D : Type 0} (show : D → Shown) (M : D) where
         | inl (r, reads, applies) ↦ asked-more K N (of_connection (record { cause = request w at; outcome = o; ended = ended })) ts r o runs (reads, refl) applies
         | inr (s, reads, is, rests) ↦ asked-none K N (of_connection (record { cause = request w at; outcome = o; ended = ended })) ts runs (s, reads, is) rests
       ]
-  of-connection K N (bad_input r) last o ended ts runs turn = asked-none K N (of_connection (record { cause = bad_input r; outcome = o; ended = ended })) ts runs tt turn.1
-  of-connection K N no_memory last o ended ts runs turn = asked-none K N (of_connection (record { cause = no_memory; outcome = o; ended = ended })) ts runs tt turn.1
+  of-connection K N (bad_input r) last o ended ts runs turn = asked-none K N (of_connection (record { cause = bad_input r; outcome = o; ended = ended })) ts runs turn.0.0 turn.1
+  of-connection K N no_memory last o ended ts runs turn = asked-none K N (of_connection (record { cause = no_memory; outcome = o; ended = ended })) ts runs turn.0.0 turn.1
 
   of-guest : (K N : D) (t : GuestTurn) (ts : List AnyTurn) → RunsSo (show M) (show K) ts → IsGuestTurn (applied show) K t.arguments t.body t.at (prints t.output) N → RunsSo (show M) (show N) (of_guest t ∷ ts)
   of-guest K N t ts runs turn =

@@ -9,4 +9,5 @@ pub mod PublishFacts
 pub mod RunFacts
 pub mod StatusFacts
 pub mod TagFacts
+pub mod TimeKeyFacts
 pub mod VersionFacts

@@ -13,7 +13,7 @@ use Rattle.registry_rules.specs.Moments.{live_publications, publications, spent_
 use Rattle.registry_rules.specs.State.{State, Release, Withdrawal}
 use Rattle.registry_rules.specs.Withdrawals as withdrawals
 use Rattle.registry_laws_history.specs.Answers.{created_at, modified_at}
-use Rattle.registry_laws_history.specs.PackumentMoments.{CreatedAtFirst, IsPublication, IsWithdrawal, ModifiedAtLast}
+use Rattle.registry_laws_history.specs.PackumentMoments.{CreatedAtFirst, IsPublicationMoment, IsWithdrawalMoment, ModifiedAtLast}
 
 -- ---- moments in a list
 
@@ -121,14 +121,14 @@ module _ {X : Type 0} (moment : X → ℕ) where
 
 -- ---- a package
 
-to_publication : (S : State) (p : Text) (n : ℕ) → IsAmong (publications (of S.live p) (of S.spent p)) n → IsPublication S p n
+to_publication : (S : State) (p : Text) (n : ℕ) → IsAmong (publications (of S.live p) (of S.spent p)) n → IsPublicationMoment S p n
 to_publication S p n h = either (in_either (live_publications (of S.live p)) (spent_publications (of S.spent p)) n h)
   where
-    either : IsAmong (live_publications (of S.live p)) n ⊎ IsAmong (spent_publications (of S.spent p)) n → IsPublication S p n
+    either : IsAmong (live_publications (of S.live p)) n ⊎ IsAmong (spent_publications (of S.spent p)) n → IsPublicationMoment S p n
     either (inl live) = inl (has-among (λ (r : Release). r.at) S.live p n live)
     either (inr spent) = inr (has-among (λ (w : Withdrawal). w.published) S.spent p n spent)
 
-of_publication : (S : State) (p : Text) (n : ℕ) → IsPublication S p n → IsAmong (publications (of S.live p) (of S.spent p)) n
+of_publication : (S : State) (p : Text) (n : ℕ) → IsPublicationMoment S p n → IsAmong (publications (of S.live p) (of S.spent p)) n
 of_publication S p n (inl live) = in_first (live_publications (of S.live p)) (spent_publications (of S.spent p)) n (among-has (λ (r : Release). r.at) S.live p n live)
 of_publication S p n (inr spent) = in_second (live_publications (of S.live p)) (spent_publications (of S.spent p)) n (among-has (λ (w : Withdrawal). w.published) S.spent p n spent)
 
@@ -136,7 +136,7 @@ pub created_at_first : CreatedAtFirst
 created_at_first S p = each (created_at (of S.live p) (of S.spent p)) (first_is (publications (of S.live p) (of S.spent p)))
   where
     each : (o : Option ℕ) → IsFirst (publications (of S.live p) (of S.spent p)) o
-        → MatchOption o ((n : ℕ) → ¬ IsPublication S p n) (λ created. IsPublication S p created × ((n : ℕ) → IsPublication S p n → created ≤ n))
+        → MatchOption o ((n : ℕ) → ¬ IsPublicationMoment S p n) (λ created. IsPublicationMoment S p created × ((n : ℕ) → IsPublicationMoment S p n → created ≤ n))
     each None none = λ n h. none n (of_publication S p n h)
     each (Some k) (there, least) = (to_publication S p k there, λ n h. least n (of_publication S p n h))
 
@@ -189,17 +189,17 @@ module _ (S : State) (p : Text) where
   abbrev ended : List ℕ
   ended = ended_at (of S.spent p)
 
-  to_change : (n : ℕ) → IsAmong published n ⊎ IsAmong ended n → IsPublication S p n ⊎ IsWithdrawal S p n
+  to_change : (n : ℕ) → IsAmong published n ⊎ IsAmong ended n → IsPublicationMoment S p n ⊎ IsWithdrawalMoment S p n
   to_change n (inl h) = inl (to_publication S p n h)
   to_change n (inr h) = inr (has-among (λ (w : Withdrawal). w.withdrawn) S.spent p n h)
 
-  of_change : (n : ℕ) → IsPublication S p n ⊎ IsWithdrawal S p n → IsAmong (published ++ ended) n
+  of_change : (n : ℕ) → IsPublicationMoment S p n ⊎ IsWithdrawalMoment S p n → IsAmong (published ++ ended) n
   of_change n (inl h) = in_first published ended n (of_publication S p n h)
   of_change n (inr h) = in_second published ended n (among-has (λ (w : Withdrawal). w.withdrawn) S.spent p n h)
 
   last_change : (o : Option ℕ) → IsLast (published ++ ended) o
-      → MatchOption o ((n : ℕ) → ¬ (IsPublication S p n ⊎ IsWithdrawal S p n))
-      (λ modified. (IsPublication S p modified ⊎ IsWithdrawal S p modified) × ((n : ℕ) → IsPublication S p n ⊎ IsWithdrawal S p n → n ≤ modified))
+      → MatchOption o ((n : ℕ) → ¬ (IsPublicationMoment S p n ⊎ IsWithdrawalMoment S p n))
+      (λ modified. (IsPublicationMoment S p modified ⊎ IsWithdrawalMoment S p modified) × ((n : ℕ) → IsPublicationMoment S p n ⊎ IsWithdrawalMoment S p n → n ≤ modified))
   last_change None none = λ n h. none n (of_change n h)
   last_change (Some k) (there, greatest) = (to_change k (in_either published ended k there), λ n h. greatest n (of_change n h))
 

@@ -18,7 +18,7 @@ use Rattle.registry_rules.specs.declared.request.Action.TheVariants.{Publish}
 use Rattle.registry_rules.specs.declared.request.Credential.{Credential}
 use Rattle.registry_rules.specs.declared.request.Request.{Request}
 use Rattle.registry_laws_history.specs.Answers.{reply_to, unless_refused}
-use Rattle.registry_laws_history.specs.Headline.{accepted_publish, accepted_publishes, Headline}
+use Rattle.registry_laws_history.specs.Headline.{AddsAcceptedPublish, Headline, accepted_publish, accepted_publishes}
 use Rattle.registry_laws_history.specs.History.{Entry, Legal, after}
 use Rattle.registry_laws_history.specs.Readings.{published, published_by}
 use Rattle.registry_laws_history.specs.Runs.{Outcome, accepts, enters, entered, next, grown, IsAnswer, HaveOutcomes, end_of, history, Ran}
@@ -165,35 +165,35 @@ publishing h r None known = absurd (true≢false (sym known))
 
 one_grown : (h : List Entry) (S : State) (now : ℕ) (who : Credential) (c : Action) (o : Outcome)
     → IsAnswer S (record { at = now; who = who; what = c }) o
-    → length (published (grown h S (record { at = now; who = who; what = c }) o)) ≡ length (published h) + accepted_publish c o
+    → published (grown h S (record { at = now; who = who; what = c }) o) ≡ accepted_publish c o (published h)
 one_grown h S now who (Publish f) (Ok Created) answered =
     let r : Request = record { at = now; who = who; what = Publish f } in
     let known = somebody S now (caller_of S who) (Publish f) (accepted S r (Ok Created) answered refl) in
-    let adds = ap length (publishing h r (caller_of S who) known) in
-    omega (arith, adds)
+    publishing h r (caller_of S who) known
 one_grown h S now who (Publish f) (Ok Done) answered = absurd (not_done S f (caller_of S who) _ answered)
 one_grown h S now who (Publish f) (Ok (Count n)) answered = absurd (no_count S f (caller_of S who) _ n answered)
 one_grown h S now who (Publish f) (Ok (Doc t)) answered = absurd (no_document S f (caller_of S who) _ t answered)
 one_grown h S now who (Publish f) (Ok (Bytes b)) answered = absurd (no_bytes S f (caller_of S who) _ b answered)
-one_grown h S now who (Publish f) (Ok (Refused why)) answered = omega arith
-one_grown h S now who (Publish f) (Err fault) answered = omega arith
-one_grown h S now who c o answered =
-    omega (arith, ap length (unpublishing h (record { at = now; who = who; what = c }) (caller_of S who) (is_command c && accepts o) refl))
+one_grown h S now who (Publish f) (Ok (Refused why)) answered = refl
+one_grown h S now who (Publish f) (Err fault) answered = refl
+one_grown h S now who c o answered = unpublishing h (record { at = now; who = who; what = c }) (caller_of S who) (is_command c && accepts o) refl
 
-counted : (h : List Entry) (S : State) (rs : List Request) (os : List Outcome) → HaveOutcomes S rs os → length (published (history h S rs os)) ≡ length (published h) + accepted_publishes rs os
-counted h S [] [] answered = omega arith
-counted h S (r ∷ rs) (o ∷ os) answered =
-    let here = one_grown h S r.at r.who r.what o answered.0 in
-    let rest = counted (grown h S r o) (next S r o) rs os answered.1 in
-    omega (arith, here, rest)
-counted h S [] (o ∷ os) answered = absurd answered
-counted h S (r ∷ rs) [] answered = absurd answered
+pub adds_accepted_publish : AddsAcceptedPublish
+adds_accepted_publish h S r o answered = one_grown h S r.at r.who r.what o answered
+
+all_grown : (h : List Entry) (S : State) (rs : List Request) (os : List Outcome) → HaveOutcomes S rs os → published (history h S rs os) ≡ accepted_publishes (published h) rs os
+all_grown h S [] [] answered = refl
+all_grown h S (r ∷ rs) (o ∷ os) answered =
+    all_grown (grown h S r o) (next S r o) rs os answered.1
+    ∙ ap (λ ks. accepted_publishes ks rs os) (adds_accepted_publish h S r o answered.0)
+all_grown h S [] (o ∷ os) answered = absurd answered
+all_grown h S (r ∷ rs) [] answered = absurd answered
 
 pub headline_of : (rs : List Request) (os : List Outcome) (opened : Bool) (T : State) → Ran nothing rs os opened T → IsTrue opened → Headline rs os T
 headline_of rs os opened T ran still = record {
   answers = ran.answers;
   says = run_says [] nothing rs os opened T ran still tt refl;
-  one_more = let count = counted [] nothing rs os ran.answers in omega (arith, count);
+  publishes = all_grown [] nothing rs os ran.answers;
 }
 
 pub headline_from : (S : State) (rs : List Request) (os : List Outcome) (opened : Bool) (T : State) → S ≡ nothing → Ran S rs os opened T → IsTrue opened → Headline rs os T

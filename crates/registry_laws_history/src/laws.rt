@@ -5,10 +5,10 @@ ghost use Rattle.std.specs.Prelude.{◌≡◌, Bool, List, IsTrue};
 ghost use Rattle.registry_rules.specs.State.{State, nothing};
 ghost use Rattle.registry_rules.specs.declared.request.Request.{Request};
 ghost use Rattle.registry_laws_history.specs.Apart.{ChangesOfOthers, StepsOfOthers};
-ghost use Rattle.registry_laws_history.specs.Headline.{Headline};
+ghost use Rattle.registry_laws_history.specs.Headline.{AddsAcceptedPublish, Headline};
 ghost use Rattle.registry_laws_history.specs.History.{Entry, Legal, after};
 ghost use Rattle.registry_laws_history.specs.Lasting.{HistoriesLast, RunsLast};
-ghost use Rattle.registry_laws_history.specs.PackumentMoments.{CreatedAtFirst, ModifiedAtLast};
+ghost use Rattle.registry_laws_history.specs.PackumentMoments.{CreatedAtFirst, ModifiedAtLast, TimeKeysRise};
 ghost use Rattle.registry_laws_history.specs.Runs.{Outcome, Ran, history};
 ghost use Rattle.registry_laws_history.specs.Says.{Says};
 
@@ -17,14 +17,15 @@ pub fn legal_histories_say()
     ensures { (h : List Entry) → Legal h → Says h (after h) }
 {}
 
-/// A run goes on from any legal history, and what it leaves is all that the longer history says. A
-/// run from an empty registry leaves as many versions as it accepted publishes.
+/// A run goes on from any legal history, and what it leaves is all that the longer history says. An
+/// accepted publish adds its version to those ever published, and no other request adds any.
 pub fn runs_have_histories()
     ensures says { (h : List Entry) (S : State) (rs : List Request) (os : List Outcome)
         (opened : Bool) (T : State) → Ran S rs os opened T → IsTrue opened
         → Legal h → S ≡ after h → Says (history h S rs os) T }
     ensures headline { (rs : List Request) (os : List Outcome) (opened : Bool) (T : State)
         → Ran nothing rs os opened T → IsTrue opened → Headline rs os T }
+    ensures adds { AddsAcceptedPublish }
 {}
 
 /// A name and version mean the same bytes for good. Whatever is accepted later: a version that is
@@ -45,8 +46,10 @@ pub fn packuments_stand_apart()
 
 /// The moments of a packument. `created` is when a version of the package was published, and no
 /// version was published earlier. `modified` is when one was published or withdrawn, and none was
-/// later. Withdrawn versions count, and nothing but versions does.
+/// later. Withdrawn versions count, and nothing but versions does. The keys under `time` are in byte
+/// order, each once.
 pub fn packuments_have_moments()
     ensures created { CreatedAtFirst }
     ensures modified { ModifiedAtLast }
+    ensures keys { TimeKeysRise }
 {}

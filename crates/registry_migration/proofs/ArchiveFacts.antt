@@ -22,7 +22,8 @@ use Rattle.registry_tables.specs.Archives.{HeldAreStored, HoldsArchives, archive
 use Rattle.registry_tables.specs.Contents.{Archive, Contents, bytes_held, live_of, with_bytes}
 use Rattle.registry_tables.proofs.KeptArchiveFacts.{none_stands, stands_after, stood_before, stored_after}
 use Rattle.registry_migration.specs.Migration.{AreNumberedInARow, counted_to}
-use Rattle.registry_migration.specs.Steps.{HasMoved, HasNoArchives, MovesArchive, MovesArchives, StoresArchives, archive_moved, bare, bare_among, without_bytes}
+use Rattle.registry_migration.specs.Moved.{archive_moved, archives_moved, bare, row_archive, without_bytes}
+use Rattle.registry_migration.specs.Steps.{HasMoved, HasNoArchives, MovesArchive, MovesArchives, StoresArchives, bare_among}
 use Rattle.registry_migration.proofs.KeyFacts.{among_all, among_more, none_at, some_at}
 
 -- ---- their numbers
@@ -218,6 +219,7 @@ none_moved c none = record {
     once = λ m n a b e g same. absurd (let never = sym (none_stored m) ∙ e in cc);
     numbered = none_numbered c none;
   };
+  in_turn = refl;
 }
   where
     none_held : (k : Pair) → at c.held k ≡ None
@@ -227,6 +229,11 @@ none_moved c none = record {
     none_stored n = ap (λ m. at m n) none.1 ∙ at-empty number_key n
 
 -- ---- the next
+
+-- one more is moved after the others
+turn_more : (ks : List Pair) (k : Pair) (c : Contents) → archives_moved (ks ++ k ∷ []) c ≡ archive_moved k (row_archive (archives_moved ks c) k) (archives_moved ks c)
+turn_more [] k c = refl
+turn_more (j ∷ ks) k c = turn_more ks k (archive_moved j (row_archive c j) c)
 
 bared_twice : (a b : Bool) (o : Option Release)
     → option_map (λ (r : Release). cond b (bare r) r) (option_map (λ (r : Release). cond a (bare r) r) o) ≡ option_map (λ (r : Release). cond (a || b) (bare r) r) o
@@ -308,6 +315,8 @@ module _ (ks : List Pair) (k : Pair) (before mid : Contents) (so_far : HasMoved 
     held = held_next;
     bytes = bytes_next;
     stores = stores_more k release.archive mid free so_far.stores;
+    in_turn = ap (λ (o : Option Release). archive_moved k (unwrap_or (option_map (λ (r : Release). r.archive) o) []) mid) (sym lives)
+        ∙ ap (λ (c : Contents). archive_moved k (row_archive c k) c) so_far.in_turn ∙ sym (turn_more ks k before);
   }
 
 pub one_moved : (ks : List Pair) (k : Pair) (before mid new : Contents) → HasMoved ks before mid → MovesArchive k mid new → HasMoved (ks ++ k ∷ []) before new
@@ -351,6 +360,7 @@ module _ (before after : Contents) (all : HasMoved (keys (entries before.version
       bare = λ k release e. bare_row k (at before.versions k) release refl (sym (all.rows k) ∙ e);
     };
     numbered = all.stores.numbered;
+    in_turn = all.in_turn;
   }
 
 -- ---- a version's archive, call by call

@@ -55,6 +55,7 @@ module _ (a b c d : Contents) (puts : PutsNeeds a b) (drops : c ≡ record b { n
       archives = (
         others_keep_archives a d (ap (λ (x : Contents). x.versions) changed_is) (ap (λ (x : Contents). x.held) changed_is) (ap (λ (x : Contents). x.archives) changed_is) moves.archives,
         numbers_stay a d (ap (λ (x : Contents). x.archives) changed_is) (ap (λ (x : Contents). x.last_archive) changed_is) moves.numbered,
+        (ap (λ (x : Contents). x.archives) (changed_is ∙ ap changed moves.in_turn), ap (λ (x : Contents). x.held) (changed_is ∙ ap changed moves.in_turn)),
       );
       numbered = ap (λ (x : Contents). x.meta) (changed_is ∙ ap changed moves.others);
       counted = ap (λ (x : Contents). x.counters) (changed_is ∙ ap changed moves.others) ∙ counted;

@@ -22,11 +22,12 @@ use Rattle.registry_tables.specs.Effects.{stored}
 use Rattle.registry_tables.specs.Fresh.{schema_key, schema_number, with_number}
 use Rattle.registry_tables.specs.Schema as table
 use Rattle.registry_tables.specs.Schema.{schema}
-use Rattle.registry_tables.specs.Spelled.{bytes_spelled}
+use Rattle.registry_tables.specs.Spelled.{blob_of_row}
 use Rattle.registry_tables.specs.Teams.{text_spelled}
 use Rattle.registry_tables.proofs.MappedFacts.{needs_mapped, versions_mapped}
 use Rattle.registry_tables.proofs.MetaFacts.{meta_mapped}
-use Rattle.registry_migration.specs.Steps.{bare, key_spelled, target_spelled, without_bytes}
+use Rattle.registry_migration.specs.Moved.{bare, without_bytes}
+use Rattle.registry_migration.specs.Steps.{key_spelled, target_spelled}
 
 -- ---- the live versions
 
@@ -58,10 +59,10 @@ unfolding understood everything
 archive_means = ((refl, (refl, refl)), refl)
 
 pub archive_found : (p v : Text) (old new : Shown) (rows : List Row) → Ready schema old → Queried archive_text (Stored p ∷ Stored v ∷ []) old new rows → HasCleanDisk new
-    → Reads schema old new × (option_map bytes_spelled (slice_get rows 0) ≡ option_map (λ (r : Release). r.archive) (at (stored old).versions (p, v)))
+    → Reads schema old new × (option_map blob_of_row (slice_get rows 0) ≡ option_map (λ (r : Release). r.archive) (at (stored old).versions (p, v)))
 archive_found p v old new rows form call clean =
-    let it = select_finds versions_mapped archive_text (col 1 6 ∷ []) _ archive_means (p, v) bytes_spelled (λ (r : Release). r.archive) (λ id vs. refl) old new rows form call clean in
-    (it.0, first_listed bytes_spelled rows _ it.1)
+    let it = select_finds versions_mapped archive_text (col 1 6 ∷ []) _ archive_means (p, v) blob_of_row (λ (r : Release). r.archive) (λ id vs. refl) old new rows form call clean in
+    (it.0, first_listed blob_of_row rows _ it.1)
 
 abbrev manifest_text : List ℕ
 manifest_text = codes "SELECT manifest FROM versions WHERE package = ?1 AND version = ?2"

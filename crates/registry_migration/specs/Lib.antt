@@ -1,4 +1,5 @@
 pub mod Older
+pub mod Moved
 pub mod Migration
 pub mod Plain
 pub mod Steps

@@ -10,6 +10,7 @@ use Rattle.registry_tables.specs.Archives.{HoldsArchives}
 use Rattle.registry_tables.specs.Contents.{Contents, registry_of}
 use Rattle.registry_tables.specs.Fresh.{CountsArchivesAlone, schema_key, schema_number}
 use Rattle.registry_tables.specs.Needs.{HoldsNeeds}
+use Rattle.registry_migration.specs.Moved.{AreNumberedInOrder}
 use Rattle.registry_migration.specs.Older.{number_of, registry_of_older}
 use Rattle.registry_migration.specs.declared.older.Older.{Older}
 use Rattle.registry_migration.specs.declared.older.Older.TheVariants.{First, Second}
@@ -37,10 +38,10 @@ pub record AreNumberedInARow (c : Contents) : Type 0 where
   pub each : (k : ℕ) → k < count → is_some (at c.archives (pos (suc k))) ≡ true
   pub last : c.last_archive ≡ counted_to count
 
--- archives that were in rows of versions are stored now, each once, and are numbered in a row;
--- those that were stored already are as they were
+-- archives that were in rows of versions are stored now, each once, and are numbered in a row, in
+-- the order of the versions; those that were stored already are as they were
 abbrev pub KeepsArchives : Older → Contents → Contents → Type 0
-KeepsArchives First before after = HoldsArchives after × AreNumberedInARow after
+KeepsArchives First before after = HoldsArchives after × AreNumberedInARow after × AreNumberedInOrder before after
 KeepsArchives Second before after = (after.versions ≡ before.versions) × (after.held ≡ before.held) × (after.archives ≡ before.archives) × (after.last_archive ≡ before.last_archive)
 
 pub record Migrates (older : Older) (before after : Contents) : Type 0 where

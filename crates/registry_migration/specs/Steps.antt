@@ -7,7 +7,7 @@ use Rattle.sqlite.specs.declared.transaction.Transaction.{Transaction}
 use Rattle.sqlite_trees.specs.declared.store.Store.{Ghosts}
 use Rattle.registry_names.specs.Keys.{Pair, pair_is}
 use Rattle.registry_names.specs.Texts.{Text}
-use Rattle.registry_names.specs.Maps.{PairMap, among, at, empty, erase, put, revise}
+use Rattle.registry_names.specs.Maps.{among, at, empty, entries, erase, keys}
 use Rattle.registry_publish.specs.Integrity.{integrity_text}
 use Rattle.registry_publish.specs.Needs.{needs_of}
 use Rattle.registry_publish.specs.declared.need.Need.{Need}
@@ -15,12 +15,13 @@ use Rattle.registry_rules.specs.State.{Release}
 use Rattle.registry_rows.specs.Columns.{text_in}
 use Rattle.registry_rows.specs.Ready.{Leaves}
 use Rattle.registry_rows.specs.TextKeys.{Texts, TextsMap, texts_are, texts_from}
-use Rattle.registry_tables.specs.Archives.{HeldAreStored, HoldsArchives, archive_number, with_archive}
+use Rattle.registry_tables.specs.Archives.{HeldAreStored, HoldsArchives}
 use Rattle.registry_tables.specs.Contents.{Archive, Contents, bytes_held, contents, live_of}
 use Rattle.registry_tables.specs.Effects.{shown, stored_in}
 use Rattle.registry_tables.specs.Needs.{HoldsNeeds, is_needed, with_needs}
 use Rattle.registry_tables.specs.Schema.{schema}
 use Rattle.registry_migration.specs.Migration.{AreNumberedInARow, NeedsAreReadable}
+use Rattle.registry_migration.specs.Moved.{archive_moved, archives_moved, bare}
 use Rattle.registry_migration.specs.declared.older.Older.{Older}
 use Rattle.registry_migration.specs.declared.older.Older.TheVariants.{First, Second}
 use Rattle.registry_migration.specs.declared.needs.TargetKey.{TargetKey}
@@ -51,20 +52,6 @@ target_spelled r = texts_from 2 0 r
 abbrev pub HasNoArchives : Contents → Type 0
 HasNoArchives c = (c.held ≡ empty) × (c.archives ≡ empty) × (c.last_archive ≡ None)
 
-abbrev pub bare : Release → Release
-bare release = record release { archive = [] }
-
--- the version's row has no bytes
-abbrev pub without_bytes : PairMap Release → Pair → PairMap Release
-without_bytes live q = revise live (λ k release. if pair_is q k then bare release else release)
-
--- the version has these bytes as its archive, which is stored, and its row has none
-abbrev pub archive_moved : Pair → List ℕ → Contents → Contents
-archive_moved k bytes c = record (with_archive (integrity_text bytes) bytes c) {
-  versions = without_bytes c.versions k;
-  held = put c.held k (archive_number (integrity_text bytes) bytes c);
-}
-
 pub record MovesArchive (k : Pair) (before after : Contents) : Type 0 where
   pub release : Release
   pub lives : at before.versions k ≡ Some release
@@ -92,6 +79,7 @@ pub record HasMoved (ks : List Pair) (before after : Contents) : Type 0 where
   pub held : (k : Pair) → is_some (at after.held k) ≡ (among pair_is ks k && is_some (at before.versions k))
   pub bytes : (k : Pair) (release : Release) → among pair_is ks k ≡ true → at before.versions k ≡ Some release → bytes_held after k ≡ release.archive
   pub stores : StoresArchives after
+  pub in_turn : after ≡ archives_moved ks before
 
 -- the live versions have the archives that their rows had
 pub record MovesArchives (before after : Contents) : Type 0 where
@@ -99,6 +87,7 @@ pub record MovesArchives (before after : Contents) : Type 0 where
   pub live : live_of after ≡ before.versions
   pub archives : HoldsArchives after
   pub numbered : AreNumberedInARow after
+  pub in_turn : after ≡ archives_moved (keys (entries before.versions)) before
 
 -- the same of a schema that has them in the rows. Of another they are as they were
 abbrev pub HasNoneMoved : Older → Contents → Type 0

@@ -5,8 +5,9 @@ ghost use Rattle.sqlite.specs.State.{HasCleanDisk};
 ghost use Rattle.registry_names.specs.Maps.{at, entries, keys};
 ghost use Rattle.registry_rows.specs.Frames.{Stays};
 ghost use Rattle.registry_tables.specs.Effects.{InForm, IsUnderWay, Loads, Makes, shown, stored_in};
-ghost use Rattle.registry_tables.specs.Spelled.{bytes_spelled};
-ghost use Rattle.registry_migration.specs.Steps.{HasNoArchives, HasNoneMoved, Moves, MovesArchive, MovesArchives, Turns, version_key, without_bytes};
+ghost use Rattle.registry_tables.specs.Spelled.{blob_of_row};
+ghost use Rattle.registry_migration.specs.Moved.{without_bytes};
+ghost use Rattle.registry_migration.specs.Steps.{HasNoArchives, HasNoneMoved, Moves, MovesArchive, MovesArchives, Turns, version_key};
 
 use crate::older::Older;
 use crate::versions::{VersionKey, load_versions};
@@ -100,7 +101,7 @@ fn load_row_archive<S: Alter>(
 
 fn first_archive(rows: &[Row]) -> Result<Blob, Fault>
     ensures { IfOk result (λ archive.
-        option_map bytes_spelled (slice_get rows.now 0) ≡ Some archive) }
+        option_map blob_of_row (slice_get rows.now 0) ≡ Some archive) }
 {
     match value_of_first_row::<ArchiveRow>(rows)? {
         Some(archive) => Ok(archive),
@@ -135,7 +136,7 @@ impl RowKind for ArchiveRow {
 
     ghost seen = { λ archive. archive };
 
-    ghost spelled = { bytes_spelled };
+    ghost spelled = { blob_of_row };
 
     fn read(row: &Row) -> Result<Blob, Error> {
         let archive: Vec<u8> = row.get(0)?;

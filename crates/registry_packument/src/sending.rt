@@ -3,13 +3,14 @@
 ghost use Rattle.std.specs.Prelude.{◌≡◌, ◌≢◌, ◌+◌, ◌++◌, ◌<◌, ◌⊎◌, [], true, false, Err, Some, None, length, string_bytes, OnOk, OnErr, IfOk, IfErr};
 ghost use Rattle.registry_names.specs.ByteStreams as streams;
 ghost use Rattle.registry_names.specs.ByteStreams.{Writes, WritesPrefix, full_count};
+ghost use Rattle.registry_names.specs.declared.stop.Fault.{Fault};
 ghost use Rattle.registry_names.specs.declared.stop.Fault.TheVariants.{Memory, Database};
 ghost use Rattle.registry_packument.specs.Packuments.{opening_text, pack_len, pack_text, version_pair, version_pairs};
 ghost use Rattle.registry_packument.specs.Counted as counted;
 ghost use Rattle.registry_packument.specs.Counted.{IfBroken, IsBreak, IsUnbroken, IsUnstopped, Takes, WritesWithin, row_text, rows_text};
 ghost use Rattle.registry_packument.specs.Sendings as sendings;
 ghost use Rattle.registry_packument.specs.Streams.{failures_after};
-ghost use Rattle.registry_packument.specs.declared.opener.Sent.TheVariants.{Whole, WriteFault};
+ghost use Rattle.registry_packument.specs.declared.opener.Sent.TheVariants.{Broken, Whole, WriteFault};
 ghost use Rattle.registry_packument.specs.declared.stream.PackFault.TheVariants.{Write, Source};
 
 use crate::head::PackHead;
@@ -52,6 +53,7 @@ pub fn send_text<W: ByteOut, O: Opener>(
 ) -> Sent
     ensures takes { Takes (O.opens opener.now) (λ bytes. bytes ≡ text.now)
         (W.bytes writer.old) (W.bytes writer.new) (W.is_unknown writer.new) result }
+    ensures whole { (fault : Fault) → result ≢ Broken fault true }
     ensures fault { IfBroken result (λ fault. fault ≡ Memory) }
 
     ensures counted { W.failures writer.new ≡ sendings.failures_after result (W.failures writer.old) }

@@ -1,16 +1,19 @@
 -- Whether a text binds a version, decided from the front of the text.
-use Rattle.std.proofs.Common.{◌≡◌, ◌==◌, ℕ, List, [], ◌∷◌, Bool, true, false, Option, Some, None, length, refl, ap, ap₂, ◌∙◌}
+use Rattle.std.proofs.Common.{◌≡◌, ◌==◌, ℕ, List, [], ◌∷◌, Bool, true, false, Option, Some, None, length, refl, sym, ap, ap₂, ◌∙◌, subst, inl, inr}
 use Rattle.std.proofs.lemmas.List.Folds.{list_all-append, list_any-append}
 use Rattle.std.specs.List.{list_all, list_any}
-use Rattle.std.specs.Prelude.{◌&&◌, ◌||◌, option_map, unwrap_or}
+use Rattle.std.specs.Prelude.{◌↔◌, ◌⊎◌, ◌&&◌, ◌||◌, IsTrue, option_map, unwrap_or}
 use Rattle.registry_names.specs.Versions.{VersionParts}
 use Rattle.registry_ranges.specs.declared.reader.Place.{Place}
 use Rattle.registry_ranges.specs.declared.reader.Place.TheVariants.{Before}
-use Rattle.registry_ranges.specs.Comparators.{comparators_of, comparators_of_part, comparators_of_range, comparators_of_others, holds, is_near, set_allows}
+use Rattle.registry_ranges.specs.Comparators.{comparators_of, comparators_of_part, comparators_of_range, comparators_of_others, holds, is_near, set_allows, Allows}
+use Rattle.registry_ranges.specs.Grammar.{IsRangeText}
 use Rattle.registry_ranges.specs.Steps.{part, or, end, wrong, reading, with_part, with_range, step}
 use Rattle.registry_ranges.specs.Texts.{binds, ranges_in}
 use Rattle.registry_ranges.specs.Values.{Part, Ranges}
-use Rattle.registry_ranges.proofs.ReadingFacts.{reading-step}
+use Rattle.registry_ranges.proofs.RangeTextFacts.{is_read, range-read}
+use Rattle.registry_ranges.proofs.ReadingFacts.{reading-sound, reading-step}
+use Rattle.registry_ranges.proofs.SpellingFacts.{value-allows}
 
 -- a range allows the version, where of its comparators all hold or not, and one is near or not
 abbrev pub allows_with : VersionParts → Bool → Bool → Bool
@@ -97,5 +100,22 @@ bind-all v (Some r) = refl
 pub binds-start : (text : List ℕ) (v : VersionParts) → binds text v ≡ binds_with v true false (reading Before text)
 unfolding ranges_in
 binds-start text v = bind-all v (reading Before text)
+
+-- ---- what that means
+
+binding-means : (text : List ℕ) (v : VersionParts) (o : Option Ranges) → reading Before text ≡ o
+    → IsTrue (unwrap_or (option_map (λ r. set_allows v (comparators_of r)) o) true) ↔ ((¬ IsRangeText text) ⊎ Allows text v)
+binding-means text v None e =
+    let unread : IsRangeText text → ⊥ = λ t. let read : is_read None ≡ true = ap is_read (sym e) ∙ range-read text t in cc read in
+    (λ h. inl unread, λ h. refl)
+binding-means text v (Some r) e =
+    let value = reading-sound text r e in
+    let allows = value-allows text r v value in
+    (λ h. inr (allows.1 h), λ h. elim h [ inl none ↦ absurd (none (value.0, value.1, value.2)) | inr a ↦ allows.0 a ])
+
+-- the answer that `binds` is
+pub answer-means : (text : List ℕ) (v : VersionParts) (is : Bool) → is ≡ binds text v → IsTrue is ↔ ((¬ IsRangeText text) ⊎ Allows text v)
+unfolding ranges_in
+answer-means text v is e = subst (λ (b : Bool). IsTrue b ↔ ((¬ IsRangeText text) ⊎ Allows text v)) (sym e) (binding-means text v (reading Before text) refl)
 
 pub ruleset binding = (binds-start)

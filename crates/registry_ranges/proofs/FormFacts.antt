@@ -14,9 +14,8 @@ use Rattle.registry_ranges.specs.declared.relation.Relation.TheVariants as relat
 use Rattle.registry_ranges.specs.declared.simple.Operator.{Operator}
 use Rattle.registry_ranges.specs.declared.simple.Operator.TheVariants.{Bare, Less as LessSign, Greater as GreaterSign, LessEq, GreaterEq, Equal as EqualSign, Tilde, TildeGreater, Caret}
 use Rattle.registry_ranges.specs.Comparators.{Comparator, comparator, below, lower, same, tilde, caret_end, caret, greater, less, at_most, high_end, comparators_of_simple, holds, is_near, range_allows}
-use Rattle.registry_ranges.specs.Laws.{IsInForm, IsRelease, IsFrom, release, three_numbers, numbers_of, start_of, compared, NamesPrerelease, IsOpenTo, BeginWith, KeepLeftmost}
+use Rattle.registry_ranges.specs.Laws.{IsInForm, IsRelease, IsFrom, three_numbers, numbers_of, start_of, compared, NamesPrerelease, IsOpenTo, BeginWith, KeepLeftmost}
 use Rattle.registry_ranges.specs.Prefixes.{Prefix, any, major, minor, full}
-use Rattle.registry_ranges.specs.Values.{simple}
 use Rattle.registry_ranges.proofs.BelowFacts.{numbers-decide}
 use Rattle.registry_ranges.proofs.OrderFacts.{release-cmp, ge-none, ge-major, ge-minor, gt-major, gt-minor, lt-none, lt-major, lt-minor, le-major, le-minor, eq-both, AreFrom, AreBelow, from-numbers, below-numbers, numbers-below, below-differ, same-numbers, keeps-major, keeps-minor, keeps-patch}
 

@@ -13,7 +13,7 @@ use Rattle.registry_names.specs.Versions.{VersionParts, precedence}
 use Rattle.registry_ranges.specs.declared.relation.Relation.TheVariants as relation
 use Rattle.registry_ranges.specs.declared.simple.Operator.{Operator}
 use Rattle.registry_ranges.specs.declared.simple.Operator.TheVariants as op
-use Rattle.registry_ranges.specs.Comparators.{lower, at_most, high_end, tilde, caret, comparators_of_simple, comparators_of_part, comparators_of_range, comparators_of, holds, is_near, range_allows, set_allows, Allows}
+use Rattle.registry_ranges.specs.Comparators.{lower, at_most, high_end, comparators_of_simple, comparators_of_part, comparators_of_range, comparators_of, holds, is_near, range_allows, set_allows, Allows}
 use Rattle.registry_ranges.specs.Grammar.{print_operator}
 use Rattle.registry_ranges.specs.Laws.{IsInForm, IsRelease, IsFrom, release, Says, start_of, compared, NamesPrerelease, IsOpenTo, AllowsCompared, AllowsCaret, AllowsTilde, hyphened, AllowsHyphened, IsOpenAbove, IsOpenBelow, IsBetween, AllowsItself, AllowsReleases, WildcardsAllowReleases, AllowsNothing}
 use Rattle.registry_ranges.specs.Prefixes.{Prefix, any, major, minor, full}

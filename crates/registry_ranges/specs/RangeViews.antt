@@ -44,5 +44,5 @@ abbrev pub AddsPart : Vec Code.Comparator.Comparator Global → Vec Code.Compara
 AddsPart old new part = Adds old new (comparators_of_part part)
 
 -- a range ends after all comparators
-abbrev pub AddsEnd : Vec ℕ Global → Vec ℕ Global → Vec Code.Comparator.Comparator Global → Type 0
-AddsEnd old new cs = new.items ≡ old.items ++ count_of cs.items ∷ []
+abbrev pub PushesRangeEnd : Vec ℕ Global → Vec ℕ Global → Vec Code.Comparator.Comparator Global → Type 0
+PushesRangeEnd old new cs = new.items ≡ old.items ++ count_of cs.items ∷ []

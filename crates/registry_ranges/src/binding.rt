@@ -1,10 +1,11 @@
 //! What a text says of one version, decided while it is read.
 
-ghost use Rattle.std.specs.Prelude.{◌≡◌, ◌&&◌, ◌||◌, ◌==◌, length, IfOk, IfErr, true, false};
+ghost use Rattle.std.specs.Prelude.{◌≡◌, ◌↔◌, ◌⊎◌, ◌&&◌, ◌||◌, ◌==◌, length, IfOk, IfErr, IsTrue, true, false};
 ghost use Rattle.std.specs.List.{list_all, list_any};
 ghost use Rattle.registry_ranges.specs.Bounds.{bound_view, bounds_view, has_pre, IsPart};
 ghost use Rattle.registry_ranges.specs.Comparators as spec;
-ghost use Rattle.registry_ranges.specs.Comparators.{comparators_of_part};
+ghost use Rattle.registry_ranges.specs.Comparators.{comparators_of_part, Allows};
+ghost use Rattle.registry_ranges.specs.Grammar.{IsRangeText};
 ghost use Rattle.registry_ranges.specs.Steps.{part_view};
 ghost use Rattle.registry_ranges.specs.Texts as texts;
 
@@ -126,6 +127,8 @@ impl Verdict {
 /// taken for one comparator at a time, and only for one with a prerelease.
 #[tactic(auto, using(crate::proofs::BindingFacts::binding))]
 pub fn binds(alloc: Global, text: &str, version: &Ver) -> Result<bool, Fault>
+    ensures meaning { IfOk result (λ is.
+        IsTrue is ↔ ((¬ IsRangeText text.now) ⊎ Allows text.now version.now)) }
     ensures ok { IfOk result (λ is. is ≡ texts.binds text.now version.now) }
     ensures err { IfErr result (λ e. e ≡ Fault.Memory) }
 {

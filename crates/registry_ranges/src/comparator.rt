@@ -63,6 +63,7 @@ fn boxed(alloc: Global, bound: Bound<'_>) -> Result<Box<Version>, Fault>
 fn is_below(version: &Ver, major: u64, minor: u64, patch: u64) -> bool
     ensures { result ≡ spec.holds version.now (spec.below major minor patch) }
 {
+    // Reading the text tells the prover that the version is valid.
     let _valid = version.text();
     let version = version.as_semver();
     version

@@ -7,7 +7,7 @@ ghost use Rattle.registry_ranges.specs.Comparators as spec;
 ghost use Rattle.registry_ranges.specs.Comparators.{HasComparators, Means};
 ghost use Rattle.registry_ranges.specs.Grammar.{IsRangeText};
 ghost use Rattle.registry_ranges.specs.Values.{IsUnambiguous};
-ghost use Rattle.registry_ranges.specs.RangeViews.{Adds, AddsEnd, AddsPart, AreEnds};
+ghost use Rattle.registry_ranges.specs.RangeViews.{Adds, AddsPart, AreEnds, PushesRangeEnd};
 ghost use Rattle.registry_ranges.specs.RangeViews.{comparators_view, count_of, ranges_in};
 ghost use Rattle.registry_ranges.specs.Steps.{part_view};
 
@@ -82,7 +82,7 @@ fn push_part(alloc: Global, comparators: &mut Vec<Comparator>, part: Part<'_>) -
 // A range ends after all comparators that are kept.
 #[tactic(auto, using(crate::proofs::PieceFacts::view_facts))]
 fn push_end(ends: &mut Vec<usize>, comparators: &Vec<Comparator>) -> Result<(), Fault>
-    ensures ok { OnOk result (AddsEnd ends.old ends.new comparators.now) }
+    ensures ok { OnOk result (PushesRangeEnd ends.old ends.new comparators.now) }
     ensures err { IfErr result (λ e. e ≡ Fault.Memory) }
 {
     ends.push(comparators.len())?;

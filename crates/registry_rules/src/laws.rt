@@ -116,6 +116,7 @@ pub fn requests_keep_the_form()
 pub fn requests_are_in_form(request: &Request)
     ensures { IsInForm request.now }
 {
+    // Reading the moment tells the prover that it is one.
     request.at.seconds();
     action_is_in_form(&request.what);
 }
@@ -233,6 +234,7 @@ fn action_is_in_form(what: &Action)
     }
 }
 
+// The same of a version that is asked for.
 fn asked_is_in_form(version: &Asked)
     ensures { IsAskedInForm version.now }
 {
@@ -244,6 +246,7 @@ fn asked_is_in_form(version: &Asked)
     }
 }
 
+// The same of the parts of a form.
 fn parts_are_in_form(form: &PublishForm)
     ensures { ArePartsInForm form.now }
 {

@@ -5,7 +5,7 @@ use Rattle.registry_wire.specs.Spelling.{request_limit}
 use Rattle.registry_service.specs.Turns.{Answering}
 use Rattle.registry_server.specs.ConnectionStates.{fresh}
 use Rattle.registry_server.specs.Connections.{IsDone, IsLost, LeavesLittle, OpenConnection, Visits, body_least, body_since, connected, finishing, has_body, is_answered, must_wait, waiting}
-use Rattle.registry_server.specs.Phases.{first_phase, idle_since, is_late}
+use Rattle.registry_server.specs.Phases.{after, first_phase, idle_since, is_late}
 use Rattle.registry_server.specs.declared.connection.Visit.{Visit}
 use Rattle.registry_server.specs.declared.connection.Visit.TheVariants.{Again, Rests, Over}
 use Rattle.registry_server.specs.declared.phase.Stage.TheVariants.{Begun, Idle, Next}
@@ -563,6 +563,14 @@ why_ended over stops = if over then ServiceOver else (if stops then Stopped else
 -- a server waits at most this many milliseconds, where no connection can go on at once
 abbrev pub look_time : ℕ
 look_time = 250
+
+-- where it is time to look which connections are late, each of these ends
+abbrev pub after_look : {S : Type 0} → ℕ → ℕ → List (Place S) → List (Place S)
+after_look next now places = if nat_le next now then map (kept_at now) places else places
+
+-- and it is time again after so many milliseconds
+abbrev pub next_look : ℕ → ℕ → ℕ
+next_look next now = if nat_le next now then after look_time now else next
 
 -- at most this many milliseconds of a round count, besides those in which it waited
 abbrev pub round_time : ℕ

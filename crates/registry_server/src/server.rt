@@ -1,10 +1,10 @@
 //! The loop over all connections.
 
-ghost use Rattle.std.specs.Prelude.{◌≡◌, ◌≤◌, ◌||◌, ◌⊎◌, All, true, false, map, IfOk, OnOk, if◌then◌else◌};
+ghost use Rattle.std.specs.Prelude.{◌≡◌, ◌≤◌, ◌||◌, ◌⊎◌, All, true, false, IfOk, OnOk, if◌then◌else◌};
 ghost use Rattle.mio.specs.declared.net.stream.TcpStream.{TcpStream};
 ghost use Rattle.registry_server.specs.Listening.{lets_in};
 ghost use Rattle.registry_server.specs.Pools as spec;
-ghost use Rattle.registry_server.specs.Pools.{AreWoken, IsUnderWay, MayHaveOne, at_place, kept_at, new_at};
+ghost use Rattle.registry_server.specs.Pools.{AreWoken, IsUnderWay, MayHaveOne, at_place, new_at};
 
 use crate::clocks::{Timer, WallClock};
 use crate::guests::{FIRST_GUEST, GUEST_TOKENS, Guests, NoGuests};
@@ -211,6 +211,8 @@ impl Server {
         ensures goes_on { IfOk result (λ goes. goes ≡ (G.holds guests.old
             || spec.goes_on (D.over service.new) (lets_in self.new.listener.left)
             self.new.pool.places.items (G.empty guests.new))) }
+        ensures shut { OnOk result (G.holds guests.old ≡ false → G.stops guests.old ≡ true
+            → lets_in self.new.listener.left ≡ false) }
     {
         if guests.holds() {
             return Ok(true);
@@ -228,8 +230,9 @@ impl Server {
         guests: &mut G,
         now: u64,
     ) -> io::Result<bool>
-        ensures { IfOk result (λ goes. goes ≡ spec.goes_on (D.over service.new) (lets_in self.new.listener.left)
+        ensures goes_on { IfOk result (λ goes. goes ≡ spec.goes_on (D.over service.new) (lets_in self.new.listener.left)
             self.new.pool.places.items (G.empty guests.new)) }
+        ensures shut { OnOk result (G.stops guests.old ≡ true → lets_in self.new.listener.left ≡ false) }
     {
         if guests.stops() {
             self.stop(guests)?;
@@ -282,7 +285,9 @@ impl Server {
 
     // Lets in those who are there. Where every place is taken, it first looks on which connections
     // something has come, so that none of these ends for a new one.
-    fn let_in<G: Guests>(&mut self, alloc: Global, now: u64, guests: &mut G) -> io::Result<()> {
+    fn let_in<G: Guests>(&mut self, alloc: Global, now: u64, guests: &mut G) -> io::Result<()>
+        ensures shut { lets_in self.old.listener.left ≡ false → self.new.listener ≡ self.old.listener }
+    {
         if self.listener.is_asked() {
             if self.pool.is_full() {
                 self.look(0, guests)?;
@@ -356,8 +361,10 @@ impl Server {
 
     // Ends each connection whose time is up, where it is time to look for them.
     fn end_late(&mut self, now: u64)
-        ensures { (self.new.pool.places.items ≡ self.old.pool.places.items)
-            ⊎ (self.new.pool.places.items ≡ map (kept_at now) self.old.pool.places.items) }
+        ensures ends { self.new.pool.places.items
+            ≡ spec.after_look self.old.next_look now self.old.pool.places.items }
+        ensures next { self.new.next_look ≡ spec.next_look self.old.next_look now }
+        ensures listener { self.new.listener ≡ self.old.listener }
     {
         if self.next_look <= now {
             self.pool.end_late(now);

@@ -27,7 +27,7 @@ use Rattle.registry_tables.specs.Contents.{Archive, Contents, contents, archive_
 use Rattle.registry_tables.specs.Effects.{stored}
 use Rattle.registry_tables.specs.Schema as table
 use Rattle.registry_tables.specs.Schema.{schema}
-use Rattle.registry_tables.specs.Spelled.{archive_spelled, bytes_spelled, held_spelled, number_among}
+use Rattle.registry_tables.specs.Spelled.{archive_spelled, blob_of_row, held_spelled, number_among}
 use Rattle.registry_tables.proofs.MappedFacts.{archives_counted, archives_numbered, held_mapped}
 
 -- ---- INSERT of an archive
@@ -105,10 +105,10 @@ unfolding understood everything
 bytes_means = ((refl, (refl, refl)), refl)
 
 pub bytes_found : (n : ℤ) (old new : Shown) (rows : List Row) → Ready schema old → Queried bytes_text (Int n ∷ []) old new rows → HasCleanDisk new
-    → Reads schema old new × (option_map bytes_spelled (slice_get rows 0) ≡ option_map bytes_of (at (stored old).archives n))
+    → Reads schema old new × (option_map blob_of_row (slice_get rows 0) ≡ option_map bytes_of (at (stored old).archives n))
 bytes_found n old new rows form call clean =
-    let it = select_finds_by (by_number_given archives_numbered) bytes_text (col 1 3 ∷ []) _ bytes_means n bytes_spelled bytes_of (λ id vs. refl) old new rows form call clean in
-    (it.0, first_listed bytes_spelled rows _ it.1)
+    let it = select_finds_by (by_number_given archives_numbered) bytes_text (col 1 3 ∷ []) _ bytes_means n blob_of_row bytes_of (λ id vs. refl) old new rows form call clean in
+    (it.0, first_listed blob_of_row rows _ it.1)
 
 -- ---- which archive a version has
 

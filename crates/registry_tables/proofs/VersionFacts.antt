@@ -23,7 +23,7 @@ use Rattle.registry_rows.proofs.StatementFacts.{insert_puts, insert_meets_none, 
 use Rattle.registry_rows.proofs.LookUpFacts.{select_finds, select_lists, select_lists_first, first_listed}
 use Rattle.registry_tables.specs.Teams.{text_spelled}
 use Rattle.registry_tables.specs.Withdrawals.{with_message}
-use Rattle.registry_tables.specs.Spelled.{number_spelled, document, document_spelled, published, row_spelled, second_time_spelled, time_spelled, version_spelled}
+use Rattle.registry_tables.specs.Spelled.{number_spelled, document, document_spelled, published, row_spelled, time_spelled, version_spelled}
 use Rattle.registry_tables.proofs.FoundFacts.{some_found, some_seen}
 use Rattle.registry_tables.proofs.LiveFacts.{document_as_row, documents_as_rows, lives_as_row, lives_as_rows, published_as_row, first_shown, times_as_rows, versions_as_rows}
 use Rattle.registry_tables.proofs.MappedFacts.{versions_mapped}
@@ -105,12 +105,12 @@ document_found p v old new rows form call clean =
 -- ---- SELECT by package
 
 abbrev list_text : List ℕ
-list_text = codes "SELECT version, manifest, deprecated, published FROM versions WHERE package = ?1 ORDER BY version"
+list_text = codes "SELECT version, manifest, deprecated FROM versions WHERE package = ?1 ORDER BY version"
 
 abbrev pub list_columns : List Term
-list_columns = col 1 2 ∷ col 1 4 ∷ col 1 5 ∷ col 1 3 ∷ []
+list_columns = col 1 2 ∷ col 1 4 ∷ col 1 5 ∷ []
 
-pub list_means : MeansQuery schema list_text (Select (record { lets = []; body = scan 18 (by_texts 0 1 0) list_columns (in_order 0 2) }) (codes "version" ∷ codes "manifest" ∷ codes "deprecated" ∷ codes "published" ∷ []))
+pub list_means : MeansQuery schema list_text (Select (record { lets = []; body = scan 18 (by_texts 0 1 0) list_columns (in_order 0 2) }) (codes "version" ∷ codes "manifest" ∷ codes "deprecated" ∷ []))
 unfolding understood everything
 list_means = ((refl, (refl, refl)), refl)
 
@@ -119,13 +119,6 @@ pub versions_listed : (p : Text) (old new : Shown) (rows : List Row) → Ready s
 versions_listed p old new rows form call clean =
     let it = select_lists versions_mapped list_text list_columns _ list_means p row_spelled document (λ id vs. refl) old new rows form call clean in
     (it.0, it.1 ∙ sym (documents_as_rows (stored old) p))
-
--- the same rows show when each of them was published
-pub times_listed : (p : Text) (old new : Shown) (rows : List Row) → Ready schema old → Queried list_text (Stored p ∷ []) old new rows → HasCleanDisk new
-    → Reads schema old new × (map time_spelled rows ≡ map (seen published) (of (live_of (stored old)) p))
-times_listed p old new rows form call clean =
-    let it = select_lists versions_mapped list_text list_columns _ list_means p time_spelled published (λ id vs. refl) old new rows form call clean in
-    (it.0, it.1 ∙ sym (times_as_rows (stored old) p))
 
 abbrev times_text : List ℕ
 times_text = codes "SELECT version, published FROM versions WHERE package = ?1 ORDER BY version"
@@ -137,11 +130,11 @@ times_means : MeansQuery schema times_text (Select (record { lets = []; body = s
 unfolding understood everything
 times_means = ((refl, (refl, refl)), refl)
 
--- the rows show when each live version was published, and nothing else of it
-pub times_alone_listed : (p : Text) (old new : Shown) (rows : List Row) → Ready schema old → Queried times_text (Stored p ∷ []) old new rows → HasCleanDisk new
-    → Reads schema old new × (map second_time_spelled rows ≡ map (seen published) (of (live_of (stored old)) p))
-times_alone_listed p old new rows form call clean =
-    let it = select_lists versions_mapped times_text times_columns _ times_means p second_time_spelled published (λ id vs. refl) old new rows form call clean in
+-- the rows show when each live version was published
+pub times_listed : (p : Text) (old new : Shown) (rows : List Row) → Ready schema old → Queried times_text (Stored p ∷ []) old new rows → HasCleanDisk new
+    → Reads schema old new × (map time_spelled rows ≡ map (seen published) (of (live_of (stored old)) p))
+times_listed p old new rows form call clean =
+    let it = select_lists versions_mapped times_text times_columns _ times_means p time_spelled published (λ id vs. refl) old new rows form call clean in
     (it.0, it.1 ∙ sym (times_as_rows (stored old) p))
 
 abbrev live_text : List ℕ

@@ -33,7 +33,7 @@ plain_in : (s : State) → s.now.schema ≡ schema → IsPlain (understood s.now
 plain_in s is = subst (λ h. IsPlain (understood h walk_text)) (sym is) list_means.0.1
 
 is_select : (s : State) (p : Text) (c : Compiled) → s.now.schema ≡ schema → IsStatement s walk_text (Stored p ∷ []) c
-    → c.command ≡ Select (record { lets = []; body = scan 18 (by_texts 0 1 0) list_columns (in_order 0 2) }) (codes "version" ∷ codes "manifest" ∷ codes "deprecated" ∷ codes "published" ∷ [])
+    → c.command ≡ Select (record { lets = []; body = scan 18 (by_texts 0 1 0) list_columns (in_order 0 2) }) (codes "version" ∷ codes "manifest" ∷ codes "deprecated" ∷ [])
 is_select s p c is it = sym (ap command_of it.is) ∙ ap (λ h. command_of (understood h walk_text)) is ∙ list_means.0.0
 
 -- it has no recursion, so it can end

@@ -15,6 +15,6 @@ TellOrganisation organisations c o = (rows : AccessRows) → rows.organisations.
     → has_organisation (state_of rows) o ≡ has_organisation (access_of c) o
 
 -- rows with these members give the caller the role in the organisation that is stored
-abbrev pub TellRole : List MemberRow → Contents → Caller → Text → Type 0
-TellRole members c who o = (rows : AccessRows) → rows.members.items ≡ members
+abbrev pub RowsGiveStoredRole : List MemberRow → Contents → Caller → Text → Type 0
+RowsGiveStoredRole members c who o = (rows : AccessRows) → rows.members.items ≡ members
     → role_of (state_of rows) who o ≡ role_of (access_of c) who o

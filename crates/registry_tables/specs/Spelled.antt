@@ -18,8 +18,8 @@ use Rattle.registry_tables.specs.Contents.{role_of, status_of}
 use Rattle.registry_tables.specs.declared.versions.DocumentRow.{DocumentRow}
 
 -- bytes alone
-abbrev pub bytes_spelled : Row → List ℕ
-bytes_spelled r = blob_in (column r 0)
+abbrev pub blob_of_row : Row → List ℕ
+blob_of_row r = blob_in (column r 0)
 
 -- the number that a status is kept as
 abbrev pub status_number : Status → ℕ
@@ -70,16 +70,9 @@ row_entry v = (v.version, (v.manifest, v.message))
 abbrev pub published : Release → ℕ
 published r = r.at
 
--- a version, and when it was published, which stands in this place
-abbrev pub time_in : ℕ → Row → Text × ℕ
-time_in place r = (text_in (column r 0), number_in (column r place))
-
--- the same where it comes fourth, and where it comes second
+-- a version, and when it was published
 abbrev pub time_spelled : Row → Text × ℕ
-time_spelled = time_in 3
-
-abbrev pub second_time_spelled : Row → Text × ℕ
-second_time_spelled = time_in 1
+time_spelled r = (text_in (column r 0), number_in (column r 1))
 
 -- a version, and nothing of it
 abbrev pub version_spelled : Row → Text × Unit {0}

@@ -22,7 +22,7 @@ use Rattle.registry_tables.specs.declared.walk.stage.Stage.TheVariants.{Goes, Ov
 
 -- what a walk asks
 abbrev pub walk_text : List ℕ
-walk_text = codes "SELECT version, manifest, deprecated, published FROM versions WHERE package = ?1 ORDER BY version"
+walk_text = codes "SELECT version, manifest, deprecated FROM versions WHERE package = ?1 ORDER BY version"
 
 -- the live versions of a package, each with its manifest and its message, in byte order
 abbrev pub documents_of : Seen → Text → List (Text × (Text × Text))

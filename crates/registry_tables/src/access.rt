@@ -5,7 +5,7 @@ ghost use Rattle.registry_access.specs.Agreement.{SameOrganisation};
 ghost use Rattle.registry_access.specs.RowMaps.{state_of};
 ghost use Rattle.registry_access.specs.declared.caller.Caller.TheVariants as caller;
 ghost use Rattle.registry_rows.specs.Frames.{Stays};
-ghost use Rattle.registry_tables.specs.Access.{TellOrganisation, TellRole};
+ghost use Rattle.registry_tables.specs.Access.{RowsGiveStoredRole, TellOrganisation};
 ghost use Rattle.registry_tables.specs.Contents.{access_of};
 ghost use Rattle.registry_tables.specs.Effects.{InForm, Knows, Loads};
 
@@ -76,7 +76,7 @@ fn member_rows<S: Alter>(
     requires in_form { InForm S.Store tx.old }
     ensures stays { Stays S.Store tx.old tx.new }
     ensures knows { Knows S.Store tx.old tx.new result
-        (λ members c. TellRole members.items c caller.now organisation.now) }
+        (λ members c. RowsGiveStoredRole members.items c caller.now organisation.now) }
 {
     match caller {
         Caller::User(user) => user_rows(alloc, tx, user, organisation),
@@ -94,7 +94,7 @@ fn user_rows<S: Alter>(
     requires in_form { InForm S.Store tx.old }
     ensures stays { Stays S.Store tx.old tx.new }
     ensures loads { Loads S.Store tx.old tx.new result
-        (λ members c. TellRole members.items c (caller.User user.now) organisation.now) }
+        (λ members c. RowsGiveStoredRole members.items c (caller.User user.now) organisation.now) }
 {
     match load_role(tx, organisation, user.text())? {
         Some(role) => one_member(alloc, organisation, user.text(), role),

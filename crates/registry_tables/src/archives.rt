@@ -12,7 +12,7 @@ ghost use Rattle.registry_tables.specs.Archives.{archive_number, next_archive, n
 ghost use Rattle.registry_tables.specs.Changes.{IsFree, with_archive_of};
 ghost use Rattle.registry_tables.specs.Contents.{live_of};
 ghost use Rattle.registry_tables.specs.Effects.{InForm, IsUnderWay, Makes, Loads, OnlyWhere, shown, stored_in};
-ghost use Rattle.registry_tables.specs.Spelled.{archive_spelled, bytes_spelled, held_spelled, number_among};
+ghost use Rattle.registry_tables.specs.Spelled.{archive_spelled, blob_of_row, held_spelled, number_among};
 ghost use Rattle.registry_tables.specs.Withdrawals as withdrawals;
 
 use crate::versions::has_version;
@@ -82,7 +82,7 @@ fn load_bytes<S: Alter>(tx: &mut Transaction<'_, S>, number: i64) -> Result<Blob
 }
 
 fn bytes_in(rows: &[Row]) -> Result<Blob, Fault>
-    ensures { IfOk result (λ bytes. option_map bytes_spelled (slice_get rows.now 0) ≡ Some bytes) }
+    ensures { IfOk result (λ bytes. option_map blob_of_row (slice_get rows.now 0) ≡ Some bytes) }
 {
     match value_of_first_row::<BytesRow>(rows)? {
         Some(bytes) => Ok(bytes),
@@ -273,7 +273,7 @@ impl RowKind for BytesRow {
 
     ghost seen = { λ bytes. bytes };
 
-    ghost spelled = { bytes_spelled };
+    ghost spelled = { blob_of_row };
 
     fn read(row: &Row) -> Result<Blob, Error> {
         let bytes: Vec<u8> = row.get(0)?;

@@ -58,7 +58,7 @@ pub use crate::teams::{has_team, load_teams};
 pub use crate::tokens::load_token_user;
 pub use crate::users::has_user;
 pub use crate::versions::{
-    DocumentRow, LiveVersions, has_live, has_version, load_document, load_live, load_published,
-    load_times, load_versions, put_version,
+    DocumentRow, has_live, has_version, load_document, load_live, load_published, load_times,
+    put_version,
 };
 pub use crate::walk::{LiveRows, VersionWalk, walk_versions};

@@ -12,7 +12,7 @@ ghost use Rattle.registry_tables.specs.Changes.{IsFree, IsNew, row_of, version_p
 ghost use Rattle.registry_tables.specs.Contents.{live_of, registry_of};
 ghost use Rattle.registry_tables.specs.Effects.{InForm, Makes, OnlyWhere, Loads};
 ghost use Rattle.registry_packument.specs.Heads.{time_entry};
-ghost use Rattle.registry_tables.specs.Spelled.{document, document_entry, document_spelled, published, row_entry, row_spelled, second_time_spelled, time_in, time_spelled};
+ghost use Rattle.registry_tables.specs.Spelled.{document, document_entry, document_spelled, published, row_entry, row_spelled, time_spelled};
 ghost use Rattle.registry_tables.specs.Withdrawals.{with_message};
 
 use crate::archives::put_archive;
@@ -125,38 +125,9 @@ pub fn has_live<S: Alter>(tx: &mut Transaction<'_, S>, name: &Name) -> Result<bo
     Ok(!rows.is_empty())
 }
 
-/// The live versions of a package, in byte order of their texts.
-#[derive(Drop)]
-pub struct LiveVersions {
-    /// Each with its manifest and its message.
-    pub versions: Vec<VersionRow>,
-    /// Each with the moment of its publication.
-    pub times: Vec<VersionTime>,
-}
-
-/// What asks for the live versions of a package, with all of this.
+/// What asks for the live versions of a package, each with its manifest and its message.
 pub(crate) const LIVE_VERSIONS: &str =
-    "SELECT version, manifest, deprecated, published FROM versions WHERE package = ?1 ORDER BY version";
-
-/// The live versions of a package, with their manifests, their messages and the moments of their
-/// publication. One statement reads them all.
-pub fn load_versions<S: Alter>(
-    alloc: Global,
-    tx: &mut Transaction<'_, S>,
-    name: &Name,
-) -> Result<LiveVersions, Fault>
-    requires in_form { InForm S.Store tx.old }
-    ensures stays { Stays S.Store tx.old tx.new }
-    ensures versions { Loads S.Store tx.old tx.new result
-        (λ live c. map row_entry live.versions.items
-        ≡ map (seen document) (of (live_of c) name.now)) }
-    ensures times { Loads S.Store tx.old tx.new result
-        (λ live c. map time_entry live.times.items
-        ≡ map (seen published) (of (live_of c) name.now)) }
-{
-    let rows = read(tx, LIVE_VERSIONS, params![name.text()])?;
-    live_in(alloc, &rows)
-}
+    "SELECT version, manifest, deprecated FROM versions WHERE package = ?1 ORDER BY version";
 
 /// The moments at which the live versions of a package were published, each with its version, in byte
 /// order of their texts. Their manifests aren't read.
@@ -176,18 +147,6 @@ pub fn load_times<S: Alter>(
         params![name.text()],
     )?;
     values_of_rows::<TimeRow>(alloc, &rows)
-}
-
-// The versions that the rows spell.
-fn live_in(alloc: Global, rows: &[Row]) -> Result<LiveVersions, Fault>
-    ensures versions { IfOk result (λ live.
-        map row_entry live.versions.items ≡ map row_spelled rows.now) }
-    ensures times { IfOk result (λ live.
-        map time_entry live.times.items ≡ map time_spelled rows.now) }
-{
-    let versions = values_of_rows::<ListedVersion>(alloc, rows)?;
-    let times = values_of_rows::<ListedTime>(alloc, rows)?;
-    Ok(LiveVersions { versions, times })
 }
 
 /// What the document of a live version is made of.
@@ -313,24 +272,7 @@ impl RowKind for ListedVersion {
     }
 }
 
-// A version, and the moment of its publication, which comes fourth.
-struct ListedTime;
-
-impl RowKind for ListedTime {
-    type Value = VersionTime;
-
-    ghost Seen = { Bytes × ℕ };
-
-    ghost seen = { time_entry };
-
-    ghost spelled = { time_spelled };
-
-    fn read(row: &Row) -> Result<VersionTime, Error> {
-        time_at(row, 3)
-    }
-}
-
-// A version, and the moment of its publication, which comes second.
+// A version, and the moment of its publication.
 struct TimeRow;
 
 impl RowKind for TimeRow {
@@ -340,24 +282,17 @@ impl RowKind for TimeRow {
 
     ghost seen = { time_entry };
 
-    ghost spelled = { second_time_spelled };
+    ghost spelled = { time_spelled };
 
     fn read(row: &Row) -> Result<VersionTime, Error> {
-        time_at(row, 1)
-    }
-}
-
-// The version that a row begins with, and the moment of its publication, which stands in this place.
-fn time_at(row: &Row, place: usize) -> Result<VersionTime, Error>
-    ensures { IfOk result (λ time. time_entry time ≡ time_in place row.now) }
-{
-    let version: String = row.get(0)?;
-    match Moment::new(row.get(place)?) {
-        Some(published) => Ok(VersionTime {
-            version: Text::from(version),
-            published,
-        }),
-        None => Err(Error::IntegralValueOutOfRange(place)),
+        let version: String = row.get(0)?;
+        match Moment::new(row.get(1)?) {
+            Some(published) => Ok(VersionTime {
+                version: Text::from(version),
+                published,
+            }),
+            None => Err(Error::IntegralValueOutOfRange(1)),
+        }
     }
 }
 

@@ -22,7 +22,7 @@ use registry_rows::{fault_of, value_of_row};
 use sqlite::{Alter, Connection, Error, Rows, params};
 
 /// Asks for the live versions of a package, in byte order of their texts, each with its manifest and
-/// its message, as [`load_versions`](crate::load_versions) loads them. [`VersionWalk`] reads them.
+/// its message. [`VersionWalk`] reads them.
 ///
 /// The connection, which is open, is lent until the rows are dropped. Nothing that it shows is
 /// changed, and nothing can be committed; but a failure of the disk may shut it.

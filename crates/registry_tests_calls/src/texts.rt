@@ -292,7 +292,7 @@ fn keeps(rt: &impl Abort, alloc: Global, case: &Case) {
 fn goes_on(rt: &impl Abort, alloc: Global, store: &mut TextCache, shows: &str, stage: &Stage) {
     let (step, size) = stage;
     take(rt, alloc, store, shows, step);
-    same(rt, shows, store.size(), *size);
+    same(rt, shows, store.bytes_without_large(), *size);
 }
 
 // Takes a step, and checks that a look-up finds what it should find.
@@ -374,7 +374,7 @@ fn blobs_are_kept_as_texts_are(rt: HostRuntime) {
         store.put(name, blob).expect(&rt, "memory");
     }
     store.forget("b");
-    same(&rt, "size", store.size(), TWO + 2);
+    same(&rt, "size", store.bytes_without_large(), TWO + 2);
     same(&rt, "forgotten", store.peek("b").is_none(), true);
     match store.get("c").expect(&rt, "few owners") {
         Some(found) => same(&rt, "kept", found.as_slice() == b"c".as_slice(), true),

@@ -1,102 +1,52 @@
 //! A server whose time passes.
 
-ghost use Rattle.std.specs.Prelude.{◌≡◌, false, true};
-
 use crate::client::{ANSWER, client, heard, send, wait};
 use crate::service::{Counting, one_more};
-use mio::Registry;
+use mio::{Token, Waker};
 use registry_names::Moment;
-use registry_server::{Ended, Guests, Server};
-use registry_service::Service;
+use registry_server::{Ended, FIRST_GUEST, Server};
 use registry_tests_support::same;
-use std::alloc::Global;
 use std::cell::Cell;
 use std::io;
 use std::net::{Shutdown, TcpStream};
 use std::test::Fail;
 use std::time::{Clock, Duration};
 
-/// Guests of whom one can always go on, so that no round waits. They ask nothing.
-#[derive(Drop)]
-struct Busy;
+/// Between two readings this many milliseconds pass. A round reads the time twice, and 275 ms of it
+/// count at most: as long as a server waits, and 25 ms more.
+const STEP: u64 = 200;
 
-impl Guests for Busy {
-    ghost holds = { λ _. false };
+/// The reading after 50 s: that of the 182nd round.
+const AFTER_50: u32 = 364;
 
-    ghost stops = { λ _. false };
+/// The reading after 58 s.
+const AFTER_58: u32 = 422;
 
-    ghost busy = { λ _. true };
+/// The reading after 62 s, of which at least 61 s count: a round in which a connection can go on at
+/// once counts for 25 ms.
+const AFTER_62: u32 = 452;
 
-    ghost empty = { λ _. true };
-
-    ghost attends = { λ _ old new. new ≡ old };
-
-    ghost visits = { λ answers over most guests M N readings readings2. N ≡ M };
-
-    fn holds(&self) -> bool {
-        false
-    }
-
-    fn stops(&self) -> bool {
-        false
-    }
-
-    fn attend(&mut self, _registry: &Registry, _now: u64) {}
-
-    fn wake(&mut self, _number: usize) {}
-
-    fn is_busy(&self) -> bool {
-        true
-    }
-
-    fn is_empty(&self) -> bool {
-        true
-    }
-
-    fn visit<D: Service, C: registry_service::Clock>(
-        &mut self,
-        _alloc: Global,
-        _service: &mut D,
-        _clock: &mut C,
-        _buffer: &mut [u8],
-        _registry: &Registry,
-        _now: u64,
-    ) {}
-}
-
-/// Between two readings this many milliseconds pass. A round reads the time twice, and 25 ms of it
-/// count, since a server that waits for nothing should take no longer. So 80 readings are a second.
-const STEP: u64 = 20;
-
-/// The reading after 50 s.
-const AFTER_50: u32 = 4_000;
-
-/// The reading after 59 s.
-const AFTER_59: u32 = 4_720;
-
-/// The reading after 61 s.
-const AFTER_61: u32 = 4_880;
-
-/// A clock by which time passes fast. One client is silent, until both end after 61 s. The other asks
-/// after 50 s and after 61 s.
+/// A clock by which time passes fast, as it lets no round wait. One client is silent, until both end
+/// after 62 s. The other asks after 50 s and after 62 s.
 #[derive(Drop)]
 struct Passing<'a> {
     rt: &'a HostRuntime,
     readings: Cell<u32>,
+    waker: Waker,
     silent: &'a TcpStream,
     asks: &'a TcpStream,
-    // Whether the server had ended the silent client's connection after 59 s, and after 61 s.
-    after_59: Cell<bool>,
-    after_61: Cell<bool>,
+    // Whether the server had ended the silent client's connection after 58 s, and after 62 s.
+    after_58: Cell<bool>,
+    after_62: Cell<bool>,
 }
 
 impl Passing<'_> {
     fn play(&self, reading: u32) -> io::Result<()> {
         match reading {
             AFTER_50 => send(self.asks)?,
-            AFTER_59 => self.after_59.set(self.is_ended()),
-            AFTER_61 => {
-                self.after_61.set(self.is_ended());
+            AFTER_58 => self.after_58.set(self.is_ended()),
+            AFTER_62 => {
+                self.after_62.set(self.is_ended());
                 send(self.asks)?;
                 self.asks.shutdown(Shutdown::Write)?;
                 self.silent.shutdown(Shutdown::Write)?;
@@ -116,6 +66,7 @@ impl Passing<'_> {
 impl Clock for Passing<'_> {
     fn monotonic(&self) -> io::Result<Duration> {
         let reading = one_more(&self.readings);
+        self.waker.wake()?;
         self.play(reading)?;
         Ok(Duration::from_millis(STEP * u64::from(reading)))
     }
@@ -134,21 +85,21 @@ fn a_silent_connection_ends_after_a_minute(rt: HostRuntime) -> Result<(), Fail> 
     let clock = Passing {
         rt: &rt,
         readings: Cell::new(0),
+        waker: Waker::new(server.registry(), Token(FIRST_GUEST))?,
         silent: &silent,
         asks: &asks,
-        after_59: Cell::new(true),
-        after_61: Cell::new(false),
+        after_58: Cell::new(true),
+        after_62: Cell::new(false),
     };
     let asked = Cell::new(0);
     let mut service = Counting {
         asked: &asked,
         command: 0,
     };
-    let moment = Moment::clamped(0);
-    let ended = server.run_beside(&clock, rt.alloc(), moment, &mut service, &mut Busy)?;
+    let ended = server.run(&clock, rt.alloc(), Moment::clamped(0), &mut service)?;
     same("it ended", ended, Ended::Enough)?;
-    same("ended after 59 s", clock.after_59.get(), false)?;
-    same("ended after 61 s", clock.after_61.get(), true)?;
+    same("ended after 58 s", clock.after_58.get(), false)?;
+    same("ended after 62 s", clock.after_62.get(), true)?;
     let both = format!(in rt.alloc(); "{ANSWER}{ANSWER}")?;
     same("who has asked", heard(&rt, &asks)?.as_str(), both.as_str())
 }

@@ -65,19 +65,15 @@ static VERSIONS: [Case; 6] = [
     Case {
         shows: "versions stand in byte order",
         calls: &[
-            ("kit", Call::Versions, ""),
+            ("kit", Call::Times, ""),
             ("kit", Call::NewStatus(Status::Public), "done"),
-            ("kit", Call::Versions, ""),
+            ("kit", Call::Times, ""),
             ("kit", Call::Add(Body::Plain("1.9.0"), 1), "done"),
             ("kit", Call::Publish(Body::Plain("2.0.0-beta"), 2), "done"),
             ("kit", Call::Add(Body::Plain("1.10.0"), 3), "done"),
             ("kit", Call::Withdrawn("1.0.0"), "done"),
-            (
-                "kit",
-                Call::Versions,
-                r#" 1.10.0 {"name":"kit","version":"1.10.0"} [] 1.9.0 {"name":"kit","version":"1.9.0"} [] 2.0.0-beta {"name":"kit","version":"2.0.0-beta"} [] 1.10.0=3 1.9.0=1 2.0.0-beta=2"#,
-            ),
-            ("kid", Call::Versions, ""),
+            ("kit", Call::Times, " 1.10.0=3 1.9.0=1 2.0.0-beta=2"),
+            ("kid", Call::Times, ""),
             ("kit", Call::HasLive, "true"),
             ("kid", Call::HasLive, "false"),
             ("kit", Call::Lives("1.9.0"), "true"),

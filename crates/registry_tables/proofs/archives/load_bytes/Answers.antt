@@ -3,7 +3,7 @@ use Rattle.std.proofs.lemmas.Int.{to_z-of_z}
 use Rattle.std.proofs.lemmas.Result.{IfOk-weaker}
 use Rattle.registry_rows.proofs.QuietFacts.{read_stays}
 use Rattle.registry_tables.specs.Effects.{shown}
-use Rattle.registry_tables.specs.Spelled.{bytes_spelled}
+use Rattle.registry_tables.specs.Spelled.{blob_of_row}
 use Rattle.registry_tables.proofs.ArchiveFacts.{bytes_found}
 use Rattle.registry_tables.proofs.archives.load_bytes.Goals as goal
 
@@ -14,5 +14,5 @@ returns g c =
     let it = bytes_found c.args.number (shown g.S.Store c.args.tx.now) (shown g.S.Store c.read.new.tx) _ c.requires.in_form call in
     record {
       stays = read_stays g.S.Store _ _ _ c.args.tx.now c.read.new.tx _ c.in_ok-rows.ensures.same_reference call (λ clean. (it clean).0);
-      loads = λ clean. IfOk-weaker c.bytes_in.result _ _ (λ _ e. ((it clean).0, sym (it clean).1 ∙ ap (λ rows. option_map bytes_spelled (slice_get rows 0)) (sym c.deref.ensures.value) ∙ e)) c.bytes_in.ensures;
+      loads = λ clean. IfOk-weaker c.bytes_in.result _ _ (λ _ e. ((it clean).0, sym (it clean).1 ∙ ap (λ rows. option_map blob_of_row (slice_get rows 0)) (sym c.deref.ensures.value) ∙ e)) c.bytes_in.ensures;
     }

@@ -8,15 +8,14 @@ ghost use Rattle.registry_tables.specs.Effects.{InForm};
 use super::rights::{self, RightCall};
 use super::teams::{self, TeamCall};
 use super::text::{
-    Body, archive_text, done, form_of, push_word, status_text, tags_text, times_text,
-    versions_text, word_text,
+    Body, archive_text, done, form_of, push_word, status_text, tags_text, times_text, word_text,
 };
 use registry_names::{Fault, Message, Moment, Name, Status, Stop, Ver};
 use registry_rows::write;
 use registry_rules::Change;
 use registry_tables::{
     create, has_live, has_tag, has_version, is_spent, load_archive, load_status, load_tags,
-    load_times, load_versions, make, put_version,
+    load_times, make, put_version,
 };
 use registry_tests_support::{otherwise, same};
 use sqlite::{Alter, Connection, Row, Transaction, params};
@@ -76,9 +75,6 @@ pub enum Call {
     HasTag(&'static str),
     /// Its tags, each with its version.
     Tags,
-    /// Its versions, each with its manifest and its message, and then each with the second in which
-    /// it was published.
-    Versions,
     /// Its versions, each with the second in which it was published.
     Times,
     /// The length of the version's archive, and its last bytes.
@@ -233,7 +229,6 @@ fn told_of<S: Alter>(
         Call::IsSpent(version) => word_text(alloc, is_spent(tx, name, version)?),
         Call::HasTag(tag) => word_text(alloc, has_tag(tx, name, tag)?),
         Call::Tags => tags_text(alloc, &load_tags(alloc, tx, name)?),
-        Call::Versions => versions_text(alloc, &load_versions(alloc, tx, name)?),
         Call::Times => times_text(alloc, &load_times(alloc, tx, name)?),
         Call::Archive(version) => archive_text(alloc, &load_archive(tx, name, version)?),
         Call::Teams(call) => teams::told(alloc, tx, name, call),

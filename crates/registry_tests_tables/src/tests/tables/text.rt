@@ -4,7 +4,6 @@ use registry_access::{Grant, Role, Standing};
 use registry_names::{Blob, DistTag, Status, Stop, Text};
 use registry_packument::{Granted, VersionRow, VersionTime};
 use registry_publish::PublishForm;
-use registry_tables::LiveVersions;
 use registry_tests_support::{ABC, body_of};
 use std::alloc::{AllocError, Global};
 
@@ -88,27 +87,11 @@ pub fn push_word(text: &mut String, word: &str) -> Result<(), AllocError> {
     text.push_str(word)
 }
 
-/// Each version with its manifest and its message in brackets, and then each with the second in
-/// which it was published, after a space.
-pub fn versions_text(alloc: Global, live: &LiveVersions) -> Result<String, Stop> {
-    let mut text = String::new(alloc);
-    push_versions(&mut text, &live.versions)?;
-    push_times(alloc, &mut text, &live.times)?;
-    Ok(text)
-}
-
 /// Each version with the second in which it was published, after a space.
 pub fn times_text(alloc: Global, times: &[VersionTime]) -> Result<String, Stop> {
     let mut text = String::new(alloc);
     push_times(alloc, &mut text, times)?;
     Ok(text)
-}
-
-fn push_versions(text: &mut String, rows: &[VersionRow]) -> Result<(), AllocError> {
-    for row in rows {
-        push_version(text, row)?;
-    }
-    Ok(())
 }
 
 fn push_times(alloc: Global, text: &mut String, times: &[VersionTime]) -> Result<(), AllocError> {
