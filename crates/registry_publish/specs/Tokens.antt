@@ -15,3 +15,7 @@ is_token t = nat_le 16 (length t) && nat_le (length t) 128 && list_all is_token_
 -- the SHA-256 of a token; None for another text
 abbrev pub digest_of : List ℕ → Option (List ℕ)
 digest_of t = if is_token t then Some (sha256 t) else None
+
+-- the digest that has these bytes; None where they aren't 32
+abbrev pub digest_with : List ℕ → Option (List ℕ)
+digest_with bytes = if length bytes == 32 then Some bytes else None

@@ -62,6 +62,17 @@ impl TokenDigest {
         }
     }
 
+    /// The digest with these bytes, which are those of `as_slice`. `None` is returned where they
+    /// aren't 32. It takes no memory.
+    pub fn from_slice(bytes: &[u8]) -> Option<TokenDigest>
+        ensures { result ≡ spec.digest_with bytes.now }
+    {
+        match <[u8; 32]>::try_from(bytes) {
+            Ok(bytes) => Some(TokenDigest { bytes }),
+            Err(_) => None,
+        }
+    }
+
     /// The digest's 32 bytes.
     pub fn as_slice(&self) -> &[u8]
         ensures value { result.now ≡ self.now }
