@@ -1,9 +1,10 @@
 -- The policy: for each thing that can be asked for, the rule that allows it, or the first of
 -- NoCaller, NotFound and Denied that refuses it.
-use Rattle.std.specs.Prelude.{Bool, is_some, Option, Result, Ok, Err, if◌then◌else◌}
+use Rattle.std.specs.Prelude.{Bool, false, is_some, Option, Some, None, Result, Ok, Err, if◌then◌else◌}
 use Rattle.registry_names.specs.Names.{scope_of}
+use Rattle.registry_names.specs.Texts.{Text, is}
 use Rattle.registry_names.specs.declared.refusal.Rule.{Rule}
-use Rattle.registry_names.specs.declared.refusal.Rule.TheVariants.{A1, A2, A3, A4, A5, A6, A7, A8, A9}
+use Rattle.registry_names.specs.declared.refusal.Rule.TheVariants.{A1, A2, A3, A4, A5, A6, A7, A8, A9, A10}
 use Rattle.registry_names.specs.declared.refusal.Refusal.{Refusal}
 use Rattle.registry_names.specs.declared.refusal.Refusal.TheVariants.{NoCaller, NotFound, Denied}
 use Rattle.registry_access.specs.Access.{Access}
@@ -37,6 +38,20 @@ by_rule rule holds = if holds then Ok rule else Err (Denied rule)
 -- A1: the operator
 abbrev pub may_operate : Caller → Verdict
 may_operate caller = for_known caller (by_rule A1 (is_operator caller))
+
+-- ---- of a token, by whose it is, if it is there
+
+-- it is there, and this user's
+abbrev pub is_theirs : Option Text → Text → Bool
+is_theirs None u = false
+is_theirs (Some whose) u = is whose u
+
+-- A1: the operator, whether it is there or not. A10: the user whose token it is. To another user it
+-- is as one that isn't there
+abbrev pub may_end_token : Caller → Option Text → Verdict
+may_end_token Operator whose = Ok A1
+may_end_token (User u) whose = where_found (is_theirs whose u) (Ok A10)
+may_end_token Anonymous whose = Err NoCaller
 
 -- ---- of an organisation that may be there, and in which the caller may have a role
 

@@ -10,7 +10,7 @@ use crate::caller::Caller;
 use crate::levels::Level;
 use crate::position::{Position, is_owner_or_admin};
 use crate::role::Role;
-use registry_names::{Refusal, Rule};
+use registry_names::{Ident, Refusal, Rule};
 
 fn is_anonymous(caller: &Caller) -> bool
     ensures { result ≡ callers.is_anonymous caller.now }
@@ -49,6 +49,30 @@ pub fn may_operate(caller: &Caller) -> Result<Rule, Refusal>
         return Err(Refusal::NoCaller);
     }
     by_rule(Rule::A1, matches!(caller, Caller::Operator))
+}
+
+#[tactic(auto, unfolding(registry_names::specs::Texts::is))]
+fn is_theirs(whose: &Option<Ident>, user: &Ident) -> bool
+    ensures { result ≡ spec.is_theirs whose.now user.now }
+{
+    match whose {
+        Some(whose) => whose.text() == user.text(),
+        None => false,
+    }
+}
+
+/// The rule that allows the caller to end a token, by whose it is: `None` where it isn't there. It
+/// needs no rows. `NoCaller` is returned for an anonymous caller, and `NotFound` for a user whose
+/// token it isn't.
+pub fn may_end_token(caller: &Caller, whose: &Option<Ident>) -> Result<Rule, Refusal>
+    ensures { result ≡ spec.may_end_token caller.now whose.now }
+{
+    match caller {
+        Caller::Operator => Ok(Rule::A1),
+        Caller::User(user) if is_theirs(whose, user) => Ok(Rule::A10),
+        Caller::User(_) => Err(Refusal::NotFound),
+        Caller::Anonymous => Err(Refusal::NoCaller),
+    }
 }
 
 // What the rule says to a known caller, where what they ask for is found.

@@ -1,7 +1,7 @@
 -- What is printed of a refusal, and its status code in HTTP.
 use Rattle.std.specs.Prelude.{ℕ, List, ◌++◌, codes}
 use Rattle.registry_names.specs.declared.refusal.Rule.{Rule}
-use Rattle.registry_names.specs.declared.refusal.Rule.TheVariants.{A1, A2, A3, A4, A5, A6, A7, A8, A9}
+use Rattle.registry_names.specs.declared.refusal.Rule.TheVariants.{A1, A2, A3, A4, A5, A6, A7, A8, A9, A10}
 use Rattle.registry_names.specs.declared.refusal.Refusal.{Refusal}
 use Rattle.registry_names.specs.declared.refusal.Refusal.TheVariants.{BadName, BadVersion, RangeTag, BadTag, BadBody, BadIntegrity, TooLarge, NoCaller, NotFound, Denied, Published, Spent, TooLate, Depended, KeepsLatest, BadSelector, LastOwner, KeepsDevelopers, Exists, OtherScope, AlwaysPublic, Waiting}
 
@@ -15,6 +15,7 @@ rule_text A6 = codes "A6"
 rule_text A7 = codes "A7"
 rule_text A8 = codes "A8"
 rule_text A9 = codes "A9"
+rule_text A10 = codes "A10"
 
 abbrev pub denied_text : Rule → List ℕ
 denied_text rule = codes "Denied " ++ rule_text rule

@@ -29,6 +29,8 @@ pub enum Rule {
     A8,
     /// A member of an organisation sees its members, its teams and their grants.
     A9,
+    /// A user ends each of their own tokens.
+    A10,
 }
 
 /// Why a request is refused. Where several reasons hold, the first that is tested is answered.
@@ -56,7 +58,7 @@ pub enum Refusal {
     NoCaller,
     /// What is named isn't there, or the caller may not see it.
     NotFound,
-    /// The rule of access that would allow it, one of A1 to A9, doesn't.
+    /// The rule of access that would allow it, one of A1 to A10, doesn't.
     Denied(Rule),
     /// The version is published already.
     Published,
@@ -169,5 +171,6 @@ fn denied_text(rule: Rule) -> &'static str
         Rule::A7 => "Denied A7",
         Rule::A8 => "Denied A8",
         Rule::A9 => "Denied A9",
+        Rule::A10 => "Denied A10",
     }
 }

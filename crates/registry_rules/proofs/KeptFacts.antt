@@ -1,10 +1,10 @@
 -- A request in form that nothing refuses keeps what holds of all that the registry holds.
-use Rattle.std.proofs.Common.{◌≡◌, ℕ, ◌≤◌, length, Bool, true, false, cond, ◌||◌, ◌&&◌, is_some, Option, Some, None, refl, sym, ap, ◌∙◌, subst, true≢false}
+use Rattle.std.proofs.Common.{◌≡◌, ℕ, ◌≤◌, length, Bool, true, false, cond, ◌||◌, ◌&&◌, List, is_some, Option, Some, None, refl, sym, ap, ◌∙◌, subst, true≢false}
 use Rattle.std.proofs.lemmas.Bool.{and_right}
 use Rattle.std.specs.Prelude.{IsSome, IsTrue}
 use Rattle.registry_names.specs.Idents.{is_ident}
 use Rattle.registry_names.specs.Keys.{Pair, pair_is}
-use Rattle.registry_names.specs.Maps.{at, put}
+use Rattle.registry_names.specs.Maps.{TextMap, at, erase, put}
 use Rattle.registry_names.specs.Moments.{last_second}
 use Rattle.registry_names.specs.Names.{IsName}
 use Rattle.registry_names.specs.Tags.{is_tag, latest}
@@ -21,16 +21,16 @@ use Rattle.registry_publish.specs.Form.{FormParts}
 use Rattle.registry_rules.specs.Actions.{version_of}
 use Rattle.registry_rules.specs.Callers.{caller_of, is_known}
 use Rattle.registry_rules.specs.Changes.{PutGrant, PutStatus, made, all_made, release_of}
-use Rattle.registry_rules.specs.Effects.{effects_for, joining, maintaining, membership, publication, step, step_by}
+use Rattle.registry_rules.specs.Effects.{effects_for, ending, joining, maintaining, membership, publication, step, step_by}
 use Rattle.registry_rules.specs.Kept.{IsReleaseOf, IsWithdrawalOf, IsTagOf, IsSpelled, IsSound, IsKept}
 use Rattle.registry_rules.specs.Operations.{with_tag, without_tag}
 use Rattle.registry_rules.specs.Refusals.{publish_refusal, refusal, refusal_by, refusal_for}
 use Rattle.registry_rules.specs.Requests.{ArePartsInForm, IsInForm, IsActionInForm}
-use Rattle.registry_rules.specs.State.{State, Release, Withdrawal, nothing, developers, is_in_team, has_grant, is_published, has_maintainer, is_live, stands}
+use Rattle.registry_rules.specs.State.{State, Release, Withdrawal, nothing, developers, tokens_of, is_in_team, has_grant, is_published, has_maintainer, is_live, stands}
 use Rattle.registry_rules.specs.Withdrawals.{live_versions, selected}
 use Rattle.registry_rules.specs.declared.request.Action.{Action}
 use Rattle.registry_rules.specs.declared.request.Action.TheVariants as asked
-use Rattle.registry_rules.specs.declared.request.Action.TheVariants.{UserAdd, TokenAdd, OrgCreate, OrgSet, OrgRemove, TeamCreate, TeamDestroy, TeamAdd, TeamRemove, Revoke, SetAccess, OwnerAdd, OwnerRemove, Publish, TagSet, TagRemove, Withdraw, Deprecate}
+use Rattle.registry_rules.specs.declared.request.Action.TheVariants.{UserAdd, TokenAdd, TokenRemove, TokensRemove, OrgCreate, OrgSet, OrgRemove, TeamCreate, TeamDestroy, TeamAdd, TeamRemove, Revoke, SetAccess, OwnerAdd, OwnerRemove, Publish, TagSet, TagRemove, Withdraw, Deprecate}
 use Rattle.registry_rules.specs.declared.request.Request.{Request}
 use Rattle.registry_rules.proofs.AllowedFacts.{IsAllowed, allowed_publish, is_there, isnt_kept, state_passed}
 use Rattle.registry_rules.proofs.MadeFacts.{latest_put, role_put, tag_put}
@@ -39,6 +39,7 @@ use Rattle.registry_rules.proofs.CallerFacts.{caller_known}
 use Rattle.registry_rules.proofs.SoundFacts.{created, destroyed, was_left}
 use Rattle.registry_rules.proofs.SoundSteps.{none_there, nothing_sound, step_sound}
 use Rattle.registry_rules.proofs.PublishedFacts.{statuses_after, status_of, after_publish, published_is}
+use Rattle.registry_rules.proofs.TokenFacts.{ended_all, ended_is, ended_was}
 use Rattle.registry_rules.proofs.WithdrawnFacts.{deprecated_is}
 use Rattle.registry_rules.proofs.WithdrawnKept.{deprecated_kept, withdrawal_kept}
 use Rattle.registry_names.proofs.PutFacts.{each_put, each_left, some_before, put_there, still_there}
@@ -234,6 +235,24 @@ token_spelled A digest u long spelled = record {
   statuses = spelled.statuses;
 }
 
+-- where no other token comes
+tokens_spelled : (A : Access) (tokens : TextMap Text) → ((d : Text) → IsSome (at tokens d) → IsSome (at A.tokens d)) → IsSpelled A → IsSpelled (record A { tokens = tokens })
+tokens_spelled A tokens left spelled = record {
+  users = spelled.users;
+  tokens = λ d h. spelled.tokens d (left d h);
+  organisations = spelled.organisations;
+  teams = spelled.teams;
+  statuses = spelled.statuses;
+}
+
+token_left : (m : TextMap Text) (digest d : Text) → IsSome (at (erase m digest) d) → IsSome (at m d)
+token_left m digest d h = was_left (is digest d) (at m d) (sym (ap is_some (at-erase text_key m digest d)) ∙ h)
+
+ended_kept : (S : State) (ds : List Text) → IsSound (all_made S (ending ds)).access → IsKept S → IsKept (all_made S (ending ds))
+ended_kept S ds sound kept =
+    subst (λ (T : State). IsSound T.access → IsKept T) (sym (ended_is S ds))
+    (λ still. access_kept S _ (λ p h. h) (tokens_spelled S.access (ended_all S.access.tokens ds) (ended_was S.access.tokens ds) kept.spelled) still kept) sound
+
 organisation_spelled : (A : Access) (o u : Text) → IsTrue (is_ident o) → IsSpelled A → IsSpelled (created A o u)
 organisation_spelled A o u form spelled = record {
   users = spelled.users;
@@ -320,6 +339,10 @@ action_kept S now who (UserAdd u) moment form known may kept =
     access_kept S _ (λ p h. h) (user_spelled S.access u form kept.spelled) (step_sound S now who (UserAdd u) known may kept.sound) kept
 action_kept S now who (TokenAdd u digest) moment form known may kept =
     access_kept S _ (λ p h. h) (token_spelled S.access digest u form.1 kept.spelled) (step_sound S now who (TokenAdd u digest) known may kept.sound) kept
+action_kept S now who (TokenRemove digest) moment form known may kept =
+    access_kept S _ (λ p h. h) (tokens_spelled S.access (erase S.access.tokens digest) (token_left S.access.tokens digest) kept.spelled)
+    (step_sound S now who (TokenRemove digest) known may kept.sound) kept
+action_kept S now who (TokensRemove u) moment form known may kept = ended_kept S (tokens_of S u) (step_sound S now who (TokensRemove u) known may kept.sound) kept
 action_kept S now who (OrgCreate o u) moment form known may kept =
     access_kept S _ (λ p h. h) (organisation_spelled S.access o u form.0 kept.spelled) (step_sound S now who (OrgCreate o u) known may kept.sound) kept
 action_kept S now who (OrgSet o u role) moment form known may kept =

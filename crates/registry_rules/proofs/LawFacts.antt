@@ -1,5 +1,5 @@
 -- The laws of what commands make.
-use Rattle.std.proofs.Common.{◌≡◌, ◌≢◌, ℕ, Bool, true, false, cond, not, ◌&&◌, ◌||◌, List, is_some, Option, Some, None, refl, sym, ap, ◌∙◌, subst, true≢false, if◌then◌else◌, Ordering}
+use Rattle.std.proofs.Common.{◌≡◌, ◌≢◌, ℕ, Bool, true, false, cond, not, ◌&&◌, ◌||◌, List, is_some, Option, Some, None, option_map, refl, sym, ap, ◌∙◌, subst, true≢false, if◌then◌else◌, Ordering}
 use Rattle.std.proofs.lemmas.Bool.{and_right}
 use Rattle.std.specs.Prelude.{IsSome}
 use Rattle.registry_names.specs.Keys.{IsKey, Pair, Triple, pair_is, triple_is}
@@ -26,16 +26,17 @@ use Rattle.registry_names.specs.Names.{scope_of}
 use Rattle.registry_publish.specs.Form.{FormParts}
 use Rattle.registry_rules.specs.Actions.{version_of, ends_team}
 use Rattle.registry_rules.specs.Changes.{all_made, release_of}
-use Rattle.registry_rules.specs.Effects.{deprecation, first_status, joining, membership, maintaining, new_status}
-use Rattle.registry_rules.specs.Laws.{SpendsVersion, FreesTags, WithdrawalsSpend, WithdrawalsFreeTags, Deprecates, DeprecationsMark, GivesFirstRight, IsGrantChange, IsOwnerChange, SetsAccess, GrantsAreGiven, GrantsAreRevoked, StatusesAreSet, MaintainersAreAdded, MaintainersAreRemoved, PublishesGiveFirstRights, SetsRole, OrganisationsAreCreated, RolesAreSet, MembersAreRemoved, UsersAreAdded, TokensAreAdded, AddsVersion, SetsTags, SetsStatus, IsTagChange, IsApart, DestroysTeam, IsTeamMemberChange, TeamsAreCreated, NewTeamsAreEmpty, TeamsAreDestroyed, TeamMembersAreAdded, TeamMembersAreRemoved, PublishesAddVersions, PublishesSetTags, PublishesSetStatuses, SetTagsName, RemovedTagsAreGone, QueriesChangeNothing, PackagesStandApart}
+use Rattle.registry_rules.specs.Effects.{deprecation, ending, first_status, joining, membership, maintaining, new_status}
+use Rattle.registry_rules.specs.Laws.{SpendsVersion, FreesTags, WithdrawalsSpend, WithdrawalsFreeTags, Deprecates, DeprecationsMark, GivesFirstRight, IsGrantChange, IsOwnerChange, SetsAccess, GrantsAreGiven, GrantsAreRevoked, StatusesAreSet, MaintainersAreAdded, MaintainersAreRemoved, PublishesGiveFirstRights, SetsRole, OrganisationsAreCreated, RolesAreSet, MembersAreRemoved, UsersAreAdded, TokensAreAdded, EndsTokens, TokensAreEnded, AllTokensAreEnded, AddsVersion, SetsTags, SetsStatus, IsTagChange, IsApart, DestroysTeam, IsTeamMemberChange, TeamsAreCreated, NewTeamsAreEmpty, TeamsAreDestroyed, TeamMembersAreAdded, TeamMembersAreRemoved, PublishesAddVersions, PublishesSetTags, PublishesSetStatuses, SetTagsName, RemovedTagsAreGone, QueriesChangeNothing, PackagesStandApart}
 use Rattle.registry_rules.specs.Operations.{without_team, with_grant, with_status, with_tag, without_tag}
-use Rattle.registry_rules.specs.State.{State, Release, developers, is_in_team, has_grant, is_published, has_maintainer, stands}
+use Rattle.registry_rules.specs.State.{State, Release, developers, tokens_of, is_in_team, has_grant, is_published, has_maintainer, stands}
 use Rattle.registry_rules.specs.declared.request.Action.{Action}
 use Rattle.registry_rules.specs.declared.request.Action.TheVariants as asked
-use Rattle.registry_rules.specs.declared.request.Action.TheVariants.{UserAdd, TokenAdd, OrgCreate, OrgSet, OrgRemove, TeamCreate, TeamDestroy, TeamAdd, TeamRemove, Revoke, SetAccess, OwnerAdd, OwnerRemove, Publish, TagSet, TagRemove, Withdraw, Deprecate}
+use Rattle.registry_rules.specs.declared.request.Action.TheVariants.{UserAdd, TokenAdd, TokenRemove, TokensRemove, OrgCreate, OrgSet, OrgRemove, TeamCreate, TeamDestroy, TeamAdd, TeamRemove, Revoke, SetAccess, OwnerAdd, OwnerRemove, Publish, TagSet, TagRemove, Withdraw, Deprecate}
 use Rattle.registry_rules.proofs.MadeFacts.{grant_put, latest_put, role_put, status_put, tag_put}
 use Rattle.registry_rules.specs.Withdrawals.{live_versions, others, selected, selects, tags_of}
 use Rattle.registry_rules.proofs.WithdrawnFacts.{among_passing, among_where_names, apart_where_others, at-freed, at-marked, deprecated_is, freed_gone, freed_latest, marked_value, withdrawal_of, withdrawn_is}
+use Rattle.registry_rules.proofs.TokenFacts.{among_theirs, at-all_ended, ended_is, others_apart}
 use Rattle.registry_rules.proofs.PublishedFacts.{statuses_after, granted_first, grants_after, maintained_first, maintainers_after, status_of, after_publish, published_is}
 
 -- keys that differ fail the test
@@ -65,6 +66,29 @@ tokens_are_added S now who u digest = record {
   tokens = λ d differ. at-put_other text_key S.access.tokens digest u d (unlike text_key digest d differ);
   rest = refl;
 }
+
+pub tokens_are_ended : TokensAreEnded
+tokens_are_ended S now who digest = record {
+  token = at-erase_same text_key S.access.tokens digest;
+  caller = ap (option_map User) (at-erase_same text_key S.access.tokens digest);
+  tokens = λ d differ. at-erase_other text_key S.access.tokens digest d (unlike text_key digest d differ);
+  rest = refl;
+}
+
+-- a token that is left names nobody else than before
+names_another : (b : Bool) (old : Option Text) (u : Text) → (old ≡ Some u → b ≡ true) → option_map User (cond b None old) ≢ Some (User u)
+names_another true old u theirs e = cc
+names_another false None u theirs e = cc
+names_another false (Some w) u theirs e = let same : w ≡ u = cc in true≢false (sym (theirs (ap (λ x. Some x) same)))
+
+pub all_tokens_are_ended : AllTokensAreEnded
+all_tokens_are_ended S now who u =
+    subst (λ T. EndsTokens S T u) (sym (ended_is S (tokens_of S u))) (record {
+      ended = λ digest e. at-all_ended S u digest ∙ ap (λ b. cond b None (at S.access.tokens digest)) (among_theirs S u digest e);
+      caller = λ digest e. names_another (among is (tokens_of S u) digest) (at S.access.tokens digest) u (among_theirs S u digest) (ap (option_map User) (sym (at-all_ended S u digest)) ∙ e);
+      tokens = λ digest differ. at-all_ended S u digest ∙ ap (λ b. cond b None (at S.access.tokens digest)) (others_apart S u digest differ);
+      rest = refl;
+    })
 
 -- ---- organisations
 
@@ -445,6 +469,8 @@ deprecations_mark S now who p conditions message =
 pub queries_change_nothing : QueriesChangeNothing
 queries_change_nothing S now who (UserAdd u) e = absurd (true≢false e)
 queries_change_nothing S now who (TokenAdd u digest) e = absurd (true≢false e)
+queries_change_nothing S now who (TokenRemove digest) e = absurd (true≢false e)
+queries_change_nothing S now who (TokensRemove u) e = absurd (true≢false e)
 queries_change_nothing S now who (OrgCreate o u) e = absurd (true≢false e)
 queries_change_nothing S now who (OrgSet o u role) e = absurd (true≢false e)
 queries_change_nothing S now who (OrgRemove o u) e = absurd (true≢false e)
@@ -529,6 +555,9 @@ unless_ended : {X : Type 0} (b : Bool) (old : Option X) → cond (not b) old Non
 unless_ended true old = refl
 unless_ended false old = refl
 
+apart_from_ending : (S : State) (u : Text) (ds : List Text) (p : Text) → IsApart S (all_made S (ending ds)) (TokensRemove u) p
+apart_from_ending S u ds p = subst (λ T. IsApart S T (TokensRemove u) p) (sym (ended_is S ds)) (apart_in_access S _ (TokensRemove u) p refl (λ w. refl) (λ o t. refl))
+
 apart_from_destroying : (S : State) (o t : Text) (p : Text) → IsApart S (without_team S o t) (TeamDestroy o t) p
 apart_from_destroying S o t p = record {
   live = λ v. refl;
@@ -574,6 +603,8 @@ apart_from_deprecation S q selector message p other =
 pub commands_leave_other_packages : PackagesStandApart
 commands_leave_other_packages S now who (UserAdd u) p other = apart_in_access S _ (UserAdd u) p refl (λ w. refl) (λ o t. refl)
 commands_leave_other_packages S now who (TokenAdd u digest) p other = apart_in_access S _ (TokenAdd u digest) p refl (λ w. refl) (λ o t. refl)
+commands_leave_other_packages S now who (TokenRemove digest) p other = apart_in_access S _ (TokenRemove digest) p refl (λ w. refl) (λ o t. refl)
+commands_leave_other_packages S now who (TokensRemove u) p other = apart_from_ending S u (tokens_of S u) p
 commands_leave_other_packages S now who (OrgCreate o u) p other = apart_in_access S _ (OrgCreate o u) p refl (λ w. refl) (λ o t. refl)
 commands_leave_other_packages S now who (OrgSet o u role) p other = apart_from_role S o u role (at S.access.roles (o, u)) refl p
 commands_leave_other_packages S now who (OrgRemove o u) p other = apart_in_access S _ (OrgRemove o u) p refl (λ w. refl) (λ o t. refl)

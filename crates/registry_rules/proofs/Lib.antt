@@ -9,5 +9,6 @@ pub mod OtherFacts
 pub mod PublishedFacts
 pub mod SoundFacts
 pub mod SoundSteps
+pub mod TokenFacts
 pub mod WithdrawnFacts
 pub mod WithdrawnKept

@@ -4,7 +4,7 @@ use Rattle.std.proofs.Common.{◌≡◌, ◌≢◌, Bool, true, false, cond, not
 use Rattle.std.proofs.lemmas.Bool.{and_right}
 use Rattle.std.specs.Prelude.{IsSome}
 use Rattle.registry_names.specs.Keys.{Pair, Triple, pair_is}
-use Rattle.registry_names.specs.Maps.{PairMap, at, put, erase, keep}
+use Rattle.registry_names.specs.Maps.{TextMap, PairMap, at, put, erase, keep}
 use Rattle.registry_names.specs.Texts.{Text, is}
 use Rattle.registry_names.proofs.KeyFacts.{text_key, pair_key, triple_key, same_true}
 use Rattle.registry_names.proofs.MapFacts.{at-put_same, at-put_other, at-erase, at-erase_other, at-keep}
@@ -55,6 +55,21 @@ token_added A digest u there sound = record {
   teams = sound.teams;
   team_members = sound.team_members;
   grants = λ o t p h. still_grant A (record A { tokens = put A.tokens digest u }) o t p (λ team. team) (λ status. status) (sound.grants o t p h);
+  maintainers = sound.maintainers;
+  unscoped = sound.unscoped;
+  maintained = sound.maintained;
+}
+
+-- where tokens end, and no other has changed
+pub tokens_left : (A : Access) (tokens : TextMap Text) → ((d u : Text) → at tokens d ≡ Some u → at A.tokens d ≡ Some u) → IsSound A → IsSound (record A { tokens = tokens })
+tokens_left A tokens left sound = record {
+  tokens = λ d u h. sound.tokens d u (left d u h);
+  roles = sound.roles;
+  owners = sound.owners;
+  first_teams = sound.first_teams;
+  teams = sound.teams;
+  team_members = sound.team_members;
+  grants = λ o t p h. still_grant A (record A { tokens = tokens }) o t p (λ team. team) (λ status. status) (sound.grants o t p h);
   maintainers = sound.maintainers;
   unscoped = sound.unscoped;
   maintained = sound.maintained;

@@ -1,6 +1,6 @@
 -- References hold, from nothing on, through each action that nothing refuses.
 -- Nothing is asked of how names are spelled.
-use Rattle.std.proofs.Common.{◌≡◌, ℕ, Bool, true, false, not, ◌&&◌, is_none, is_some, Option, Some, None, refl, sym, ap, ◌∙◌, subst, true≢false}
+use Rattle.std.proofs.Common.{◌≡◌, ℕ, Bool, true, false, not, ◌&&◌, List, is_none, is_some, Option, Some, None, refl, sym, ap, ◌∙◌, subst, true≢false}
 use Rattle.std.proofs.lemmas.Bool.{and_parts, and_right}
 use Rattle.std.specs.Prelude.{IsSome}
 use Rattle.registry_names.specs.Maps.{at, put, erase}
@@ -23,15 +23,15 @@ use Rattle.registry_access.specs.declared.role.Role.TheVariants.{Owner, Admin, D
 use Rattle.registry_publish.specs.Form.{FormParts}
 use Rattle.registry_rules.specs.Callers.{is_known}
 use Rattle.registry_rules.specs.Changes.{PutGrant, PutStatus, made, all_made}
-use Rattle.registry_rules.specs.Effects.{joining, maintaining, membership, publication, step_by}
+use Rattle.registry_rules.specs.Effects.{ending, joining, maintaining, membership, publication, step_by}
 use Rattle.registry_rules.specs.Operations.{without_maintainer, without_member, without_team}
 use Rattle.registry_rules.specs.Kept.{IsSound}
 use Rattle.registry_rules.specs.Permissions.{permission}
 use Rattle.registry_rules.specs.Refusals.{grant_refusal, is_restricted, publish_refusal, refusal_by, refuse, state_refusal, unless_allowed}
-use Rattle.registry_rules.specs.State.{State, nothing, developers, has_grant, has_other_maintainer, has_team, has_user, is_in_team, is_last_owner, is_member, has_maintainer, is_published, stands}
+use Rattle.registry_rules.specs.State.{State, nothing, developers, tokens_of, has_grant, has_other_maintainer, has_team, has_user, is_in_team, is_last_owner, is_member, has_maintainer, is_published, stands}
 use Rattle.registry_rules.specs.declared.request.Action.{Action}
 use Rattle.registry_rules.specs.declared.request.Action.TheVariants as asked
-use Rattle.registry_rules.specs.declared.request.Action.TheVariants.{UserAdd, TokenAdd, OrgCreate, OrgSet, OrgRemove, TeamCreate, TeamDestroy, TeamAdd, TeamRemove, Revoke, SetAccess, OwnerAdd, OwnerRemove, Publish, TagSet, Withdraw, Deprecate}
+use Rattle.registry_rules.specs.declared.request.Action.TheVariants.{UserAdd, TokenAdd, TokenRemove, TokensRemove, OrgCreate, OrgSet, OrgRemove, TeamCreate, TeamDestroy, TeamAdd, TeamRemove, Revoke, SetAccess, OwnerAdd, OwnerRemove, Publish, TagSet, Withdraw, Deprecate}
 use Rattle.registry_rules.proofs.AllowedFacts.{found_there, is_there, may_be_public, may_grant, not_false, passed, policy_passed, publisher_is_user, published_has_status, published_where_read, scope_there, state_passed, status_allowed, user_there}
 use Rattle.registry_rules.proofs.MadeFacts as made
 use Rattle.registry_rules.proofs.MadeFacts.{role_put, tag_put}
@@ -39,8 +39,10 @@ use Rattle.registry_rules.proofs.OtherFacts.{not_the_last, other_maintainer}
 use Rattle.registry_rules.proofs.PublishedFacts.{status_of, published_is}
 use Rattle.registry_rules.specs.Withdrawals.{live_versions, selected}
 use Rattle.registry_rules.proofs.SoundFacts as change
+use Rattle.registry_rules.proofs.TokenFacts.{ended_all, ended_is, ended_left}
 use Rattle.registry_rules.proofs.WithdrawnFacts.{deprecated_is, withdrawn_access}
-use Rattle.registry_rules.proofs.SoundFacts.{HasOwner, HasPublisher, user_added, token_added, organisation_created, role_given, member_joined, member_removed, team_created, team_destroyed, team_joined, team_left}
+use Rattle.registry_names.proofs.PutFacts.{each_left}
+use Rattle.registry_rules.proofs.SoundFacts.{HasOwner, HasPublisher, user_added, token_added, tokens_left, organisation_created, role_given, member_joined, member_removed, team_created, team_destroyed, team_joined, team_left}
 
 -- ---- nothing
 
@@ -60,6 +62,11 @@ nothing_sound = record {
   unscoped = λ p u h. none_there _ (at-empty text_key p) (ap is_some h);
   maintained = λ p h. absurd (none_there _ (at-empty text_key p) h);
 }
+
+-- ---- tokens
+
+pub ended_sound : (S : State) (ds : List Text) → IsSound S.access → IsSound (all_made S (ending ds)).access
+ended_sound S ds sound = subst (λ (T : State). IsSound T.access) (sym (ended_is S ds)) (tokens_left S.access (ended_all S.access.tokens ds) (ended_left S.access.tokens ds) sound)
 
 -- ---- members
 
@@ -158,6 +165,8 @@ publish_sound S who f now known policy may sound =
 pub step_sound : (S : State) (now : ℕ) (who : Caller) (what : Action) → is_known S who ≡ true → refusal_by S now who what ≡ None → IsSound S.access → IsSound (step_by S now who what).access
 step_sound S now who (UserAdd u) known may sound = user_added S.access u sound
 step_sound S now who (TokenAdd u digest) known may sound = token_added S.access digest u (user_there _ _ (state_passed S now who (TokenAdd u digest) may)) sound
+step_sound S now who (TokenRemove digest) known may sound = tokens_left S.access (erase S.access.tokens digest) (λ d u h. each_left text_key S.access.tokens digest d u h) sound
+step_sound S now who (TokensRemove u) known may sound = ended_sound S (tokens_of S u) sound
 step_sound S now who (OrgCreate o u) known may sound = organisation_created S.access o u (user_there _ _ (state_passed S now who (OrgCreate o u) may)) sound
 step_sound S now who (OrgSet o u role) known may sound =
     set_sound S now who o u role (policy_passed S now who (OrgSet o u role) may) (state_passed S now who (OrgSet o u role) may) sound

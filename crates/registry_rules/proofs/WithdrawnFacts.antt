@@ -153,7 +153,7 @@ at-freed m p other (t ∷ ts) q u =
 
 -- ---- which tags name a version
 
-filtered : {X : Type 0} (test : Text × X → Bool) (es : List (Text × X)) (u : Text) → among is (keys (filter test es)) u ≡ list_any (λ (e : Text × X). test e && is e.0 u) es
+pub filtered : {X : Type 0} (test : Text × X → Bool) (es : List (Text × X)) (u : Text) → among is (keys (filter test es)) u ≡ list_any (λ (e : Text × X). test e && is e.0 u) es
 filtered test [] u = refl
 filtered test (e ∷ es) u = by_test (test e) ∙ ap (λ b. test e && is e.0 u || b) (filtered test es u)
   where

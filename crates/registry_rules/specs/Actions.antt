@@ -5,12 +5,14 @@ use Rattle.registry_names.specs.Texts.{Text, is}
 use Rattle.registry_names.specs.Versions.{text_of_version}
 use Rattle.registry_publish.specs.Form.{FormParts}
 use Rattle.registry_rules.specs.declared.request.Action.{Action}
-use Rattle.registry_rules.specs.declared.request.Action.TheVariants.{UserAdd, TokenAdd, OrgCreate, OrgSet, OrgRemove, TeamCreate, TeamDestroy, TeamAdd, TeamRemove, Grant, Revoke, SetAccess, OwnerAdd, OwnerRemove, Publish, TagSet, TagRemove, Withdraw, Deprecate}
+use Rattle.registry_rules.specs.declared.request.Action.TheVariants.{UserAdd, TokenAdd, TokenRemove, TokensRemove, OrgCreate, OrgSet, OrgRemove, TeamCreate, TeamDestroy, TeamAdd, TeamRemove, Grant, Revoke, SetAccess, OwnerAdd, OwnerRemove, Publish, TagSet, TagRemove, Withdraw, Deprecate}
 
 -- whether it may change the registry
 abbrev pub is_command : Action → Bool
 is_command (UserAdd u) = true
 is_command (TokenAdd u digest) = true
+is_command (TokenRemove digest) = true
+is_command (TokensRemove u) = true
 is_command (OrgCreate o u) = true
 is_command (OrgSet o u role) = true
 is_command (OrgRemove o u) = true

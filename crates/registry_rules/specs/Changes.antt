@@ -7,7 +7,7 @@ use Rattle.registry_access.specs.declared.grant.Grant.{Grant}
 use Rattle.registry_access.specs.declared.role.Role.{Role}
 use Rattle.registry_publish.specs.Form.{FormParts}
 use Rattle.registry_rules.specs.Actions.{version_of}
-use Rattle.registry_rules.specs.Operations.{with_user, with_token, with_organisation, with_member, with_role, without_member, with_team, without_team, with_team_member, without_team_member, with_grant, regranted, without_grant, with_maintainer, without_maintainer, with_status, restated, with_version, retired, with_message, with_tag, moved, without_tag}
+use Rattle.registry_rules.specs.Operations.{with_user, with_token, without_token, with_organisation, with_member, with_role, without_member, with_team, without_team, with_team_member, without_team_member, with_grant, regranted, without_grant, with_maintainer, without_maintainer, with_status, restated, with_version, retired, with_message, with_tag, moved, without_tag}
 use Rattle.registry_rules.specs.State.{State, Release}
 use Rattle.registry_rules.specs.declared.change.Change as declared
 use Rattle.registry_rules.specs.declared.change.Change.TheVariants as change
@@ -17,6 +17,7 @@ pub data Change : Type 0 where
   AddUser : (user : Text) → Change
   -- the digest of a token, and its user
   AddToken : (digest user : Text) → Change
+  DropToken : (digest : Text) → Change
   AddOrg : (organisation : Text) → Change
   -- an organisation, a user, their role in it, and whether they are a member already
   PutMember : (organisation user : Text) (role : Role) (stands : Bool) → Change
@@ -52,6 +53,7 @@ release_of f now = record { at = now; manifest = f.manifest; archive = f.archive
 abbrev pub made : State → Change → State
 made S (AddUser u) = with_user S u
 made S (AddToken digest u) = with_token S digest u
+made S (DropToken digest) = without_token S digest
 made S (AddOrg o) = with_organisation S o
 made S (PutMember o u role stands) = if stands then with_role S o u role else with_member S o u role
 made S (DropMember o u) = without_member S o u
@@ -79,6 +81,7 @@ all_made S (c ∷ cs) = all_made (made S c) cs
 abbrev pub change_of : declared.Change → Change
 change_of (change.AddUser u) = AddUser u.now
 change_of (change.AddToken digest u) = AddToken digest.now u.now
+change_of (change.DropToken digest) = DropToken digest.now
 change_of (change.AddOrg o) = AddOrg o.now
 change_of (change.PutMember o u role stands) = PutMember o.now u.now role stands
 change_of (change.DropMember o u) = DropMember o.now u.now

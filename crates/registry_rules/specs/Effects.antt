@@ -18,12 +18,18 @@ use Rattle.registry_access.specs.declared.role.Role.TheVariants.{Owner}
 use Rattle.registry_publish.specs.Form.{FormParts}
 use Rattle.registry_rules.specs.Actions.{version_of}
 use Rattle.registry_rules.specs.Callers.{caller_of}
-use Rattle.registry_rules.specs.Changes.{Change, AddUser, AddToken, AddOrg, PutMember, DropMember, AddTeam, PutTeamMember, DropTeamMember, DropTeam, PutGrant, DropGrant, PutOwner, DropOwner, PutStatus, AddVersion, RetireVersion, PutDeprecation, PutTag, DropTag, all_made}
-use Rattle.registry_rules.specs.State.{State, developers, is_in_team, has_grant, is_published, has_maintainer, stands}
+use Rattle.registry_rules.specs.Changes.{Change, AddUser, AddToken, DropToken, AddOrg, PutMember, DropMember, AddTeam, PutTeamMember, DropTeamMember, DropTeam, PutGrant, DropGrant, PutOwner, DropOwner, PutStatus, AddVersion, RetireVersion, PutDeprecation, PutTag, DropTag, all_made}
+use Rattle.registry_rules.specs.State.{State, developers, tokens_of, is_in_team, has_grant, is_published, has_maintainer, stands}
 use Rattle.registry_rules.specs.Withdrawals.{live_versions, others, published_at, selected, tags_of}
 use Rattle.registry_rules.specs.declared.request.Action.{Action}
-use Rattle.registry_rules.specs.declared.request.Action.TheVariants.{UserAdd, TokenAdd, OrgCreate, OrgSet, OrgRemove, TeamCreate, TeamDestroy, TeamAdd, TeamRemove, Grant, Revoke, SetAccess, OwnerAdd, OwnerRemove, Publish, TagSet, TagRemove, Withdraw, Deprecate}
+use Rattle.registry_rules.specs.declared.request.Action.TheVariants.{UserAdd, TokenAdd, TokenRemove, TokensRemove, OrgCreate, OrgSet, OrgRemove, TeamCreate, TeamDestroy, TeamAdd, TeamRemove, Grant, Revoke, SetAccess, OwnerAdd, OwnerRemove, Publish, TagSet, TagRemove, Withdraw, Deprecate}
 use Rattle.registry_rules.specs.declared.request.Request.{Request}
+
+-- ---- tokens
+
+-- each of these tokens ends
+abbrev pub ending : List Text → List Change
+ending digests = map DropToken digests
 
 -- ---- organisations
 
@@ -112,6 +118,8 @@ maintaining p u already = if already then [] else PutOwner p u ∷ []
 abbrev pub effects : State → ℕ → Caller → Action → List Change
 effects S now who (UserAdd u) = AddUser u ∷ []
 effects S now who (TokenAdd u digest) = AddToken digest u ∷ []
+effects S now who (TokenRemove digest) = DropToken digest ∷ []
+effects S now who (TokensRemove u) = ending (tokens_of S u)
 effects S now who (OrgCreate o u) = creation o u
 effects S now who (OrgSet o u role) = membership o u role (at S.access.roles (o, u))
 effects S now who (OrgRemove o u) = DropMember o u ∷ []

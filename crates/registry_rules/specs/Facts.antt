@@ -15,14 +15,14 @@ use Rattle.registry_access.specs.declared.rows.AccessRows.{AccessRows}
 use Rattle.registry_publish.specs.Form.{FormParts}
 use Rattle.registry_rules.specs.Actions.{version_of}
 use Rattle.registry_rules.specs.Callers.{caller_of}
-use Rattle.registry_rules.specs.State.{State, has_user, has_team, is_member, is_in_team, has_grant, is_published, has_maintainer, has_other_maintainer, has_other_owner, has_token, is_live, is_spent, has_live, stands, asked_version, lives}
+use Rattle.registry_rules.specs.State.{State, has_user, has_team, is_member, is_in_team, has_grant, is_published, has_maintainer, has_other_maintainer, has_other_owner, has_token, tokens_of, is_live, is_spent, has_live, stands, asked_version, lives}
 use Rattle.registry_rules.specs.Withdrawals.{is_depended, last_withdrawal, live_versions, published_at, tags_of}
 use Rattle.registry_rules.specs.declared.facts.About.{About}
 use Rattle.registry_rules.specs.declared.facts.About.TheVariants as about
 use Rattle.registry_rules.specs.declared.facts.Facts.{Facts}
 use Rattle.registry_rules.specs.declared.facts.PublishFacts.{PublishFacts}
 use Rattle.registry_rules.specs.declared.request.Action.{Action}
-use Rattle.registry_rules.specs.declared.request.Action.TheVariants.{UserAdd, TokenAdd, OrgCreate, OrgSet, OrgRemove, TeamCreate, TeamDestroy, TeamAdd, TeamRemove, Grant, Revoke, SetAccess, OwnerAdd, OwnerRemove, Publish, TagSet, TagRemove, Withdraw, Deprecate, Packument, VersionDoc, Archive, Tags, Members, Teams, TeamMembers, TeamPackages}
+use Rattle.registry_rules.specs.declared.request.Action.TheVariants.{UserAdd, TokenAdd, TokenRemove, TokensRemove, OrgCreate, OrgSet, OrgRemove, TeamCreate, TeamDestroy, TeamAdd, TeamRemove, Grant, Revoke, SetAccess, OwnerAdd, OwnerRemove, Publish, TagSet, TagRemove, Withdraw, Deprecate, Packument, VersionDoc, Archive, Tags, Members, Teams, TeamMembers, TeamPackages}
 use Rattle.registry_rules.specs.declared.request.Request.{Request}
 
 pub record ArePublishFacts (facts : PublishFacts) (S : State) (who : Caller) (f : FormParts) : Type 0 where
@@ -93,6 +93,8 @@ pub record AreWithdrawFacts (standing : Standing) (since : Option ℕ) (needed :
 abbrev pub AboutTells : About → State → Caller → Action → Type 0
 AboutTells (about.UserAdd exists) S who (UserAdd u) = exists ≡ has_user S u
 AboutTells (about.TokenAdd user_exists exists) S who (TokenAdd u digest) = (user_exists ≡ has_user S u) × (exists ≡ has_token S digest)
+AboutTells (about.TokenRemove user) S who (TokenRemove digest) = user ≡ at S.access.tokens digest
+AboutTells (about.TokensRemove user_exists digests) S who (TokensRemove u) = (user_exists ≡ has_user S u) × (digests.items ≡ tokens_of S u)
 AboutTells (about.OrgCreate owner_exists exists) S who (OrgCreate o u) = (owner_exists ≡ has_user S u) × (exists ≡ has_organisation S.access o)
 AboutTells (about.OrgSet rows user_exists role other_owner) S who (OrgSet o u new) = AreOrgSetFacts rows user_exists role other_owner S who o u
 AboutTells (about.OrgRemove rows role other_owner) S who (OrgRemove o u) = AreOrgRemoveFacts rows role other_owner S who o u

@@ -18,6 +18,7 @@ use Rattle.registry_access.specs.declared.role.Role.TheVariants.{Owner}
 use Rattle.registry_publish.specs.Form.{FormParts}
 use Rattle.registry_publish.specs.declared.need.Need.{Need}
 use Rattle.registry_rules.specs.Actions.{is_command, version_of, names_package, ends_team}
+use Rattle.registry_rules.specs.Callers.{caller_of}
 use Rattle.registry_rules.specs.Effects.{step_by}
 use Rattle.registry_rules.specs.Kept.{IsSound}
 use Rattle.registry_rules.specs.State.{State, Release, developers, has_other_owner, has_other_maintainer}
@@ -26,7 +27,8 @@ use Rattle.registry_ranges.specs.Comparators.{Allows}
 use Rattle.registry_ranges.specs.Grammar.{IsRangeText}
 use Rattle.registry_ranges.specs.Selectors.{Condition}
 use Rattle.registry_rules.specs.declared.request.Action.{Action}
-use Rattle.registry_rules.specs.declared.request.Action.TheVariants.{UserAdd, TokenAdd, OrgCreate, OrgSet, OrgRemove, TeamCreate, TeamDestroy, TeamAdd, TeamRemove, Grant, Revoke, SetAccess, OwnerAdd, OwnerRemove, Publish, TagSet, TagRemove, Withdraw, Deprecate}
+use Rattle.registry_rules.specs.declared.request.Credential.TheVariants.{Token}
+use Rattle.registry_rules.specs.declared.request.Action.TheVariants.{UserAdd, TokenAdd, TokenRemove, TokensRemove, OrgCreate, OrgSet, OrgRemove, TeamCreate, TeamDestroy, TeamAdd, TeamRemove, Grant, Revoke, SetAccess, OwnerAdd, OwnerRemove, Publish, TagSet, TagRemove, Withdraw, Deprecate}
 
 -- ---- users and tokens
 
@@ -42,11 +44,32 @@ pub record AddsToken (S T : State) (digest u : Text) : Type 0 where
   pub tokens : (d : Text) → d ≢ digest → at T.access.tokens d ≡ at S.access.tokens d
   pub rest : T ≡ record S { access = record S.access { tokens = T.access.tokens } }
 
+-- the token names nobody, and no other token has changed
+pub record EndsToken (S T : State) (digest : Text) : Type 0 where
+  pub token : at T.access.tokens digest ≡ None
+  pub caller : caller_of T (Token digest) ≡ None
+  pub tokens : (d : Text) → d ≢ digest → at T.access.tokens d ≡ at S.access.tokens d
+  pub rest : T ≡ record S { access = record S.access { tokens = T.access.tokens } }
+
+-- each token that was the user's is nobody's, so that none names them, and no other token has
+-- changed
+pub record EndsTokens (S T : State) (u : Text) : Type 0 where
+  pub ended : (digest : Text) → at S.access.tokens digest ≡ Some u → at T.access.tokens digest ≡ None
+  pub caller : (digest : Text) → caller_of T (Token digest) ≢ Some (User u)
+  pub tokens : (digest : Text) → at S.access.tokens digest ≢ Some u → at T.access.tokens digest ≡ at S.access.tokens digest
+  pub rest : T ≡ record S { access = record S.access { tokens = T.access.tokens } }
+
 abbrev pub UsersAreAdded : Type 0
 UsersAreAdded = (S : State) (now : ℕ) (who : Caller) (u : Text) → AddsUser S (step_by S now who (UserAdd u)) u
 
 abbrev pub TokensAreAdded : Type 0
 TokensAreAdded = (S : State) (now : ℕ) (who : Caller) (u digest : Text) → AddsToken S (step_by S now who (TokenAdd u digest)) digest u
+
+abbrev pub TokensAreEnded : Type 0
+TokensAreEnded = (S : State) (now : ℕ) (who : Caller) (digest : Text) → EndsToken S (step_by S now who (TokenRemove digest)) digest
+
+abbrev pub AllTokensAreEnded : Type 0
+AllTokensAreEnded = (S : State) (now : ℕ) (who : Caller) (u : Text) → EndsTokens S (step_by S now who (TokensRemove u)) u
 
 -- ---- organisations
 

@@ -16,6 +16,10 @@ with_user S u = record S { access = record S.access { users = put S.access.users
 abbrev pub with_token : State → Text → Text → State
 with_token S digest u = record S { access = record S.access { tokens = put S.access.tokens digest u } }
 
+-- the token is nobody's
+abbrev pub without_token : State → Text → State
+without_token S digest = record S { access = record S.access { tokens = erase S.access.tokens digest } }
+
 -- the organisation is there
 abbrev pub with_organisation : State → Text → State
 with_organisation S o = record S { access = record S.access { organisations = put S.access.organisations o tt } }

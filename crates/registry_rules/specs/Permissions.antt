@@ -1,18 +1,21 @@
 -- What the policy says to a caller who asks for an action: the rule that allows it, or why they are
 -- refused. One equation an action
 use Rattle.std.specs.Prelude.{is_some}
+use Rattle.registry_names.specs.Maps.{at}
 use Rattle.registry_names.specs.Names.{scope_of}
 use Rattle.registry_access.specs.Access.{Access}
 use Rattle.registry_access.specs.Callers.{role_of}
-use Rattle.registry_access.specs.Policy.{Verdict, may_operate, may_manage_members, may_manage_teams, may_see_organisation, may_publish, may_write, may_manage_maintainers, may_read}
+use Rattle.registry_access.specs.Policy.{Verdict, may_operate, may_end_token, may_manage_members, may_manage_teams, may_see_organisation, may_publish, may_write, may_manage_maintainers, may_read}
 use Rattle.registry_access.specs.Positions.{has_organisation, position_in}
 use Rattle.registry_access.specs.declared.caller.Caller.{Caller}
 use Rattle.registry_rules.specs.declared.request.Action.{Action}
-use Rattle.registry_rules.specs.declared.request.Action.TheVariants.{UserAdd, TokenAdd, OrgCreate, OrgSet, OrgRemove, TeamCreate, TeamDestroy, TeamAdd, TeamRemove, Grant, Revoke, SetAccess, OwnerAdd, OwnerRemove, Publish, TagSet, TagRemove, Withdraw, Deprecate, Packument, VersionDoc, Archive, Tags, Members, Teams, TeamMembers, TeamPackages}
+use Rattle.registry_rules.specs.declared.request.Action.TheVariants.{UserAdd, TokenAdd, TokenRemove, TokensRemove, OrgCreate, OrgSet, OrgRemove, TeamCreate, TeamDestroy, TeamAdd, TeamRemove, Grant, Revoke, SetAccess, OwnerAdd, OwnerRemove, Publish, TagSet, TagRemove, Withdraw, Deprecate, Packument, VersionDoc, Archive, Tags, Members, Teams, TeamMembers, TeamPackages}
 
 abbrev pub permission : Access → Caller → Action → Verdict
 permission A who (UserAdd u) = may_operate who
 permission A who (TokenAdd u digest) = may_operate who
+permission A who (TokenRemove digest) = may_end_token who (at A.tokens digest)
+permission A who (TokensRemove u) = may_operate who
 permission A who (OrgCreate o u) = may_operate who
 permission A who (OrgSet o u role) = may_manage_members who (has_organisation A o) (role_of A who o)
 permission A who (OrgRemove o u) = may_manage_members who (has_organisation A o) (role_of A who o)

@@ -22,7 +22,7 @@ use Rattle.registry_rules.specs.Permissions.{permission}
 use Rattle.registry_rules.specs.State.{State, developers, has_user, has_token, is_member, has_team, is_in_team, has_grant, is_published, has_maintainer, has_other_maintainer, is_last_owner, is_live, is_spent, has_live, stands, asked_version, lives}
 use Rattle.registry_rules.specs.Withdrawals.{is_depended, is_too_old, is_waiting, published_at}
 use Rattle.registry_rules.specs.declared.request.Action.{Action}
-use Rattle.registry_rules.specs.declared.request.Action.TheVariants.{UserAdd, TokenAdd, OrgCreate, OrgSet, OrgRemove, TeamCreate, TeamDestroy, TeamAdd, TeamRemove, Grant, Revoke, SetAccess, OwnerAdd, OwnerRemove, Publish, TagSet, TagRemove, Withdraw, Deprecate, Packument, VersionDoc, Archive, Tags, Members, Teams, TeamMembers, TeamPackages}
+use Rattle.registry_rules.specs.declared.request.Action.TheVariants.{UserAdd, TokenAdd, TokenRemove, TokensRemove, OrgCreate, OrgSet, OrgRemove, TeamCreate, TeamDestroy, TeamAdd, TeamRemove, Grant, Revoke, SetAccess, OwnerAdd, OwnerRemove, Publish, TagSet, TagRemove, Withdraw, Deprecate, Packument, VersionDoc, Archive, Tags, Members, Teams, TeamMembers, TeamPackages}
 use Rattle.registry_rules.specs.declared.request.Request.{Request}
 
 abbrev pub refuse : Bool → Refusal → Option Refusal → Option Refusal
@@ -83,6 +83,8 @@ grant_refusal team published o p = refuse (not team || (is_scope o (scope_of p) 
 abbrev pub state_refusal : State → ℕ → Action → Option Refusal
 state_refusal S now (UserAdd u) = unless_new (has_user S u)
 state_refusal S now (TokenAdd u digest) = refuse (not (has_user S u)) NotFound (unless_new (has_token S digest))
+state_refusal S now (TokenRemove digest) = unless_there (has_token S digest)
+state_refusal S now (TokensRemove u) = unless_there (has_user S u)
 state_refusal S now (OrgCreate o u) = refuse (not (has_user S u)) NotFound (unless_new (has_organisation S.access o))
 state_refusal S now (OrgSet o u role) = refuse (not (has_user S u)) NotFound (refuse (not (is_owner (Some role)) && is_last_owner S o u) LastOwner None)
 state_refusal S now (OrgRemove o u) = refuse (is_none (at S.access.roles (o, u))) NotFound (refuse (is_last_owner S o u) LastOwner None)

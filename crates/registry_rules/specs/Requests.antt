@@ -10,7 +10,7 @@ use Rattle.registry_publish.specs.Form.{FormParts, IsManifestText}
 use Rattle.registry_publish.specs.Integrity.{integrity_text}
 use Rattle.registry_publish.specs.Needs.{needs_of}
 use Rattle.registry_rules.specs.declared.request.Action.{Action}
-use Rattle.registry_rules.specs.declared.request.Action.TheVariants.{UserAdd, TokenAdd, OrgCreate, OrgSet, OrgRemove, TeamCreate, TeamDestroy, TeamAdd, TeamRemove, Grant, Revoke, SetAccess, OwnerAdd, OwnerRemove, Publish, TagSet, TagRemove, Withdraw, Deprecate, Packument, VersionDoc, Archive, Tags, Members, Teams, TeamMembers, TeamPackages}
+use Rattle.registry_rules.specs.declared.request.Action.TheVariants.{UserAdd, TokenAdd, TokenRemove, TokensRemove, OrgCreate, OrgSet, OrgRemove, TeamCreate, TeamDestroy, TeamAdd, TeamRemove, Grant, Revoke, SetAccess, OwnerAdd, OwnerRemove, Publish, TagSet, TagRemove, Withdraw, Deprecate, Packument, VersionDoc, Archive, Tags, Members, Teams, TeamMembers, TeamPackages}
 use Rattle.registry_rules.specs.declared.request.Asked.{Asked}
 use Rattle.registry_rules.specs.declared.request.Asked.TheVariants.{Exact, Latest}
 use Rattle.registry_rules.specs.declared.request.Request.{Request}
@@ -30,6 +30,8 @@ IsAskedInForm Latest = Unit {0}
 abbrev pub IsActionInForm : Action → Type 0
 IsActionInForm (UserAdd u) = IsTrue (is_ident u)
 IsActionInForm (TokenAdd u digest) = IsTrue (is_ident u) × (length digest ≡ 32)
+IsActionInForm (TokenRemove digest) = length digest ≡ 32
+IsActionInForm (TokensRemove u) = IsTrue (is_ident u)
 IsActionInForm (OrgCreate o u) = IsTrue (is_ident o) × IsTrue (is_ident u)
 IsActionInForm (OrgSet o u role) = IsTrue (is_ident o) × IsTrue (is_ident u)
 IsActionInForm (OrgRemove o u) = IsTrue (is_ident o) × IsTrue (is_ident u)

@@ -1,9 +1,9 @@
 -- What the registry holds: finite maps under names, and nothing of how they are kept.
-use Rattle.std.specs.Prelude.{ℕ, Bool, true, false, not, ◌&&◌, List, [], ◌∷◌, codes, is_some, Option, Some, None}
+use Rattle.std.specs.Prelude.{ℕ, Bool, true, false, not, ◌&&◌, List, [], ◌∷◌, filter, codes, is_some, Option, Some, None}
 use Rattle.registry_names.specs.Tags.{latest}
 use Rattle.std.specs.List.{list_any}
 use Rattle.registry_names.specs.Texts.{Text, is}
-use Rattle.registry_names.specs.Maps.{PairMap, empty, at, of}
+use Rattle.registry_names.specs.Maps.{PairMap, empty, at, entries, keys, of}
 use Rattle.registry_names.specs.Versions.{text_of_version}
 use Rattle.registry_access.specs.Access.{Access}
 use Rattle.registry_access.specs.Levels.{is_owner}
@@ -94,6 +94,10 @@ is_last_owner S o u = is_owner (at S.access.roles (o, u)) && not (has_other_owne
 -- there is a token with this digest
 abbrev pub has_token : State → Text → Bool
 has_token S digest = is_some (at S.access.tokens digest)
+
+-- the digests of the user's tokens, in byte order
+abbrev pub tokens_of : State → Text → List Text
+tokens_of S u = keys (filter (λ (e : Text × Text). is e.1 u) (entries S.access.tokens))
 
 -- the version lives
 abbrev pub is_live : State → Text → Text → Bool

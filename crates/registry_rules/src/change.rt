@@ -23,6 +23,11 @@ pub enum Change<'a> {
         /// Whose it is.
         user: &'a Ident,
     },
+    /// The token is gone, and names nobody.
+    DropToken {
+        /// The token's digest.
+        digest: &'a TokenDigest,
+    },
     /// There is this organisation.
     AddOrg {
         /// The organisation.

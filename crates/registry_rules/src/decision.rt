@@ -19,7 +19,7 @@ use crate::publish::{publish_changes, publish_refusal};
 use crate::request::{Action, Request};
 use crate::tags::tag_remove_refusal;
 use crate::teams::{team_destroy_refusal, team_joined};
-use crate::users::{added_to_refusal, unless_new};
+use crate::users::{added_to_refusal, all_ended, unless_new};
 use crate::withdrawals::{deprecation, withdraw_refusal, withdrawal};
 use registry_access::Caller;
 use registry_names::{Fault, Moment, Refusal, Rule, Stop};
@@ -101,6 +101,12 @@ fn state_refusal(about: &About, action: &Action, now: &Moment) -> Option<Refusal
             },
             Action::TokenAdd { .. },
         ) => { added_to_refusal(*user_exists, *exists) }
+        (About::TokenRemove { user }, Action::TokenRemove { .. }) => {
+            unless_there(user.is_some())
+        }
+        (About::TokensRemove { user_exists, .. }, Action::TokensRemove { .. }) => {
+            unless_there(*user_exists)
+        }
         (
             About::OrgCreate {
                 owner_exists,
@@ -244,6 +250,12 @@ fn changes<'a>(
             alloc,
             Change::AddToken { digest, user },
         ),
+        (About::TokenRemove { .. }, Action::TokenRemove { digest }) => {
+            only(alloc, Change::DropToken { digest })
+        }
+        (About::TokensRemove { digests, .. }, Action::TokensRemove { .. }) => {
+            all_ended(alloc, digests)
+        }
         (
             About::OrgCreate { .. },
             Action::OrgCreate {

@@ -1,7 +1,8 @@
 //! The facts that a decision rests on.
 
 use registry_access::{AccessRows, Caller, Role, Standing};
-use registry_names::{Moment, Text, Ver};
+use registry_names::{Ident, Moment, Text, Ver};
+use registry_publish::TokenDigest;
 
 /// What the registry holds of a request: who asks, and what exists of what they ask for.
 pub struct Facts {
@@ -37,6 +38,18 @@ pub enum About {
         user_exists: bool,
         /// Whether the token is there already.
         exists: bool,
+    },
+    /// Of a token that is to end.
+    TokenRemove {
+        /// Whose it is, if it is there.
+        user: Option<Ident>,
+    },
+    /// Of a user whose tokens are to end.
+    TokensRemove {
+        /// Whether the user is there.
+        user_exists: bool,
+        /// The digests of their tokens, in byte order.
+        digests: Vec<TokenDigest>,
     },
     /// Of an organisation that is to be created.
     OrgCreate {

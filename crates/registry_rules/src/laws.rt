@@ -3,7 +3,7 @@
 
 ghost use Rattle.std.specs.Prelude.{◌≡◌, None};
 ghost use Rattle.registry_rules.specs.Kept.{IsKept};
-ghost use Rattle.registry_rules.specs.Laws.{GrantsAreGiven, GrantsAreRevoked, MaintainersAreAdded, MaintainersAreRemoved, OtherMaintainersAreMaintainers, PublishesGiveFirstRights, StatusesAreSet, NewTeamsAreEmpty, TeamMembersAreAdded, TeamMembersAreRemoved, TeamsAreCreated, TeamsAreDestroyed, MembersAreRemoved, NeededHaveDependents, OrganisationsAreCreated, OtherOwnersAreOwners, RolesAreSet, PackagesStandApart, PublishesAddVersions, PublishesSetStatuses, PublishesSetTags, QueriesChangeNothing, RemovedTagsAreGone, SetTagsName, TokensAreAdded, UsersAreAdded, WithdrawalsSpend, WithdrawalsFreeTags, DeprecationsMark};
+ghost use Rattle.registry_rules.specs.Laws.{GrantsAreGiven, GrantsAreRevoked, MaintainersAreAdded, MaintainersAreRemoved, OtherMaintainersAreMaintainers, PublishesGiveFirstRights, StatusesAreSet, NewTeamsAreEmpty, TeamMembersAreAdded, TeamMembersAreRemoved, TeamsAreCreated, TeamsAreDestroyed, MembersAreRemoved, NeededHaveDependents, OrganisationsAreCreated, OtherOwnersAreOwners, RolesAreSet, PackagesStandApart, PublishesAddVersions, PublishesSetStatuses, PublishesSetTags, QueriesChangeNothing, RemovedTagsAreGone, SetTagsName, AllTokensAreEnded, TokensAreAdded, TokensAreEnded, UsersAreAdded, WithdrawalsSpend, WithdrawalsFreeTags, DeprecationsMark};
 ghost use Rattle.registry_rules.specs.Refusals.{refusal};
 ghost use Rattle.registry_rules.specs.Requests.{ArePartsInForm, IsActionInForm, IsAskedInForm, IsInForm};
 ghost use Rattle.registry_rules.specs.State.{State, nothing};
@@ -17,6 +17,13 @@ use registry_publish::PublishForm;
 pub fn added_users_and_tokens_are_there()
     ensures users { UsersAreAdded }
     ensures tokens { TokensAreAdded }
+{}
+
+/// A token that ends names nobody, and neither does any token of a user whose tokens end. Each other
+/// token is whose it was, and nothing else changes.
+pub fn ended_tokens_name_nobody()
+    ensures one { TokensAreEnded }
+    ensures all { AllTokensAreEnded }
 {}
 
 /// An organisation that is created has an owner and the team `developers` with them in it. A user
@@ -126,11 +133,14 @@ fn action_is_in_form(what: &Action)
     ensures { IsActionInForm what.now }
 {
     match what {
-        Action::UserAdd { user } => {
+        Action::UserAdd { user } | Action::TokensRemove { user } => {
             user.text();
         }
         Action::TokenAdd { user, digest } => {
             user.text();
+            digest.as_slice();
+        }
+        Action::TokenRemove { digest } => {
             digest.as_slice();
         }
         Action::OrgCreate {

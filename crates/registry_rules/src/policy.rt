@@ -15,7 +15,9 @@ ghost use Rattle.registry_rules.specs.State.{State};
 
 use crate::facts::About;
 use crate::request::Action;
-use registry_access::{AccessRows, Ask, Caller, Standing, allowed, allowed_by, may_operate};
+use registry_access::{
+    AccessRows, Ask, Caller, Standing, allowed, allowed_by, may_end_token, may_operate,
+};
 use registry_names::{Ident, Name, Refusal, Rule};
 
 /// The rule that allows a caller what they ask for, or why the policy refuses it.
@@ -24,9 +26,14 @@ pub(crate) fn permission(caller: &Caller, about: &About, action: &Action) -> Res
         → result ≡ spec.permission S.access caller.now action.now }
 {
     match (about, action) {
-        (_, Action::UserAdd { .. } | Action::TokenAdd { .. } | Action::OrgCreate { .. }) => {
-            may_operate(caller)
-        }
+        (
+            _,
+            Action::UserAdd { .. }
+            | Action::TokenAdd { .. }
+            | Action::TokensRemove { .. }
+            | Action::OrgCreate { .. },
+        ) => may_operate(caller),
+        (About::TokenRemove { user }, Action::TokenRemove { .. }) => may_end_token(caller, user),
         (About::OrgSet { rows, .. }, Action::OrgSet { organisation, .. }) => {
             may_manage_members(rows, caller, organisation)
         }

@@ -10,7 +10,7 @@ pub enum Reply {
     Created,
     /// The command was done.
     Done,
-    /// This many versions were deprecated, or are no longer deprecated.
+    /// This many versions were deprecated, or are no longer deprecated; or this many tokens ended.
     Count(u64),
     /// A document in JSON (RFC 8259), which other replies may share.
     Doc(SharedText),

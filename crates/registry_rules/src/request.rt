@@ -53,6 +53,17 @@ pub enum Action {
         /// The token's digest.
         digest: TokenDigest,
     },
+    /// The command of the operator, or of the user whose token it is, to end a token. From then on
+    /// it names nobody, until it is added again.
+    TokenRemove {
+        /// The token's digest.
+        digest: TokenDigest,
+    },
+    /// The operator's command to end all tokens of a user.
+    TokensRemove {
+        /// The user's name.
+        user: Ident,
+    },
     /// The operator's command to create an organisation, with its first owner and its team
     /// `developers`.
     OrgCreate {
@@ -255,6 +266,8 @@ impl Drop for Action {
         match self {
             Action::UserAdd { user: _ } => {}
             Action::TokenAdd { user: _, digest: _ } => {}
+            Action::TokenRemove { digest: _ } => {}
+            Action::TokensRemove { user: _ } => {}
             Action::OrgCreate {
                 organisation: _,
                 owner: _,
