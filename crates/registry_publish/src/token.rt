@@ -24,10 +24,10 @@ fn all_token_bytes(text: &[u8]) -> bool
     text.iter().all(|byte| is_token_byte(*byte))
 }
 
-fn is_token(text: &str) -> bool
+fn is_token(text: &[u8]) -> bool
     ensures { result ≡ spec.is_token text.now }
 {
-    SHORTEST <= text.len() && text.len() <= LONGEST && all_token_bytes(text.as_bytes())
+    SHORTEST <= text.len() && text.len() <= LONGEST && all_token_bytes(text)
 }
 
 /// What is kept of a token: the SHA-256 (FIPS 180-4) of its text, from which the token can't be got
@@ -53,9 +53,17 @@ impl TokenDigest {
     pub fn of(token: &str) -> Option<TokenDigest>
         ensures { result ≡ spec.digest_of token.now }
     {
+        TokenDigest::of_bytes(token.as_bytes())
+    }
+
+    /// The digest of a token whose text these bytes are. `None` is returned for any other bytes. It
+    /// takes no memory.
+    pub fn of_bytes(token: &[u8]) -> Option<TokenDigest>
+        ensures { result ≡ spec.digest_of token.now }
+    {
         if is_token(token) {
             Some(TokenDigest {
-                bytes: Sha256::digest(token.as_bytes()),
+                bytes: Sha256::digest(token),
             })
         } else {
             None
