@@ -1,6 +1,7 @@
 -- What a line asks for.
 use Rattle.std.specs.Prelude.{ℕ, List, Option, Some, None, MatchResult, codes, if◌then◌else◌}
 use Rattle.std.specs.Option.{option_or}
+use Rattle.std.specs.Io.BufRead.{strip_last}
 use Rattle.std.specs.Str.{bytes_eq}
 use Rattle.registry_names.specs.Texts.{Text}
 use Rattle.registry_publish.specs.Form.{FormParts, IsFormOf, StopsForm}
@@ -8,10 +9,10 @@ use Rattle.registry_rules.specs.declared.request.Action.{Action}
 use Rattle.registry_rules.specs.declared.request.Action.TheVariants as action
 use Rattle.registry_rules.specs.declared.request.Credential.{Credential}
 use Rattle.registry_rules.specs.declared.request.Credential.TheVariants as credential
-use Rattle.registry_cli.specs.Lines.{argument_at}
+use Rattle.registry_cli.specs.Lines.{argument_at, says_input}
 use Rattle.registry_cli.specs.Readings.{Reading, four, gives, one, read_then, reads_asked, reads_grant, reads_ident, reads_message, reads_name, reads_role, reads_selector, reads_status, reads_tag, reads_token, reads_version, three, two}
 use Rattle.registry_cli.specs.declared.action.Verb.{Verb}
-use Rattle.registry_cli.specs.declared.action.Verb.TheVariants.{UserAdd, TokenAdd, OrgCreate, OrgSet, OrgRemove, TeamCreate, TeamDestroy, TeamAdd, TeamRemove, Grant, Revoke, SetAccess, OwnerAdd, OwnerRemove, Publish, TagSet, TagRemove, Deprecate, Withdraw, Packument, VersionDoc, Archive, Tags, Members, Teams, TeamMembers, TeamPackages}
+use Rattle.registry_cli.specs.declared.action.Verb.TheVariants.{UserAdd, TokenAdd, TokenRemove, TokensRemove, OrgCreate, OrgSet, OrgRemove, TeamCreate, TeamDestroy, TeamAdd, TeamRemove, Grant, Revoke, SetAccess, OwnerAdd, OwnerRemove, Publish, TagSet, TagRemove, Deprecate, Withdraw, Packument, VersionDoc, Archive, Tags, Members, Teams, TeamMembers, TeamPackages}
 use Rattle.registry_cli.specs.declared.meaning.Line.{Line}
 use Rattle.registry_cli.specs.declared.meaning.Who.{Who}
 use Rattle.registry_cli.specs.declared.meaning.Who.TheVariants as who
@@ -30,10 +31,12 @@ abbrev pub organisation_verb : Text → Option Verb
 organisation_verb name =
     if bytes_eq name (codes "user-add") then Some UserAdd else (
     if bytes_eq name (codes "token-add") then Some TokenAdd else (
+    if bytes_eq name (codes "token-rm") then Some TokenRemove else (
+    if bytes_eq name (codes "tokens-rm") then Some TokensRemove else (
     if bytes_eq name (codes "org-create") then Some OrgCreate else (
     if bytes_eq name (codes "org-set") then Some OrgSet else (
     if bytes_eq name (codes "org-rm") then Some OrgRemove else (
-    None)))))
+    None)))))))
 
 -- for teams, and for what they are granted
 abbrev pub team_verb : Text → Option Verb
@@ -78,10 +81,17 @@ verb_of name = option_or (organisation_verb name) (option_or (team_verb name) (o
 abbrev pub reads_form : List ℕ → Reading FormParts
 reads_form body result = MatchResult result (IsFormOf body) (StopsForm body)
 
+-- the token to end: the argument, or for `-` what was read of standard input, without a newline at
+-- its end
+abbrev pub said_token : List Text → List ℕ → List ℕ
+said_token arguments body = if says_input arguments then strip_last 10 body else argument_at arguments 1
+
 -- the arguments after the subcommand's name, in their order, and what they ask for
 abbrev pub asked : Verb → List Text → List ℕ → Reading Action
 asked UserAdd arguments body = read_then (one reads_ident arguments) (λ p. gives (action.UserAdd p))
 asked TokenAdd arguments body = read_then (two reads_ident reads_token arguments) (λ p. gives (action.TokenAdd p.0 p.1))
+asked TokenRemove arguments body = read_then (reads_token (said_token arguments body)) (λ digest. gives (action.TokenRemove digest))
+asked TokensRemove arguments body = read_then (one reads_ident arguments) (λ p. gives (action.TokensRemove p))
 asked OrgCreate arguments body = read_then (two reads_ident reads_ident arguments) (λ p. gives (action.OrgCreate p.0 p.1))
 asked OrgSet arguments body = read_then (three reads_ident reads_ident reads_role arguments) (λ p. gives (action.OrgSet p.0 p.1 p.2))
 asked OrgRemove arguments body = read_then (two reads_ident reads_ident arguments) (λ p. gives (action.OrgRemove p.0 p.1))

@@ -64,6 +64,14 @@ asks_to_serve what = bytes_eq (argument_at what 0) (codes "serve")
 abbrev pub file_of : List Text → Option Text
 file_of what = if bytes_eq (argument_at what 0) (codes "publish") then Some (argument_at what 1) else None
 
+-- the first argument stands for standard input
+abbrev pub says_input : List Text → Bool
+says_input what = bytes_eq (argument_at what 1) (codes "-")
+
+-- the token that is to end is on standard input
+abbrev pub reads_input : List Text → Bool
+reads_input what = bytes_eq (argument_at what 0) (codes "token-rm") && says_input what
+
 -- the name of a subcommand, and as many arguments as it has
 abbrev pub IsWhole : List Text → Type 0
 IsWhole [] = ⊥

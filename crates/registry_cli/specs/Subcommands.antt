@@ -108,6 +108,8 @@ abbrev pub organisations : List (Text × List Rule)
 organisations =
     (codes "user-add", user ∷ [])
     ∷ (codes "token-add", user ∷ token ∷ [])
+    ∷ (codes "token-rm", token ∷ [])
+    ∷ (codes "tokens-rm", user ∷ [])
     ∷ (codes "org-create", organisation ∷ user ∷ [])
     ∷ (codes "org-set", organisation ∷ user ∷ role ∷ [])
     ∷ (codes "org-rm", organisation ∷ user ∷ [])

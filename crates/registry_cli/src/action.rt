@@ -1,15 +1,16 @@
 //! The action that a line asks for.
 
 ghost use Rattle.std.specs.Prelude.{◌≡◌, [], is_some, false, true};
+ghost use Rattle.std.specs.Io.BufRead.{strip_last};
 ghost use Rattle.registry_cli.specs.Asked as spec;
 ghost use Rattle.registry_cli.specs.Lines.{IsWhole, asks_to_serve, argument_at};
 ghost use Rattle.registry_cli.specs.declared.action.Verb.TheVariants as verbs;
 
-use crate::argument_values::{argument_at, four, one, three, two};
+use crate::argument_values::{argument_at, four, one, says_input, three, two};
 use crate::from_argument::FromArgument;
 use crate::meaning::{Line, Who};
-use registry_names::{Ident, Stop, Text};
-use registry_publish::PublishForm;
+use registry_names::{Ident, Refusal, Stop, Text};
+use registry_publish::{PublishForm, TokenDigest};
 use registry_rules::{Action, Credential};
 use std::alloc::Global;
 
@@ -18,6 +19,8 @@ use std::alloc::Global;
 pub(crate) enum Verb {
     UserAdd,
     TokenAdd,
+    TokenRemove,
+    TokensRemove,
     OrgCreate,
     OrgSet,
     OrgRemove,
@@ -46,7 +49,8 @@ pub(crate) enum Verb {
 }
 
 /// The credential and the action that a line asks for. `body` is the content of the file that the
-/// line names, which only `publish` reads. `serve` asks for no action.
+/// line names, which only `publish` reads, or of standard input, which only `token-rm -` reads.
+/// `serve` asks for no action.
 ///
 /// The texts are read from left to right, the user's name first, and the first that isn't in form
 /// gives its refusal. `Memory` is returned where no memory is left, and never for a text that isn't
@@ -96,6 +100,8 @@ fn organisation_verb(name: &str) -> Option<Verb>
     match name {
         "user-add" => Some(Verb::UserAdd),
         "token-add" => Some(Verb::TokenAdd),
+        "token-rm" => Some(Verb::TokenRemove),
+        "tokens-rm" => Some(Verb::TokensRemove),
         "org-create" => Some(Verb::OrgCreate),
         "org-set" => Some(Verb::OrgSet),
         "org-rm" => Some(Verb::OrgRemove),
@@ -155,6 +161,8 @@ fn asked(alloc: Global, verb: Verb, arguments: &[Text], body: &[u8]) -> Result<A
     match verb {
         Verb::UserAdd => user_add(alloc, arguments),
         Verb::TokenAdd => token_add(alloc, arguments),
+        Verb::TokenRemove => token_remove(arguments, body),
+        Verb::TokensRemove => tokens_remove(alloc, arguments),
         Verb::OrgCreate => org_create(alloc, arguments),
         Verb::OrgSet => org_set(alloc, arguments),
         Verb::OrgRemove => org_remove(alloc, arguments),
@@ -195,6 +203,44 @@ fn token_add(alloc: Global, arguments: &[Text]) -> Result<Action, Stop>
 {
     let (user, digest) = two(alloc, arguments)?;
     Ok(Action::TokenAdd { user, digest })
+}
+
+fn token_remove(arguments: &[Text], body: &[u8]) -> Result<Action, Stop>
+    ensures { spec.asked verbs.TokenRemove arguments.now body.now result }
+{
+    match TokenDigest::of_bytes(said_token(arguments, body)) {
+        Some(digest) => Ok(Action::TokenRemove { digest }),
+        None => Err(Stop::Refused(Refusal::BadBody)),
+    }
+}
+
+// The text of the token to end, which is an argument or was read of standard input.
+fn said_token<'a>(arguments: &'a [Text], body: &'a [u8]) -> &'a [u8]
+    ensures { result.now ≡ spec.said_token arguments.now body.now }
+{
+    if says_input(arguments) {
+        without_newline(body)
+    } else {
+        argument_at(arguments, 1).as_bytes()
+    }
+}
+
+// The bytes without a newline at their end.
+fn without_newline(bytes: &[u8]) -> &[u8]
+    ensures { result.now ≡ strip_last 10 bytes.now }
+{
+    if !bytes.is_empty() && bytes[bytes.len() - 1] == b'\n' {
+        &bytes[..bytes.len() - 1]
+    } else {
+        bytes
+    }
+}
+
+fn tokens_remove(alloc: Global, arguments: &[Text]) -> Result<Action, Stop>
+    ensures { spec.asked verbs.TokensRemove arguments.now [] result }
+{
+    let user = one(alloc, arguments)?;
+    Ok(Action::TokensRemove { user })
 }
 
 fn org_create(alloc: Global, arguments: &[Text]) -> Result<Action, Stop>

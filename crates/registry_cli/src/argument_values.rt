@@ -26,6 +26,13 @@ pub(crate) fn argument_at(arguments: &[Text], index: usize) -> &str
     }
 }
 
+/// Whether the first argument stands for standard input.
+pub(crate) fn says_input(arguments: &[Text]) -> bool
+    ensures { result ≡ lines.says_input arguments.now }
+{
+    is_same(argument_at(arguments, 1), "-")
+}
+
 /// The arguments after a subcommand's name.
 pub(crate) fn one<A: FromArgument>(alloc: Global, arguments: &[Text]) -> Result<A, Stop>
     ensures { spec.one A.reads arguments.now result }

@@ -3,7 +3,7 @@
 ghost use Rattle.std.specs.Prelude.{◌≡◌, option_map};
 ghost use Rattle.registry_cli.specs.Lines as spec;
 
-use crate::argument_values::{argument_at, is_same};
+use crate::argument_values::{argument_at, is_same, says_input};
 use crate::arguments::Arguments;
 use registry_names::{Moment, Text};
 
@@ -38,6 +38,14 @@ impl Line {
         ensures { result ≡ spec.asks_to_serve self.now.what }
     {
         is_same(argument_at(self.what.as_slice(), 0), "serve")
+    }
+
+    /// Whether an action is read from standard input: the token that `token-rm -` ends.
+    pub fn reads_input(&self) -> bool
+        ensures { result ≡ spec.reads_input self.now.what }
+    {
+        let arguments = self.what.as_slice();
+        is_same(argument_at(arguments, 0), "token-rm") && says_input(arguments)
     }
 
     /// The path of the file that the line names, from which an action is read. `None` for every

@@ -72,6 +72,12 @@ const TOKEN: Parameter = Parameter {
     need: Need::Required,
 };
 
+const TOKEN_OR_INPUT: Parameter = Parameter {
+    id: "TOKEN",
+    help: "A token, or - for the one on standard input, which no list of processes shows",
+    need: Need::Required,
+};
+
 const ORGANISATION: Parameter = Parameter {
     id: "ORG",
     help: "The name of an organisation, without @",
@@ -170,7 +176,7 @@ const CONNECTIONS: Parameter = Parameter {
     },
 };
 
-static ORGANISATIONS: [Subcommand; 5] = [
+static ORGANISATIONS: [Subcommand; 7] = [
     Subcommand {
         name: "user-add",
         parameters: &[USER],
@@ -182,6 +188,18 @@ static ORGANISATIONS: [Subcommand; 5] = [
         parameters: &[USER, TOKEN],
         about: "Add a token, by which npm shows that it is the user (the operator)",
         example: "Example: registry --operator token-add ann npm_ann_000000001",
+    },
+    Subcommand {
+        name: "token-rm",
+        parameters: &[TOKEN_OR_INPUT],
+        about: "End a token, which then names nobody (the operator, or the user whose it is)",
+        example: "Example: registry --as ann token-rm - < token.txt",
+    },
+    Subcommand {
+        name: "tokens-rm",
+        parameters: &[USER],
+        about: "End all tokens of a user (the operator)",
+        example: "Example: registry --operator tokens-rm ann",
     },
     Subcommand {
         name: "org-create",

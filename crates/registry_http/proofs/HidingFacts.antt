@@ -15,7 +15,7 @@ use Rattle.registry_rules.specs.State.{State}
 use Rattle.registry_rules.specs.declared.reply.Reply.{Reply}
 use Rattle.registry_rules.specs.declared.reply.Reply.TheVariants.{Refused}
 use Rattle.registry_rules.specs.declared.request.Action.{Action}
-use Rattle.registry_rules.specs.declared.request.Action.TheVariants.{UserAdd, TokenAdd, OrgCreate, OrgSet, OrgRemove, TeamCreate, TeamDestroy, TeamAdd, TeamRemove, Grant, Revoke, SetAccess, OwnerAdd, OwnerRemove, Publish, TagSet, TagRemove, Withdraw, Deprecate, Packument, VersionDoc, Archive, Tags, Members, Teams, TeamMembers, TeamPackages}
+use Rattle.registry_rules.specs.declared.request.Action.TheVariants.{UserAdd, TokenAdd, TokenRemove, TokensRemove, OrgCreate, OrgSet, OrgRemove, TeamCreate, TeamDestroy, TeamAdd, TeamRemove, Grant, Revoke, SetAccess, OwnerAdd, OwnerRemove, Publish, TagSet, TagRemove, Withdraw, Deprecate, Packument, VersionDoc, Archive, Tags, Members, Teams, TeamMembers, TeamPackages}
 use Rattle.registry_rules.specs.declared.request.Request.{Request}
 use Rattle.registry_laws_history.specs.Answers.{answer, reply, reply_to, unless_refused}
 use Rattle.registry_service.specs.HttpAnswers.{response_to}
@@ -32,6 +32,8 @@ refused-by S now who (Archive q v) p is hidden = unread (reads (level_in S.acces
 refused-by S now who (Tags q) p is hidden = unread (reads (level_in S.access who q)) _ (ap (λ (q : Text). reads (level_in S.access who q)) is ∙ hidden)
 refused-by S now who (UserAdd u) p is hidden = absurd is
 refused-by S now who (TokenAdd u digest) p is hidden = absurd is
+refused-by S now who (TokenRemove digest) p is hidden = absurd is
+refused-by S now who (TokensRemove u) p is hidden = absurd is
 refused-by S now who (OrgCreate o u) p is hidden = absurd is
 refused-by S now who (OrgSet o u role) p is hidden = absurd is
 refused-by S now who (OrgRemove o u) p is hidden = absurd is

@@ -13,7 +13,7 @@ use Rattle.registry_rules.specs.State.{State}
 use Rattle.registry_rules.specs.declared.reply.Reply.{Reply}
 use Rattle.registry_rules.specs.declared.request.Action.{Action}
 use Rattle.registry_rules.specs.declared.request.Action.TheVariants as command
-use Rattle.registry_rules.specs.declared.request.Action.TheVariants.{UserAdd, TokenAdd, OrgCreate, OrgSet, OrgRemove, TeamCreate, TeamDestroy, TeamAdd, TeamRemove, Revoke, SetAccess, OwnerAdd, OwnerRemove, Publish, TagSet, TagRemove, Withdraw, Deprecate, Packument, VersionDoc, Archive, Tags, Members, Teams, TeamMembers, TeamPackages}
+use Rattle.registry_rules.specs.declared.request.Action.TheVariants.{UserAdd, TokenAdd, TokenRemove, TokensRemove, OrgCreate, OrgSet, OrgRemove, TeamCreate, TeamDestroy, TeamAdd, TeamRemove, Revoke, SetAccess, OwnerAdd, OwnerRemove, Publish, TagSet, TagRemove, Withdraw, Deprecate, Packument, VersionDoc, Archive, Tags, Members, Teams, TeamMembers, TeamPackages}
 use Rattle.registry_rules.specs.declared.request.Credential.{Credential}
 use Rattle.registry_rules.specs.declared.request.Request.{Request}
 use Rattle.registry_laws_history.specs.Answers.{answer, reply, reply_to, unless_refused}
@@ -55,6 +55,8 @@ left_next S r o is answered =
 accepted_reply : (S : State) (who : Caller) (what : Action) → accepts (Ok (reply S who what)) ≡ true
 accepted_reply S who (UserAdd u) = refl
 accepted_reply S who (TokenAdd u digest) = refl
+accepted_reply S who (TokenRemove digest) = refl
+accepted_reply S who (TokensRemove u) = refl
 accepted_reply S who (OrgCreate o u) = refl
 accepted_reply S who (OrgSet o u role) = refl
 accepted_reply S who (OrgRemove o u) = refl

@@ -93,7 +93,7 @@ module _ (who : Caller) (p : Text) where
         by : (b : Bool) → is_member_publish S who r.what p ≡ b → level_in (all_made S (effects_for S r.at (Some who) r.what)).access who p ≡ Nothing
         by true member = let both : None ≡ Some (why_shown r.what) = sym may ∙ refused r.at r.what one member in absurd cc
         by false stranger =
-            (standing_kept S r.at who r.what p outside_here.0 r.who (left_rests S left).sound outside_here.1 outside_here.2 known nothing stranger may).nothing
+            (standing_kept S r.at who r.what p outside_here.0 (left_rests S left).sound outside_here.1 outside_here.2 nothing stranger may).nothing
 
     keeps_none : (r : Request) (a : Reply) → a ≡ answer S r → IsTheirs who (caller_of S r.who) → is_shown S r p ≡ is_shown T r p → level_in (next S r (Ok a)).access who p ≡ Nothing
     keeps_none r a answered theirs one = by_entry (enters r (Ok a)) refl

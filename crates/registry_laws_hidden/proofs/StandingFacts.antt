@@ -1,6 +1,6 @@
 -- Who doesn't read a package, and is neither an owner nor an admin of its scope, gains nothing by
 -- what they ask: neither a level on it nor a role in its scope.
-use Rattle.std.proofs.Common.{◌≡◌, ℕ, Bool, true, false, cond, not, ◌&&◌, ◌||◌, refl, sym, ap, ap₂, ◌∙◌, subst, true≢false, Some, None, Option, option_map, is_some, if◌then◌else◌}
+use Rattle.std.proofs.Common.{◌≡◌, ℕ, Bool, true, false, cond, not, ◌&&◌, ◌||◌, refl, sym, ap, ap₂, ◌∙◌, subst, true≢false, Some, None, Option, is_some, if◌then◌else◌}
 use Rattle.std.specs.Prelude.{IsSome}
 use Rattle.registry_names.specs.Keys.{Triple, triple_is}
 use Rattle.registry_names.specs.Maps.{TripleMap, at}
@@ -9,7 +9,7 @@ use Rattle.registry_names.specs.Texts.{Text, is}
 use Rattle.registry_names.proofs.KeyFacts.{text_key, pair_key, triple_key, same_self, same_true}
 use Rattle.registry_names.proofs.MapFacts.{at-put_other, at-erase_other, at-keep}
 use Rattle.registry_access.specs.Access.{Access}
-use Rattle.registry_access.specs.Callers.{granted, is_maintainer, is_user, role_of, team_grant}
+use Rattle.registry_access.specs.Callers.{granted, is_maintainer, role_of, team_grant}
 use Rattle.registry_access.specs.Levels.{is_owner_or_admin}
 use Rattle.registry_access.specs.Policy.{may_manage_members, may_manage_teams}
 use Rattle.registry_access.specs.Positions.{has_organisation, level_by, level_in, scope_role}
@@ -22,16 +22,13 @@ use Rattle.registry_access.specs.declared.role.Role.TheVariants.{Owner, Admin, D
 use Rattle.registry_access.proofs.GrantFacts.{granted_alike}
 use Rattle.registry_access.proofs.LevelFacts.{greatest_alike}
 use Rattle.registry_rules.specs.Actions.{ends_team, names_package}
-use Rattle.registry_rules.specs.Callers.{caller_of}
 use Rattle.registry_rules.specs.Effects.{step_by}
 use Rattle.registry_rules.specs.Kept.{IsSound}
 use Rattle.registry_rules.specs.Laws.{IsApart}
 use Rattle.registry_rules.specs.Refusals.{refusal_by, unless_allowed}
-use Rattle.registry_rules.specs.State.{State, developers, has_user, is_in_team}
+use Rattle.registry_rules.specs.State.{State, developers, is_in_team}
 use Rattle.registry_rules.specs.declared.request.Action.{Action}
-use Rattle.registry_rules.specs.declared.request.Action.TheVariants.{UserAdd, TokenAdd, OrgCreate, OrgSet, OrgRemove, TeamDestroy, TeamAdd, TeamRemove, Packument, VersionDoc, Archive, Tags}
-use Rattle.registry_rules.specs.declared.request.Credential.{Credential}
-use Rattle.registry_rules.specs.declared.request.Credential.TheVariants as credential
+use Rattle.registry_rules.specs.declared.request.Action.TheVariants.{OrgCreate, OrgSet, OrgRemove, TeamDestroy, TeamAdd, TeamRemove, Packument, VersionDoc, Archive, Tags}
 use Rattle.registry_rules.proofs.AllowedFacts.{policy_passed}
 use Rattle.registry_rules.proofs.LawFacts.{commands_leave_other_packages}
 use Rattle.registry_laws_history.proofs.LeftFacts.{left_by, left_is, joined}
@@ -52,13 +49,11 @@ level_alike A B who p status role maintainer grants =
 -- ---- what a user's commands leave them in an organisation of which they are neither an owner nor
 -- an admin
 
--- their role and their teams there, and who is known
+-- their role and their teams there
 record KeepsPlace (S T : State) (what : Action) (o u : Text) : Type 0 where
   role : at T.access.roles (o, u) ≡ at S.access.roles (o, u)
   teams : (t : Text) → at T.access.team_members (o, (t, u)) ≡ at S.access.team_members (o, (t, u))
   ended : (t : Text) → ends_team what o t ≡ false
-  users : T.access.users ≡ S.access.users
-  tokens : T.access.tokens ≡ S.access.tokens
 
 managing_members : (u : Text) (there : Bool) (role : Option Role) → unless_allowed (may_manage_members (User u) there role) ≡ None → is_owner_or_admin role ≡ true
 managing_members u false role may = absurd cc
@@ -91,8 +86,6 @@ module _ (S : State) (now : ℕ) (u o : Text) (unmanaging : is_owner_or_admin (a
   managed_members r passed = another r (managing_members u (has_organisation S.access r) (at S.access.roles (r, u)) passed) (is r o) refl
 
   left_place : (what : Action) → refusal_by S now (User u) what ≡ None → KeepsPlace S (left_by S now (User u) what) what o u
-  left_place (UserAdd w) may = absurd cc
-  left_place (TokenAdd w digest) may = absurd cc
   left_place (OrgCreate r w) may = absurd cc
   left_place (OrgSet r w role) may =
       let apart = managed_members r (policy_passed S now (User u) (OrgSet r w role) may) in
@@ -100,8 +93,6 @@ module _ (S : State) (now : ℕ) (u o : Text) (unmanaging : is_owner_or_admin (a
         role = at-put_other pair_key S.access.roles (r, w) role (o, u) (ap (λ b. b && is w u) apart);
         teams = λ t. joined_other S.access.team_members (is_some (at S.access.roles (r, w))) (r, (developers, w)) (o, (t, u)) (ap (λ b. b && (is developers t && is w u)) apart);
         ended = λ t. refl;
-        users = refl;
-        tokens = refl;
       }
   left_place (OrgRemove r w) may =
       let apart = managed_members r (policy_passed S now (User u) (OrgRemove r w) may) in
@@ -109,8 +100,6 @@ module _ (S : State) (now : ℕ) (u o : Text) (unmanaging : is_owner_or_admin (a
         role = at-erase_other pair_key S.access.roles (r, w) (o, u) (ap (λ b. b && is w u) apart);
         teams = λ t. at-keep triple_key S.access.team_members (λ k. not (is r k.0 && is w k.1.1)) (o, (t, u)) ∙ ap (λ b. cond (not (b && is w u)) (at S.access.team_members (o, (t, u))) None) apart;
         ended = λ t. refl;
-        users = refl;
-        tokens = refl;
       }
   left_place (TeamDestroy r s) may =
       let apart = managed r (policy_passed S now (User u) (TeamDestroy r s) may) in
@@ -118,8 +107,6 @@ module _ (S : State) (now : ℕ) (u o : Text) (unmanaging : is_owner_or_admin (a
         role = refl;
         teams = λ t. at-keep triple_key S.access.team_members (λ k. not (is r k.0 && is s k.1.0)) (o, (t, u)) ∙ ap (λ b. cond (not (b && is s t)) (at S.access.team_members (o, (t, u))) None) apart;
         ended = λ t. ap (λ b. b && is s t) apart;
-        users = refl;
-        tokens = refl;
       }
   left_place (TeamAdd r s w) may =
       let apart = managed r (policy_passed S now (User u) (TeamAdd r s w) may) in
@@ -127,8 +114,6 @@ module _ (S : State) (now : ℕ) (u o : Text) (unmanaging : is_owner_or_admin (a
         role = refl;
         teams = λ t. joined_other S.access.team_members (is_in_team S r s w) (r, (s, w)) (o, (t, u)) (ap (λ b. b && (is s t && is w u)) apart);
         ended = λ t. refl;
-        users = refl;
-        tokens = refl;
       }
   left_place (TeamRemove r s w) may =
       let apart = managed r (policy_passed S now (User u) (TeamRemove r s w) may) in
@@ -136,40 +121,16 @@ module _ (S : State) (now : ℕ) (u o : Text) (unmanaging : is_owner_or_admin (a
         role = refl;
         teams = λ t. at-erase_other triple_key S.access.team_members (r, (s, w)) (o, (t, u)) (ap (λ b. b && (is s t && is w u)) apart);
         ended = λ t. refl;
-        users = refl;
-        tokens = refl;
       }
-  left_place _ may = record { role = refl; teams = λ t. refl; ended = λ t. refl; users = refl; tokens = refl }
+  left_place _ may = record { role = refl; teams = λ t. refl; ended = λ t. refl }
 
   keeps_place : (what : Action) → refusal_by S now (User u) what ≡ None → KeepsPlace S (step_by S now (User u) what) what o u
   keeps_place what may = subst (λ T. KeepsPlace S T what o u) (sym (left_is S now (User u) what)) (left_place what may)
 
--- ---- whom a credential names
-
-named_user : (a who : Caller) → is_user a ≡ true → Some a ≡ Some who → is_user who ≡ true
-named_user a who user e = let same : a ≡ who = cc in ap is_user (sym same) ∙ user
-
-module _ (S T : State) (who : Caller) (users : is_user who ≡ true → T.access.users ≡ S.access.users) (tokens : is_user who ≡ true → T.access.tokens ≡ S.access.tokens) where
-  stays_user : (v : Text) (b : Bool) → has_user S v ≡ b → caller_of S (credential.User v) ≡ Some who → is_user who ≡ true
-  stays_user v true there e = named_user (User v) who refl (sym (ap (λ b. if b then Some (User v) else None) there) ∙ e)
-  stays_user v false there e = let none : None ≡ Some who = sym (ap (λ b. if b then Some (User v) else None) there) ∙ e in absurd cc
-
-  stays_token : (digest : Text) (o : Option Text) → at S.access.tokens digest ≡ o → caller_of S (credential.Token digest) ≡ Some who → is_user who ≡ true
-  stays_token digest (Some v) there e = named_user (User v) who refl (sym (ap (option_map User) there) ∙ e)
-  stays_token digest None there e = let none : None ≡ Some who = sym (ap (option_map User) there) ∙ e in absurd cc
-
-  stays_known : (shown : Credential) → caller_of S shown ≡ Some who → caller_of T shown ≡ Some who
-  stays_known credential.Operator e = e
-  stays_known (credential.User v) e = ap (λ m. if is_some (at m v) then Some (User v) else None) (users (stays_user v (has_user S v) refl e)) ∙ e
-  stays_known (credential.Token digest) e = ap (λ m. option_map User (at m digest)) (tokens (stays_token digest (at S.access.tokens digest) refl e)) ∙ e
-  stays_known credential.Anonymous e = e
-
 -- ---- what they have after a command
 
--- they are known as before, have no level on the package, and have the role in its scope that they
--- had
-pub record KeepsStanding (S T : State) (p o : Text) (who : Caller) (shown : Credential) : Type 0 where
-  pub known : caller_of T shown ≡ Some who
+-- they have no level on the package, and have the role in its scope that they had
+pub record KeepsStanding (S T : State) (p o : Text) (who : Caller) : Type 0 where
   pub nothing : level_in T.access who p ≡ Nothing
   pub role : role_of T.access who o ≡ role_of S.access who o
 
@@ -214,25 +175,22 @@ module _ (S : State) (now : ℕ) (u : Text) (p o : Text) (what : Action) (sound 
       ap (λ g. if is_some (at T.access.team_members (r, (t, u))) then g else None) there ∙ none_or_none (is_some (at T.access.team_members (r, (t, u))))
       ∙ sym (ap (λ g. if is_some (at S.access.team_members (r, (t, u))) then g else None) (ungranted r t other) ∙ none_or_none (is_some (at S.access.team_members (r, (t, u)))))
 
-  user_standing : (shown : Credential) → caller_of S shown ≡ Some (User u) → level_in S.access (User u) p ≡ Nothing → KeepsStanding S T p o (User u) shown
-  user_standing shown known nothing = record {
-    known = stays_known S T (User u) (λ user. place.users) (λ user. place.tokens) shown known;
+  user_standing : level_in S.access (User u) p ≡ Nothing → KeepsStanding S T p o (User u)
+  user_standing nothing = record {
     nothing = level_alike T.access S.access (User u) p apart.status (role_in T.access S.access (User u) o (scope_of p) scoped place.role) (ap is_some (apart.maintainers u))
         (λ r t. grant_by r t (is o r) refl) ∙ nothing;
     role = place.role;
   }
 
-module _ (S T : State) (p o : Text) (what : Action) (scoped : scope_of p ≡ Some o) (apart : IsApart S T what p) (shown : Credential) where
-  operator_standing : caller_of S shown ≡ Some Operator → level_in S.access Operator p ≡ Nothing → KeepsStanding S T p o Operator shown
-  operator_standing known nothing = record {
-    known = stays_known S T Operator (λ user. absurd (true≢false (sym user))) (λ user. absurd (true≢false (sym user))) shown known;
+module _ (S T : State) (p o : Text) (what : Action) (scoped : scope_of p ≡ Some o) (apart : IsApart S T what p) where
+  operator_standing : level_in S.access Operator p ≡ Nothing → KeepsStanding S T p o Operator
+  operator_standing nothing = record {
     nothing = level_alike T.access S.access Operator p apart.status (role_in T.access S.access Operator o (scope_of p) scoped refl) refl (λ r t. refl) ∙ nothing;
     role = refl;
   }
 
-  anonymous_standing : caller_of S shown ≡ Some Anonymous → level_in S.access Anonymous p ≡ Nothing → KeepsStanding S T p o Anonymous shown
-  anonymous_standing known nothing = record {
-    known = stays_known S T Anonymous (λ user. absurd (true≢false (sym user))) (λ user. absurd (true≢false (sym user))) shown known;
+  anonymous_standing : level_in S.access Anonymous p ≡ Nothing → KeepsStanding S T p o Anonymous
+  anonymous_standing nothing = record {
     nothing = level_alike T.access S.access Anonymous p apart.status (role_in T.access S.access Anonymous o (scope_of p) scoped refl) refl (λ r t. refl) ∙ nothing;
     role = refl;
   }
@@ -242,9 +200,9 @@ uncalled : (S : State) (now : ℕ) (who : Caller) (what : Action) (p : Text) →
 uncalled S now who what p refused may true here = let why = refused here in let both : None ≡ Some why.0 = sym may ∙ why.1 in absurd cc
 uncalled S now who what p refused may false here = refl
 
-pub standing_kept : (S : State) (now : ℕ) (who : Caller) (what : Action) (p o : Text) (shown : Credential) → IsSound S.access → scope_of p ≡ Some o → is_owner_or_admin (role_of S.access who o) ≡ false
-    → caller_of S shown ≡ Some who → level_in S.access who p ≡ Nothing → is_member_publish S who what p ≡ false → refusal_by S now who what ≡ None → KeepsStanding S (step_by S now who what) p o who shown
-standing_kept S now who what p o shown sound scoped unmanaging known nothing stranger may = by_caller who unmanaging known nothing may apart
+pub standing_kept : (S : State) (now : ℕ) (who : Caller) (what : Action) (p o : Text) → IsSound S.access → scope_of p ≡ Some o → is_owner_or_admin (role_of S.access who o) ≡ false
+    → level_in S.access who p ≡ Nothing → is_member_publish S who what p ≡ false → refusal_by S now who what ≡ None → KeepsStanding S (step_by S now who what) p o who
+standing_kept S now who what p o sound scoped unmanaging nothing stranger may = by_caller who unmanaging nothing may apart
   where
     other : concerns what p ≡ false
     other = uncalled S now who what p (λ here. concerned_refused S now who p o sound scoped unmanaging what here nothing stranger) may (concerns what p) refl
@@ -252,8 +210,8 @@ standing_kept S now who what p o shown sound scoped unmanaging known nothing str
     apart : IsApart S (step_by S now who what) what p
     apart = commands_leave_other_packages S now who what p (unnamed what p other)
 
-    by_caller : (c : Caller) → is_owner_or_admin (role_of S.access c o) ≡ false → caller_of S shown ≡ Some c → level_in S.access c p ≡ Nothing → refusal_by S now c what ≡ None
-        → IsApart S (step_by S now c what) what p → KeepsStanding S (step_by S now c what) p o c shown
-    by_caller Operator unmanages is none allowed stands = operator_standing S (step_by S now Operator what) p o what scoped stands shown is none
-    by_caller (User u) unmanages is none allowed stands = user_standing S now u p o what sound scoped (keeps_place S now u o unmanages what allowed) stands shown is none
-    by_caller Anonymous unmanages is none allowed stands = anonymous_standing S (step_by S now Anonymous what) p o what scoped stands shown is none
+    by_caller : (c : Caller) → is_owner_or_admin (role_of S.access c o) ≡ false → level_in S.access c p ≡ Nothing → refusal_by S now c what ≡ None → IsApart S (step_by S now c what) what p
+        → KeepsStanding S (step_by S now c what) p o c
+    by_caller Operator unmanages none allowed stands = operator_standing S (step_by S now Operator what) p o what scoped stands none
+    by_caller (User u) unmanages none allowed stands = user_standing S now u p o what sound scoped (keeps_place S now u o unmanages what allowed) stands none
+    by_caller Anonymous unmanages none allowed stands = anonymous_standing S (step_by S now Anonymous what) p o what scoped stands none

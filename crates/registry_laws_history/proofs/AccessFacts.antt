@@ -18,9 +18,11 @@ use Rattle.registry_access.specs.declared.role.Role.TheVariants.{Owner}
 use Rattle.registry_rules.specs.State.{State, developers, has_maintainer}
 use Rattle.registry_rules.specs.declared.request.Action.{Action}
 use Rattle.registry_rules.specs.declared.request.Action.TheVariants as command
-use Rattle.registry_rules.specs.declared.request.Action.TheVariants.{UserAdd, TokenAdd, OrgCreate, OrgSet, OrgRemove, TeamCreate, TeamDestroy, TeamAdd, TeamRemove, Revoke, OwnerAdd, OwnerRemove, Publish}
+use Rattle.registry_rules.specs.declared.request.Action.TheVariants.{UserAdd, TokenAdd, TokenRemove, TokensRemove, OrgCreate, OrgSet, OrgRemove, TeamCreate, TeamDestroy, TeamAdd, TeamRemove, Revoke, OwnerAdd, OwnerRemove, Publish}
+use Rattle.registry_access.specs.Policy.{is_theirs}
+use Rattle.registry_rules.proofs.TokenFacts.{among_is, at-all_ended}
 use Rattle.registry_rules.proofs.PublishedFacts.{granted_first, grants_after, maintained_first, maintainers_after}
-use Rattle.registry_laws_history.specs.AccessReadings.{HasAccess, adds_user, user_added, gives_token, token_user, creates, created, gives_role, removes, role, creates_team, destroys, team_exists, joins, leaves, in_team, is_of, gives_grant, ends_grant, last_grant, is_caller, makes_maintainer, ends_maintainer, maintains}
+use Rattle.registry_laws_history.specs.AccessReadings.{HasAccess, adds_user, user_added, gives_token, ends_token, token_user, creates, created, gives_role, removes, role, creates_team, destroys, team_exists, joins, leaves, in_team, is_of, gives_grant, ends_grant, last_grant, is_caller, makes_maintainer, ends_maintainer, maintains}
 use Rattle.registry_laws_history.specs.History.{Entry, Legal, after}
 use Rattle.registry_laws_history.specs.Readings.{or_before, unless_ended, was_published}
 use Rattle.registry_laws_history.proofs.LeftFacts.{joined, left_by, left_is}
@@ -138,8 +140,13 @@ module _ (S : State) (now : ℕ) (who : Caller) (h : List Entry) (has : HasAcces
   users_step (UserAdd v) u = ap is_some (at-put text_key S.access.users v tt u) ∙ put_there (is v u) tt _ _ (has.users u)
   users_step what u = has.users u
 
-  tokens_step : (what : Action) (digest : Text) → at (left_by S now who what).access.tokens digest ≡ or_before (gives_token what digest) (token_user h digest)
+  tokens_step : (what : Action) (digest : Text) → at (left_by S now who what).access.tokens digest ≡ or_before (gives_token what digest) (unless_ended (ends_token what (token_user h digest) digest) (token_user h digest))
   tokens_step (TokenAdd u d) digest = at-put text_key S.access.tokens d u digest ∙ put_before (is d digest) u _ _ (has.tokens digest)
+  tokens_step (TokenRemove d) digest = at-erase text_key S.access.tokens d digest ∙ removed_after (is d digest) _ _ (has.tokens digest)
+  tokens_step (TokensRemove u) digest =
+      at-all_ended S u digest
+      ∙ ap (λ b. cond b None (at S.access.tokens digest)) (among_is S u digest ∙ ap (λ o. is_theirs o u) (has.tokens digest))
+      ∙ removed_after (is_theirs (token_user h digest) u) _ _ (has.tokens digest)
   tokens_step what digest = has.tokens digest
 
   organisations_step : (what : Action) (o : Text) → is_some (at (left_by S now who what).access.organisations o) ≡ (creates what o || created h o)

@@ -9,7 +9,7 @@ use Rattle.registry_names.proofs.PartFacts.{part-put, part-erase, same_part}
 use Rattle.registry_access.specs.declared.caller.Caller.{Caller}
 use Rattle.registry_rules.specs.Actions.{names_package, version_of}
 use Rattle.registry_rules.specs.Callers.{caller_of}
-use Rattle.registry_rules.specs.Changes.{Change, AddUser, AddToken, AddOrg, PutMember, DropMember, AddTeam, PutTeamMember, DropTeamMember, DropTeam, PutGrant, DropGrant, PutOwner, DropOwner, PutStatus, AddVersion, RetireVersion, PutDeprecation, PutTag, DropTag, made, all_made, release_of}
+use Rattle.registry_rules.specs.Changes.{Change, AddUser, AddToken, DropToken, AddOrg, PutMember, DropMember, AddTeam, PutTeamMember, DropTeamMember, DropTeam, PutGrant, DropGrant, PutOwner, DropOwner, PutStatus, AddVersion, RetireVersion, PutDeprecation, PutTag, DropTag, made, all_made, release_of}
 use Rattle.registry_rules.specs.Effects.{effects_for, step}
 use Rattle.registry_rules.specs.Operations.{with_member, with_role, with_grant, regranted, with_status, restated, with_tag, moved}
 use Rattle.registry_rules.specs.State.{State, Release}
@@ -43,6 +43,7 @@ unmarked false mark (Some r) e = refl
 made_same : (S : State) (change : Change) (p : Text) → is_about change p ≡ false → IsSame S (made S change) p
 made_same S (AddUser u) p e = record { live = refl; spent = refl; tags = refl }
 made_same S (AddToken digest u) p e = record { live = refl; spent = refl; tags = refl }
+made_same S (DropToken digest) p e = record { live = refl; spent = refl; tags = refl }
 made_same S (AddOrg o) p e = record { live = refl; spent = refl; tags = refl }
 made_same S (PutMember o u role stands) p e =
     let here : IsSame S (with_member S o u role) p = record { live = refl; spent = refl; tags = refl } in

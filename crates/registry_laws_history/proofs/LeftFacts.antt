@@ -12,12 +12,13 @@ use Rattle.registry_rules.specs.Actions.{version_of}
 use Rattle.registry_rules.specs.Changes.{all_made, release_of}
 use Rattle.registry_rules.specs.Effects.{joining, maintaining, membership, step_by}
 use Rattle.registry_rules.specs.Operations.{with_grant, with_status, with_tag}
-use Rattle.registry_rules.specs.State.{State, Release, Withdrawal, developers, has_grant, has_maintainer, is_in_team, is_published, stands}
+use Rattle.registry_rules.specs.State.{State, Release, Withdrawal, developers, tokens_of, has_grant, has_maintainer, is_in_team, is_published, stands}
 use Rattle.registry_rules.specs.Withdrawals.{live_versions, others, selected, tags_of}
 use Rattle.registry_rules.specs.declared.request.Action.{Action}
 use Rattle.registry_rules.specs.declared.request.Action.TheVariants as command
-use Rattle.registry_rules.specs.declared.request.Action.TheVariants.{OrgSet, TeamAdd, SetAccess, OwnerAdd, Publish, TagSet, Withdraw, Deprecate}
+use Rattle.registry_rules.specs.declared.request.Action.TheVariants.{TokensRemove, OrgSet, TeamAdd, SetAccess, OwnerAdd, Publish, TagSet, Withdraw, Deprecate}
 use Rattle.registry_rules.proofs.MadeFacts.{grant_put, role_put, status_put, tag_put}
+use Rattle.registry_rules.proofs.TokenFacts.{ended_all, ended_is}
 use Rattle.registry_rules.proofs.WithdrawnFacts.{deprecated_is, freed_tags, marked_all, withdrawal_of, withdrawn_is}
 use Rattle.registry_rules.proofs.PublishedFacts.{after_publish, published_is, status_of}
 
@@ -47,6 +48,7 @@ taken_is S now p v (Some r) = withdrawn_is S now p v r.at (greatest (others (liv
 
 -- what an action leaves, whether what it puts was there before or not
 abbrev pub left_by : State → ℕ → Caller → Action → State
+left_by S now who (TokensRemove u) = record S { access = record S.access { tokens = ended_all S.access.tokens (tokens_of S u) } }
 left_by S now who (OrgSet o u role) = record S {
   access = record S.access {
     roles = put S.access.roles (o, u) role;
@@ -80,6 +82,7 @@ owner_left S p u true = refl
 owner_left S p u false = refl
 
 pub left_is : (S : State) (now : ℕ) (who : Caller) (what : Action) → step_by S now who what ≡ left_by S now who what
+left_is S now who (TokensRemove u) = ended_is S (tokens_of S u)
 left_is S now who (OrgSet o u role) = role_left S o u role (at S.access.roles (o, u)) refl
 left_is S now who (TeamAdd o t u) = team_left S o t u (is_in_team S o t u)
 left_is S now who (command.Grant o t p grant) = grant_put S o t p grant (has_grant S o t p) (λ there. there)

@@ -6,7 +6,8 @@
 -- | Reading       | Given by                                       | Ended by                    |
 -- |---------------|------------------------------------------------|-----------------------------|
 -- | `user_added`  | a new user                                     | nothing                     |
--- | `token_user`  | a new token                                    | nothing                     |
+-- | `token_user`  | a new token                                    | its end, the end of all     |
+-- |               |                                                | tokens of the user          |
 -- | `created`     | a new organisation                             | nothing                     |
 -- | `role`        | a new organisation to its first owner, a role  | the user's removal from the |
 -- |               | that is given                                  | organisation                |
@@ -24,6 +25,7 @@ use Rattle.registry_names.specs.Texts.{Text, is}
 use Rattle.registry_names.specs.Maps.{at}
 use Rattle.registry_names.specs.Names.{scope_of}
 use Rattle.registry_access.specs.Access.{Access}
+use Rattle.registry_access.specs.Policy.{is_theirs}
 use Rattle.registry_access.specs.declared.caller.Caller.{Caller}
 use Rattle.registry_access.specs.declared.caller.Caller.TheVariants.{User}
 use Rattle.registry_access.specs.declared.grant.Grant.{Grant}
@@ -33,11 +35,11 @@ use Rattle.registry_access.specs.declared.role.Role.TheVariants.{Owner}
 use Rattle.registry_rules.specs.State.{developers}
 use Rattle.registry_rules.specs.declared.request.Action.{Action}
 use Rattle.registry_rules.specs.declared.request.Action.TheVariants as command
-use Rattle.registry_rules.specs.declared.request.Action.TheVariants.{UserAdd, TokenAdd, OrgCreate, OrgSet, OrgRemove, TeamCreate, TeamDestroy, TeamAdd, TeamRemove, Revoke, OwnerAdd, OwnerRemove, Publish}
+use Rattle.registry_rules.specs.declared.request.Action.TheVariants.{UserAdd, TokenAdd, TokenRemove, TokensRemove, OrgCreate, OrgSet, OrgRemove, TeamCreate, TeamDestroy, TeamAdd, TeamRemove, Revoke, OwnerAdd, OwnerRemove, Publish}
 use Rattle.registry_laws_history.specs.History.{Entry}
 use Rattle.registry_laws_history.specs.Readings.{or_before, unless_ended, was_published}
 
--- ---- users, tokens and organisations, which never go
+-- ---- users and organisations, which never go, and tokens
 
 -- whether a command adds this user
 abbrev pub adds_user : Action → Text → Bool
@@ -54,10 +56,16 @@ abbrev pub gives_token : Action → Text → Option Text
 gives_token (TokenAdd u d) digest = if is d digest then Some u else None
 gives_token _ digest = None
 
--- the user to whom the token of this digest was given last
+-- whether a command ends the token of this digest, which was somebody's before, or nobody's
+abbrev pub ends_token : Action → Option Text → Text → Bool
+ends_token (TokenRemove d) before digest = is d digest
+ends_token (TokensRemove u) before digest = is_theirs before u
+ends_token _ before digest = false
+
+-- the user to whom the token of this digest was given last, unless it was ended since
 abbrev pub token_user : List Entry → Text → Option Text
 token_user [] digest = None
-token_user (e ∷ h) digest = or_before (gives_token e.what digest) (token_user h digest)
+token_user (e ∷ h) digest = or_before (gives_token e.what digest) (unless_ended (ends_token e.what (token_user h digest) digest) (token_user h digest))
 
 -- whether a command creates this organisation
 abbrev pub creates : Action → Text → Bool

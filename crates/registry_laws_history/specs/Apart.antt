@@ -3,7 +3,7 @@ use Rattle.std.specs.Prelude.{◌≡◌, Bool, List, false}
 use Rattle.std.specs.List.{list_any}
 use Rattle.registry_names.specs.Texts.{Text, is}
 use Rattle.registry_rules.specs.Actions.{names_package}
-use Rattle.registry_rules.specs.Changes.{Change, AddUser, AddToken, AddOrg, PutMember, DropMember, AddTeam, PutTeamMember, DropTeamMember, DropTeam, PutGrant, DropGrant, PutOwner, DropOwner, PutStatus, AddVersion, RetireVersion, PutDeprecation, PutTag, DropTag, all_made}
+use Rattle.registry_rules.specs.Changes.{Change, AddUser, AddToken, DropToken, AddOrg, PutMember, DropMember, AddTeam, PutTeamMember, DropTeamMember, DropTeam, PutGrant, DropGrant, PutOwner, DropOwner, PutStatus, AddVersion, RetireVersion, PutDeprecation, PutTag, DropTag, all_made}
 use Rattle.registry_rules.specs.Effects.{step}
 use Rattle.registry_rules.specs.State.{State}
 use Rattle.registry_rules.specs.declared.request.Request.{Request}
@@ -13,6 +13,7 @@ use Rattle.registry_laws_history.specs.Answers.{packument_in}
 abbrev pub is_about : Change → Text → Bool
 is_about (AddUser u) p = false
 is_about (AddToken digest u) p = false
+is_about (DropToken digest) p = false
 is_about (AddOrg o) p = false
 is_about (PutMember o u role stands) p = false
 is_about (DropMember o u) p = false

@@ -12,49 +12,58 @@ use crate::registries::Registries;
 use crate::run::MOST_READ;
 use crate::serving::serve;
 use registry_cli::{Line, Usage, action_of, errand_of, line, print_reply};
-use registry_names::{ByteOut, Fault, FromRead, Moment, ReadStop, Text, read_whole};
+use registry_names::{ByteIn, ByteOut, Fault, FromRead, Moment, ReadStop, Text, read_whole};
 use registry_rules::Request;
 use std::alloc::Global;
 use std::fs;
 use std::io::ErrorKind;
 
+/// One byte more than a token and its newline may have: enough to see that it is none.
+const MOST_OF_TOKEN: usize = 130;
+
 /// Answers what the arguments ask for, prints the answer, and gives the exit status: 0, or 1 where
 /// the request is refused.
 ///
-/// The moment is read first, where the arguments give none, then the file of a publish, then the
-/// texts in their order, and last the registry is asked. Where another process has its file and is
-/// a server, the server is asked instead. Arguments that ask to serve are answered once the last
-/// connection has ended. Arguments that mean no line may name an errand.
-pub fn answer_command<R: Registries, O: ByteOut, E: ByteOut>(
+/// The moment is read first, where the arguments give none, then the file of a publish or the token
+/// on the input, then the texts in their order, and last the registry is asked. Where another
+/// process has its file and is a server, the server is asked instead. Arguments that ask to serve
+/// are answered once the last connection has ended. Arguments that mean no line may name an errand.
+pub fn answer_command<R: Registries, I: ByteIn, O: ByteOut, E: ByteOut>(
     rt: &HostRuntime,
     alloc: Global,
     registries: &mut R,
     arguments: &[Text],
+    input: &mut I,
     output: &mut O,
     errors: &mut E,
 ) -> Result<u8, Ending> {
     match line(alloc, arguments) {
-        Ok(line) => answer_line(rt, alloc, registries, &line, arguments, output, errors),
+        Ok(line) => answer_line(
+            rt, alloc, registries, &line, arguments, input, output, errors,
+        ),
         Err(usage) => answer_errand(rt, alloc, registries, arguments, usage, output, errors),
     }
 }
 
-fn answer_line<R: Registries, O: ByteOut, E: ByteOut>(
+fn answer_line<R: Registries, I: ByteIn, O: ByteOut, E: ByteOut>(
     rt: &HostRuntime,
     alloc: Global,
     registries: &mut R,
     line: &Line,
     arguments: &[Text],
+    input: &mut I,
     output: &mut O,
     errors: &mut E,
 ) -> Result<u8, Ending>
     requires whole { IsWhole line.now.what }
 {
     if line.asks_to_serve() {
-        serve(rt, alloc, line, output, errors)
-    } else {
-        print_answer(rt, alloc, registries, line, arguments, output, errors)
+        return serve(rt, alloc, line, output, errors);
     }
+    let given = given_to(rt, alloc, line, input)?;
+    print_answer(
+        rt, alloc, registries, line, arguments, &given, output, errors,
+    )
 }
 
 // Arguments that mean no line, and the message for them where they name no errand.
@@ -82,14 +91,14 @@ fn print_answer<R: Registries, O: ByteOut, E: ByteOut>(
     registries: &mut R,
     line: &Line,
     arguments: &[Text],
+    given: &Given,
     output: &mut O,
     errors: &mut E,
 ) -> Result<u8, Ending>
     requires whole { IsWhole line.now.what }
     requires asks { asks_to_serve line.now.what ≡ false }
 {
-    let given = given_to(rt, alloc, line)?;
-    match ask_line(rt, alloc, registries, line, arguments, &given) {
+    match ask_line(rt, alloc, registries, line, arguments, given) {
         Ok(answer) => print_given(alloc, answer, output, errors),
         Err(ending) => Err(ending),
     }
@@ -112,14 +121,26 @@ fn print_given<O: ByteOut, E: ByteOut>(
 pub struct Given {
     // The moment that it gives, or else that of the clock.
     at: Moment,
-    // The bytes of the file that it names, or no bytes without a file.
+    // The bytes of the file that it names, or those of the input that it reads, or none.
     body: Vec<u8>,
 }
 
-/// What a line asks with. The clock is read first, and then the file.
-pub fn given_to(rt: &HostRuntime, alloc: Global, line: &Line) -> Result<Given, Ending> {
+/// What a line asks with. The clock is read first, and then the file or the input.
+pub fn given_to<I: ByteIn>(
+    rt: &HostRuntime,
+    alloc: Global,
+    line: &Line,
+    input: &mut I,
+) -> Result<Given, Ending> {
     let at = asked_at(rt, line)?;
-    let body = body_of(rt, alloc, line)?;
+    let body = body_of(rt, alloc, line, input)?;
+    Ok(Given { at, body })
+}
+
+/// What a line asks with that reads neither a file nor the input.
+pub fn given_alone(rt: &HostRuntime, alloc: Global, line: &Line) -> Result<Given, Ending> {
+    let at = asked_at(rt, line)?;
+    let body = Vec::new(alloc);
     Ok(Given { at, body })
 }
 
@@ -166,10 +187,16 @@ fn asked_at(rt: &HostRuntime, line: &Line) -> Result<Moment, Ending> {
     }
 }
 
-// The bytes of the file that a line names, or no bytes without a file.
-fn body_of(rt: &HostRuntime, alloc: Global, line: &Line) -> Result<Vec<u8>, Ending> {
+// The bytes of the file that a line names, or those of the input that it reads, or none.
+fn body_of<I: ByteIn>(
+    rt: &HostRuntime,
+    alloc: Global,
+    line: &Line,
+    input: &mut I,
+) -> Result<Vec<u8>, Ending> {
     match line.file() {
         Some(path) => file_bytes(rt, alloc, path),
+        None if line.reads_input() => Ok(read_whole(alloc, input, MOST_OF_TOKEN)?),
         None => Ok(Vec::new(alloc)),
     }
 }

@@ -3,7 +3,7 @@
 use crate::asking::Answer;
 use crate::beside::print_sent_token;
 use crate::checking::print_check;
-use crate::commands::{ask_line, given_to};
+use crate::commands::{ask_line, given_alone};
 use crate::copying::back_up;
 use crate::ending::{Ending, Failure};
 use crate::registries::Registries;
@@ -86,6 +86,6 @@ fn add_token<R: Registries>(
 ) -> Result<Answer, Ending> {
     let arguments = new.arguments(alloc, token)?;
     let line = new.line(alloc, Text::from_str(alloc, token)?)?;
-    let given = given_to(rt, alloc, &line)?;
+    let given = given_alone(rt, alloc, &line)?;
     ask_line(rt, alloc, registries, &line, &arguments, &given)
 }

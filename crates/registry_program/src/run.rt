@@ -18,7 +18,7 @@ const SHUT: &str = "the disk failed while the registry was served";
 /// Without arguments it reads a publish body from the input. The user `first` publishes it at
 /// moment 0 to an empty registry in memory, where they own the organisation of the package's scope,
 /// if it has one. The packument as they see it goes to the output, with a newline. With arguments
-/// the program answers what they ask for (`docs/CLI.md`).
+/// the program answers what they ask for (`docs/CLI.md`); `token-rm -` reads the input, too.
 ///
 /// The status is 0 where this is done. Otherwise nothing goes to the output, and the errors say
 /// why:
@@ -53,7 +53,7 @@ pub fn program_over<R: Registries, I: ByteIn, O: ByteOut, E: ByteOut>(
     let done = if arguments.is_empty() {
         print_packument(alloc, input, output)
     } else {
-        answer_command(rt, alloc, registries, arguments, output, errors)
+        answer_command(rt, alloc, registries, arguments, input, output, errors)
     };
     match done {
         Ok(status) => status,

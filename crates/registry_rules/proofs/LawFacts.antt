@@ -1,13 +1,15 @@
 -- The laws of what commands make.
-use Rattle.std.proofs.Common.{◌≡◌, ◌≢◌, ℕ, Bool, true, false, cond, not, ◌&&◌, ◌||◌, List, is_some, Option, Some, None, option_map, refl, sym, ap, ◌∙◌, subst, true≢false, if◌then◌else◌, Ordering}
+use Rattle.std.proofs.Common.{◌≡◌, ◌≢◌, ℕ, Bool, true, false, cond, not, ◌&&◌, ◌||◌, List, is_some, Option, Some, None, Ok, option_map, refl, sym, ap, ◌∙◌, subst, true≢false, if◌then◌else◌, Ordering}
 use Rattle.std.proofs.lemmas.Bool.{and_right}
 use Rattle.std.specs.Prelude.{IsSome}
+use Rattle.std.specs.Option.{option_or}
 use Rattle.registry_names.specs.Keys.{IsKey, Pair, Triple, pair_is, triple_is}
 use Rattle.registry_names.specs.Maps.{TextMap, PairMap, TripleMap, among, at, put, keep}
 use Rattle.registry_names.specs.Greatest.{greatest}
 use Rattle.registry_names.specs.Tags.{latest}
 use Rattle.registry_names.specs.Texts.{Text, is}
 use Rattle.registry_names.specs.Versions.{VersionParts, text_of_version}
+use Rattle.registry_names.specs.declared.refusal.Rule.TheVariants.{A10}
 use Rattle.registry_names.specs.declared.status.Status.{Status}
 use Rattle.registry_names.specs.declared.status.Status.TheVariants.{Public, Restricted}
 use Rattle.registry_names.proofs.KeyFacts.{text_key, pair_key, triple_key, same_true, same_self}
@@ -16,6 +18,7 @@ use Rattle.registry_names.proofs.PartFacts.{any-part}
 use Rattle.registry_names.proofs.PutFacts.{put_there}
 use Rattle.registry_ranges.specs.Selectors.{Condition}
 use Rattle.registry_access.specs.Access.{Access}
+use Rattle.registry_access.specs.Policy.{is_theirs, where_found}
 use Rattle.registry_access.specs.declared.caller.Caller.{Caller}
 use Rattle.registry_access.specs.declared.caller.Caller.TheVariants.{Operator, User, Anonymous}
 use Rattle.registry_access.specs.declared.grant.Grant.{Grant}
@@ -27,7 +30,8 @@ use Rattle.registry_publish.specs.Form.{FormParts}
 use Rattle.registry_rules.specs.Actions.{version_of, ends_team}
 use Rattle.registry_rules.specs.Changes.{all_made, release_of}
 use Rattle.registry_rules.specs.Effects.{deprecation, ending, first_status, joining, membership, maintaining, new_status}
-use Rattle.registry_rules.specs.Laws.{SpendsVersion, FreesTags, WithdrawalsSpend, WithdrawalsFreeTags, Deprecates, DeprecationsMark, GivesFirstRight, IsGrantChange, IsOwnerChange, SetsAccess, GrantsAreGiven, GrantsAreRevoked, StatusesAreSet, MaintainersAreAdded, MaintainersAreRemoved, PublishesGiveFirstRights, SetsRole, OrganisationsAreCreated, RolesAreSet, MembersAreRemoved, UsersAreAdded, TokensAreAdded, EndsTokens, TokensAreEnded, AllTokensAreEnded, AddsVersion, SetsTags, SetsStatus, IsTagChange, IsApart, DestroysTeam, IsTeamMemberChange, TeamsAreCreated, NewTeamsAreEmpty, TeamsAreDestroyed, TeamMembersAreAdded, TeamMembersAreRemoved, PublishesAddVersions, PublishesSetTags, PublishesSetStatuses, SetTagsName, RemovedTagsAreGone, QueriesChangeNothing, PackagesStandApart}
+use Rattle.registry_rules.specs.Laws.{SpendsVersion, FreesTags, WithdrawalsSpend, WithdrawalsFreeTags, Deprecates, DeprecationsMark, GivesFirstRight, IsGrantChange, IsOwnerChange, SetsAccess, GrantsAreGiven, GrantsAreRevoked, StatusesAreSet, MaintainersAreAdded, MaintainersAreRemoved, PublishesGiveFirstRights, SetsRole, OrganisationsAreCreated, RolesAreSet, MembersAreRemoved, UsersAreAdded, TokensAreAdded, EndsTokens, TokensAreEnded, AllTokensAreEnded, OthersTokensAreHidden, AddsVersion, SetsTags, SetsStatus, IsTagChange, IsApart, DestroysTeam, IsTeamMemberChange, TeamsAreCreated, NewTeamsAreEmpty, TeamsAreDestroyed, TeamMembersAreAdded, TeamMembersAreRemoved, PublishesAddVersions, PublishesSetTags, PublishesSetStatuses, SetTagsName, RemovedTagsAreGone, QueriesChangeNothing, PackagesStandApart}
+use Rattle.registry_rules.specs.Refusals.{state_refusal, unless_allowed}
 use Rattle.registry_rules.specs.Operations.{without_team, with_grant, with_status, with_tag, without_tag}
 use Rattle.registry_rules.specs.State.{State, Release, developers, tokens_of, is_in_team, has_grant, is_published, has_maintainer, stands}
 use Rattle.registry_rules.specs.declared.request.Action.{Action}
@@ -89,6 +93,14 @@ all_tokens_are_ended S now who u =
       tokens = λ digest differ. at-all_ended S u digest ∙ ap (λ b. cond b None (at S.access.tokens digest)) (others_apart S u digest differ);
       rest = refl;
     })
+
+not_theirs : (o : Option Text) (u : Text) → o ≢ Some u → is_theirs o u ≡ false
+not_theirs None u differ = refl
+not_theirs (Some w) u differ = unlike text_key w u (λ same. differ (ap (λ x. Some x) (sym same)))
+
+pub others_tokens_are_hidden : OthersTokensAreHidden
+others_tokens_are_hidden S now u digest differ =
+    ap (λ b. option_or (unless_allowed (where_found b (Ok A10))) (state_refusal S now (TokenRemove digest))) (not_theirs (at S.access.tokens digest) u differ)
 
 -- ---- organisations
 

@@ -1,11 +1,12 @@
 -- What the end of tokens leaves.
-use Rattle.std.proofs.Common.{◌≡◌, ◌≢◌, Bool, true, false, cond, ◌&&◌, ◌||◌, List, [], ◌∷◌, is_some, Option, Some, None, refl, sym, ap, ◌∙◌}
+use Rattle.std.proofs.Common.{◌≡◌, ◌≢◌, Bool, true, false, cond, ◌&&◌, ◌||◌, List, [], ◌∷◌, is_some, Option, Some, None, refl, sym, ap, ◌∙◌, true≢false}
 use Rattle.std.proofs.lemmas.Bool.{and_parts, and_from}
 use Rattle.registry_names.specs.Maps.{TextMap, among, at, entries, erase}
 use Rattle.registry_names.specs.Texts.{Text, is}
 use Rattle.registry_names.proofs.EntryFacts.{IsFoundIn, entries_rise, rows_found}
 use Rattle.registry_names.proofs.KeyFacts.{text_key, same_true, same_self}
 use Rattle.registry_names.proofs.MapFacts.{at-entries, at-erase}
+use Rattle.registry_access.specs.Policy.{is_theirs}
 use Rattle.registry_rules.specs.Changes.{all_made}
 use Rattle.registry_rules.specs.Effects.{ending}
 use Rattle.registry_rules.specs.Operations.{without_token}
@@ -79,6 +80,21 @@ module _ (S : State) (u : Text) where
       by_test : (b : Bool) → among is (tokens_of S u) d ≡ b → among is (tokens_of S u) d ≡ false
       by_test true e = absurd (differ (theirs_among d e))
       by_test false e = e
+
+  -- it is one of them where it is there, and theirs
+  pub among_is : (d : Text) → among is (tokens_of S u) d ≡ is_theirs (at S.access.tokens d) u
+  among_is d = by_user (at S.access.tokens d) refl
+    where
+      by_name : (w : Text) (b : Bool) → is w u ≡ b → at S.access.tokens d ≡ Some w → among is (tokens_of S u) d ≡ b
+      by_name w true same e = among_theirs d (e ∙ ap (λ x. Some x) (same_true text_key w u same))
+      by_name w false differ e = others_apart d (λ theirs.
+          let both : ◌≡◌ {A = Option Text} (Some w) (Some u) = sym e ∙ theirs in
+          let one : w ≡ u = cc in
+          true≢false (sym (same_self text_key u) ∙ ap (λ x. is x u) (sym one) ∙ differ))
+
+      by_user : (o : Option Text) → at S.access.tokens d ≡ o → among is (tokens_of S u) d ≡ is_theirs o u
+      by_user None e = others_apart d (λ theirs. let both : ◌≡◌ {A = Option Text} None (Some u) = sym e ∙ theirs in cc)
+      by_user (Some w) e = by_name w (is w u) refl e
 
   pub at-all_ended : (d : Text) → at (ended_all S.access.tokens (tokens_of S u)) d ≡ cond (among is (tokens_of S u) d) None (at S.access.tokens d)
   at-all_ended d = at-ended S.access.tokens (tokens_of S u) d

@@ -6,6 +6,7 @@ use Rattle.registry_names.specs.Greatest.{greatest}
 use Rattle.registry_names.specs.Tags.{latest}
 use Rattle.registry_names.specs.Texts.{Text}
 use Rattle.registry_names.specs.Versions.{VersionParts, text_of_version}
+use Rattle.registry_names.specs.declared.refusal.Refusal.TheVariants.{NotFound}
 use Rattle.registry_names.specs.declared.status.Status.{Status}
 use Rattle.registry_names.specs.declared.status.Status.TheVariants.{Public, Restricted}
 use Rattle.registry_names.specs.Names.{scope_of}
@@ -21,6 +22,7 @@ use Rattle.registry_rules.specs.Actions.{is_command, version_of, names_package, 
 use Rattle.registry_rules.specs.Callers.{caller_of}
 use Rattle.registry_rules.specs.Effects.{step_by}
 use Rattle.registry_rules.specs.Kept.{IsSound}
+use Rattle.registry_rules.specs.Refusals.{refusal_by}
 use Rattle.registry_rules.specs.State.{State, Release, developers, has_other_owner, has_other_maintainer}
 use Rattle.registry_rules.specs.Withdrawals.{is_depended, live_versions, needs_in, others, selects}
 use Rattle.registry_ranges.specs.Comparators.{Allows}
@@ -70,6 +72,10 @@ TokensAreEnded = (S : State) (now : ℕ) (who : Caller) (digest : Text) → Ends
 
 abbrev pub AllTokensAreEnded : Type 0
 AllTokensAreEnded = (S : State) (now : ℕ) (who : Caller) (u : Text) → EndsTokens S (step_by S now who (TokensRemove u)) u
+
+-- a user who asks to end a token that isn't theirs is answered the same whether it is there or not
+abbrev pub OthersTokensAreHidden : Type 0
+OthersTokensAreHidden = (S : State) (now : ℕ) (u digest : Text) → at S.access.tokens digest ≢ Some u → refusal_by S now (User u) (TokenRemove digest) ≡ Some NotFound
 
 -- ---- organisations
 

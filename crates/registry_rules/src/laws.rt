@@ -3,7 +3,7 @@
 
 ghost use Rattle.std.specs.Prelude.{◌≡◌, None};
 ghost use Rattle.registry_rules.specs.Kept.{IsKept};
-ghost use Rattle.registry_rules.specs.Laws.{GrantsAreGiven, GrantsAreRevoked, MaintainersAreAdded, MaintainersAreRemoved, OtherMaintainersAreMaintainers, PublishesGiveFirstRights, StatusesAreSet, NewTeamsAreEmpty, TeamMembersAreAdded, TeamMembersAreRemoved, TeamsAreCreated, TeamsAreDestroyed, MembersAreRemoved, NeededHaveDependents, OrganisationsAreCreated, OtherOwnersAreOwners, RolesAreSet, PackagesStandApart, PublishesAddVersions, PublishesSetStatuses, PublishesSetTags, QueriesChangeNothing, RemovedTagsAreGone, SetTagsName, AllTokensAreEnded, TokensAreAdded, TokensAreEnded, UsersAreAdded, WithdrawalsSpend, WithdrawalsFreeTags, DeprecationsMark};
+ghost use Rattle.registry_rules.specs.Laws.{GrantsAreGiven, GrantsAreRevoked, MaintainersAreAdded, MaintainersAreRemoved, OtherMaintainersAreMaintainers, PublishesGiveFirstRights, StatusesAreSet, NewTeamsAreEmpty, TeamMembersAreAdded, TeamMembersAreRemoved, TeamsAreCreated, TeamsAreDestroyed, MembersAreRemoved, NeededHaveDependents, OrganisationsAreCreated, OtherOwnersAreOwners, OthersTokensAreHidden, RolesAreSet, PackagesStandApart, PublishesAddVersions, PublishesSetStatuses, PublishesSetTags, QueriesChangeNothing, RemovedTagsAreGone, SetTagsName, AllTokensAreEnded, TokensAreAdded, TokensAreEnded, UsersAreAdded, WithdrawalsSpend, WithdrawalsFreeTags, DeprecationsMark};
 ghost use Rattle.registry_rules.specs.Refusals.{refusal};
 ghost use Rattle.registry_rules.specs.Requests.{ArePartsInForm, IsActionInForm, IsAskedInForm, IsInForm};
 ghost use Rattle.registry_rules.specs.State.{State, nothing};
@@ -20,10 +20,12 @@ pub fn added_users_and_tokens_are_there()
 {}
 
 /// A token that ends names nobody, and neither does any token of a user whose tokens end. Each other
-/// token is whose it was, and nothing else changes.
+/// token is whose it was, and nothing else changes. A user who asks to end a token that isn't theirs
+/// is answered the same whether it is there or not.
 pub fn ended_tokens_name_nobody()
     ensures one { TokensAreEnded }
     ensures all { AllTokensAreEnded }
+    ensures others { OthersTokensAreHidden }
 {}
 
 /// An organisation that is created has an owner and the team `developers` with them in it. A user

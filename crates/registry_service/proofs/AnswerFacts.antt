@@ -6,7 +6,7 @@ use Rattle.registry_names.specs.Refusals.{refusal_status, refusal_text, denied_t
 use Rattle.registry_names.specs.declared.refusal.Refusal.{Refusal}
 use Rattle.registry_names.specs.declared.refusal.Refusal.TheVariants.{BadName, BadVersion, RangeTag, BadTag, BadBody, BadIntegrity, TooLarge, NoCaller, NotFound, Published, Spent, TooLate, Depended, KeepsLatest, BadSelector, LastOwner, KeepsDevelopers, Exists, OtherScope, AlwaysPublic, Waiting, Denied}
 use Rattle.registry_names.specs.declared.refusal.Rule.{Rule}
-use Rattle.registry_names.specs.declared.refusal.Rule.TheVariants.{A1, A2, A3, A4, A5, A6, A7, A8, A9}
+use Rattle.registry_names.specs.declared.refusal.Rule.TheVariants.{A1, A2, A3, A4, A5, A6, A7, A8, A9, A10}
 use Rattle.registry_names.specs.declared.stop.Fault.{Fault}
 use Rattle.registry_names.specs.declared.stop.Fault.TheVariants.{Memory, Database}
 
@@ -44,6 +44,7 @@ rule-short A6 = lit≤ tt
 rule-short A7 = lit≤ tt
 rule-short A8 = lit≤ tt
 rule-short A9 = lit≤ tt
+rule-short A10 = lit≤ tt
 
 pub refusal-short : (r : Refusal) → length (refusal_text r) ≤ 100
 refusal-short BadName = lit≤ tt

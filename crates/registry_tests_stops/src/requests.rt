@@ -1,13 +1,17 @@
 //! The requests that are asked, one a line.
 
-/// The commands: three users, a token and an organisation; four versions, of which two have the same
-/// archive and two are withdrawn; one more, which is withdrawn and never published again; a team
-/// that has a member and a grant when it is destroyed; and a deprecation.
+/// The commands: three users, three tokens, of which two end, and an organisation; four versions, of
+/// which two have the same archive and two are withdrawn; one more, which is withdrawn and never
+/// published again; a team that has a member and a grant when it is destroyed; and a deprecation.
 pub(crate) const COMMANDS: &str = r#"
 --at 0 --operator user-add ann
 --at 0 --operator user-add bob
 --at 0 --operator user-add eve
 --at 0 --operator token-add bob npm_bob_000000001
+--at 0 --operator token-add eve npm_eve_000000001
+--at 0 --operator token-add eve npm_eve_000000002
+--at 0 --as eve token-rm npm_eve_000000002
+--at 0 --operator tokens-rm eve
 --at 0 --operator org-create lab ann
 --at 0 --as ann org-set lab bob developer
 --at 100 --as bob publish @lab/kit 1.10.0 YWJj latest {"base":"^1.0.0","@lab/base":"1.x"}

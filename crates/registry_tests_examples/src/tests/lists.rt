@@ -41,6 +41,7 @@ members lab
 teams lab
 user-add bob
 token-add bob npm_any_000000001
+token-rm npm_any_000000001
 org-create lab bob
 org-set lab bob owner
 org-set lab bob admin
@@ -48,6 +49,7 @@ org-set lab bob developer
 org-rm lab bob
 user-add eve
 token-add eve npm_any_000000001
+tokens-rm eve
 org-create lab eve
 org-set lab eve owner
 org-set lab eve admin
@@ -155,6 +157,18 @@ token npm_bob_000000001 --at 200 user-add fay
 = refused Denied A1
 --at 200 --operator token-add eve npm_eve_000000001
 = done
+token npm_eve_000000001 --at 200 token-rm npm_bob_000000001
+= refused NotFound
+token npm_eve_000000001 --at 200 token-rm npm_eve_000000001
+= done
+token npm_eve_000000001 --at 200 token-rm npm_eve_000000001
+= refused NoCaller
+token npm_bob_000000001 --at 200 tokens-rm bob
+= refused Denied A1
+--at 200 --operator tokens-rm bob
+= count 1
+token npm_bob_000000001 --at 200 tags @lab/kit
+= refused NoCaller
 token npm_zed_000000001 --at 200 tags @lab/kit
 = refused NoCaller
 --at 200 --operator org-create pad eve

@@ -6,3 +6,6 @@ returns-clause-one c = facts.tokens_are_ended
 
 pub returns-clause-all : goal.returns-clause-all
 returns-clause-all c = facts.all_tokens_are_ended
+
+pub returns-clause-others : goal.returns-clause-others
+returns-clause-others c = facts.others_tokens_are_hidden
