@@ -50,7 +50,7 @@ pub ended_was : (m : TextMap Text) (ds : List Text) (d : Text) → is_some (at (
 ended_was m ds d e = by_test (among is ds d) (sym (ap is_some (at-ended m ds d)) ∙ e)
   where
     by_test : (b : Bool) → is_some (cond b None (at m d)) ≡ true → is_some (at m d) ≡ true
-    by_test true h = cc
+    by_test true h = absurd (true≢false (sym h))
     by_test false h = h
 
 -- ---- the tokens of a user

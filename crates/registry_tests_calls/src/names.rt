@@ -68,7 +68,7 @@ fn moments(rt: HostRuntime) {
 }
 
 // Refusals and faults, how each is printed, and the status of its answer.
-static PRINTED: [(Stop, &str, u16); 26] = [
+static PRINTED: [(Stop, &str, u16); 27] = [
     (Stop::Refused(Refusal::BadName), "BadName", 400),
     (Stop::Refused(Refusal::BadVersion), "BadVersion", 400),
     (Stop::Refused(Refusal::RangeTag), "RangeTag", 400),
@@ -82,6 +82,7 @@ static PRINTED: [(Stop, &str, u16); 26] = [
     (Stop::Refused(Refusal::Denied(Rule::A1)), "Denied A1", 403),
     (Stop::Refused(Refusal::Denied(Rule::A6)), "Denied A6", 403),
     (Stop::Refused(Refusal::Denied(Rule::A9)), "Denied A9", 403),
+    (Stop::Refused(Refusal::Denied(Rule::A10)), "Denied A10", 403),
     (Stop::Refused(Refusal::Published), "Published", 409),
     (Stop::Refused(Refusal::Spent), "Spent", 409),
     (Stop::Refused(Refusal::TooLate), "TooLate", 409),

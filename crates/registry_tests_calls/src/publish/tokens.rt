@@ -14,3 +14,12 @@ fn the_digest_of_a_token(rt: HostRuntime) {
     let digest = TokenDigest::of(token).expect(&rt, "a token");
     same(&rt, token, digest.as_slice(), DIGEST.as_slice());
 }
+
+#[test]
+fn the_digest_of_bytes(rt: HostRuntime) {
+    let token = b"npm_bob_000000001";
+    let digest = TokenDigest::of_bytes(token).expect(&rt, "a token");
+    same(&rt, "its bytes", digest.as_slice(), DIGEST.as_slice());
+    let none = TokenDigest::of_bytes(b"npm_bob_000000001\xff").is_none();
+    same(&rt, "bytes of no text", none, true);
+}
