@@ -9,9 +9,9 @@
 # both must print the same, byte for byte, and end alike. Then it is tried what a killed server leaves,
 # two servers, a folder that others may enter, a path too long for a socket, a server that is just
 # starting, one that is halted, clients that stop in the middle, more clients at once than there are
-# slots, and a server that is killed while it answers. Last come tokens that are made beside a server,
-# copies and checks while versions are published, commands that are killed or halted while they hold
-# the server, and stops. Each try prints a line, and the last line is `N passed, 0 failed`, with status
+# slots, and a server that is killed while it answers. Last come tokens that are made and end beside a
+# server, copies and checks while versions are published, commands that are killed or halted while they
+# hold the server, and stops. Each try prints a line, and the last line is `N passed, 0 failed`, with status
 # 0, or the status is 1. It takes four minutes, and needs curl and python3.
 set -eu
 
@@ -113,6 +113,18 @@ cat > "$work/commands" <<'END'
 --at 100 --operator user-add Ann
 --at 100 --operator token-add bob npm_bob_000000001
 --at 100 --operator token-add bob short
+--at 100 --operator token-add bob npm_bob_000000002
+--at 100 --operator token-add bob npm_bob_000000003
+--at 100 --as ann token-rm npm_bob_000000002
+--at 100 --as bob token-rm npm_bob_000000002
+--at 100 --as bob token-rm npm_bob_000000002
+--at 100 --operator token-rm npm_bob_000000002
+--at 100 token-rm npm_bob_000000003
+--at 100 --as bob token-rm -
+--at 100 --as bob tokens-rm bob
+--at 100 --operator tokens-rm eve
+--at 100 --operator tokens-rm bob
+--at 100 --operator tokens-rm bob
 --at 100 --operator org-create lab ann
 --at 100 --as ann org-set lab bob developer
 --at 100 --as eve members lab
@@ -516,6 +528,65 @@ makes_a_token() {
     [ "$(cat "$work/one.out")" != "$(cat "$work/two.out")" ]
 }
 try 'token-new beside a server prints a token that the server takes' makes_a_token
+
+# ---- tokens that end
+
+cat > "$work/ends.py" <<'END'
+import http.client, subprocess, sys
+program, db, port, token = sys.argv[1:]
+connection = http.client.HTTPConnection('127.0.0.1', int(port), timeout=10)
+
+def status():
+    connection.request('GET', '/kit', headers={'authorization': f'Bearer {token}'})
+    answer = connection.getresponse()
+    answer.read()
+    print(answer.status)
+
+def command(*words, given=''):
+    came = subprocess.run([program, '--db', db, '--operator', *words], input=given.encode(), capture_output=True)
+    print(came.stdout.decode() + came.stderr.decode(), end='')
+
+command('token-add', 'cat', token)
+status()
+first = connection.sock
+command('token-rm', '-', given=f'{token}\n')
+status()
+command('token-add', 'cat', token)
+status()
+command('token-add', 'cat', token[::-1])
+command('tokens-rm', 'cat')
+status()
+command('token-add', 'cat', token)
+command('token-rm', token)
+status()
+print('the same connection' if first is not None and connection.sock is first else 'another connection')
+END
+cat > "$work/ends" <<'END'
+{"ok":true}
+404
+{"ok":true}
+401
+{"ok":true}
+404
+{"ok":true}
+{"count":2,"ok":true}
+401
+{"ok":true}
+{"ok":true}
+401
+the same connection
+END
+ends_tokens() {
+    run one "$db" --operator user-add cat
+    is_done one || return 1
+    python3 "$work/ends.py" "$program" "$db" "$(port)" npm_cat_000000001 > "$work/ended" 2>> "$work/said" || return 1
+    cat "$work/ended" >> "$work/said"
+    cmp "$work/ended" "$work/ends" >> "$work/said" || return 1
+    stop
+    serve "$db" || return 1
+    [ "$(status_of npm_cat_000000001 kit)" = 401 ]
+}
+try 'a token that ends beside a server names nobody, on the same connection and after a kill' ends_tokens
 
 # ---- copies and checks
 

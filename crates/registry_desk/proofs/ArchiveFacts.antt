@@ -15,7 +15,7 @@ use Rattle.registry_names.proofs.NameFacts.{and_left, and_right}
 use Rattle.registry_names.proofs.TextFacts.{is_same, is_true}
 use Rattle.registry_cache.specs.Caches.{Cache, kept}
 use Rattle.registry_rules.specs.Actions.{is_command, version_of}
-use Rattle.registry_rules.specs.Changes.{Change, AddUser, AddToken, AddOrg, PutMember, DropMember, AddTeam, PutTeamMember, DropTeamMember, DropTeam, PutGrant, DropGrant, PutOwner, DropOwner, PutStatus, AddVersion, RetireVersion, PutDeprecation, PutTag, DropTag, all_made, made, release_of}
+use Rattle.registry_rules.specs.Changes.{Change, AddUser, AddToken, DropToken, AddOrg, PutMember, DropMember, AddTeam, PutTeamMember, DropTeamMember, DropTeam, PutGrant, DropGrant, PutOwner, DropOwner, PutStatus, AddVersion, RetireVersion, PutDeprecation, PutTag, DropTag, all_made, made, release_of}
 use Rattle.registry_rules.specs.Operations.{moved, regranted, restated, with_grant, with_member, with_role, with_status, with_tag}
 use Rattle.registry_rules.specs.State.{Release, State}
 use Rattle.registry_rules.specs.declared.reply.Reply.{Reply}
@@ -91,6 +91,7 @@ marked false message (Some r) = refl
 made_archive : (S : State) (change : Change) (p v : Text) → moves change (archive_key p v) ≡ false → archive_in (made S change) p v ≡ archive_in S p v
 made_archive S (AddUser u) p v e = refl
 made_archive S (AddToken digest u) p v e = refl
+made_archive S (DropToken digest) p v e = refl
 made_archive S (AddOrg o) p v e = refl
 made_archive S (PutMember o u role stands) p v e =
     either_archive stands S (with_role S o u role) (with_member S o u role) p v (either_archive (is_some (at S.access.roles (o, u))) S (with_member S o u role) S p v refl refl) refl

@@ -55,6 +55,7 @@ whoever_needs_it now None depended why e = e
 whoever_needs_it now (Some at) depended why e = late_or_depended (is_too_old now at) depended why e
 
 pub early_refusals_stand : EarlyRefusalsStand
+early_refusals_stand S now who (asked.TokensRemove u) why e = first_stays _ (state_refusal S now (asked.TokensRemove u)) why e
 early_refusals_stand S now who (asked.OrgSet o u role) why e = first_stays _ (state_refusal S now (asked.OrgSet o u role)) why e
 early_refusals_stand S now who (asked.OrgRemove o u) why e = first_stays _ (state_refusal S now (asked.OrgRemove o u)) why e
 early_refusals_stand S now who (asked.OwnerRemove p u) why e = first_stays _ (state_refusal S now (asked.OwnerRemove p u)) why e

@@ -19,9 +19,9 @@ use Rattle.registry_publish.specs.Form.{FormParts}
 use Rattle.registry_rules.specs.Actions.{version_of}
 use Rattle.registry_rules.specs.Callers.{caller_of}
 use Rattle.registry_rules.specs.Changes.{Change, AddVersion, DropGrant, DropTag, DropTeam, PutGrant, PutTag}
-use Rattle.registry_rules.specs.Effects.{deprecation, effects, effects_for, first_right, freed, joining, maintaining, membership, put_status, right_to, withdrawal}
+use Rattle.registry_rules.specs.Effects.{deprecation, effects, effects_for, ending, first_right, freed, joining, maintaining, membership, put_status, right_to, withdrawal}
 use Rattle.registry_rules.specs.Refusals.{refusal, refusal_by, refusal_for}
-use Rattle.registry_rules.specs.State.{State, has_maintainer, has_team, is_in_team, is_published}
+use Rattle.registry_rules.specs.State.{State, has_maintainer, has_team, is_in_team, is_published, tokens_of}
 use Rattle.registry_rules.specs.Withdrawals.{live_versions, others, published_at, selected, tags_of}
 use Rattle.registry_rules.specs.declared.request.Action.{Action}
 use Rattle.registry_rules.specs.declared.request.Action.TheVariants as command
@@ -137,6 +137,10 @@ deprecation_in_scope : (p message : Text) (vs : List Text) → AreInScope (depre
 deprecation_in_scope p message [] = tt
 deprecation_in_scope p message (v ∷ vs) = (tt, deprecation_in_scope p message vs)
 
+ending_in_scope : (digests : List Text) → AreInScope (ending digests)
+ending_in_scope [] = tt
+ending_in_scope (digest ∷ digests) = (tt, ending_in_scope digests)
+
 effects_in_scope : (S : State) (now : ℕ) (who : Caller) (what : Action) → refusal_by S now who what ≡ None → AreInScope (effects S now who what)
 effects_in_scope S now who (command.Grant o t p grant) may = ((may_grant (has_team S o t) (is_published S p) o p (state_passed S now who (command.Grant o t p grant) may)).2, tt)
 effects_in_scope S now who (Publish f) may = publication_in_scope who f now _ _ _ _
@@ -147,6 +151,8 @@ effects_in_scope S now who (Withdraw p v) may = withdrawal_in_scope now p (text_
 effects_in_scope S now who (Deprecate p selector message) may = deprecation_in_scope p message (selected (live_versions S p) selector)
 effects_in_scope S now who (command.UserAdd u) may = (tt, tt)
 effects_in_scope S now who (command.TokenAdd u digest) may = (tt, tt)
+effects_in_scope S now who (command.TokenRemove digest) may = (tt, tt)
+effects_in_scope S now who (command.TokensRemove u) may = ending_in_scope (tokens_of S u)
 effects_in_scope S now who (command.OrgCreate o u) may = (tt, (tt, (tt, (tt, tt))))
 effects_in_scope S now who (command.OrgRemove o u) may = (tt, tt)
 effects_in_scope S now who (command.TeamCreate o t) may = (tt, tt)

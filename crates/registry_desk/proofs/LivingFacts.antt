@@ -7,7 +7,7 @@ use Rattle.registry_names.proofs.KeyFacts.{text_key, pair_key}
 use Rattle.registry_names.proofs.MapFacts.{at-revise}
 use Rattle.registry_names.proofs.PartFacts.{part-put, part-erase, same_part}
 use Rattle.registry_rules.specs.Actions.{version_of}
-use Rattle.registry_rules.specs.Changes.{Change, AddUser, AddToken, AddOrg, PutMember, DropMember, AddTeam, PutTeamMember, DropTeamMember, DropTeam, PutGrant, DropGrant, PutOwner, DropOwner, PutStatus, AddVersion, RetireVersion, PutDeprecation, PutTag, DropTag, made, all_made, release_of}
+use Rattle.registry_rules.specs.Changes.{Change, AddUser, AddToken, DropToken, AddOrg, PutMember, DropMember, AddTeam, PutTeamMember, DropTeamMember, DropTeam, PutGrant, DropGrant, PutOwner, DropOwner, PutStatus, AddVersion, RetireVersion, PutDeprecation, PutTag, DropTag, made, all_made, release_of}
 use Rattle.registry_rules.specs.Operations.{with_member, with_role, with_grant, regranted, with_status, restated, with_tag, moved}
 use Rattle.registry_rules.specs.State.{State, Release, has_live, is_empty}
 use Rattle.registry_laws_history.specs.Answers.{packument_in}
@@ -41,6 +41,7 @@ unmarked false mark (Some r) e = refl
 same_live : (S : State) (change : Change) (p : Text) → is_about change p ≡ false → of (made S change).live p ≡ of S.live p
 same_live S (AddUser u) p e = refl
 same_live S (AddToken digest u) p e = refl
+same_live S (DropToken digest) p e = refl
 same_live S (AddOrg o) p e = refl
 same_live S (PutMember o u role stands) p e = either stands S (with_role S o u role) (with_member S o u role) p (either (is_some (at S.access.roles (o, u))) S (with_member S o u role) S p refl refl) refl
 same_live S (DropMember o u) p e = refl

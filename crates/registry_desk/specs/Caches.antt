@@ -8,7 +8,7 @@ use Rattle.registry_names.specs.Texts.{Text, is}
 use Rattle.registry_names.specs.Versions.{VersionParts, text_of_version}
 use Rattle.registry_cache.specs.Caches.{Cache, AreRight, asked, kept, kept_where, with_room, with_text}
 use Rattle.registry_rules.specs.Actions.{version_of}
-use Rattle.registry_rules.specs.Changes.{Change, AddUser, AddToken, AddOrg, PutMember, DropMember, AddTeam, PutTeamMember, DropTeamMember, DropTeam, PutGrant, DropGrant, PutOwner, DropOwner, PutStatus, AddVersion, RetireVersion, PutDeprecation, PutTag, DropTag}
+use Rattle.registry_rules.specs.Changes.{Change, AddUser, AddToken, DropToken, AddOrg, PutMember, DropMember, AddTeam, PutTeamMember, DropTeamMember, DropTeam, PutGrant, DropGrant, PutOwner, DropOwner, PutStatus, AddVersion, RetireVersion, PutDeprecation, PutTag, DropTag}
 use Rattle.registry_rules.specs.State.{State, has_live}
 use Rattle.registry_rules.specs.declared.reply.Reply.{Reply}
 use Rattle.registry_rules.specs.declared.reply.Reply.TheVariants.{Bytes, Doc}
@@ -87,6 +87,7 @@ without_changed = without_touched is_about
 abbrev pub moves : Change → Text → Bool
 moves (AddUser u) key = false
 moves (AddToken digest u) key = false
+moves (DropToken digest) key = false
 moves (AddOrg o) key = false
 moves (PutMember o u role stands) key = false
 moves (DropMember o u) key = false

@@ -1,6 +1,6 @@
 -- What is refused before all that decides it is loaded. What is costly to load is the needs of all
 -- packages, and lists: the versions of a package, those that were withdrawn, its maintainers, the
--- members of an organisation
+-- members of an organisation, the tokens of a user
 use Rattle.std.specs.Prelude.{◌≡◌, ℕ, false, Option, Some, None, Result, Ok, Err}
 use Rattle.std.specs.Option.{option_or}
 use Rattle.registry_names.specs.Texts.{Text}
@@ -23,7 +23,7 @@ use Rattle.registry_rules.specs.Refusals.{refusal_by, unless_allowed, withdraw_r
 use Rattle.registry_rules.specs.State.{State}
 use Rattle.registry_rules.specs.Withdrawals.{published_at}
 use Rattle.registry_rules.specs.declared.request.Action.{Action}
-use Rattle.registry_rules.specs.declared.request.Action.TheVariants.{OrgSet, OrgRemove, OwnerRemove, Publish, Withdraw, Deprecate}
+use Rattle.registry_rules.specs.declared.request.Action.TheVariants.{TokensRemove, OrgSet, OrgRemove, OwnerRemove, Publish, Withdraw, Deprecate}
 use Rattle.registry_desk.specs.declared.policy.Found.{Found}
 use Rattle.registry_desk.specs.declared.policy.Found.TheVariants as found
 
@@ -35,6 +35,7 @@ denial A who what = unless_allowed (permission A who what)
 -- each that needs something costly; of a withdrawal then whether the version lives, and whether it
 -- is too old, whoever needs it
 abbrev pub early_refusal : State → ℕ → Caller → Action → Option Refusal
+early_refusal S now who (TokensRemove u) = denial S.access who (TokensRemove u)
 early_refusal S now who (OrgSet o u role) = denial S.access who (OrgSet o u role)
 early_refusal S now who (OrgRemove o u) = denial S.access who (OrgRemove o u)
 early_refusal S now who (OwnerRemove p u) = denial S.access who (OwnerRemove p u)

@@ -13,10 +13,10 @@ use Rattle.registry_packument.specs.declared.times.PackTimes.{PackTimes}
 use Rattle.registry_publish.specs.Form.{FormParts}
 use Rattle.registry_rules.specs.Actions.{is_command, version_of}
 use Rattle.registry_rules.specs.Callers.{caller_of}
-use Rattle.registry_rules.specs.State.{State, Release, has_grant, has_live, has_maintainer, has_other_maintainer, has_other_owner, has_team, has_user, is_in_team, is_live, is_member, is_published, is_spent, stands}
+use Rattle.registry_rules.specs.State.{State, Release, has_grant, has_live, has_maintainer, has_other_maintainer, has_other_owner, has_team, has_user, is_in_team, is_live, is_member, is_published, is_spent, stands, tokens_of}
 use Rattle.registry_rules.specs.Withdrawals.{is_depended, last_withdrawal, live_versions, tags_of}
 use Rattle.registry_rules.specs.declared.request.Action.{Action}
-use Rattle.registry_rules.specs.declared.request.Action.TheVariants.{Deprecate, VersionDoc, Archive, Tags, Members, Teams, TeamMembers, TeamPackages, Withdraw}
+use Rattle.registry_rules.specs.declared.request.Action.TheVariants.{TokensRemove, Deprecate, VersionDoc, Archive, Tags, Members, Teams, TeamMembers, TeamPackages, Withdraw}
 use Rattle.registry_rules.specs.declared.request.Request.{Request}
 use Rattle.registry_tables.specs.Contents.{Contents, registry_of}
 use Rattle.registry_tables.specs.Needs.{HoldsNeeds}
@@ -40,8 +40,9 @@ pub record AreTimesOf (times : PackTimes) (S : State) (p : Text) : Type 0 where
   pub created : created_at (of S.live p) (of S.spent p) ≡ Some times.created
   pub modified : modified_at (of S.live p) (of S.spent p) ≡ Some times.modified
 
--- The rows are those that answer the caller's action. `Nothing` answers a command, except
--- that the live versions answer a deprecation; and no rows answer a query for a packument
+-- The rows are those that answer the caller's action. `Nothing` answers a command, except that the
+-- live versions answer a deprecation, and the tokens of a user their end; and no rows answer a query
+-- for a packument
 abbrev pub AreRowsOf : Rows → State → Caller → Action → Type 0
 AreRowsOf (rows.Document found) S who (VersionDoc p asked) = option_map document_entry found ≡ option_map document (asked_release S p asked)
 AreRowsOf (rows.KnownArchive archive) S who (Archive p v) = archive ≡ archive_in S p (text_of_version v)
@@ -52,7 +53,9 @@ AreRowsOf (rows.Names names) S who (Teams o) = names.items ≡ keys (of S.access
 AreRowsOf (rows.Names names) S who (TeamMembers o t) = names.items ≡ keys (parts (pairs_of S.access.team_members o) t)
 AreRowsOf (rows.Grants granted) S who (TeamPackages o t) =
     map granted_entry granted.items ≡ filter (λ (e : Text × Grant). reads (level_in S.access who e.0)) (parts (pairs_of S.access.grants o) t)
+AreRowsOf (rows.Digests digests) S who (TokensRemove u) = digests.items ≡ tokens_of S u
 AreRowsOf (rows.Live live) S who (Deprecate p selector message) = map text_of_version live.items ≡ live_versions S p
+AreRowsOf rows.Nothing S who (TokensRemove u) = ⊥
 AreRowsOf rows.Nothing S who (Deprecate p selector message) = ⊥
 AreRowsOf rows.Nothing S who what = is_command what ≡ true
 AreRowsOf _ S who _ = ⊥

@@ -194,6 +194,7 @@ fn moved_version<'a>(change: &Change<'a>) -> Option<(&'a Name, &'a Ver)>
         | Change::DropTag { .. }
         | Change::AddUser { .. }
         | Change::AddToken { .. }
+        | Change::DropToken { .. }
         | Change::AddOrg { .. }
         | Change::PutMember { .. }
         | Change::DropMember { .. }
@@ -240,6 +241,7 @@ fn changed_package<'a>(change: &Change<'a>) -> Option<&'a Name>
         | Change::DropTag { package, .. } => Some(package),
         Change::AddUser { .. }
         | Change::AddToken { .. }
+        | Change::DropToken { .. }
         | Change::AddOrg { .. }
         | Change::PutMember { .. }
         | Change::DropMember { .. }

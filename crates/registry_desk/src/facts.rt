@@ -17,7 +17,9 @@ use crate::packages::{
     facts_about_archive, facts_about_document, facts_about_package, facts_for_publish,
     facts_for_set_access, facts_for_tag_remove, facts_for_tag_set,
 };
-use crate::people::{facts_for_token_add, facts_for_user_add};
+use crate::people::{
+    facts_for_token_add, facts_for_token_remove, facts_for_tokens_remove, facts_for_user_add,
+};
 use crate::policy::Found;
 use crate::teams::{
     facts_about_team, facts_for_team_add, facts_for_team_create, facts_for_team_destroy,
@@ -51,6 +53,10 @@ pub(crate) fn load_facts<S: Alter>(
         Action::TokenAdd { user, digest } => facts_for_token_add(alloc, tx, user, digest).map(
             Found::About,
         ),
+        Action::TokenRemove { digest } => {
+            facts_for_token_remove(alloc, tx, digest).map(Found::About)
+        }
+        Action::TokensRemove { user } => facts_for_tokens_remove(alloc, tx, caller, user),
         Action::OrgCreate {
             organisation,
             owner,

@@ -1,16 +1,20 @@
 //! What decides an action about users and their tokens.
 
-ghost use Rattle.registry_access.specs.declared.caller.Caller.{Caller};
+ghost use Rattle.std.specs.Prelude.{ℕ};
+ghost use Rattle.registry_access.specs.declared.caller.Caller.{Caller as Asker};
 ghost use Rattle.registry_rows.specs.Frames.{Stays};
 ghost use Rattle.registry_tables.specs.Contents.{registry_of};
 ghost use Rattle.registry_tables.specs.Effects.{InForm, Loads};
 ghost use Rattle.registry_rules.specs.Facts.{AboutTells};
 ghost use Rattle.registry_rules.specs.declared.request.Action.TheVariants as asked;
+ghost use Rattle.registry_desk.specs.Early.{FoundTells};
 
+use crate::policy::Found;
+use registry_access::{Caller, may_operate};
 use registry_names::{Fault, Ident};
 use registry_publish::TokenDigest;
 use registry_rules::About;
-use registry_tables::{has_user, load_token_user};
+use registry_tables::{has_user, load_token_user, load_user_tokens};
 use sqlite::{Alter, Transaction};
 use std::alloc::Global;
 
@@ -21,7 +25,7 @@ pub(crate) fn facts_for_user_add<S: Alter>(
 ) -> Result<About, Fault>
     requires in_form { InForm S.Store tx.old }
     ensures stays { Stays S.Store tx.old tx.new }
-    ensures loads { Loads S.Store tx.old tx.new result (λ about c. (who : Caller)
+    ensures loads { Loads S.Store tx.old tx.new result (λ about c. (who : Asker)
         → AboutTells about (registry_of c) who (asked.UserAdd user.now)) }
 {
     Ok(About::UserAdd {
@@ -38,11 +42,50 @@ pub(crate) fn facts_for_token_add<S: Alter>(
 ) -> Result<About, Fault>
     requires in_form { InForm S.Store tx.old }
     ensures stays { Stays S.Store tx.old tx.new }
-    ensures loads { Loads S.Store tx.old tx.new result (λ about c. (who : Caller)
+    ensures loads { Loads S.Store tx.old tx.new result (λ about c. (who : Asker)
         → AboutTells about (registry_of c) who (asked.TokenAdd user.now digest.now)) }
 {
     Ok(About::TokenAdd {
         user_exists: has_user(tx, user.text())?,
         exists: load_token_user(alloc, tx, digest)?.is_some(),
     })
+}
+
+/// Of a token that is to end.
+pub(crate) fn facts_for_token_remove<S: Alter>(
+    alloc: Global,
+    tx: &mut Transaction<'_, S>,
+    digest: &TokenDigest,
+) -> Result<About, Fault>
+    requires in_form { InForm S.Store tx.old }
+    ensures stays { Stays S.Store tx.old tx.new }
+    ensures loads { Loads S.Store tx.old tx.new result (λ about c. (who : Asker)
+        → AboutTells about (registry_of c) who (asked.TokenRemove digest.now)) }
+{
+    Ok(About::TokenRemove {
+        user: load_token_user(alloc, tx, digest)?,
+    })
+}
+
+/// Of a user whose tokens are to end, by a caller whom the policy allows it.
+pub(crate) fn facts_for_tokens_remove<S: Alter>(
+    alloc: Global,
+    tx: &mut Transaction<'_, S>,
+    caller: &Caller,
+    user: &Ident,
+) -> Result<Found, Fault>
+    requires in_form { InForm S.Store tx.old }
+    ensures stays { Stays S.Store tx.old tx.new }
+    ensures loads { Loads S.Store tx.old tx.new result (λ found c. (at : ℕ)
+        → FoundTells found (registry_of c) at caller.now (asked.TokensRemove user.now)) }
+{
+    let user_exists = has_user(tx, user.text())?;
+    if let Err(refusal) = may_operate(caller) {
+        return Ok(Found::Refused(refusal));
+    }
+    let digests = load_user_tokens(alloc, tx, user)?;
+    Ok(Found::About(About::TokensRemove {
+        user_exists,
+        digests,
+    }))
 }

@@ -37,6 +37,7 @@ pub(crate) fn reply_from_rows(alloc: Global, what: &Action, rows: Rows) -> Resul
         Action::Publish { .. } => Ok(Reply::Created),
         Action::UserAdd { .. }
         | Action::TokenAdd { .. }
+        | Action::TokenRemove { .. }
         | Action::OrgCreate { .. }
         | Action::OrgSet { .. }
         | Action::OrgRemove { .. }
@@ -52,18 +53,23 @@ pub(crate) fn reply_from_rows(alloc: Global, what: &Action, rows: Rows) -> Resul
         | Action::TagSet { .. }
         | Action::TagRemove { .. }
         | Action::Withdraw { .. } => Ok(Reply::Done),
-        Action::Deprecate { .. } | Action::Archive { .. } => reply_of(alloc, what, rows),
+        Action::TokensRemove { .. } | Action::Deprecate { .. } | Action::Archive { .. } => {
+            reply_of(alloc, what, rows)
+        }
         _ => doc(text_of(alloc, what, rows)?),
     }
 }
 
-// The reply to a deprecation, and to a query for an archive.
+// The reply to the end of a user's tokens, to a deprecation, and to a query for an archive.
 fn reply_of(alloc: Global, what: &Action, rows: Rows) -> Result<Reply, Fault>
     ensures is { IfOk result (λ told. (S : State) (who : Caller) → AreRowsOf rows S who what.now
         → told ≡ answers.reply S who what.now) }
     ensures accepts { IfOk result (λ told. accepts (Ok told) ≡ true) }
 {
     match (what, rows) {
+        (Action::TokensRemove { .. }, Rows::Digests(digests)) => {
+            Ok(Reply::Count(digests.len() as u64))
+        }
         (Action::Deprecate { selector, .. }, Rows::Live(live)) => {
             Ok(Reply::Count(count(selector, &live)))
         }

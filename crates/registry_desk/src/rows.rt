@@ -24,10 +24,12 @@ use registry_access::Caller;
 use registry_cache::{BlobCache, Shared, SharedBlob, SharedText, TextCache};
 use registry_names::{Blob, DistTag, Fault, Ident, LATEST, Name, Text, Ver};
 use registry_packument::{Granted, Member, PackTimes, VersionTime};
+use registry_publish::TokenDigest;
 use registry_rules::{Action, Asked};
 use registry_tables::{
     DocumentRow, load_archive, load_document, load_last_withdrawal, load_live, load_members,
     load_spent_publications, load_tag, load_tags, load_team_packages, load_team_users, load_teams,
+    load_user_tokens,
 };
 use sqlite::{Alter, Transaction};
 use std::alloc::Global;
@@ -37,6 +39,8 @@ use std::alloc::Global;
 pub(crate) enum Rows {
     /// Of a command that needs none.
     Nothing,
+    /// Of the end of a user's tokens: their digests, in byte order.
+    Digests(Vec<TokenDigest>),
     /// Of a deprecation: the live versions, in byte order of their texts.
     Live(Vec<Ver>),
     /// The manifest and the message of a version, if that lives.
@@ -72,6 +76,7 @@ pub(crate) fn rows_for<S: Alter>(
     match what {
         Action::UserAdd { .. }
         | Action::TokenAdd { .. }
+        | Action::TokenRemove { .. }
         | Action::OrgCreate { .. }
         | Action::OrgSet { .. }
         | Action::OrgRemove { .. }
@@ -88,6 +93,7 @@ pub(crate) fn rows_for<S: Alter>(
         | Action::TagSet { .. }
         | Action::TagRemove { .. }
         | Action::Withdraw { .. } => Ok(Rows::Nothing),
+        Action::TokensRemove { user } => token_rows(alloc, tx, user),
         Action::Deprecate { package, .. } => live_rows(alloc, tx, package),
         // Such a query doesn't come here: `queried` and `sent` answer it.
         Action::Packument { .. } => unreachable!(),
@@ -105,6 +111,20 @@ pub(crate) fn rows_for<S: Alter>(
             grant_rows(alloc, tx, caller, organisation, team)
         }
     }
+}
+
+fn token_rows<S: Alter>(
+    alloc: Global,
+    tx: &mut Transaction<'_, S>,
+    user: &Ident,
+) -> Result<Rows, Fault>
+    requires in_form { InForm S.Store tx.old }
+    ensures stays { Stays S.Store tx.old tx.new }
+    ensures loads { Loads S.Store tx.old tx.new result
+        (λ rows c. (who : Caller)
+        → AreRowsOf rows (registry_of c) who (asked.TokensRemove user.now)) }
+{
+    Ok(Rows::Digests(load_user_tokens(alloc, tx, user)?))
 }
 
 fn live_rows<S: Alter>(

@@ -1,9 +1,9 @@
 //! Guests of a server: commands of the machine that reach the registry beside it.
 //!
 //! A guest sends one message and gets one answer. A message is the arguments of a command line, as
-//! they are, and the bytes of the file that they name. It is read as exactly what was sent; its
-//! turn asks the service at most once; and the answer is what the program prints where it has the
-//! registry itself.
+//! they are, and the bytes of the file that they name or of the input that they read. It is read as
+//! exactly what was sent; its turn asks the service at most once; and the answer is what the program
+//! prints where it has the registry itself.
 //!
 //! Whoever may be a guest may also hold the server, so that the file and its log can be copied as
 //! they lie, or stop it. Neither asks the service anything.

@@ -13,7 +13,8 @@ use std::alloc::Global;
 pub struct CommandMessage<'m> {
     /// The words, which are any bytes. A guest's words are the arguments after the program's name.
     pub arguments: Vec<Vec<u8>>,
-    /// The body. A guest's body is the file that the words name, and is empty where they name none.
+    /// The body. A guest's body is the file that the words name, or the input that they read; it is
+    /// empty where they do neither.
     pub body: &'m [u8],
 }
 

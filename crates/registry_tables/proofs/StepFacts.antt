@@ -5,7 +5,7 @@ use Rattle.registry_names.specs.Maps.{at, put}
 use Rattle.registry_names.specs.declared.status.Status.{Status}
 use Rattle.registry_access.specs.declared.grant.Grant.{Grant}
 use Rattle.registry_access.specs.declared.role.Role.{Role}
-use Rattle.registry_rules.specs.Changes.{Change, AddUser, AddToken, AddOrg, PutMember, DropMember, AddTeam, PutTeamMember, DropTeamMember, DropTeam, PutGrant, DropGrant, PutOwner, DropOwner, PutStatus, AddVersion, RetireVersion, PutDeprecation, PutTag, DropTag, made, all_made}
+use Rattle.registry_rules.specs.Changes.{Change, AddUser, AddToken, DropToken, AddOrg, PutMember, DropMember, AddTeam, PutTeamMember, DropTeamMember, DropTeam, PutGrant, DropGrant, PutOwner, DropOwner, PutStatus, AddVersion, RetireVersion, PutDeprecation, PutTag, DropTag, made, all_made}
 use Rattle.registry_rules.specs.Operations.{with_member, with_grant, with_status, retired, with_tag}
 use Rattle.registry_tables.specs.Archives.{HeldAreStored}
 use Rattle.registry_tables.specs.Changes.{stored_by, all_stored}
@@ -36,6 +36,7 @@ tag_either c p t v false = refl
 pub change_makes : (change : Change) (c : Contents) → HeldAreStored c → registry_of (stored_by change c) ≡ made (registry_of c) change
 change_makes (AddUser u) c held = refl
 change_makes (AddToken digest u) c held = refl
+change_makes (DropToken digest) c held = refl
 change_makes (AddOrg o) c held = refl
 change_makes (PutMember o u role true) c held = role_either c o u role (is_some (at c.members (o, u)))
 change_makes (PutMember o u role false) c held = refl
@@ -62,6 +63,7 @@ change_makes (DropTag p t) c held = refl
 pub change_keeps : (change : Change) (c : Contents) → HeldAreStored c → HeldAreStored (stored_by change c)
 change_keeps (AddUser u) c held = held
 change_keeps (AddToken digest u) c held = held
+change_keeps (DropToken digest) c held = held
 change_keeps (AddOrg o) c held = held
 change_keeps (PutMember o u role stands) c held = held
 change_keeps (DropMember o u) c held = held
@@ -84,6 +86,7 @@ change_keeps (DropTag p t) c held = held
 pub change_counts : (change : Change) (c : Contents) → (stored_by change c).counters ≡ c.counters
 change_counts (AddUser u) c = refl
 change_counts (AddToken digest u) c = refl
+change_counts (DropToken digest) c = refl
 change_counts (AddOrg o) c = refl
 change_counts (PutMember o u role stands) c = refl
 change_counts (DropMember o u) c = refl

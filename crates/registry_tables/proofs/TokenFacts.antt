@@ -1,26 +1,31 @@
 -- What the statements on tokens make and show.
-use Rattle.std.proofs.Common.{◌≡◌, ℕ, List, [], ◌∷◌, option_map, slice_get, None, Ok, refl, ◌∙◌, codes}
+use Rattle.std.proofs.Common.{◌≡◌, ℕ, List, [], ◌∷◌, map, filter, option_map, slice_get, None, Ok, refl, sym, ap, ◌∙◌, codes}
 use Rattle.std.proofs.lemmas.Iterator.Adapters.{option_map_id}
+use Rattle.std.proofs.lemmas.Simd.{map-map}
 use Rattle.sqlite.specs.declared.types.Value.TheVariants.{Null, Blob, Text as Stored}
-use Rattle.sqlite.specs.Command.TheVariants.{Insert, Select}
+use Rattle.sqlite.specs.Command.TheVariants.{Insert, Delete, Select}
 use Rattle.sqlite.specs.Source.TheVariants.{Values}
 use Rattle.sqlite.specs.Listing.{understood}
 use Rattle.sqlite.specs.State.{State as Shown, HasCleanDisk}
 use Rattle.sqlite_tied.specs.Compute.{everything}
 use Rattle.sqlite_value.specs.Order.{Row}
 use Rattle.sqlite_sql.specs.Term.{Term, lit, col}
-use Rattle.registry_names.specs.Texts.{Text}
-use Rattle.registry_names.specs.Maps.{at, put}
+use Rattle.registry_names.specs.Texts.{Text, is}
+use Rattle.registry_names.specs.Maps.{at, put, erase, entries, keys, seen}
+use Rattle.registry_names.proofs.TextFacts.{is_sym}
+use Rattle.registry_rules.specs.State.{tokens_of}
 use Rattle.registry_rows.specs.Frames.{Wrote}
 use Rattle.registry_rows.specs.Ready.{Ready, Leaves, Reads, Queried}
-use Rattle.registry_rows.specs.Statements.{Means, MeansQuery, scan, by_texts}
+use Rattle.registry_rows.specs.KeyKinds.{bytes}
+use Rattle.registry_rows.specs.Statements.{Means, MeansQuery, IsUncascaded, scan, select_where, by_column, by_texts}
 use Rattle.registry_rows.proofs.KeyedFacts.{by_bytes_given}
-use Rattle.registry_rows.proofs.StatementFacts.{insert_puts_bytes, insert_meets_none_bytes}
-use Rattle.registry_rows.proofs.LookUpFacts.{select_finds_by, first_listed}
+use Rattle.registry_rows.proofs.StatementFacts.{insert_puts_bytes, insert_meets_none_bytes, delete_erases_by}
+use Rattle.registry_rows.proofs.LookUpFacts.{select_finds_by, select_has_by, first_listed}
+use Rattle.registry_tables.specs.Schema as table
 use Rattle.registry_tables.specs.Schema.{schema}
-use Rattle.registry_tables.specs.Contents.{contents}
+use Rattle.registry_tables.specs.Contents.{contents, registry_of}
 use Rattle.registry_tables.specs.Effects.{stored}
-use Rattle.registry_tables.specs.Spelled.{named_spelled}
+use Rattle.registry_tables.specs.Spelled.{blob_of_row, named_spelled}
 use Rattle.registry_tables.proofs.MappedFacts.{tokens_mapped}
 
 -- ---- INSERT
@@ -43,6 +48,24 @@ token_put digest u old new form call = insert_puts_bytes tokens_mapped put_text 
 pub token_was_new : (digest u : Text) (old new : Shown) → Ready schema old → Wrote put_text (Blob digest ∷ Stored u ∷ []) old new → HasCleanDisk new → at (stored old).tokens digest ≡ None
 token_was_new digest u old new form call = insert_meets_none_bytes tokens_mapped put_text put_cells put_means (Blob digest ∷ Stored u ∷ []) refl old new (Ok call.0) form call.1
 
+-- ---- DELETE
+
+abbrev drop_text : List ℕ
+drop_text = codes "DELETE FROM tokens WHERE digest = ?1"
+
+drop_means : Means schema drop_text (Delete 1 (record { lets = []; body = scan 2 (by_texts 0 1 0) (col 1 0 ∷ []) [] }))
+unfolding understood everything
+drop_means = (refl, (refl, refl))
+
+-- nothing refers to a token
+nothing_refers : IsUncascaded schema table.tokens
+unfolding everything
+nothing_refers olds = refl
+
+pub token_dropped : (digest : Text) (old new : Shown) → Ready schema old → Wrote drop_text (Blob digest ∷ []) old new → HasCleanDisk new
+    → Leaves schema contents (record (stored old) { tokens = erase (stored old).tokens digest }) new
+token_dropped digest old new form call = delete_erases_by (by_bytes_given tokens_mapped) drop_text drop_means nothing_refers digest old new (Ok call.0) form call.1
+
 -- ---- SELECT
 
 abbrev find_text : List ℕ
@@ -57,3 +80,31 @@ pub user_of_found : (digest : Text) (old new : Shown) (rows : List Row) → Read
 user_of_found digest old new rows form call clean =
     let it = select_finds_by (by_bytes_given tokens_mapped) find_text (col 1 2 ∷ []) _ find_means digest named_spelled (λ (u : Text). u) (λ id vs. refl) old new rows form call clean in
     (it.0, first_listed named_spelled rows _ it.1 ∙ option_map_id (at (stored old).tokens digest))
+
+abbrev list_text : List ℕ
+list_text = codes "SELECT digest FROM tokens WHERE user = ?1 ORDER BY digest"
+
+list_means : MeansQuery schema list_text (select_where table.tokens (col 1 1 ∷ []) (by_column 1) bytes.order (codes "digest" ∷ []))
+unfolding understood everything
+list_means = ((refl, (refl, refl)), refl)
+
+abbrev nothing_of : Text → Unit {0}
+nothing_of u = tt
+
+-- a digest, and nothing of its user
+abbrev digest_of : Row → Text × Unit {0}
+digest_of r = (blob_of_row r, tt)
+
+-- the entries whose user this is, whichever of the two is asked about
+is_either : (u : Text) (es : List (Text × Text)) → filter (λ (e : Text × Text). is u e.1) es ≡ filter (λ (e : Text × Text). is e.1 u) es
+is_either u [] = refl
+is_either u (e ∷ es) = rw (is_sym u e.1, is_either u es) refl
+
+pub tokens_listed : (u : Text) (old new : Shown) (rows : List Row) → Ready schema old → Queried list_text (Stored u ∷ []) old new rows → HasCleanDisk new
+    → Reads schema old new × (map blob_of_row rows ≡ tokens_of (registry_of (stored old)) u)
+tokens_listed u old new rows form call clean =
+    let it = select_has_by (by_bytes_given tokens_mapped) 1 (Stored u) refl (λ (x : Text). is u x) (λ vs. refl) list_text (col 1 1 ∷ []) _ list_means digest_of nothing_of (λ id vs. refl) old new rows form call clean in (
+      it.0,
+      sym (map-map (λ (e : Text × Unit {0}). e.0) digest_of rows) ∙ ap keys it.1
+          ∙ map-map (λ (e : Text × Unit {0}). e.0) (seen nothing_of) (filter (λ (e : Text × Text). is u e.1) (entries (stored old).tokens)) ∙ ap keys (is_either u (entries (stored old).tokens)),
+    )

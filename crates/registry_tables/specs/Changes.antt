@@ -5,7 +5,7 @@ use Rattle.std.specs.declared.cmp.Ordering.{Ordering}
 use Rattle.registry_names.specs.Maps.{MapBy, at, put, erase}
 use Rattle.registry_publish.specs.Form.{FormParts}
 use Rattle.registry_rules.specs.Actions.{version_of}
-use Rattle.registry_rules.specs.Changes.{Change, AddUser, AddToken, AddOrg, PutMember, DropMember, AddTeam, PutTeamMember, DropTeamMember, DropTeam, PutGrant, DropGrant, PutOwner, DropOwner, PutStatus, AddVersion, RetireVersion, PutDeprecation, PutTag, DropTag, release_of}
+use Rattle.registry_rules.specs.Changes.{Change, AddUser, AddToken, DropToken, AddOrg, PutMember, DropMember, AddTeam, PutTeamMember, DropTeamMember, DropTeam, PutGrant, DropGrant, PutOwner, DropOwner, PutStatus, AddVersion, RetireVersion, PutDeprecation, PutTag, DropTag, release_of}
 use Rattle.registry_rules.specs.State.{Release}
 use Rattle.registry_tables.specs.Archives.{archive_number, with_archive}
 use Rattle.registry_tables.specs.Contents.{Contents}
@@ -50,6 +50,7 @@ version_put f now c = record (with_archive f.integrity f.archive c) {
 abbrev pub stored_by : Change → Contents → Contents
 stored_by (AddUser u) c = record c { users = put c.users u tt }
 stored_by (AddToken digest u) c = record c { tokens = put c.tokens digest u }
+stored_by (DropToken digest) c = record c { tokens = erase c.tokens digest }
 stored_by (AddOrg o) c = record c { organisations = put c.organisations o tt }
 stored_by (PutMember o u role stands) c = record c { members = with_row c.members (o, u) role stands }
 stored_by (DropMember o u) c = without_member o u c
@@ -97,6 +98,7 @@ pub record MayRetire (p v : Text) (c : Contents) : Type 0 where
 abbrev pub Asks : Change → Contents → Type 0
 Asks (AddUser u) c = IsFree c.users u
 Asks (AddToken digest u) c = IsFree c.tokens digest
+Asks (DropToken digest) c = Unit {0}
 Asks (AddOrg o) c = IsFree c.organisations o
 Asks (PutMember o u role stands) c = IsFreeUnless c.members (o, u) stands
 Asks (DropMember o u) c = Unit {0}

@@ -13,7 +13,7 @@ use crate::statuses::put_status;
 use crate::tags::{drop_tag, put_tag};
 use crate::team_members::{drop_team_member, put_team_member};
 use crate::teams::{add_team, drop_team};
-use crate::tokens::add_token;
+use crate::tokens::{add_token, drop_token};
 use crate::users::add_user;
 use crate::versions::{put_message, put_version};
 use crate::withdrawals::retire_version;
@@ -39,6 +39,7 @@ pub fn make<S: Alter>(tx: &mut Transaction<'_, S>, change: &Change<'_>) -> Resul
     match *change {
         Change::AddUser { user } => add_user(tx, user.text()),
         Change::AddToken { digest, user } => add_token(tx, digest, user.text()),
+        Change::DropToken { digest } => drop_token(tx, digest),
         Change::AddOrg { organisation } => add_organisation(tx, organisation),
         Change::PutMember {
             organisation,

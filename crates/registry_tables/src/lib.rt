@@ -55,7 +55,7 @@ pub use crate::tags::{has_tag, load_tag, load_tags, load_version_tags};
 pub use crate::team_members::{is_in_team, load_team_users};
 pub use crate::team_packages::load_team_packages;
 pub use crate::teams::{has_team, load_teams};
-pub use crate::tokens::load_token_user;
+pub use crate::tokens::{load_token_user, load_user_tokens};
 pub use crate::users::has_user;
 pub use crate::versions::{
     DocumentRow, has_live, has_version, load_document, load_live, load_published, load_times,

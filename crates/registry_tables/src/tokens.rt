@@ -1,17 +1,20 @@
 //! The table `tokens`: the digest of each token, and its user. A token's text is kept nowhere.
 
-ghost use Rattle.std.specs.Prelude.{◌≡◌, IfOk, option_map, slice_get};
-ghost use Rattle.registry_names.specs.Maps.{at, put};
+ghost use Rattle.std.specs.Prelude.{◌≡◌, ℕ, List, IfOk, option_map, slice_get};
+ghost use Rattle.registry_names.specs.Maps.{at, erase, put};
 ghost use Rattle.registry_rows.specs.Frames.{Stays};
+ghost use Rattle.registry_rules.specs.State.{tokens_of};
 ghost use Rattle.registry_tables.specs.Changes.{IsFree};
+ghost use Rattle.registry_tables.specs.Contents.{registry_of};
 ghost use Rattle.registry_tables.specs.Effects.{InForm, Makes, OnlyWhere, Loads};
-ghost use Rattle.registry_tables.specs.Spelled.{named_spelled};
+ghost use Rattle.registry_tables.specs.Spelled.{blob_of_row, named_spelled};
 
 use crate::texts::{TextRow, read_back};
 use registry_names::{Fault, Ident};
 use registry_publish::TokenDigest;
-use registry_rows::{read, value_of_first_row, write};
-use sqlite::{Alter, Row, Transaction, params};
+use registry_rows::{RowKind, read, value_of_first_row, values_of_rows, write};
+use sqlite::types::Type;
+use sqlite::{Alter, Error, Row, Transaction, params};
 use std::alloc::Global;
 
 /// The user of the token with this digest. `None` where no token has it.
@@ -41,6 +44,25 @@ fn user_in(alloc: Global, rows: &[Row]) -> Result<Option<Ident>, Fault>
     }
 }
 
+/// The digests of a user's tokens, in byte order.
+pub fn load_user_tokens<S: Alter>(
+    alloc: Global,
+    tx: &mut Transaction<'_, S>,
+    user: &Ident,
+) -> Result<Vec<TokenDigest>, Fault>
+    requires in_form { InForm S.Store tx.old }
+    ensures stays { Stays S.Store tx.old tx.new }
+    ensures loads { Loads S.Store tx.old tx.new result
+        (λ digests c. digests.items ≡ tokens_of (registry_of c) user.now) }
+{
+    let rows = read(
+        tx,
+        "SELECT digest FROM tokens WHERE user = ?1 ORDER BY digest",
+        params![user.text()],
+    )?;
+    values_of_rows::<DigestRow>(alloc, &rows)
+}
+
 /// Adds a token, by its digest, for this user. A token of the same digest is a fault, and so is a
 /// user who isn't there.
 pub(crate) fn add_token<S: Alter>(
@@ -60,4 +82,43 @@ pub(crate) fn add_token<S: Alter>(
         "INSERT INTO tokens VALUES (?1, ?2)",
         params![digest.as_slice(), user],
     )
+}
+
+/// Drops a token, by its digest, if it is there.
+pub(crate) fn drop_token<S: Alter>(
+    tx: &mut Transaction<'_, S>,
+    digest: &TokenDigest,
+) -> Result<(), Fault>
+    requires in_form { InForm S.Store tx.old }
+    ensures stays { Stays S.Store tx.old tx.new }
+    ensures makes { Makes S.Store tx.old tx.new result
+        (λ c. record c { tokens = erase c.tokens digest.now }) }
+{
+    write(
+        tx,
+        "DELETE FROM tokens WHERE digest = ?1",
+        params![digest.as_slice()],
+    )
+}
+
+// The digest of a token, alone.
+struct DigestRow;
+
+impl RowKind for DigestRow {
+    type Value = TokenDigest;
+
+    ghost Seen = { List ℕ };
+
+    ghost seen = { λ digest. digest };
+
+    ghost spelled = { blob_of_row };
+
+    // Bytes that are no digest are an error, since none are ever written.
+    fn read(row: &Row) -> Result<TokenDigest, Error> {
+        let bytes: Vec<u8> = row.get(0)?;
+        match TokenDigest::from_slice(bytes.as_slice()) {
+            Some(digest) => Ok(digest),
+            None => Err(Error::InvalidColumnType(0, Type::Blob)),
+        }
+    }
 }

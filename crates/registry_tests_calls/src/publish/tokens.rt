@@ -23,3 +23,13 @@ fn the_digest_of_bytes(rt: HostRuntime) {
     let none = TokenDigest::of_bytes(b"npm_bob_000000001\xff").is_none();
     same(&rt, "bytes of no text", none, true);
 }
+
+#[test]
+fn the_digest_with_its_bytes(rt: HostRuntime) {
+    let digest = TokenDigest::from_slice(DIGEST.as_slice()).expect(&rt, "32 bytes");
+    same(&rt, "its bytes", digest.as_slice(), DIGEST.as_slice());
+    let none = TokenDigest::from_slice(&DIGEST[..31]).is_none();
+    same(&rt, "31 bytes", none, true);
+    let none = TokenDigest::from_slice(&[0u8; 33]).is_none();
+    same(&rt, "33 bytes", none, true);
+}

@@ -6,6 +6,7 @@ mod rights;
 mod schema;
 mod teams;
 mod text;
+mod tokens;
 mod walks;
 
 use call::{Call, Case, End, all_come_out};
@@ -18,6 +19,7 @@ use rights::RightCall::{
 use std::test::Fail;
 use teams::TeamCall::{Grant, Grants, Member, Organisation, Team, TeamMember, User, Users};
 use text::Body;
+use tokens::TokenCall::{DropToken, NewToken, ShortDigest, Tokens, UserOf};
 use walks::{Walk, all_give};
 
 #[test]
@@ -43,6 +45,11 @@ fn teams_tell_their_users_and_grants(rt: HostRuntime) -> Result<(), Fail> {
 #[test]
 fn rights_stand_as_they_were_put(rt: HostRuntime) -> Result<(), Fail> {
     all_come_out(rt.alloc(), &RIGHTS)
+}
+
+#[test]
+fn tokens_are_listed_and_dropped(rt: HostRuntime) -> Result<(), Fail> {
+    all_come_out(rt.alloc(), &TOKENS)
 }
 
 #[test]
@@ -284,6 +291,58 @@ static TAGS: [Case; 4] = [
             ("kit", Call::NewTag("latest", "1.0.0"), "done"),
         ],
         end: End::Fault("kit", Call::MovedTag("latest", "1.0.1")),
+    },
+];
+
+// Tokens of users.
+static TOKENS: [Case; 3] = [
+    Case {
+        shows: "a user's tokens stand in byte order, and each is dropped alone",
+        calls: &[
+            ("kit", Call::Teams(User("ann")), "done"),
+            ("kit", Call::Teams(User("anna")), "done"),
+            ("kit", Call::Teams(User("bob")), "done"),
+            ("kit", Call::Tokens(Tokens("ann")), ""),
+            ("kit", Call::Tokens(NewToken(128, "ann")), "done"),
+            ("kit", Call::Tokens(NewToken(2, "anna")), "done"),
+            ("kit", Call::Tokens(NewToken(127, "ann")), "done"),
+            ("kit", Call::Tokens(NewToken(255, "ann")), "done"),
+            ("kit", Call::Tokens(NewToken(1, "ann")), "done"),
+            ("kit", Call::Tokens(Tokens("ann")), " 1 127 128 255"),
+            ("kit", Call::Tokens(Tokens("anna")), " 2"),
+            ("kit", Call::Tokens(Tokens("bob")), ""),
+            ("kit", Call::Tokens(UserOf(127)), "ann"),
+            ("kit", Call::Tokens(DropToken(127)), "done"),
+            ("kit", Call::Tokens(UserOf(127)), "none"),
+            ("kit", Call::Tokens(Tokens("ann")), " 1 128 255"),
+            ("kit", Call::Tokens(UserOf(2)), "anna"),
+            ("kit", Call::Tokens(DropToken(127)), "done"),
+            ("kit", Call::Tokens(Tokens("ann")), " 1 128 255"),
+            ("kit", Call::Tokens(NewToken(127, "bob")), "done"),
+            ("kit", Call::Tokens(UserOf(127)), "bob"),
+            ("kit", Call::Tokens(Tokens("bob")), " 127"),
+        ],
+        end: End::Rows(" meta tokens tokens tokens tokens tokens users users users"),
+    },
+    Case {
+        shows: "a token isn't put where there is one",
+        calls: &[
+            ("kit", Call::Teams(User("ann")), "done"),
+            ("kit", Call::Teams(User("bob")), "done"),
+            ("kit", Call::Tokens(NewToken(1, "ann")), "done"),
+        ],
+        end: End::Fault("kit", Call::Tokens(NewToken(1, "bob"))),
+    },
+    Case {
+        shows: "bytes that are no digest aren't listed",
+        calls: &[
+            ("kit", Call::Teams(User("ann")), "done"),
+            ("kit", Call::Teams(User("bob")), "done"),
+            ("kit", Call::Tokens(NewToken(1, "bob")), "done"),
+            ("kit", Call::Tokens(ShortDigest(1, "ann")), "done"),
+            ("kit", Call::Tokens(Tokens("bob")), " 1"),
+        ],
+        end: End::Fault("kit", Call::Tokens(Tokens("ann"))),
     },
 ];
 

@@ -14,6 +14,14 @@ pub returns-in-TokenAdd-clause-loads : goal.returns-in-TokenAdd-clause-loads
 returns-in-TokenAdd-clause-loads g c clean =
     found_about (Reads schema (shown g.S.Store c.args.tx.now) (shown g.S.Store c.facts_for_token_add.new.tx)) (stored_in g.S.Store c.args.tx.now) c.args.request.now.at c.args.caller.now c.args.request.now.what (asked.TokenAdd c.in-TokenAdd.user c.in-TokenAdd.digest) c.facts_for_token_add.result c.map-in-TokenAdd.result c.in-TokenAdd.is refl c.map-in-TokenAdd.ensures.cases (λ x told sound. told c.args.caller.now) (c.facts_for_token_add.ensures.loads clean)
 
+pub returns-in-TokenRemove-clause-loads : goal.returns-in-TokenRemove-clause-loads
+returns-in-TokenRemove-clause-loads g c clean =
+    found_about (Reads schema (shown g.S.Store c.args.tx.now) (shown g.S.Store c.facts_for_token_remove.new.tx)) (stored_in g.S.Store c.args.tx.now) c.args.request.now.at c.args.caller.now c.args.request.now.what (asked.TokenRemove c.in-TokenRemove.digest) c.facts_for_token_remove.result c.map-in-TokenRemove.result c.in-TokenRemove.is refl c.map-in-TokenRemove.ensures.cases (λ x told sound. told c.args.caller.now) (c.facts_for_token_remove.ensures.loads clean)
+
+pub returns-in-TokensRemove-clause-loads : goal.returns-in-TokensRemove-clause-loads
+returns-in-TokensRemove-clause-loads g c clean =
+    found_so (Reads schema (shown g.S.Store c.args.tx.now) (shown g.S.Store c.facts_for_tokens_remove.new.tx)) (stored_in g.S.Store c.args.tx.now) c.args.request.now.at c.args.caller.now c.args.request.now.what (asked.TokensRemove c.in-TokensRemove.user) c.facts_for_tokens_remove.result c.in-TokensRemove.is (λ y told sound needs. told c.args.request.now.at) (c.facts_for_tokens_remove.ensures.loads clean)
+
 pub returns-in-OrgCreate-clause-loads : goal.returns-in-OrgCreate-clause-loads
 returns-in-OrgCreate-clause-loads g c clean =
     found_about (Reads schema (shown g.S.Store c.args.tx.now) (shown g.S.Store c.facts_for_org_create.new.tx)) (stored_in g.S.Store c.args.tx.now) c.args.request.now.at c.args.caller.now c.args.request.now.what (asked.OrgCreate c.in-OrgCreate.organisation c.in-OrgCreate.owner) c.facts_for_org_create.result c.map-in-OrgCreate.result c.in-OrgCreate.is refl c.map-in-OrgCreate.ensures.cases (λ x told sound. told c.args.caller.now) (c.facts_for_org_create.ensures.loads clean)

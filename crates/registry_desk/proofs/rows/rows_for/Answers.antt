@@ -22,6 +22,11 @@ module _ (c : Contents) (caches : Caches) (who : Caller) (what wanted : Action) 
   answer (Ok rows) Before After Told still told it = (still it.0, subst (λ (w : Action). Answer w rows) (sym is) (told rows it.1))
   answer (Err fault) Before After Told still told it = tt
 
+pub returns-in-TokensRemove-clause-knows : goal.returns-in-TokensRemove-clause-knows
+returns-in-TokensRemove-clause-knows g c clean =
+    answer (stored_in g.S.Store c.args.tx.now) c.args.caches.now c.args.caller.now c.args.what.now (asked.TokensRemove c.in-TokensRemove.user) c.in-TokensRemove.is
+    c.token_rows.result _ _ _ (reads_nothing_new _ _) (λ rows told _. told c.args.caller.now) (c.token_rows.ensures.loads clean)
+
 pub returns-in-Archive-clause-knows : goal.returns-in-Archive-clause-knows
 returns-in-Archive-clause-knows g c clean =
     answer (stored_in g.S.Store c.args.tx.now) c.args.caches.now c.args.caller.now c.args.what.now (asked.Archive c.in-Archive.package c.in-Archive.version) c.in-Archive.is

@@ -11,6 +11,9 @@ use Rattle.registry_tables.proofs.change.make.Goals as goal
 asks_what : {R E : Type 0} (r : Result R E) (c : Contents) (change this : Change) → change ≡ this → Asks (change_of this) c → OnOk r (Asks (change_of change) c)
 asks_what r c change this is so = subst (λ (x : Change). OnOk r (Asks (change_of x) c)) (sym is) (on_any r so)
 
+pub returns-in-DropToken-clause-asks : goal.returns-in-DropToken-clause-asks
+returns-in-DropToken-clause-asks g c clean = asks_what c.drop_token.result (stored_in g.S.Store c.args.tx.now) _ _ c.in-DropToken.is tt
+
 pub returns-in-DropMember-clause-asks : goal.returns-in-DropMember-clause-asks
 returns-in-DropMember-clause-asks g c clean = asks_what c.drop_member.result (stored_in g.S.Store c.args.tx.now) _ _ c.in-DropMember.is tt
 

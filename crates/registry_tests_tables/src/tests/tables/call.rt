@@ -10,6 +10,7 @@ use super::teams::{self, TeamCall};
 use super::text::{
     Body, archive_text, done, form_of, push_word, status_text, tags_text, times_text, word_text,
 };
+use super::tokens::{self, TokenCall};
 use registry_names::{Fault, Message, Moment, Name, Status, Stop, Ver};
 use registry_rows::write;
 use registry_rules::Change;
@@ -83,6 +84,8 @@ pub enum Call {
     Teams(TeamCall),
     /// A call over what callers may do with it.
     Rights(RightCall),
+    /// A call over tokens, for which the package counts for nothing.
+    Tokens(TokenCall),
 }
 
 /// What follows the calls of a case.
@@ -233,6 +236,7 @@ fn told_of<S: Alter>(
         Call::Archive(version) => archive_text(alloc, &load_archive(tx, name, version)?),
         Call::Teams(call) => teams::told(alloc, tx, name, call),
         Call::Rights(call) => rights::told(alloc, tx, name, call),
+        Call::Tokens(call) => tokens::told(alloc, tx, call),
         _ => {
             put(alloc, tx, name, call)?;
             done(alloc)

@@ -1,9 +1,9 @@
 //! Bodies of publications, and texts that show what was loaded.
 
 use registry_access::{Grant, Role, Standing};
-use registry_names::{Blob, DistTag, Status, Stop, Text};
+use registry_names::{Blob, DistTag, Ident, Status, Stop, Text};
 use registry_packument::{Granted, VersionRow, VersionTime};
-use registry_publish::PublishForm;
+use registry_publish::{PublishForm, TokenDigest};
 use registry_tests_support::{ABC, body_of};
 use std::alloc::{AllocError, Global};
 
@@ -124,6 +124,24 @@ pub fn archive_text(alloc: Global, archive: &Option<Blob>) -> Result<String, Sto
     let length = bytes.len();
     let end = str::from_utf8(&bytes[length.saturating_sub(3)..]).unwrap_or("no text");
     Ok(format!(in alloc; "{length} {end}")?)
+}
+
+/// A user, or `none`.
+pub fn user_text(alloc: Global, user: &Option<Ident>) -> Result<String, Stop> {
+    match user {
+        Some(user) => Ok(String::from_str(alloc, user.text())?),
+        None => Ok(String::from_str(alloc, "none")?),
+    }
+}
+
+/// The first byte of each digest, after a space.
+pub fn digests_text(alloc: Global, digests: &[TokenDigest]) -> Result<String, Stop> {
+    let mut text = String::new(alloc);
+    for digest in digests {
+        let first = digest.as_slice()[0];
+        push_word(&mut text, format!(in alloc; "{first}")?.as_str())?;
+    }
+    Ok(text)
 }
 
 /// Each name, after a space.

@@ -1,0 +1,41 @@
+use Rattle.std.proofs.Common.{◌∙◌, arith, ap, sym}
+use Rattle.sqlite.specs.Effect.{Database}
+use Rattle.sqlite.specs.State.{HasCleanDisk}
+use Rattle.registry_rows.proofs.QuietFacts.{stays_then, reads_then}
+use Rattle.registry_rules.specs.Refusals.{unless_allowed}
+use Rattle.registry_rules.specs.State.{has_user, tokens_of}
+use Rattle.registry_tables.specs.Contents.{contents, registry_of}
+use Rattle.registry_tables.specs.Effects.{shown}
+use Rattle.registry_tables.specs.Schema.{schema}
+use Rattle.registry_desk.proofs.people.facts_for_tokens_remove.Goals as goal
+
+pub load_user_tokens-requires : goal.load_user_tokens-requires
+load_user_tokens-requires g c = record { in_form = λ clean on. (c.in_ok-user_exists.ensures.loads clean).0.ready }
+
+pub returns-in_err-digests-clause-stays : goal.returns-in_err-digests-clause-stays
+returns-in_err-digests-clause-stays g c = stays_then g.S.Store c.args.tx.now c.has_user.new.tx c.load_user_tokens.new.tx c.has_user.ensures.stays c.load_user_tokens.ensures.stays
+
+pub returns-clause-stays : goal.returns-clause-stays
+returns-clause-stays g c = stays_then g.S.Store c.args.tx.now c.has_user.new.tx c.load_user_tokens.new.tx c.has_user.ensures.stays c.load_user_tokens.ensures.stays
+
+pub returns-clause-loads : goal.returns-clause-loads
+returns-clause-loads g c clean =
+    let was = shown g.S.Store c.args.tx.now in
+    let one = shown g.S.Store c.has_user.new.tx in
+    let clean_one : HasCleanDisk one = omega (arith, c.load_user_tokens.ensures.stays.survives.clean, clean) in
+    let user = c.in_ok-user_exists.ensures.loads clean_one in
+    let digests = c.in_ok-digests.ensures.loads clean in (
+      reads_then schema was one (shown g.S.Store c.load_user_tokens.new.tx) user.0 digests.0,
+      λ at. (
+        ap unless_allowed (sym c.may_operate.ensures ∙ c.in-Ok.is),
+        (
+          user.1 ∙ ap (has_user (registry_of (contents was.now.trees))) c.text.ensures.text,
+          digests.1 ∙ ap (λ (d : Database). tokens_of (registry_of (contents d.trees)) c.args.user.now) user.0.same,
+        ),
+      ),
+    )
+
+pub returns-in-Err-clause-loads : goal.returns-in-Err-clause-loads
+returns-in-Err-clause-loads g c clean =
+    let user = c.in_ok-user_exists.ensures.loads clean in
+    (user.0, λ at. ap unless_allowed (sym c.may_operate.ensures ∙ c.in-Err.is))
