@@ -18,7 +18,7 @@ ghost use Rattle.registry_tables.specs.Withdrawals.{with_message};
 use crate::archives::put_archive;
 use crate::moments::MomentRow;
 use crate::needs::put_needs;
-use crate::spent::is_spent;
+use crate::spent::has_withdrawal;
 use crate::texts::{read_back, texts_in};
 use registry_names::{Fault, Moment, Name, Text, Ver};
 use registry_packument::{VersionRow, VersionTime};
@@ -192,7 +192,7 @@ pub fn put_version<S: Alter>(
     ensures makes { Makes S.Store tx.old tx.new result (version_put form.now published) }
     ensures was_new { OnlyWhere S.Store tx.old tx.new result (IsNew form.now) }
 {
-    if is_spent(tx, form.name(), form.version().text())? {
+    if has_withdrawal(tx, form.name(), form.version().text())? {
         return Err(Fault::Database);
     }
     insert_version(tx, form, published)?;
