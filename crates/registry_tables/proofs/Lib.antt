@@ -23,6 +23,7 @@ pub mod NumberFacts
 pub mod OpeningFacts
 pub mod OrganisationFacts
 pub mod ParentFacts
+pub mod RangeFacts
 pub mod ReadFacts
 pub mod ReadableFacts
 pub mod ReferenceFacts

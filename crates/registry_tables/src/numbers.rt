@@ -31,7 +31,13 @@ pub fn numbers_are_in_range<S: Alter>(
     let levels = find_levels(alloc, tx)?;
     let live = find_live(alloc, tx)?;
     let spent = find_spent(alloc, tx)?;
-    Ok(roles && statuses && levels && live && spent)
+    Ok(are_all(roles, statuses, levels, live, spent))
+}
+
+fn are_all(roles: bool, statuses: bool, levels: bool, live: bool, spent: bool) -> bool
+    ensures { result ≡ (roles && (statuses && (levels && (live && spent)))) }
+{
+    roles && (statuses && (levels && (live && spent)))
 }
 
 fn find_roles<S: Alter>(alloc: Global, tx: &mut Transaction<'_, S>) -> Result<bool, Fault>
@@ -137,14 +143,22 @@ fn are_moments(alloc: Global, rows: &[Row]) -> Result<bool, Fault>
     Ok(numbers.iter().all(|number| is_moment(*number)))
 }
 
+fn are_later_moments(alloc: Global, rows: &[Row]) -> Result<bool, Fault>
+    ensures { IfOk result (λ fine. fine
+        ≡ list_all spec.is_moment (map fourth_number rows.now)) }
+{
+    let numbers = fourth_numbers(alloc, rows)?;
+    Ok(numbers.iter().all(|number| is_moment(*number)))
+}
+
 fn are_pairs_of_moments(alloc: Global, rows: &[Row]) -> Result<bool, Fault>
     ensures { IfOk result (λ fine. fine
         ≡ (list_all spec.is_moment (map third_number rows.now)
         && list_all spec.is_moment (map fourth_number rows.now))) }
 {
-    let withdrawn = fourth_numbers(alloc, rows)?;
     let published = are_moments(alloc, rows)?;
-    Ok(published && withdrawn.iter().all(|number| is_moment(*number)))
+    let withdrawn = are_later_moments(alloc, rows)?;
+    Ok(published && withdrawn)
 }
 
 fn is_role(number: i64) -> bool

@@ -1,7 +1,8 @@
 //! The table `spent`: the versions that were withdrawn, which are never published again.
 
-ghost use Rattle.std.specs.Prelude.{◌≡◌, is_some, pos};
+ghost use Rattle.std.specs.Prelude.{◌≡◌, ◌≤◌, is_some, pos};
 ghost use Rattle.registry_names.specs.Maps.{at, of, put};
+ghost use Rattle.registry_names.specs.Moments.{last_second};
 ghost use Rattle.registry_rows.specs.Frames.{Stays};
 ghost use Rattle.registry_rules.specs.Moments.{spent_publications};
 ghost use Rattle.registry_rules.specs.Withdrawals.{last_withdrawal};
@@ -105,6 +106,7 @@ pub(crate) fn put_withdrawal<S: Alter>(
         }) }
     ensures was_new { OnlyWhere S.Store tx.old tx.new result
         (λ c. IsFree c.spent (name.now, version.now)) }
+    ensures in_time { (published ≤ last_second) × (withdrawn ≤ last_second) }
 {
     write(
         tx,
