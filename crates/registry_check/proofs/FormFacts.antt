@@ -17,8 +17,8 @@ use Rattle.registry_names.proofs.NameFacts.{scope_of-name}
 use Rattle.registry_names.proofs.VersionFacts.{kept, not_kept, not_read}
 use Rattle.registry_publish.specs.Body.{is_manifest}
 use Rattle.registry_publish.specs.Form.{IsManifestText}
-use Rattle.registry_check.specs.Forms.{is_manifest_read, is_manifest_text, is_moment, is_name, is_name_in, is_version, is_version_read, part_after}
-use Rattle.registry_check.proofs.NumberFacts.{natural_in}
+use Rattle.registry_tables.specs.Numbers.{is_moment, seconds_of}
+use Rattle.registry_check.specs.Forms.{is_manifest_read, is_manifest_text, is_name, is_name_in, is_version, is_version_read, part_after}
 
 -- ---- names
 
@@ -107,7 +107,7 @@ is_manifest_text_of name v version t e (m, is_one, (text, back)) =
 
 -- ---- moments
 
-pub in_time : (z : ℤ) → is_moment z ≡ true → natural_in z ≤ last_second
+pub in_time : (z : ℤ) → is_moment z ≡ true → seconds_of z ≤ last_second
 in_time (pos n) h = leb-true n last_second (within (nat_le n last_second) h)
   where
     within : (b : Bool) → is_some (if b then Some n else None) ≡ true → b ≡ true

@@ -1,7 +1,6 @@
 mod EachFacts
 mod FormFacts
 mod LoadFacts
-mod NumberFacts
 mod PremiseFacts
 mod QueryFacts
 mod RightFacts

@@ -19,14 +19,15 @@ use Rattle.registry_publish.specs.Needs.{needs_of}
 use Rattle.registry_publish.specs.declared.need.Need.{Need}
 use Rattle.registry_rules.specs.Kept.{IsGrant, IsSound}
 use Rattle.registry_rules.specs.Refusals.{is_scope}
-use Rattle.registry_rules.specs.State.{Release, developers}
+use Rattle.registry_rules.specs.State.{developers}
 use Rattle.registry_rows.specs.TextKeys.{Texts}
 use Rattle.registry_rows.proofs.KeyedFacts.{number_key}
 use Rattle.registry_rows.proofs.TextKeyFacts.{texts_key}
 use Rattle.registry_tables.specs.Archives.{HoldsArchives, is_archive}
-use Rattle.registry_tables.specs.Contents.{Archive, Contents, access_of}
+use Rattle.registry_tables.specs.Contents.{Archive, Contents, LiveVersion, access_of}
+use Rattle.registry_tables.specs.Numbers.{grant_of}
+use Rattle.registry_tables.proofs.ReadFacts.{some-read}
 use Rattle.registry_tables.specs.Needs.{HoldsNeeds, is_needed, names_if_any, names_range}
-use Rattle.registry_check.specs.Numbers.{Numbers}
 use Rattle.registry_check.specs.Premises.{MeetsPremises, TellsPremises, rows_in}
 use Rattle.registry_check.specs.Problems as spec
 use Rattle.registry_check.specs.Problems.{archive_problems, grant_problems, held_problems, live_problems, maintainer_problems, member_problems, need_problems, organisation_problems, premise_problems, published_problems, team_member_problems, team_problems, token_problems}
@@ -114,96 +115,96 @@ all_stored test (need ∷ needs) f =
     (f need (or_left _ _ (and_from _ _ (same_self text_key need.target) (same_self text_key need.range))))
     (all_stored test needs (λ n h. f n (or_right (is need.target n.target && is need.range n.range) _ h)))
 
-module _ (c : Contents) (nums : Numbers) where
+module _ (c : Contents) where
   -- ---- where no row breaks a rule
 
-  module _ (none : premise_problems (rows_in c nums) ≡ []) where
-    versions : (token_problems (rows_in c nums) ++ organisation_problems (rows_in c nums) ++ member_problems (rows_in c nums) ++ team_problems (rows_in c nums) ++ team_member_problems (rows_in c nums) ++ published_problems (rows_in c nums) ++ grant_problems (rows_in c nums) ++ maintainer_problems (rows_in c nums) ++ live_problems (rows_in c nums) ≡ []) × ((need_problems (rows_in c nums) ≡ []) × ((held_problems (rows_in c nums) ≡ []) × (archive_problems (rows_in c nums) ≡ [])))
-    versions = nil_four (token_problems (rows_in c nums) ++ organisation_problems (rows_in c nums) ++ member_problems (rows_in c nums) ++ team_problems (rows_in c nums) ++ team_member_problems (rows_in c nums) ++ published_problems (rows_in c nums) ++ grant_problems (rows_in c nums) ++ maintainer_problems (rows_in c nums) ++ live_problems (rows_in c nums)) (need_problems (rows_in c nums)) (held_problems (rows_in c nums)) (archive_problems (rows_in c nums)) none
+  module _ (none : premise_problems (rows_in c) ≡ []) where
+    versions : (token_problems (rows_in c) ++ organisation_problems (rows_in c) ++ member_problems (rows_in c) ++ team_problems (rows_in c) ++ team_member_problems (rows_in c) ++ published_problems (rows_in c) ++ grant_problems (rows_in c) ++ maintainer_problems (rows_in c) ++ live_problems (rows_in c) ≡ []) × ((need_problems (rows_in c) ≡ []) × ((held_problems (rows_in c) ≡ []) × (archive_problems (rows_in c) ≡ [])))
+    versions = nil_four (token_problems (rows_in c) ++ organisation_problems (rows_in c) ++ member_problems (rows_in c) ++ team_problems (rows_in c) ++ team_member_problems (rows_in c) ++ published_problems (rows_in c) ++ grant_problems (rows_in c) ++ maintainer_problems (rows_in c) ++ live_problems (rows_in c)) (need_problems (rows_in c)) (held_problems (rows_in c)) (archive_problems (rows_in c)) none
 
-    packages : (token_problems (rows_in c nums) ++ organisation_problems (rows_in c nums) ++ member_problems (rows_in c nums) ++ team_problems (rows_in c nums) ++ team_member_problems (rows_in c nums) ++ published_problems (rows_in c nums) ≡ []) × ((grant_problems (rows_in c nums) ≡ []) × ((maintainer_problems (rows_in c nums) ≡ []) × (live_problems (rows_in c nums) ≡ [])))
-    packages = nil_four (token_problems (rows_in c nums) ++ organisation_problems (rows_in c nums) ++ member_problems (rows_in c nums) ++ team_problems (rows_in c nums) ++ team_member_problems (rows_in c nums) ++ published_problems (rows_in c nums)) (grant_problems (rows_in c nums)) (maintainer_problems (rows_in c nums)) (live_problems (rows_in c nums)) versions.0
+    packages : (token_problems (rows_in c) ++ organisation_problems (rows_in c) ++ member_problems (rows_in c) ++ team_problems (rows_in c) ++ team_member_problems (rows_in c) ++ published_problems (rows_in c) ≡ []) × ((grant_problems (rows_in c) ≡ []) × ((maintainer_problems (rows_in c) ≡ []) × (live_problems (rows_in c) ≡ [])))
+    packages = nil_four (token_problems (rows_in c) ++ organisation_problems (rows_in c) ++ member_problems (rows_in c) ++ team_problems (rows_in c) ++ team_member_problems (rows_in c) ++ published_problems (rows_in c)) (grant_problems (rows_in c)) (maintainer_problems (rows_in c)) (live_problems (rows_in c)) versions.0
 
-    groups : (token_problems (rows_in c nums) ++ organisation_problems (rows_in c nums) ++ member_problems (rows_in c nums) ≡ []) × ((team_problems (rows_in c nums) ≡ []) × ((team_member_problems (rows_in c nums) ≡ []) × (published_problems (rows_in c nums) ≡ [])))
-    groups = nil_four (token_problems (rows_in c nums) ++ organisation_problems (rows_in c nums) ++ member_problems (rows_in c nums)) (team_problems (rows_in c nums)) (team_member_problems (rows_in c nums)) (published_problems (rows_in c nums)) packages.0
+    groups : (token_problems (rows_in c) ++ organisation_problems (rows_in c) ++ member_problems (rows_in c) ≡ []) × ((team_problems (rows_in c) ≡ []) × ((team_member_problems (rows_in c) ≡ []) × (published_problems (rows_in c) ≡ [])))
+    groups = nil_four (token_problems (rows_in c) ++ organisation_problems (rows_in c) ++ member_problems (rows_in c)) (team_problems (rows_in c)) (team_member_problems (rows_in c)) (published_problems (rows_in c)) packages.0
 
-    accounts : (token_problems (rows_in c nums) ≡ []) × ((organisation_problems (rows_in c nums) ≡ []) × (member_problems (rows_in c nums) ≡ []))
-    accounts = nil_three (token_problems (rows_in c nums)) (organisation_problems (rows_in c nums)) (member_problems (rows_in c nums)) groups.0
+    accounts : (token_problems (rows_in c) ≡ []) × ((organisation_problems (rows_in c) ≡ []) × (member_problems (rows_in c) ≡ []))
+    accounts = nil_three (token_problems (rows_in c)) (organisation_problems (rows_in c)) (member_problems (rows_in c)) groups.0
 
     -- what the rules say of each key and its value
 
-    tokens_hold : (d u : Text) → at c.tokens d ≡ Some u → all_hold (token_tests (rows_in c nums) (d, u)) ≡ true
-    tokens_hold = none_means text_key c.tokens spec.token (token_tests (rows_in c nums)) accounts.0
+    tokens_hold : (d u : Text) → at c.tokens d ≡ Some u → all_hold (token_tests (rows_in c) (d, u)) ≡ true
+    tokens_hold = none_means text_key c.tokens spec.token (token_tests (rows_in c)) accounts.0
 
-    organisations_hold : (o : Text) (v : Unit {0}) → at c.organisations o ≡ Some v → all_hold (organisation_tests (rows_in c nums) (o, v)) ≡ true
-    organisations_hold = none_means text_key c.organisations spec.organisation (organisation_tests (rows_in c nums)) accounts.1.0
+    organisations_hold : (o : Text) (v : Unit {0}) → at c.organisations o ≡ Some v → all_hold (organisation_tests (rows_in c) (o, v)) ≡ true
+    organisations_hold = none_means text_key c.organisations spec.organisation (organisation_tests (rows_in c)) accounts.1.0
 
-    members_hold : (k : Pair) (v : Role) → at c.members k ≡ Some v → all_hold (member_tests (rows_in c nums) (k, v)) ≡ true
-    members_hold = none_means pair_key c.members spec.member (member_tests (rows_in c nums)) accounts.1.1
+    members_hold : (k : Pair) (v : Role) → at (access_of c).roles k ≡ Some v → all_hold (member_tests (rows_in c) (k, v)) ≡ true
+    members_hold = none_means pair_key (access_of c).roles spec.member (member_tests (rows_in c)) accounts.1.1
 
-    teams_hold : (k : Pair) (v : Unit {0}) → at c.teams k ≡ Some v → all_hold (team_tests (rows_in c nums) (k, v)) ≡ true
-    teams_hold = none_means pair_key c.teams spec.team (team_tests (rows_in c nums)) groups.1.0
+    teams_hold : (k : Pair) (v : Unit {0}) → at c.teams k ≡ Some v → all_hold (team_tests (rows_in c) (k, v)) ≡ true
+    teams_hold = none_means pair_key c.teams spec.team (team_tests (rows_in c)) groups.1.0
 
-    team_members_hold : (o t u : Text) (v : Unit {0}) → at c.team_members (o, (t, u)) ≡ Some v → all_hold (team_member_tests (rows_in c nums) ((o, (t, u)), v)) ≡ true
-    team_members_hold o t u = none_means triple_key c.team_members spec.team_member (team_member_tests (rows_in c nums)) groups.1.1.0 (o, (t, u))
+    team_members_hold : (o t u : Text) (v : Unit {0}) → at c.team_members (o, (t, u)) ≡ Some v → all_hold (team_member_tests (rows_in c) ((o, (t, u)), v)) ≡ true
+    team_members_hold o t u = none_means triple_key c.team_members spec.team_member (team_member_tests (rows_in c)) groups.1.1.0 (o, (t, u))
 
-    packages_hold : (p : Text) (v : Status) → at c.packages p ≡ Some v → all_hold (package_tests (rows_in c nums) (p, v)) ≡ true
-    packages_hold = none_means text_key c.packages spec.package_of (package_tests (rows_in c nums)) groups.1.1.1
+    packages_hold : (p : Text) (v : Status) → at (access_of c).statuses p ≡ Some v → all_hold (package_tests (rows_in c) (p, v)) ≡ true
+    packages_hold = none_means text_key (access_of c).statuses spec.package_of (package_tests (rows_in c)) groups.1.1.1
 
-    grants_hold : (o t p : Text) → IsSome (at c.grants (o, (t, p))) → IsGrant (access_of c) o t p
+    grants_hold : (o t p : Text) → IsSome (at (access_of c).grants (o, (t, p))) → IsGrant (access_of c) o t p
     grants_hold o t p h =
-        let value = value_of (at c.grants (o, (t, p))) h in
-        let all = none_means triple_key c.grants spec.grant (grant_tests (rows_in c nums)) packages.1.0 (o, (t, p)) value.0 value.1 in
+        let value = value_of (at (access_of c).grants (o, (t, p))) h in
+        let all = none_means triple_key (access_of c).grants spec.grant (grant_tests (rows_in c)) packages.1.0 (o, (t, p)) value.0 value.1 in
         let one = and_parts (has pair_is (entries c.teams) (o, t)) _ all in
-        let two = and_parts (has is (entries c.packages) p) _ one.1 in
+        let two = and_parts (has is (entries (access_of c).statuses) p) _ one.1 in
         let three = and_parts (is_scope o (scope_of p)) _ two.1 in
         record {
           team = sym (has_at pair_key c.teams (o, t)) ∙ one.0;
-          status = sym (has_at text_key c.packages p) ∙ two.0;
+          status = sym (has_at text_key (access_of c).statuses p) ∙ two.0;
           scope = in_scope o (scope_of p) three.0;
         }
 
-    maintainers_hold : (k : Pair) (v : Unit {0}) → at c.owners k ≡ Some v → all_hold (maintainer_tests (rows_in c nums) (k, v)) ≡ true
-    maintainers_hold = none_means pair_key c.owners spec.maintainer (maintainer_tests (rows_in c nums)) packages.1.1.0
+    maintainers_hold : (k : Pair) (v : Unit {0}) → at c.owners k ≡ Some v → all_hold (maintainer_tests (rows_in c) (k, v)) ≡ true
+    maintainers_hold = none_means pair_key c.owners spec.maintainer (maintainer_tests (rows_in c)) packages.1.1.0
 
-    live_hold : (k : Pair) (v : Release) → at c.versions k ≡ Some v → all_hold (live_tests (rows_in c nums) (k, v)) ≡ true
-    live_hold = none_means pair_key c.versions spec.version (live_tests (rows_in c nums)) packages.1.1.1
+    live_hold : (k : Pair) (v : LiveVersion) → at c.versions k ≡ Some v → all_hold (live_tests (rows_in c) (k, v)) ≡ true
+    live_hold = none_means pair_key c.versions spec.version (live_tests (rows_in c)) packages.1.1.1
 
-    needs_hold : (k : Texts 3) (v : Unit {0}) → at c.need_ranges k ≡ Some v → all_hold (need_tests (rows_in c nums) (k, v)) ≡ true
-    needs_hold = none_means (texts_key 3) c.need_ranges spec.need (need_tests (rows_in c nums)) versions.1.0
+    needs_hold : (k : Texts 3) (v : Unit {0}) → at c.need_ranges k ≡ Some v → all_hold (need_tests (rows_in c) (k, v)) ≡ true
+    needs_hold = none_means (texts_key 3) c.need_ranges spec.need (need_tests (rows_in c)) versions.1.0
 
-    held_hold : (k : Pair) (v : ℤ) → at c.held k ≡ Some v → all_hold (held_tests (rows_in c nums) (k, v)) ≡ true
-    held_hold = none_means pair_key c.held spec.held (held_tests (rows_in c nums)) versions.1.1.0
+    held_hold : (k : Pair) (v : ℤ) → at c.held k ≡ Some v → all_hold (held_tests (rows_in c) (k, v)) ≡ true
+    held_hold = none_means pair_key c.held spec.held (held_tests (rows_in c)) versions.1.1.0
 
-    archives_hold : (n : ℤ) (a : Archive) → at c.archives n ≡ Some a → (is_held (rows_in c nums) n ≡ true) × ((is a.integrity (integrity_text a.bytes) ≡ true) × (is_first (rows_in c nums) n a ≡ true))
+    archives_hold : (n : ℤ) (a : Archive) → at c.archives n ≡ Some a → (is_held (rows_in c) n ≡ true) × ((is a.integrity (integrity_text a.bytes) ≡ true) × (is_first (rows_in c) n a ≡ true))
     archives_hold n a h =
-        let all = none_means number_key c.archives spec.archive (archive_tests (rows_in c nums)) versions.1.1.1 n a h in
-        let one = and_parts (is_held (rows_in c nums) n) _ all in
+        let all = none_means number_key c.archives spec.archive (archive_tests (rows_in c)) versions.1.1.1 n a h in
+        let one = and_parts (is_held (rows_in c) n) _ all in
         let two = and_parts (is a.integrity (integrity_text a.bytes)) _ one.1 in
-        (one.0, (two.0, (and_parts (is_first (rows_in c nums) n a) true two.1).0))
+        (one.0, (two.0, (and_parts (is_first (rows_in c) n a) true two.1).0))
 
     -- references
 
-    owned : (o : Text) → IsSome (at c.organisations o) → (u : Text) × (at c.members (o, u) ≡ Some Owner)
+    owned : (o : Text) → IsSome (at c.organisations o) → (u : Text) × (at (access_of c).roles (o, u) ≡ Some Owner)
     owned o h =
         let value = value_of (at c.organisations o) h in
-        let one = and_parts (has_owner (rows_in c nums) o) _ (organisations_hold o value.0 value.1) in
-        let some = any_at pair_key (λ (e : Pair × Role). is e.0.0 o && is_owner (Some e.1)) c.members one.0 in
+        let one = and_parts (has_owner (rows_in c) o) _ (organisations_hold o value.0 value.1) in
+        let some = any_at pair_key (λ (e : Pair × Role). is e.0.0 o && is_owner (Some e.1)) (access_of c).roles one.0 in
         let both = and_parts (is some.0.0 o) (is_owner (Some some.1.0)) some.1.2 in (
           some.0.1,
-          subst (λ (q : Text). at c.members (q, some.0.1) ≡ Some Owner) (same_true text_key some.0.0 o both.0)
+          subst (λ (q : Text). at (access_of c).roles (q, some.0.1) ≡ Some Owner) (same_true text_key some.0.0 o both.0)
               (some.1.1 ∙ ap (λ (r : Role). Some r) (is_its_owner some.1.0 both.1)),
         )
 
     first_team : (o : Text) → IsSome (at c.organisations o) → IsSome (at c.teams (o, developers))
     first_team o h =
         let value = value_of (at c.organisations o) h in
-        let one = and_parts (has_owner (rows_in c nums) o) _ (organisations_hold o value.0 value.1) in
+        let one = and_parts (has_owner (rows_in c) o) _ (organisations_hold o value.0 value.1) in
         sym (has_at pair_key c.teams (o, developers)) ∙ (and_parts (has pair_is (entries c.teams) (o, developers)) true one.1).0
 
-    member_of : (o u : Text) → IsSome (at c.members (o, u)) → IsSome (at c.organisations o) × IsSome (at c.users u)
+    member_of : (o u : Text) → IsSome (at (access_of c).roles (o, u)) → IsSome (at c.organisations o) × IsSome (at c.users u)
     member_of o u h =
-        let value = value_of (at c.members (o, u)) h in
+        let value = value_of (at (access_of c).roles (o, u)) h in
         let one = and_parts (has is (entries c.organisations) o) _ (members_hold (o, u) value.0 value.1) in
         (sym (has_at text_key c.organisations o) ∙ one.0, sym (has_at text_key c.users u) ∙ (and_parts (has is (entries c.users) u) true one.1).0)
 
@@ -212,26 +213,26 @@ module _ (c : Contents) (nums : Numbers) where
         let value = value_of (at c.teams (o, t)) h in
         sym (has_at text_key c.organisations o) ∙ (and_parts (has is (entries c.organisations) o) true (teams_hold (o, t) value.0 value.1)).0
 
-    team_member_of : (o t u : Text) → IsSome (at c.team_members (o, (t, u))) → IsSome (at c.teams (o, t)) × IsSome (at c.members (o, u))
+    team_member_of : (o t u : Text) → IsSome (at c.team_members (o, (t, u))) → IsSome (at c.teams (o, t)) × IsSome (at (access_of c).roles (o, u))
     team_member_of o t u h =
         let value = value_of (at c.team_members (o, (t, u))) h in
         let one = and_parts (has pair_is (entries c.teams) (o, t)) _ (team_members_hold o t u value.0 value.1) in
-        (sym (has_at pair_key c.teams (o, t)) ∙ one.0, sym (has_at pair_key c.members (o, u)) ∙ (and_parts (has pair_is (entries c.members) (o, u)) true one.1).0)
+        (sym (has_at pair_key c.teams (o, t)) ∙ one.0, sym (has_at pair_key (access_of c).roles (o, u)) ∙ (and_parts (has pair_is (entries (access_of c).roles) (o, u)) true one.1).0)
 
-    maintainer_of : (p u : Text) → IsSome (at c.owners (p, u)) → IsSome (at c.packages p) × IsSome (at c.users u)
+    maintainer_of : (p u : Text) → IsSome (at c.owners (p, u)) → IsSome (at (access_of c).statuses p) × IsSome (at c.users u)
     maintainer_of p u h =
         let value = value_of (at c.owners (p, u)) h in
-        let one = and_parts (has is (entries c.packages) p) _ (maintainers_hold (p, u) value.0 value.1) in
-        (sym (has_at text_key c.packages p) ∙ one.0, sym (has_at text_key c.users u) ∙ (and_parts (has is (entries c.users) u) true one.1).0)
+        let one = and_parts (has is (entries (access_of c).statuses) p) _ (maintainers_hold (p, u) value.0 value.1) in
+        (sym (has_at text_key (access_of c).statuses p) ∙ one.0, sym (has_at text_key c.users u) ∙ (and_parts (has is (entries c.users) u) true one.1).0)
 
-    package_keeps : (p : Text) (v : Status) → at c.packages p ≡ Some v → scope_of p ≡ None → (is_public v ≡ true) × (has_maintainer (rows_in c nums) p ≡ true)
+    package_keeps : (p : Text) (v : Status) → at (access_of c).statuses p ≡ Some v → scope_of p ≡ None → (is_public v ≡ true) × (has_maintainer (rows_in c) p ≡ true)
     package_keeps p v h bare =
         let one = and_parts (not (is_none (scope_of p)) || is_public v) _ (packages_hold p v h) in
-        (unscoped (scope_of p) (is_public v) one.0 bare, unscoped (scope_of p) (has_maintainer (rows_in c nums) p) (and_parts _ true one.1).0 bare)
+        (unscoped (scope_of p) (is_public v) one.0 bare, unscoped (scope_of p) (has_maintainer (rows_in c) p) (and_parts _ true one.1).0 bare)
 
-    maintained : (p : Text) → IsSome (at c.packages p) → scope_of p ≡ None → (u : Text) × IsSome (at c.owners (p, u))
+    maintained : (p : Text) → IsSome (at (access_of c).statuses p) → scope_of p ≡ None → (u : Text) × IsSome (at c.owners (p, u))
     maintained p h bare =
-        let value = value_of (at c.packages p) h in
+        let value = value_of (at (access_of c).statuses p) h in
         let some = any_at pair_key (λ (e : Pair × Unit {0}). is e.0.0 p) c.owners (package_keeps p value.0 value.1 bare).1 in
         (some.0.1, subst (λ (q : Text). IsSome (at c.owners (q, some.0.1))) (same_true text_key some.0.0 p some.1.2) (there _ some.1.0 some.1.1))
 
@@ -254,13 +255,13 @@ module _ (c : Contents) (nums : Numbers) where
     need_named : (p v target range : Text) → is_some (at c.need_ranges (p, (v, (target, range)))) ≡ true → is_needed c.versions p v target range ≡ true
     need_named p v target range h =
         let value = value_of (at c.need_ranges (p, (v, (target, range)))) h in
-        let holds = (and_parts (is_named (rows_in c nums) (p, (v, (target, range)))) true (needs_hold (p, (v, (target, range))) value.0 value.1)).0 in
-        let some = any_at pair_key (λ (e : Pair × Release). pair_is e.0 (p, v) && names_if_any target range (needs_of e.1.manifest)) c.versions holds in
+        let holds = (and_parts (is_named (rows_in c) (p, (v, (target, range)))) true (needs_hold (p, (v, (target, range))) value.0 value.1)).0 in
+        let some = any_at pair_key (λ (e : Pair × LiveVersion). pair_is e.0 (p, v) && names_if_any target range (needs_of e.1.manifest)) c.versions holds in
         let both = and_parts (pair_is some.0 (p, v)) (names_if_any target range (needs_of some.1.0.manifest)) some.1.2 in
         let found : at c.versions (p, v) ≡ Some some.1.0 = subst (λ (k : Pair). at c.versions k ≡ Some some.1.0) (same_true pair_key some.0 (p, v) both.0) some.1.1 in
-        ap (λ o. names_if_any target range (option_and_then (λ (release : Release). needs_of release.manifest) o)) found ∙ both.1
+        ap (λ o. names_if_any target range (option_and_then (λ (release : LiveVersion). needs_of release.manifest) o)) found ∙ both.1
 
-    stored_if_named : (p v target range : Text) (release : Release) (needs : Option (List Need)) → are_stored (rows_in c nums) (p, v) needs ≡ true → names_if_any target range needs ≡ true
+    stored_if_named : (p v target range : Text) (release : LiveVersion) (needs : Option (List Need)) → are_stored (rows_in c) (p, v) needs ≡ true → names_if_any target range needs ≡ true
         → is_some (at c.need_ranges (p, (v, (target, range)))) ≡ true
     stored_if_named p v target range release None all h = absurd (true≢false (sym h))
     stored_if_named p v target range release (Some needs) all h =
@@ -268,11 +269,11 @@ module _ (c : Contents) (nums : Numbers) where
         ap₂ (λ (t r : Text). is_some (at c.need_ranges (p, (v, (t, r))))) (sym it.1.1.0) (sym it.1.1.1)
         ∙ sym (has_at (texts_key 3) c.need_ranges (p, (v, (it.0.target, it.0.range)))) ∙ it.1.0
 
-    named_stored : (p v target range : Text) (o : Option Release) → at c.versions (p, v) ≡ o → names_if_any target range (option_and_then (λ (release : Release). needs_of release.manifest) o) ≡ true
+    named_stored : (p v target range : Text) (o : Option LiveVersion) → at c.versions (p, v) ≡ o → names_if_any target range (option_and_then (λ (release : LiveVersion). needs_of release.manifest) o) ≡ true
         → is_some (at c.need_ranges (p, (v, (target, range)))) ≡ true
     named_stored p v target range None e h = absurd (true≢false (sym h))
     named_stored p v target range (Some release) e h =
-        stored_if_named p v target range release (needs_of release.manifest) (and_parts (are_stored (rows_in c nums) (p, v) (needs_of release.manifest)) _ (live_hold (p, v) release e)).0 h
+        stored_if_named p v target range release (needs_of release.manifest) (and_parts (are_stored (rows_in c) (p, v) (needs_of release.manifest)) _ (live_hold (p, v) release e)).0 h
 
     needs_are : HoldsNeeds c
     needs_are = record { stored = λ p v target range. both_ways _ _ (need_named p v target range) (named_stored p v target range (at c.versions (p, v)) refl) }
@@ -282,7 +283,7 @@ module _ (c : Contents) (nums : Numbers) where
     version_has : (k : Pair) → is_some (at c.versions k) ≡ true → is_some (at c.held k) ≡ true
     version_has k h =
         let value = value_of (at c.versions k) h in
-        let one = and_parts (are_stored (rows_in c nums) k (needs_of value.0.manifest)) _ (live_hold k value.0 value.1) in
+        let one = and_parts (are_stored (rows_in c) k (needs_of value.0.manifest)) _ (live_hold k value.0 value.1) in
         sym (has_at pair_key c.held k) ∙ (and_parts (has pair_is (entries c.held) k) _ one.1).0
 
     held_lives : (k : Pair) (n : ℤ) → at c.held k ≡ Some n → (is_some (at c.versions k) ≡ true) × (is_some (at c.archives n) ≡ true)
@@ -316,13 +317,13 @@ module _ (c : Contents) (nums : Numbers) where
       integrity = archive_integrity;
       once = archive_once;
       bare = λ k release h.
-          let one = and_parts (are_stored (rows_in c nums) k (needs_of release.manifest)) _ (live_hold k release h) in
+          let one = and_parts (are_stored (rows_in c) k (needs_of release.manifest)) _ (live_hold k release h) in
           let two = and_parts (has pair_is (entries c.held) k) _ one.1 in
           nothing_there release.archive (and_parts (length release.archive == 0) true two.1).0;
     }
 
     premises_hold : MeetsPremises c
-    premises_hold = record { references = references_hold; grants = λ o t p h. (grants_hold o t p h).scope; needs = needs_are; archives = archives_are }
+    premises_hold = record { references = references_hold; grants = λ o t p h. (grants_hold o t p (some-read triple_key c.grants (λ _ n. grant_of n) (o, (t, p)) ∙ h)).scope; needs = needs_are; archives = archives_are }
 
   -- ---- where the premises hold
 
@@ -330,10 +331,10 @@ module _ (c : Contents) (nums : Numbers) where
     refer : IsSound (access_of c)
     refer = met.references
 
-    owner_there : (o : Text) → IsSome (at c.organisations o) → has_owner (rows_in c nums) o ≡ true
-    owner_there o h = let it = refer.owners o h in at_any pair_key (λ (e : Pair × Role). is e.0.0 o && is_owner (Some e.1)) c.members (o, it.0) Owner it.1 (and_from _ _ (same_self text_key o) refl)
+    owner_there : (o : Text) → IsSome (at c.organisations o) → has_owner (rows_in c) o ≡ true
+    owner_there o h = let it = refer.owners o h in at_any pair_key (λ (e : Pair × Role). is e.0.0 o && is_owner (Some e.1)) (access_of c).roles (o, it.0) Owner it.1 (and_from _ _ (same_self text_key o) refl)
 
-    maintainer_there : (p : Text) → IsSome (at c.packages p) → scope_of p ≡ None → has_maintainer (rows_in c nums) p ≡ true
+    maintainer_there : (p : Text) → IsSome (at (access_of c).statuses p) → scope_of p ≡ None → has_maintainer (rows_in c) p ≡ true
     maintainer_there p h bare =
         let it = refer.maintained p h bare in
         let value = value_of (at c.owners (p, it.0)) it.1 in
@@ -348,77 +349,77 @@ module _ (c : Contents) (nums : Numbers) where
     team_there : (o t : Text) → IsSome (at c.teams (o, t)) → has pair_is (entries c.teams) (o, t) ≡ true
     team_there o t h = has_at pair_key c.teams (o, t) ∙ h
 
-    package_there : (p : Text) → IsSome (at c.packages p) → has is (entries c.packages) p ≡ true
-    package_there p h = has_at text_key c.packages p ∙ h
+    package_there : (p : Text) → IsSome (at (access_of c).statuses p) → has is (entries (access_of c).statuses) p ≡ true
+    package_there p h = has_at text_key (access_of c).statuses p ∙ h
 
-    tokens_fine : token_problems (rows_in c nums) ≡ []
-    tokens_fine = means_none text_key c.tokens spec.token (token_tests (rows_in c nums)) (λ d u h. and_from _ true (user_there u (refer.tokens d u h)) refl)
+    tokens_fine : token_problems (rows_in c) ≡ []
+    tokens_fine = means_none text_key c.tokens spec.token (token_tests (rows_in c)) (λ d u h. and_from _ true (user_there u (refer.tokens d u h)) refl)
 
-    organisations_fine : organisation_problems (rows_in c nums) ≡ []
-    organisations_fine = means_none text_key c.organisations spec.organisation (organisation_tests (rows_in c nums)) (λ o v h.
+    organisations_fine : organisation_problems (rows_in c) ≡ []
+    organisations_fine = means_none text_key c.organisations spec.organisation (organisation_tests (rows_in c)) (λ o v h.
         let some = there _ v h in and_from _ _ (owner_there o some) (and_from _ true (team_there o developers (refer.first_teams o some)) refl))
 
-    members_fine : member_problems (rows_in c nums) ≡ []
-    members_fine = means_none pair_key c.members spec.member (member_tests (rows_in c nums)) (λ k v h.
+    members_fine : member_problems (rows_in c) ≡ []
+    members_fine = means_none pair_key (access_of c).roles spec.member (member_tests (rows_in c)) (λ k v h.
         let it = refer.roles k.0 k.1 (there _ v h) in and_from _ _ (organisation_there k.0 it.0) (and_from _ true (user_there k.1 it.1) refl))
 
-    teams_fine : team_problems (rows_in c nums) ≡ []
-    teams_fine = means_none pair_key c.teams spec.team (team_tests (rows_in c nums)) (λ k v h. and_from _ true (organisation_there k.0 (refer.teams k.0 k.1 (there _ v h))) refl)
+    teams_fine : team_problems (rows_in c) ≡ []
+    teams_fine = means_none pair_key c.teams spec.team (team_tests (rows_in c)) (λ k v h. and_from _ true (organisation_there k.0 (refer.teams k.0 k.1 (there _ v h))) refl)
 
-    team_members_fine : team_member_problems (rows_in c nums) ≡ []
-    team_members_fine = means_none triple_key c.team_members spec.team_member (team_member_tests (rows_in c nums)) (λ k v h.
+    team_members_fine : team_member_problems (rows_in c) ≡ []
+    team_members_fine = means_none triple_key c.team_members spec.team_member (team_member_tests (rows_in c)) (λ k v h.
         let it = refer.team_members k.0 k.1.0 k.1.1 (there _ v h) in
-        and_from _ _ (team_there k.0 k.1.0 it.0) (and_from _ true (has_at pair_key c.members (k.0, k.1.1) ∙ it.1) refl))
+        and_from _ _ (team_there k.0 k.1.0 it.0) (and_from _ true (has_at pair_key (access_of c).roles (k.0, k.1.1) ∙ it.1) refl))
 
-    published_fine : published_problems (rows_in c nums) ≡ []
-    published_fine = means_none text_key c.packages spec.package_of (package_tests (rows_in c nums)) (λ p v h.
+    published_fine : published_problems (rows_in c) ≡ []
+    published_fine = means_none text_key (access_of c).statuses spec.package_of (package_tests (rows_in c)) (λ p v h.
         and_from _ _ (or_scoped (scope_of p) (is_public v) (λ bare. public_else v (λ e. refer.unscoped p bare (h ∙ ap (λ (s : Status). Some s) e))))
-        (and_from _ true (or_scoped (scope_of p) (has_maintainer (rows_in c nums) p) (maintainer_there p (there _ v h))) refl))
+        (and_from _ true (or_scoped (scope_of p) (has_maintainer (rows_in c) p) (maintainer_there p (there _ v h))) refl))
 
-    grants_fine : grant_problems (rows_in c nums) ≡ []
-    grants_fine = means_none triple_key c.grants spec.grant (grant_tests (rows_in c nums)) (λ k v h.
+    grants_fine : grant_problems (rows_in c) ≡ []
+    grants_fine = means_none triple_key (access_of c).grants spec.grant (grant_tests (rows_in c)) (λ k v h.
         let it = refer.grants k.0 k.1.0 k.1.1 (there _ v h) in
         and_from _ _ (team_there k.0 k.1.0 it.team) (and_from _ _ (package_there k.1.1 it.status) (and_from _ true (scope_in k.0 (scope_of k.1.1) it.scope) refl)))
 
-    maintainers_fine : maintainer_problems (rows_in c nums) ≡ []
-    maintainers_fine = means_none pair_key c.owners spec.maintainer (maintainer_tests (rows_in c nums)) (λ k v h.
+    maintainers_fine : maintainer_problems (rows_in c) ≡ []
+    maintainers_fine = means_none pair_key c.owners spec.maintainer (maintainer_tests (rows_in c)) (λ k v h.
         let it = refer.maintainers k.0 k.1 (there _ v h) in and_from _ _ (package_there k.0 it.0) (and_from _ true (user_there k.1 it.1) refl))
 
     -- needs
 
-    is_named_there : (p v target range : Text) (o : Option Release) → at c.versions (p, v) ≡ o → names_if_any target range (option_and_then (λ (release : Release). needs_of release.manifest) o) ≡ true
-        → is_named (rows_in c nums) (p, (v, (target, range))) ≡ true
+    is_named_there : (p v target range : Text) (o : Option LiveVersion) → at c.versions (p, v) ≡ o → names_if_any target range (option_and_then (λ (release : LiveVersion). needs_of release.manifest) o) ≡ true
+        → is_named (rows_in c) (p, (v, (target, range))) ≡ true
     is_named_there p v target range None e h = absurd (true≢false (sym h))
     is_named_there p v target range (Some release) e h =
-        at_any pair_key (λ (e : Pair × Release). pair_is e.0 (p, v) && names_if_any target range (needs_of e.1.manifest)) c.versions (p, v) release e (and_from _ _ (same_self pair_key (p, v)) h)
+        at_any pair_key (λ (e : Pair × LiveVersion). pair_is e.0 (p, v) && names_if_any target range (needs_of e.1.manifest)) c.versions (p, v) release e (and_from _ _ (same_self pair_key (p, v)) h)
 
-    needs_fine : need_problems (rows_in c nums) ≡ []
-    needs_fine = means_none (texts_key 3) c.need_ranges spec.need (need_tests (rows_in c nums)) (λ k u h.
+    needs_fine : need_problems (rows_in c) ≡ []
+    needs_fine = means_none (texts_key 3) c.need_ranges spec.need (need_tests (rows_in c)) (λ k u h.
         let needed : is_needed c.versions k.0 k.1.0 k.1.1.0 k.1.1.1 ≡ true = sym (met.needs.stored k.0 k.1.0 k.1.1.0 k.1.1.1) ∙ there _ u h in
         and_from _ true (is_named_there k.0 k.1.0 k.1.1.0 k.1.1.1 (at c.versions (k.0, k.1.0)) refl needed) refl)
 
-    are_stored_there : (k : Pair) (release : Release) → at c.versions k ≡ Some release → (needs : Option (List Need)) → needs_of release.manifest ≡ needs → are_stored (rows_in c nums) k needs ≡ true
+    are_stored_there : (k : Pair) (release : LiveVersion) → at c.versions k ≡ Some release → (needs : Option (List Need)) → needs_of release.manifest ≡ needs → are_stored (rows_in c) k needs ≡ true
     are_stored_there k release h None e = refl
     are_stored_there k release h (Some needs) e = all_stored (λ need. has need_is (entries c.need_ranges) (k.0, (k.1, (need.target, need.range)))) needs (λ need named.
         has_at (texts_key 3) c.need_ranges (k.0, (k.1, (need.target, need.range))) ∙ met.needs.stored k.0 k.1 need.target need.range
-        ∙ ap (λ o. names_if_any need.target need.range (option_and_then (λ (r : Release). needs_of r.manifest) o)) h ∙ ap (names_if_any need.target need.range) e ∙ named)
+        ∙ ap (λ o. names_if_any need.target need.range (option_and_then (λ (r : LiveVersion). needs_of r.manifest) o)) h ∙ ap (names_if_any need.target need.range) e ∙ named)
 
     -- archives
 
-    live_fine : live_problems (rows_in c nums) ≡ []
-    live_fine = means_none pair_key c.versions spec.version (live_tests (rows_in c nums)) (λ k release h.
+    live_fine : live_problems (rows_in c) ≡ []
+    live_fine = means_none pair_key c.versions spec.version (live_tests (rows_in c)) (λ k release h.
         and_from _ _ (are_stored_there k release h (needs_of release.manifest) refl)
         (and_from _ _ (has_at pair_key c.held k ∙ met.archives.lives k ∙ there _ release h) (and_from _ true (ap (λ (bytes : List ℕ). length bytes == 0) (met.archives.bare k release h)) refl)))
 
-    held_fine : held_problems (rows_in c nums) ≡ []
-    held_fine = means_none pair_key c.held spec.held (held_tests (rows_in c nums)) (λ k n h.
+    held_fine : held_problems (rows_in c) ≡ []
+    held_fine = means_none pair_key c.held spec.held (held_tests (rows_in c)) (λ k n h.
         and_from _ _ (has_at pair_key c.versions k ∙ sym (met.archives.lives k) ∙ there _ n h)
         (and_from _ true (has_at number_key c.archives n ∙ met.archives.stored k n h) refl))
 
-    held_there : (n : ℤ) (a : Archive) → at c.archives n ≡ Some a → is_held (rows_in c nums) n ≡ true
+    held_there : (n : ℤ) (a : Archive) → at c.archives n ≡ Some a → is_held (rows_in c) n ≡ true
     held_there n a h = let it = met.archives.had n a h in at_any pair_key (λ (e : Pair × ℤ). int_eq e.1 n) c.held it.0 n it.1 (same_self number_key n)
 
-    first_there : (n : ℤ) (a : Archive) → at c.archives n ≡ Some a → is_first (rows_in c nums) n a ≡ true
+    first_there : (n : ℤ) (a : Archive) → at c.archives n ≡ Some a → is_first (rows_in c) n a ≡ true
     first_there n a h =
         let like : ℤ × Archive → Bool = λ e. is_archive a.integrity a.bytes e.1 in
         let here = at_any number_key like c.archives n a h (and_from _ _ (same_self text_key a.integrity) (same_self text_key a.bytes)) in
@@ -427,18 +428,18 @@ module _ (c : Contents) (nums : Numbers) where
         ap (λ o. numbered n (option_map (λ (e : ℤ × Archive). e.0) o)) it.1.1
         ∙ ap (λ (m : ℤ). int_eq m n) (met.archives.once it.0 n it.1.0 a it.1.2.0 h (sym bytes)) ∙ same_self number_key n
 
-    archives_fine : archive_problems (rows_in c nums) ≡ []
-    archives_fine = means_none number_key c.archives spec.archive (archive_tests (rows_in c nums)) (λ n a h.
+    archives_fine : archive_problems (rows_in c) ≡ []
+    archives_fine = means_none number_key c.archives spec.archive (archive_tests (rows_in c)) (λ n a h.
         and_from _ _ (held_there n a h) (and_from _ _ (ap (is a.integrity) (sym (met.archives.integrity n a h)) ∙ same_self text_key a.integrity) (and_from _ true (first_there n a h) refl)))
 
-    none_broken : premise_problems (rows_in c nums) ≡ []
+    none_broken : premise_problems (rows_in c) ≡ []
     none_broken =
-        four_nil (token_problems (rows_in c nums) ++ organisation_problems (rows_in c nums) ++ member_problems (rows_in c nums) ++ team_problems (rows_in c nums) ++ team_member_problems (rows_in c nums) ++ published_problems (rows_in c nums) ++ grant_problems (rows_in c nums) ++ maintainer_problems (rows_in c nums) ++ live_problems (rows_in c nums)) (need_problems (rows_in c nums)) (held_problems (rows_in c nums)) (archive_problems (rows_in c nums))
-        (four_nil (token_problems (rows_in c nums) ++ organisation_problems (rows_in c nums) ++ member_problems (rows_in c nums) ++ team_problems (rows_in c nums) ++ team_member_problems (rows_in c nums) ++ published_problems (rows_in c nums)) (grant_problems (rows_in c nums)) (maintainer_problems (rows_in c nums)) (live_problems (rows_in c nums))
-        (four_nil (token_problems (rows_in c nums) ++ organisation_problems (rows_in c nums) ++ member_problems (rows_in c nums)) (team_problems (rows_in c nums)) (team_member_problems (rows_in c nums)) (published_problems (rows_in c nums))
+        four_nil (token_problems (rows_in c) ++ organisation_problems (rows_in c) ++ member_problems (rows_in c) ++ team_problems (rows_in c) ++ team_member_problems (rows_in c) ++ published_problems (rows_in c) ++ grant_problems (rows_in c) ++ maintainer_problems (rows_in c) ++ live_problems (rows_in c)) (need_problems (rows_in c)) (held_problems (rows_in c)) (archive_problems (rows_in c))
+        (four_nil (token_problems (rows_in c) ++ organisation_problems (rows_in c) ++ member_problems (rows_in c) ++ team_problems (rows_in c) ++ team_member_problems (rows_in c) ++ published_problems (rows_in c)) (grant_problems (rows_in c)) (maintainer_problems (rows_in c)) (live_problems (rows_in c))
+        (four_nil (token_problems (rows_in c) ++ organisation_problems (rows_in c) ++ member_problems (rows_in c)) (team_problems (rows_in c)) (team_member_problems (rows_in c)) (published_problems (rows_in c))
         (ap₂ (λ x y. x ++ y) (ap₂ (λ x y. x ++ y) tokens_fine organisations_fine) members_fine) teams_fine team_members_fine published_fine)
         grants_fine maintainers_fine live_fine) needs_fine held_fine archives_fine
 
 -- no row breaks a rule exactly where the premises hold
-pub none_means_premises : (c : Contents) (nums : Numbers) → TellsPremises (premise_problems (rows_in c nums)) c
-none_means_premises c nums = (premises_hold c nums, none_broken c nums)
+pub none_means_premises : (c : Contents) → TellsPremises (premise_problems (rows_in c)) c
+none_means_premises c = (premises_hold c, none_broken c)

@@ -1,5 +1,5 @@
 -- What the queries show: each table's rows, in the order of its key.
-use Rattle.std.proofs.Common.{◌≡◌, ◌∙◌, ℕ, ℤ, List, [], ◌∷◌, map, refl, codes}
+use Rattle.std.proofs.Common.{◌≡◌, ◌∙◌, ℕ, ℤ, List, [], ◌∷◌, map, refl, sym, codes}
 use Rattle.sqlite.specs.Listing.{understood}
 use Rattle.sqlite.specs.State.{State as Shown, HasCleanDisk}
 use Rattle.sqlite_tied.specs.Compute.{everything}
@@ -7,21 +7,19 @@ use Rattle.sqlite_value.specs.Order.{Row}
 use Rattle.sqlite_sql.specs.Term.{Term, col}
 use Rattle.registry_names.specs.Maps.{entries}
 use Rattle.registry_names.specs.Texts.{Text}
-use Rattle.registry_names.specs.declared.status.Status.{Status}
-use Rattle.registry_access.specs.declared.grant.Grant.{Grant}
-use Rattle.registry_access.specs.declared.role.Role.{Role}
-use Rattle.registry_rules.specs.State.{Release}
+use Rattle.registry_names.proofs.KeyFacts.{pair_key, text_key, triple_key}
 use Rattle.registry_rows.specs.KeyKinds.{bytes, numbers}
 use Rattle.registry_rows.specs.Ready.{Queried, Reads, Ready}
 use Rattle.registry_rows.specs.Statements.{MeansQuery, in_order, select_where}
 use Rattle.registry_rows.proofs.KeyedFacts.{by_bytes_given, by_number_given}
 use Rattle.registry_rows.proofs.LookUpFacts.{seen_as_is, select_all, select_all_by}
-use Rattle.registry_tables.specs.Contents.{Archive}
+use Rattle.registry_tables.specs.Contents.{Archive, LiveVersion, SpentVersion, access_of}
 use Rattle.registry_tables.specs.Effects.{stored}
+use Rattle.registry_tables.specs.Numbers.{grant_of, role_of, status_of}
 use Rattle.registry_tables.specs.Schema as table
 use Rattle.registry_tables.specs.Schema.{schema}
-use Rattle.registry_tables.proofs.MappedFacts.{archives_numbered, grants_mapped, held_mapped, members_mapped, need_ranges_mapped, needs_mapped, organisations_mapped, owners_mapped, packages_mapped, tags_mapped, team_members_mapped, teams_mapped, tokens_mapped, users_mapped, versions_mapped}
-use Rattle.registry_check.proofs.NumberFacts.{levels_mapped, moments_mapped, roles_mapped, spent_numbered, statuses_mapped}
+use Rattle.registry_tables.proofs.MappedFacts.{archives_numbered, grants_mapped, held_mapped, members_mapped, need_ranges_mapped, needs_mapped, organisations_mapped, owners_mapped, packages_mapped, spent_mapped, tags_mapped, team_members_mapped, teams_mapped, tokens_mapped, users_mapped, versions_mapped}
+use Rattle.registry_tables.proofs.ReadFacts.{entries-read}
 use Rattle.registry_check.specs.Numbers.{numbers_in}
 use Rattle.registry_check.specs.Spelled.{archive_spelled, grant_spelled, held_spelled, level_spelled, live_spelled, member_spelled, name_spelled, need_spelled, package_spelled, pair_spelled, role_spelled, spent_spelled, status_spelled, tag_spelled, token_spelled, triple_spelled}
 
@@ -88,10 +86,10 @@ members_means : MeansQuery schema members_text (select_where table.members membe
 unfolding understood everything
 members_means = ((refl, (refl, refl)), refl)
 
-pub members_listed : (old new : Shown) (rows : List Row) → Ready schema old → Queried members_text [] old new rows → HasCleanDisk new → Reads schema old new × (map member_spelled rows ≡ entries (stored old).members)
+pub members_listed : (old new : Shown) (rows : List Row) → Ready schema old → Queried members_text [] old new rows → HasCleanDisk new → Reads schema old new × (map member_spelled rows ≡ entries (access_of (stored old)).roles)
 members_listed old new rows form call clean =
-    let it = select_all members_mapped members_text members_columns _ members_means member_spelled (λ (v : Role). v) (λ id vs. refl) old new rows form call clean in
-    (it.0, it.1 ∙ seen_as_is (entries (stored old).members))
+    let it = select_all members_mapped members_text members_columns _ members_means member_spelled role_of (λ id vs. refl) old new rows form call clean in
+    (it.0, it.1 ∙ sym (entries-read pair_key (stored old).members (λ _ n. role_of n)))
 
 -- ---- teams
 
@@ -139,10 +137,10 @@ packages_means : MeansQuery schema packages_text (select_where table.packages pa
 unfolding understood everything
 packages_means = ((refl, (refl, refl)), refl)
 
-pub packages_listed : (old new : Shown) (rows : List Row) → Ready schema old → Queried packages_text [] old new rows → HasCleanDisk new → Reads schema old new × (map package_spelled rows ≡ entries (stored old).packages)
+pub packages_listed : (old new : Shown) (rows : List Row) → Ready schema old → Queried packages_text [] old new rows → HasCleanDisk new → Reads schema old new × (map package_spelled rows ≡ entries (access_of (stored old)).statuses)
 packages_listed old new rows form call clean =
-    let it = select_all packages_mapped packages_text packages_columns _ packages_means package_spelled (λ (v : Status). v) (λ id vs. refl) old new rows form call clean in
-    (it.0, it.1 ∙ seen_as_is (entries (stored old).packages))
+    let it = select_all packages_mapped packages_text packages_columns _ packages_means package_spelled status_of (λ id vs. refl) old new rows form call clean in
+    (it.0, it.1 ∙ sym (entries-read text_key (stored old).packages (λ _ n. status_of n)))
 
 -- ---- grants
 
@@ -156,10 +154,10 @@ grants_means : MeansQuery schema grants_text (select_where table.grants grants_c
 unfolding understood everything
 grants_means = ((refl, (refl, refl)), refl)
 
-pub grants_listed : (old new : Shown) (rows : List Row) → Ready schema old → Queried grants_text [] old new rows → HasCleanDisk new → Reads schema old new × (map grant_spelled rows ≡ entries (stored old).grants)
+pub grants_listed : (old new : Shown) (rows : List Row) → Ready schema old → Queried grants_text [] old new rows → HasCleanDisk new → Reads schema old new × (map grant_spelled rows ≡ entries (access_of (stored old)).grants)
 grants_listed old new rows form call clean =
-    let it = select_all grants_mapped grants_text grants_columns _ grants_means grant_spelled (λ (v : Grant). v) (λ id vs. refl) old new rows form call clean in
-    (it.0, it.1 ∙ seen_as_is (entries (stored old).grants))
+    let it = select_all grants_mapped grants_text grants_columns _ grants_means grant_spelled grant_of (λ id vs. refl) old new rows form call clean in
+    (it.0, it.1 ∙ sym (entries-read triple_key (stored old).grants (λ _ n. grant_of n)))
 
 -- ---- maintainers
 
@@ -192,7 +190,7 @@ live_means = ((refl, (refl, refl)), refl)
 
 pub live_listed : (old new : Shown) (rows : List Row) → Ready schema old → Queried live_text [] old new rows → HasCleanDisk new → Reads schema old new × (map live_spelled rows ≡ entries (stored old).versions)
 live_listed old new rows form call clean =
-    let it = select_all versions_mapped live_text live_columns _ live_means live_spelled (λ (v : Release). v) (λ id vs. refl) old new rows form call clean in
+    let it = select_all versions_mapped live_text live_columns _ live_means live_spelled (λ (v : LiveVersion). v) (λ id vs. refl) old new rows form call clean in
     (it.0, it.1 ∙ seen_as_is (entries (stored old).versions))
 
 -- ---- needs
@@ -282,20 +280,20 @@ targets_listed old new rows form call clean =
 
 -- ---- numbers
 
-pub roles_listed : (old new : Shown) (rows : List Row) → Ready schema old → Queried members_text [] old new rows → HasCleanDisk new → Reads schema old new × (map role_spelled rows ≡ entries (numbers_in old.now.trees).roles)
+pub roles_listed : (old new : Shown) (rows : List Row) → Ready schema old → Queried members_text [] old new rows → HasCleanDisk new → Reads schema old new × (map role_spelled rows ≡ entries (numbers_in (stored old)).roles)
 roles_listed old new rows form call clean =
-    let it = select_all roles_mapped members_text members_columns _ members_means role_spelled (λ (v : ℤ). v) (λ id vs. refl) old new rows form call clean in
-    (it.0, it.1 ∙ seen_as_is (entries (numbers_in old.now.trees).roles))
+    let it = select_all members_mapped members_text members_columns _ members_means role_spelled (λ (v : ℤ). v) (λ id vs. refl) old new rows form call clean in
+    (it.0, it.1 ∙ seen_as_is (entries (numbers_in (stored old)).roles))
 
-pub statuses_listed : (old new : Shown) (rows : List Row) → Ready schema old → Queried packages_text [] old new rows → HasCleanDisk new → Reads schema old new × (map status_spelled rows ≡ entries (numbers_in old.now.trees).statuses)
+pub statuses_listed : (old new : Shown) (rows : List Row) → Ready schema old → Queried packages_text [] old new rows → HasCleanDisk new → Reads schema old new × (map status_spelled rows ≡ entries (numbers_in (stored old)).statuses)
 statuses_listed old new rows form call clean =
-    let it = select_all statuses_mapped packages_text packages_columns _ packages_means status_spelled (λ (v : ℤ). v) (λ id vs. refl) old new rows form call clean in
-    (it.0, it.1 ∙ seen_as_is (entries (numbers_in old.now.trees).statuses))
+    let it = select_all packages_mapped packages_text packages_columns _ packages_means status_spelled (λ (v : ℤ). v) (λ id vs. refl) old new rows form call clean in
+    (it.0, it.1 ∙ seen_as_is (entries (numbers_in (stored old)).statuses))
 
-pub levels_listed : (old new : Shown) (rows : List Row) → Ready schema old → Queried grants_text [] old new rows → HasCleanDisk new → Reads schema old new × (map level_spelled rows ≡ entries (numbers_in old.now.trees).levels)
+pub levels_listed : (old new : Shown) (rows : List Row) → Ready schema old → Queried grants_text [] old new rows → HasCleanDisk new → Reads schema old new × (map level_spelled rows ≡ entries (numbers_in (stored old)).levels)
 levels_listed old new rows form call clean =
-    let it = select_all levels_mapped grants_text grants_columns _ grants_means level_spelled (λ (v : ℤ). v) (λ id vs. refl) old new rows form call clean in
-    (it.0, it.1 ∙ seen_as_is (entries (numbers_in old.now.trees).levels))
+    let it = select_all grants_mapped grants_text grants_columns _ grants_means level_spelled (λ (v : ℤ). v) (λ id vs. refl) old new rows form call clean in
+    (it.0, it.1 ∙ seen_as_is (entries (numbers_in (stored old)).levels))
 
 -- ---- moments
 
@@ -309,10 +307,10 @@ moments_means : MeansQuery schema moments_text (select_where table.versions mome
 unfolding understood everything
 moments_means = ((refl, (refl, refl)), refl)
 
-pub moments_listed : (old new : Shown) (rows : List Row) → Ready schema old → Queried moments_text [] old new rows → HasCleanDisk new → Reads schema old new × (map role_spelled rows ≡ entries (numbers_in old.now.trees).moments)
+pub moments_listed : (old new : Shown) (rows : List Row) → Ready schema old → Queried moments_text [] old new rows → HasCleanDisk new → Reads schema old new × (map role_spelled rows ≡ entries (numbers_in (stored old)).moments)
 moments_listed old new rows form call clean =
-    let it = select_all moments_mapped moments_text moments_columns _ moments_means role_spelled (λ (v : ℤ). v) (λ id vs. refl) old new rows form call clean in
-    (it.0, it.1 ∙ seen_as_is (entries (numbers_in old.now.trees).moments))
+    let it = select_all versions_mapped moments_text moments_columns _ moments_means role_spelled (λ (v : LiveVersion). v.published) (λ id vs. refl) old new rows form call clean in
+    (it.0, it.1 ∙ sym (entries-read pair_key (stored old).versions (λ _ v. v.published)))
 
 -- ---- spent
 
@@ -326,7 +324,7 @@ spent_means : MeansQuery schema spent_text (select_where table.spent spent_colum
 unfolding understood everything
 spent_means = ((refl, (refl, refl)), refl)
 
-pub spent_listed : (old new : Shown) (rows : List Row) → Ready schema old → Queried spent_text [] old new rows → HasCleanDisk new → Reads schema old new × (map spent_spelled rows ≡ entries (numbers_in old.now.trees).spent)
+pub spent_listed : (old new : Shown) (rows : List Row) → Ready schema old → Queried spent_text [] old new rows → HasCleanDisk new → Reads schema old new × (map spent_spelled rows ≡ entries (numbers_in (stored old)).spent)
 spent_listed old new rows form call clean =
-    let it = select_all spent_numbered spent_text spent_columns _ spent_means spent_spelled (λ (v : ℤ × ℤ). v) (λ id vs. refl) old new rows form call clean in
-    (it.0, it.1 ∙ seen_as_is (entries (numbers_in old.now.trees).spent))
+    let it = select_all spent_mapped spent_text spent_columns _ spent_means spent_spelled (λ (v : SpentVersion). (v.published, v.withdrawn)) (λ id vs. refl) old new rows form call clean in
+    (it.0, it.1 ∙ sym (entries-read pair_key (stored old).spent (λ _ v. (v.published, v.withdrawn))))

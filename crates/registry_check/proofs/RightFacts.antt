@@ -1,11 +1,10 @@
 -- No row breaks a rule exactly where the registry is right.
-use Rattle.std.proofs.Common.{◌≡◌, ◌∙◌, ◌==◌, ℕ, ℤ, ◌≤◌, Bool, true, false, not, ◌&&◌, ◌||◌, List, [], ◌∷◌, ◌++◌, find, length, is_none, is_some, option_and_then, option_map, arith, refl, sym, ap, ap₂, subst, true≢false, Some, None, Option, IsSome, cond}
+use Rattle.std.proofs.Common.{◌≡◌, ◌∙◌, ◌==◌, ℕ, ℤ, ◌≤◌, Bool, true, false, not, ◌&&◌, ◌||◌, List, [], ◌∷◌, ◌++◌, find, length, is_none, is_some, option_and_then, option_map, arith, refl, sym, ap, ap₂, subst, true≢false, Some, None, Option, IsSome, IsTrue, cond}
 use Rattle.std.specs.Ordering.{int_eq}
 use Rattle.std.proofs.lemmas.Bool.{and_from, and_parts, eqb-true, or_left, or_right}
 use Rattle.serde_json.specs.Data.{Data}
 use Rattle.serde_json.specs.Read.{read}
 use Rattle.sqlite_trees.specs.Tree.{Trees}
-use Rattle.sqlite_value.specs.Order.{Row, column}
 use Rattle.registry_names.specs.Idents.{is_ident}
 use Rattle.registry_names.specs.Keys.{IsKey, Pair, Triple, pair_is}
 use Rattle.registry_names.specs.Maps.{at, entries, first_at}
@@ -16,19 +15,19 @@ use Rattle.registry_names.specs.Tags.{is_tag, latest}
 use Rattle.registry_names.specs.Texts.{Text, is}
 use Rattle.registry_names.specs.declared.status.Status.{Status}
 use Rattle.registry_names.proofs.KeyFacts.{pair_key, same_self, same_true, text_key, triple_key}
-use Rattle.registry_names.proofs.MapFacts.{at-entries, at-revise}
+use Rattle.registry_names.proofs.MapFacts.{at-entries}
 use Rattle.registry_publish.specs.Integrity.{has_integrity}
 use Rattle.registry_rules.specs.Kept.{IsKept, IsReleaseOf, IsSpelled, IsTagOf, IsWithdrawalOf}
 use Rattle.registry_rules.specs.State.{Release, Withdrawal, is_live}
-use Rattle.registry_rows.specs.Columns.{int_in, number_in}
-use Rattle.registry_rows.specs.Rows.{map_of}
 use Rattle.registry_rows.proofs.KeyedFacts.{number_key}
-use Rattle.registry_tables.specs.Contents.{Archive, Contents, access_of, contents, live_of, registry_of, release_in, with_bytes, withdrawal_in}
-use Rattle.registry_tables.specs.Schema as table
+use Rattle.registry_tables.specs.Contents.{Archive, Contents, LiveVersion, SpentVersion, access_of, as_withdrawal, contents, live_of, registry_of, with_bytes}
+use Rattle.registry_tables.specs.Numbers.{is_level, is_moment, is_role, is_status, seconds_of}
+use Rattle.registry_tables.specs.Ranges.{HasNumbersInRange}
+use Rattle.registry_tables.proofs.ReadFacts.{at-read, read_there}
 use Rattle.registry_tables.proofs.LiveFacts.{lives_as_row}
 use Rattle.registry_check.specs.FormRules.{has_live, has_scope_of, held_integrity, held_number, integrity_under, level_forms, maintainer_forms, moment_forms, organisation_forms, package_forms, role_forms, spent_forms, states_held, status_forms, tag_forms, target_forms, team_forms, token_forms, user_forms, version_forms}
-use Rattle.registry_check.specs.Forms.{is_level, is_manifest_text, is_moment, is_name, is_role, is_status, is_version, states, states_in}
-use Rattle.registry_check.specs.Numbers.{AreInRange, Numbers, moments_in, numbers_in, third_in}
+use Rattle.registry_check.specs.Forms.{is_manifest_text, is_name, is_version, states, states_in}
+use Rattle.registry_check.specs.Numbers.{Numbers, numbers_in}
 use Rattle.registry_check.specs.Premises.{MeetsPremises, rows_in}
 use Rattle.registry_check.specs.Problems as spec
 use Rattle.registry_check.specs.Problems.{level_problems, maintainer_form_problems, moment_problems, name_problems, number_problems, organisation_form_problems, package_form_problems, premise_problems, problems, role_problems, spent_problems, status_problems, tag_problems, target_problems, team_form_problems, token_form_problems, user_form_problems, version_form_problems}
@@ -37,7 +36,6 @@ use Rattle.registry_check.specs.Rows.{Rows}
 use Rattle.registry_check.specs.Rules.{has}
 use Rattle.registry_check.proofs.EachFacts.{all_hold, any_at, at_any, has_at, means_none, nil_parts, none_means, there, value_of}
 use Rattle.registry_check.proofs.FormFacts.{in_time, is_manifest_text_of, is_name_of, is_version_of, manifest_text_is, name_is, version_is}
-use Rattle.registry_check.proofs.NumberFacts.{at_valued, natural_in, number_read, row_of}
 use Rattle.registry_check.proofs.PremiseFacts.{none_means_premises}
 
 -- ---- tests
@@ -100,49 +98,37 @@ five_nil x a b c d o p q r s = nil_two (x ++ a ++ b ++ c) d (nil_two (x ++ a ++ 
 -- ---- what contents say of numbers
 
 -- a live version was published at its number
-at_moment : (db : Trees) (k : Pair) (release : Release) → at (contents db).versions k ≡ Some release → (z : ℤ) × ((at (numbers_in db).moments k ≡ Some z) × (release.at ≡ natural_in z))
-at_moment db k release h =
-    let row = row_of release_in (at (map_of 1 (λ (vs : Row). vs) (db table.versions.tree)) k) release (sym (at_valued 1 release_in (db table.versions.tree) k) ∙ h) in (
-      third_in row.0,
+at_moment : (c : Contents) (k : Pair) (row : LiveVersion) → at c.versions k ≡ Some row → at (numbers_in c).moments k ≡ Some row.published
+at_moment c k row h = at-read pair_key c.versions (λ _ v. v.published) k ∙ ap (option_map (λ (v : LiveVersion). v.published)) h
+
+-- a withdrawal has the moments of its numbers
+at_moments : (c : Contents) (k : Pair) (w : Withdrawal) → at (registry_of c).spent k ≡ Some w → (z : ℤ × ℤ) × ((at (numbers_in c).spent k ≡ Some z) × ((w.published ≡ seconds_of z.0) × (w.withdrawn ≡ seconds_of z.1)))
+at_moments c k w h =
+    let row = read_there pair_key c.spent (λ _ v. as_withdrawal v) k w h in (
+      (row.0.published, row.0.withdrawn),
       (
-        at_valued 1 third_in (db table.versions.tree) k ∙ ap (option_map third_in) row.1.0,
-        ap (λ (r : Release). r.at) (sym row.1.1) ∙ number_read (column row.0 2),
+        at-read pair_key c.spent (λ _ v. (v.published, v.withdrawn)) k ∙ ap (option_map (λ (v : SpentVersion). (v.published, v.withdrawn))) row.1,
+        (ap (λ (r : Withdrawal). r.published) (sym row.2), ap (λ (r : Withdrawal). r.withdrawn) (sym row.2)),
       ),
     )
 
-at_moments : (db : Trees) (k : Pair) (w : Withdrawal) → at (contents db).spent k ≡ Some w → (z : ℤ × ℤ) × ((at (numbers_in db).spent k ≡ Some z) × ((w.published ≡ natural_in z.0) × (w.withdrawn ≡ natural_in z.1)))
-at_moments db k w h =
-    let row = row_of withdrawal_in (at (map_of 1 (λ (vs : Row). vs) (db table.spent.tree)) k) w (sym (at_valued 1 withdrawal_in (db table.spent.tree) k) ∙ h) in (
-      moments_in row.0,
-      (
-        at_valued 1 moments_in (db table.spent.tree) k ∙ ap (option_map moments_in) row.1.0,
-        (ap (λ (r : Withdrawal). r.published) (sym row.1.1) ∙ number_read (column row.0 2), ap (λ (r : Withdrawal). r.withdrawn) (sym row.1.1) ∙ number_read (column row.0 3)),
-      ),
-    )
-
--- and where there is a number, there is a withdrawal
-withdrawn_there : (db : Trees) (k : Pair) (z : ℤ × ℤ) → at (numbers_in db).spent k ≡ Some z → (w : Withdrawal) × (at (contents db).spent k ≡ Some w)
-withdrawn_there db k z h =
-    let row = row_of moments_in (at (map_of 1 (λ (vs : Row). vs) (db table.spent.tree)) k) z (sym (at_valued 1 moments_in (db table.spent.tree) k) ∙ h) in
-    (withdrawal_in row.0, at_valued 1 withdrawal_in (db table.spent.tree) k ∙ ap (option_map withdrawal_in) row.1.0)
+-- where there are numbers, there is the row
+spent_there : (c : Contents) (k : Pair) (z : ℤ × ℤ) → at (numbers_in c).spent k ≡ Some z → (v : SpentVersion) × (at c.spent k ≡ Some v) × ((v.published, v.withdrawn) ≡ z)
+spent_there c k z h = read_there pair_key c.spent (λ _ v. (v.published, v.withdrawn)) k z h
 
 -- a live version of the state is one of the table
-live_row : (c : Contents) (k : Pair) (release : Release) → at (live_of c) k ≡ Some release → (r : Release) × ((at c.versions k ≡ Some r) × (with_bytes c k r ≡ release))
-live_row c k release h = each (at c.versions k) refl (sym (at-revise pair_key c.versions (with_bytes c) k) ∙ h)
-  where
-    each : (o : Option Release) → at c.versions k ≡ o → option_map (with_bytes c k) o ≡ Some release → (r : Release) × ((at c.versions k ≡ Some r) × (with_bytes c k r ≡ release))
-    each None e i = absurd cc
-    each (Some r) e i = let same : with_bytes c k r ≡ release = cc in (r, (e, same))
+live_row : (c : Contents) (k : Pair) (release : Release) → at (live_of c) k ≡ Some release → (r : LiveVersion) × ((at c.versions k ≡ Some r) × (with_bytes c k r ≡ release))
+live_row c k release h = let row = read_there pair_key c.versions (with_bytes c) k release h in (row.0, (row.1, row.2))
 
-row_live : (c : Contents) (k : Pair) (r : Release) → at c.versions k ≡ Some r → at (live_of c) k ≡ Some (with_bytes c k r)
-row_live c k r h = at-revise pair_key c.versions (with_bytes c) k ∙ ap (option_map (with_bytes c k)) h
+row_live : (c : Contents) (k : Pair) (r : LiveVersion) → at c.versions k ≡ Some r → at (live_of c) k ≡ Some (with_bytes c k r)
+row_live c k r h = at-read pair_key c.versions (with_bytes c) k ∙ ap (option_map (with_bytes c k)) h
 
 -- the integrity stored with the archive of a version
-integrity_at : (c : Contents) (nums : Numbers) (k : Pair) → held_integrity (rows_in c nums) k ≡ option_and_then (λ (n : ℤ). option_map (λ (a : Archive). a.integrity) (at c.archives n)) (at c.held k)
-integrity_at c nums k =
-    ap (option_and_then (integrity_under (rows_in c nums))) (found_first pair_is (entries c.held) k ∙ sym (at-entries pair_key c.held k)) ∙ each (at c.held k)
+integrity_at : (c : Contents) (k : Pair) → held_integrity (rows_in c) k ≡ option_and_then (λ (n : ℤ). option_map (λ (a : Archive). a.integrity) (at c.archives n)) (at c.held k)
+integrity_at c k =
+    ap (option_and_then (integrity_under (rows_in c))) (found_first pair_is (entries c.held) k ∙ sym (at-entries pair_key c.held k)) ∙ each (at c.held k)
   where
-    each : (o : Option ℤ) → option_and_then (integrity_under (rows_in c nums)) o ≡ option_and_then (λ (n : ℤ). option_map (λ (a : Archive). a.integrity) (at c.archives n)) o
+    each : (o : Option ℤ) → option_and_then (integrity_under (rows_in c)) o ≡ option_and_then (λ (n : ℤ). option_map (λ (a : Archive). a.integrity) (at c.archives n)) o
     each None = refl
     each (Some n) = found_integrity (entries c.archives) n ∙ ap (option_map (λ (a : Archive). a.integrity)) (sym (at-entries number_key c.archives n))
 
@@ -154,7 +140,7 @@ module _ (db : Trees) where
   c = contents db
 
   abbrev nums : Numbers
-  nums = numbers_in db
+  nums = numbers_in (contents db)
 
   abbrev all : Rows
   all = rows_at db
@@ -179,10 +165,10 @@ module _ (db : Trees) where
 
     -- what the rules say of each key and its value
 
-    packages_hold : (p : Text) (v : Status) → at c.packages p ≡ Some v → all_hold (package_forms all (p, v)) ≡ true
-    packages_hold = none_means text_key c.packages spec.package_of (package_forms all) names.1.1.1.0
+    packages_hold : (p : Text) (v : Status) → at (access_of c).statuses p ≡ Some v → all_hold (package_forms all (p, v)) ≡ true
+    packages_hold = none_means text_key (access_of c).statuses spec.package_of (package_forms all) names.1.1.1.0
 
-    versions_hold : (k : Pair) (v : Release) → at c.versions k ≡ Some v → all_hold (version_forms all (k, v)) ≡ true
+    versions_hold : (k : Pair) (v : LiveVersion) → at c.versions k ≡ Some v → all_hold (version_forms all (k, v)) ≡ true
     versions_hold = none_means pair_key c.versions spec.version (version_forms all) releases.1.0
 
     spent_hold : (k : Pair) (v : ℤ × ℤ) → at nums.spent k ≡ Some v → all_hold (spent_forms all (k, v)) ≡ true
@@ -219,9 +205,9 @@ module _ (db : Trees) where
         let value = value_of (at c.teams (o, t)) h in
         (and_parts (is_ident t) true (none_means pair_key c.teams spec.team (team_forms all) names.1.1.0 (o, t) value.0 value.1)).0
 
-    package_spelled : (p : Text) → IsSome (at c.packages p) → IsName p
+    package_spelled : (p : Text) → IsSome (at (access_of c).statuses p) → IsName p
     package_spelled p h =
-        let value = value_of (at c.packages p) h in
+        let value = value_of (at (access_of c).statuses p) h in
         name_is p (and_parts (is_name p) _ (packages_hold p value.0 value.1)).0
 
     all_spelled : IsSpelled (access_of c)
@@ -229,50 +215,49 @@ module _ (db : Trees) where
 
     -- versions
 
-    package_there : (k : Pair) (r : Release) → at c.versions k ≡ Some r → IsSome (at c.packages k.0)
-    package_there k r h = sym (has_at text_key c.packages k.0) ∙ (and_parts (has is (entries c.packages) k.0) _ (versions_hold k r h)).0
+    package_there : (k : Pair) (r : LiveVersion) → at c.versions k ≡ Some r → IsSome (at (access_of c).statuses k.0)
+    package_there k r h = sym (has_at text_key (access_of c).statuses k.0) ∙ (and_parts (has is (entries (access_of c).statuses) k.0) _ (versions_hold k r h)).0
 
-    release_form : (p v : Text) (r : Release) → at c.versions (p, v) ≡ Some r → IsReleaseOf p v (with_bytes c (p, v) r)
+    release_form : (p v : Text) (r : LiveVersion) → at c.versions (p, v) ≡ Some r → IsReleaseOf p v (with_bytes c (p, v) r)
     release_form p v r h =
-        let one = and_parts (has is (entries c.packages) p) _ (versions_hold (p, v) r h) in
+        let one = and_parts (has is (entries (access_of c).statuses) p) _ (versions_hold (p, v) r h) in
         let two = and_parts (is_version v) _ one.1 in
         let three = and_parts (is_manifest_text p v r.manifest) _ two.1 in
         let four = and_parts (states_held (held_integrity all (p, v)) r.manifest) _ three.1 in
         let version = version_is v two.0 in
-        let moment = at_moment db (p, v) r h in
         record {
           name = package_spelled p (package_there (p, v) r h);
           version = version.0;
           is_version = version.1;
           manifest = manifest_text_is p v version.0 r.manifest version.1.0 three.0;
-          at = subst (λ (n : ℕ). n ≤ last_second) (sym moment.1.1) (in_time moment.0 (moments_hold (p, v) moment.0 moment.1.0));
+          at = in_time r.published (moments_hold (p, v) r.published (at_moment c (p, v) r h));
           message = (and_parts (is_message r.message) true four.1).0;
         }
 
     release_of : (p v : Text) (release : Release) → at (live_of c) (p, v) ≡ Some release → IsReleaseOf p v release
     release_of p v release h = let row = live_row c (p, v) release h in subst (IsReleaseOf p v) row.1.1 (release_form p v row.0 row.1.0)
 
-    row_there : (p v : Text) → is_live (registry_of c) p v ≡ true → (r : Release) × (at c.versions (p, v) ≡ Some r)
+    row_there : (p v : Text) → is_live (registry_of c) p v ≡ true → (r : LiveVersion) × (at c.versions (p, v) ≡ Some r)
     row_there p v h = value_of (at c.versions (p, v)) (sym (lives_as_row c (p, v)) ∙ h)
 
     latest_there : (p v : Text) → is_live (registry_of c) p v ≡ true → IsSome (at c.tags (p, latest))
     latest_there p v h =
         let row = row_there p v h in
-        let status = value_of (at c.packages p) (package_there (p, v) row.0 row.1) in
+        let status = value_of (at (access_of c).statuses p) (package_there (p, v) row.0 row.1) in
         let one = and_parts (is_name p) _ (packages_hold p status.0 status.1) in
         let two = and_parts (has_scope_of all (scope_of p)) _ one.1 in
         let three = (and_parts (not (has_live all p) || has pair_is (entries c.tags) (p, latest)) true two.1).0 in
-        let lives = at_any pair_key (λ (e : Pair × Release). is e.0.0 p) c.versions (p, v) row.0 row.1 (same_self text_key p) in
+        let lives = at_any pair_key (λ (e : Pair × LiveVersion). is e.0.0 p) c.versions (p, v) row.0 row.1 (same_self text_key p) in
         sym (has_at pair_key c.tags (p, latest)) ∙ not_both (has_live all p) (has pair_is (entries c.tags) (p, latest)) three lives
 
-    withdrawal_of : (p v : Text) (w : Withdrawal) → at c.spent (p, v) ≡ Some w → IsWithdrawalOf (registry_of c) p v w
+    withdrawal_of : (p v : Text) (w : Withdrawal) → at (registry_of c).spent (p, v) ≡ Some w → IsWithdrawalOf (registry_of c) p v w
     withdrawal_of p v w h =
-        let it = at_moments db (p, v) w h in
-        let one = and_parts (has is (entries c.packages) p) _ (spent_hold (p, v) it.0 it.1.0) in
+        let it = at_moments c (p, v) w h in
+        let one = and_parts (has is (entries (access_of c).statuses) p) _ (spent_hold (p, v) it.0 it.1.0) in
         let two = and_parts (is_version v) _ one.1 in
         let three = and_parts (not (has pair_is (entries c.versions) (p, v))) _ two.1 in
         let both = and_parts (is_moment it.0.0) (is_moment it.0.1) (and_parts (is_moment it.0.0 && is_moment it.0.1) true three.1).0 in
-        let published : IsSome (at c.packages p) = sym (has_at text_key c.packages p) ∙ one.0 in
+        let published : IsSome (at (access_of c).statuses p) = sym (has_at text_key (access_of c).statuses p) ∙ one.0 in
         record {
           name = package_spelled p published;
           version = version_is v two.0;
@@ -290,7 +275,7 @@ module _ (db : Trees) where
         record { name = package_spelled p (package_there (p, v) row.0 row.1); tag = one.0; live = lives_as_row c (p, v) ∙ there_is }
 
     premises_hold : MeetsPremises c
-    premises_hold = (none_means_premises c nums).0 first.0
+    premises_hold = (none_means_premises c).0 first.0
 
     all_kept : IsKept (registry_of c)
     all_kept = record {
@@ -305,24 +290,27 @@ module _ (db : Trees) where
 
     -- numbers
 
-    in_range : AreInRange nums
+    spent_range : (k : Pair) (z : ℤ × ℤ) → at nums.spent k ≡ Some z → IsTrue (is_moment z.0) × IsTrue (is_moment z.1)
+    spent_range k z h =
+        let one = and_parts (has is (entries (access_of c).statuses) k.0) _ (spent_hold k z h) in
+        let two = and_parts (is_version k.1) _ one.1 in
+        let three = and_parts (not (has pair_is (entries c.versions) k)) _ two.1 in
+        and_parts (is_moment z.0) (is_moment z.1) (and_parts (is_moment z.0 && is_moment z.1) true three.1).0
+
+    in_range : HasNumbersInRange c
     in_range = record {
       roles = λ k z h. (and_parts (is_role z) true (none_means pair_key nums.roles spec.role (role_forms all) numbers.1.0 k z h)).0;
       statuses = λ p z h. (and_parts (is_status z) true (none_means text_key nums.statuses spec.status (status_forms all) numbers.1.1.0 p z h)).0;
       levels = λ k z h. (and_parts (is_level z) true (none_means triple_key nums.levels spec.level (level_forms all) numbers.1.1.1.0 k z h)).0;
-      moments = moments_hold;
-      spent = λ k z h.
-          let one = and_parts (has is (entries c.packages) k.0) _ (spent_hold k z h) in
-          let two = and_parts (is_version k.1) _ one.1 in
-          let three = and_parts (not (has pair_is (entries c.versions) k)) _ two.1 in
-          and_parts (is_moment z.0) (is_moment z.1) (and_parts (is_moment z.0 && is_moment z.1) true three.1).0;
+      live = λ k v h. moments_hold k v.published (at_moment c k v h);
+      spent = λ k v h. spent_range k (v.published, v.withdrawn) (at-read pair_key c.spent (λ _ v. (v.published, v.withdrawn)) k ∙ ap (option_map (λ (v : SpentVersion). (v.published, v.withdrawn))) h);
     }
 
     -- what is beside
 
-    scope_there : (p o : Text) → IsSome (at c.packages p) → scope_of p ≡ Some o → IsSome (at c.organisations o)
+    scope_there : (p o : Text) → IsSome (at (access_of c).statuses p) → scope_of p ≡ Some o → IsSome (at c.organisations o)
     scope_there p o h e =
-        let status = value_of (at c.packages p) h in
+        let status = value_of (at (access_of c).statuses p) h in
         let one = and_parts (is_name p) _ (packages_hold p status.0 status.1) in
         let two = and_parts (has_scope_of all (scope_of p)) _ one.1 in
         sym (has_at text_key c.organisations o) ∙ (sym (ap (has_scope_of all) e) ∙ two.0)
@@ -332,15 +320,15 @@ module _ (db : Trees) where
         let value = value_of (at c.owners (p, u)) h in
         no_scope (scope_of p) (and_parts (is_none (scope_of p)) true (none_means pair_key c.owners spec.maintainer (maintainer_forms all) names.1.1.1.1 (p, u) value.0 value.1)).0
 
-    stated_there : (k : Pair) (release : Release) (number : ℤ) (a : Archive) (m : Data) → at c.versions k ≡ Some release → at c.held k ≡ Some number → at c.archives number ≡ Some a → read release.manifest ≡ Some m
+    stated_there : (k : Pair) (release : LiveVersion) (number : ℤ) (a : Archive) (m : Data) → at c.versions k ≡ Some release → at c.held k ≡ Some number → at c.archives number ≡ Some a → read release.manifest ≡ Some m
         → has_integrity a.integrity m ≡ true
     stated_there k release number a m h held archive is_read =
-        let one = and_parts (has is (entries c.packages) k.0) _ (versions_hold k release h) in
+        let one = and_parts (has is (entries (access_of c).statuses) k.0) _ (versions_hold k release h) in
         let two = and_parts (is_version k.1) _ one.1 in
         let three = and_parts (is_manifest_text k.0 k.1 release.manifest) _ two.1 in
         let four = and_parts (states_held (held_integrity all k) release.manifest) _ three.1 in
         let integrity : held_integrity all k ≡ Some a.integrity =
-        integrity_at c nums k ∙ ap (option_and_then (λ (n : ℤ). option_map (λ (x : Archive). x.integrity) (at c.archives n))) held ∙ ap (option_map (λ (x : Archive). x.integrity)) archive in
+        integrity_at c k ∙ ap (option_and_then (λ (n : ℤ). option_map (λ (x : Archive). x.integrity) (at c.archives n))) held ∙ ap (option_map (λ (x : Archive). x.integrity)) archive in
         sym (ap (states_in a.integrity) is_read) ∙ (sym (ap (λ o. states_held o release.manifest) integrity) ∙ four.0)
 
     none_unused : (k : Triple) → at c.needs k ≡ None
@@ -368,19 +356,19 @@ module _ (db : Trees) where
     teams_fine : team_form_problems all ≡ []
     teams_fine = means_none pair_key c.teams spec.team (team_forms all) (λ k v h. and_from _ true (right.kept.spelled.teams k.0 k.1 (there _ v h)) refl)
 
-    scope_fine : (p : Text) → IsSome (at c.packages p) → (o : Option Text) → scope_of p ≡ o → has_scope_of all o ≡ true
+    scope_fine : (p : Text) → IsSome (at (access_of c).statuses p) → (o : Option Text) → scope_of p ≡ o → has_scope_of all o ≡ true
     scope_fine p h None e = refl
     scope_fine p h (Some o) e = has_at text_key c.organisations o ∙ right.scopes p o h e
 
     latest_fine : (p : Text) → has_live all p ≡ true → has pair_is (entries c.tags) (p, latest) ≡ true
     latest_fine p h =
-        let it = any_at pair_key (λ (e : Pair × Release). is e.0.0 p) c.versions h in
+        let it = any_at pair_key (λ (e : Pair × LiveVersion). is e.0.0 p) c.versions h in
         let lives : is_live (registry_of c) it.0.0 it.0.1 ≡ true = lives_as_row c it.0 ∙ there _ it.1.0 it.1.1 in
         let tagged : is_some (at c.tags (p, latest)) ≡ true = subst (λ (q : Text). is_some (at c.tags (q, latest)) ≡ true) (same_true text_key it.0.0 p it.1.2) (right.kept.latest it.0.0 it.0.1 lives) in
         has_at pair_key c.tags (p, latest) ∙ tagged
 
     packages_fine : package_form_problems all ≡ []
-    packages_fine = means_none text_key c.packages spec.package_of (package_forms all) (λ p v h.
+    packages_fine = means_none text_key (access_of c).statuses spec.package_of (package_forms all) (λ p v h.
         let some = there _ v h in
         and_from _ _ (is_name_of p (right.kept.spelled.statuses p some))
         (and_from _ _ (scope_fine p some (scope_of p) refl) (and_from _ true (where_live (has_live all p) (has pair_is (entries c.tags) (p, latest)) (latest_fine p)) refl)))
@@ -398,9 +386,11 @@ module _ (db : Trees) where
     levels_fine = means_none triple_key nums.levels spec.level (level_forms all) (λ k z h. and_from _ true (right.numbers.levels k z h) refl)
 
     moments_fine : moment_problems all ≡ []
-    moments_fine = means_none pair_key nums.moments spec.moment (moment_forms all) (λ k z h. and_from _ true (right.numbers.moments k z h) refl)
+    moments_fine = means_none pair_key nums.moments spec.moment (moment_forms all) (λ k z h.
+        let row = read_there pair_key c.versions (λ _ v. v.published) k z h in
+        and_from _ true (subst (λ (n : ℤ). IsTrue (is_moment n)) row.2 (right.numbers.live k row.0 row.1)) refl)
 
-    stated_fine : (k : Pair) (r : Release) → at c.versions k ≡ Some r → (o : Option ℤ) → at c.held k ≡ o
+    stated_fine : (k : Pair) (r : LiveVersion) → at c.versions k ≡ Some r → (o : Option ℤ) → at c.held k ≡ o
         → states_held (option_and_then (λ (n : ℤ). option_map (λ (a : Archive). a.integrity) (at c.archives n)) o) r.manifest ≡ true
     stated_fine k r h None e = refl
     stated_fine k r h (Some n) e = under (at c.archives n) refl
@@ -417,17 +407,17 @@ module _ (db : Trees) where
     versions_fine = means_none pair_key c.versions spec.version (version_forms all) (λ k r h.
         let release = right.kept.live k.0 k.1 (with_bytes c k r) (row_live c k r h) in
         let lives : is_live (registry_of c) k.0 k.1 ≡ true = lives_as_row c k ∙ there _ r h in
-        and_from _ _ (has_at text_key c.packages k.0 ∙ right.kept.status k.0 k.1 lives)
+        and_from _ _ (has_at text_key (access_of c).statuses k.0 ∙ right.kept.status k.0 k.1 lives)
         (and_from _ _ (is_version_of k.1 (release.version, release.is_version))
         (and_from _ _ (is_manifest_text_of k.0 k.1 release.version r.manifest release.is_version.0 release.manifest)
-        (and_from _ _ (ap (λ o. states_held o r.manifest) (integrity_at c nums k) ∙ stated_fine k r h (at c.held k) refl) (and_from _ true release.message refl)))))
+        (and_from _ _ (ap (λ o. states_held o r.manifest) (integrity_at c k) ∙ stated_fine k r h (at c.held k) refl) (and_from _ true release.message refl)))))
 
     spent_fine : spent_problems all ≡ []
     spent_fine = means_none pair_key nums.spent spec.withdrawn (spent_forms all) (λ k z h.
-        let row = withdrawn_there db k z h in
-        let it = right.kept.spent k.0 k.1 row.0 row.1 in
-        let range = right.numbers.spent k z h in
-        and_from _ _ (has_at text_key c.packages k.0 ∙ it.status)
+        let row = spent_there c k z h in
+        let it = right.kept.spent k.0 k.1 (as_withdrawal row.0) (at-read pair_key c.spent (λ _ v. as_withdrawal v) k ∙ ap (option_map as_withdrawal) row.1) in
+        let range = subst (λ (n : ℤ × ℤ). IsTrue (is_moment n.0) × IsTrue (is_moment n.1)) row.2 (right.numbers.spent k row.0 row.1) in
+        and_from _ _ (has_at text_key (access_of c).statuses k.0 ∙ it.status)
         (and_from _ _ (is_version_of k.1 it.version)
         (and_from _ _ (ap not (has_at pair_key c.versions k ∙ sym (lives_as_row c k) ∙ it.gone)) (and_from _ true (and_from _ _ range.0 range.1) refl))))
 
@@ -440,7 +430,7 @@ module _ (db : Trees) where
     targets_fine = means_none triple_key c.needs spec.target (target_forms all) (λ k v h. absurd (no_value v (sym (right.unused k) ∙ h)))
 
     premises_fine : premise_problems all ≡ []
-    premises_fine = (none_means_premises c nums).1 right.premises
+    premises_fine = (none_means_premises c).1 right.premises
 
     names_fine : name_problems all ≡ []
     names_fine =

@@ -10,9 +10,9 @@ use Rattle.registry_names.specs.Names.{scope_of}
 use Rattle.registry_names.specs.Tags.{is_tag, latest}
 use Rattle.registry_names.specs.Texts.{Text, is}
 use Rattle.registry_names.specs.declared.status.Status.{Status}
-use Rattle.registry_rules.specs.State.{Release}
-use Rattle.registry_tables.specs.Contents.{Archive}
-use Rattle.registry_check.specs.Forms.{is_level, is_manifest_text, is_moment, is_name, is_role, is_status, is_version, states}
+use Rattle.registry_tables.specs.Contents.{Archive, LiveVersion}
+use Rattle.registry_tables.specs.Numbers.{is_level, is_moment, is_role, is_status}
+use Rattle.registry_check.specs.Forms.{is_manifest_text, is_name, is_version, states}
 use Rattle.registry_check.specs.Rows.{Rows}
 use Rattle.registry_check.specs.Rules.{has, test}
 use Rattle.registry_check.specs.declared.problem.Test.{Test}
@@ -41,7 +41,7 @@ has_scope_of R (Some s) = has is R.organisations s
 
 -- some version of the package lives
 abbrev pub has_live : Rows → Text → Bool
-has_live R p = list_any (λ (e : Pair × Release). is e.0.0 p) R.live
+has_live R p = list_any (λ (e : Pair × LiveVersion). is e.0.0 p) R.live
 
 abbrev pub package_forms : Rows → Text × Status → List Test
 package_forms R (k, v) = test IsSpelled (is_name k) ∷ test HasScope (has_scope_of R (scope_of k)) ∷ test HasLatest (not (has_live R k) || has pair_is R.tags (k, latest)) ∷ []
@@ -83,7 +83,7 @@ abbrev pub states_held : Option Text → Text → Bool
 states_held None manifest = true
 states_held (Some integrity) manifest = states integrity manifest
 
-abbrev pub version_forms : Rows → Pair × Release → List Test
+abbrev pub version_forms : Rows → Pair × LiveVersion → List Test
 version_forms R (k, v) = test HasPackage (has is R.packages k.0) ∷ test IsSpelled (is_version k.1) ∷ test HasManifest (is_manifest_text k.0 k.1 v.manifest)
     ∷ test HasStated (states_held (held_integrity R k) v.manifest) ∷ test HasMessage (is_message v.message) ∷ []
 

@@ -1,14 +1,12 @@
--- Whether texts and numbers are in form. Each of these holds exactly where the relation of the same
+-- Whether texts are in form. Each of these holds exactly where the relation of the same
 -- name does: `IsName`, `IsVersion` and `IsManifestText`.
-use Rattle.std.specs.Prelude.{◌≡◌, ℕ, suc, ℤ, pos, Bool, true, false, ◌&&◌, ◌||◌, nat_le, List, ◌∷◌, ◌++◌, length, drop, is_some, Option, Some, None, Result, Ok, Err}
-use Rattle.std.specs.Ordering.{int_eq}
+use Rattle.std.specs.Prelude.{◌≡◌, ℕ, suc, Bool, true, false, ◌&&◌, nat_le, List, ◌∷◌, ◌++◌, length, drop, Option, Some, None, Result, Ok, Err}
 use Rattle.semver.specs.Parse.{Parts, version_parts}
 use Rattle.semver.specs.declared.error.Error.{Error}
 use Rattle.serde_json.specs.Data.{Data}
 use Rattle.serde_json.specs.Read.{read}
 use Rattle.serde_json.specs.Written.{compact_text}
 use Rattle.registry_names.specs.Idents.{is_ident}
-use Rattle.registry_names.specs.Moments.{moment_of}
 use Rattle.registry_names.specs.Names.{is_plain_part, is_scoped_part, longest_name, scope_of}
 use Rattle.registry_names.specs.Texts.{Text, is}
 use Rattle.registry_names.specs.VersionReading.{in_profile}
@@ -57,21 +55,3 @@ states_in integrity (Some m) = has_integrity integrity m
 -- the manifest states this integrity of its archive, if it states any
 abbrev pub states : Text → Text → Bool
 states integrity manifest = states_in integrity (read manifest)
-
--- ---- numbers
-
--- a developer, an admin or an owner
-abbrev pub is_role : ℤ → Bool
-is_role n = int_eq n (pos 0) || (int_eq n (pos 1) || int_eq n (pos 2))
-
--- restricted or public
-abbrev pub is_status : ℤ → Bool
-is_status n = int_eq n (pos 0) || int_eq n (pos 1)
-
--- to read, or to write too
-abbrev pub is_level : ℤ → Bool
-is_level n = int_eq n (pos 1) || int_eq n (pos 2)
-
--- of seconds that are a moment
-abbrev pub is_moment : ℤ → Bool
-is_moment n = is_some (moment_of n)

@@ -9,7 +9,7 @@ use Rattle.registry_access.specs.RowMaps.{grant_entry, maintainer_entry, member_
 use Rattle.registry_names.specs.Maps.{entries}
 use Rattle.registry_rows.specs.Frames.{Stays}
 use Rattle.registry_rows.specs.Ready.{Queried, Reads}
-use Rattle.registry_tables.specs.Contents.{Contents}
+use Rattle.registry_tables.specs.Contents.{Contents, access_of, contents}
 use Rattle.registry_tables.specs.Effects.{shown}
 use Rattle.registry_tables.specs.Schema.{schema}
 use Rattle.registry_check.specs.Numbers.{numbers_in}
@@ -39,13 +39,13 @@ pub record AreAccounts (accounts : Accounts) (c : Contents) : Type 0 where
   pub organisations : map organisation_entry accounts.organisations.items ≡ entries c.organisations
 
 pub record AreGroups (groups : Groups) (c : Contents) : Type 0 where
-  pub members : map member_entry groups.members.items ≡ entries c.members
+  pub members : map member_entry groups.members.items ≡ entries (access_of c).roles
   pub teams : map team_entry groups.teams.items ≡ entries c.teams
   pub team_members : map team_member_entry groups.team_members.items ≡ entries c.team_members
 
 pub record ArePackages (packages : Packages) (c : Contents) : Type 0 where
-  pub published : map package_entry packages.published.items ≡ entries c.packages
-  pub grants : map grant_entry packages.grants.items ≡ entries c.grants
+  pub published : map package_entry packages.published.items ≡ entries (access_of c).statuses
+  pub grants : map grant_entry packages.grants.items ≡ entries (access_of c).grants
   pub maintainers : map maintainer_entry packages.maintainers.items ≡ entries c.owners
 
 pub record AreVersions (versions : Versions) (c : Contents) : Type 0 where
@@ -59,13 +59,13 @@ pub record AreMarks (marks : Marks) (c : Contents) : Type 0 where
   pub targets : map target_entry marks.targets.items ≡ entries c.needs
 
 pub record AreGrades (grades : Grades) (db : Trees) : Type 0 where
-  pub roles : map role_entry grades.roles.items ≡ entries (numbers_in db).roles
-  pub statuses : map status_entry grades.statuses.items ≡ entries (numbers_in db).statuses
-  pub levels : map level_entry grades.levels.items ≡ entries (numbers_in db).levels
+  pub roles : map role_entry grades.roles.items ≡ entries (numbers_in (contents db)).roles
+  pub statuses : map status_entry grades.statuses.items ≡ entries (numbers_in (contents db)).statuses
+  pub levels : map level_entry grades.levels.items ≡ entries (numbers_in (contents db)).levels
 
 pub record AreTimes (times : Times) (db : Trees) : Type 0 where
-  pub moments : map moment_entry times.moments.items ≡ entries (numbers_in db).moments
-  pub spent : map spent_entry times.spent.items ≡ entries (numbers_in db).spent
+  pub moments : map moment_entry times.moments.items ≡ entries (numbers_in (contents db)).moments
+  pub spent : map spent_entry times.spent.items ≡ entries (numbers_in (contents db)).spent
 
 -- all of them
 abbrev pub AreTables : Tables → Trees → Type 0

@@ -6,21 +6,21 @@ use Rattle.registry_tables.specs.Archives.{HoldsArchives}
 use Rattle.registry_tables.specs.Contents.{Contents, access_of}
 use Rattle.registry_tables.specs.Needs.{HoldsNeeds}
 use Rattle.registry_tables.specs.Teams.{GrantsInScope}
-use Rattle.registry_check.specs.Numbers.{Numbers}
+use Rattle.registry_check.specs.Numbers.{numbers_in}
 use Rattle.registry_check.specs.Rows.{Rows}
 use Rattle.registry_check.specs.declared.problem.Problem.{Problem}
 
 -- the rows of everything that is stored, in the order of their keys
-abbrev pub rows_in : Contents → Numbers → Rows
-rows_in c n = record {
+abbrev pub rows_in : Contents → Rows
+rows_in c = record {
   users = entries c.users;
   tokens = entries c.tokens;
   organisations = entries c.organisations;
-  members = entries c.members;
+  members = entries (access_of c).roles;
   teams = entries c.teams;
   team_members = entries c.team_members;
-  packages = entries c.packages;
-  grants = entries c.grants;
+  packages = entries (access_of c).statuses;
+  grants = entries (access_of c).grants;
   maintainers = entries c.owners;
   live = entries c.versions;
   needs = entries c.need_ranges;
@@ -28,11 +28,11 @@ rows_in c n = record {
   archives = entries c.archives;
   tags = entries c.tags;
   targets = entries c.needs;
-  roles = entries n.roles;
-  statuses = entries n.statuses;
-  levels = entries n.levels;
-  moments = entries n.moments;
-  spent = entries n.spent;
+  roles = entries (numbers_in c).roles;
+  statuses = entries (numbers_in c).statuses;
+  levels = entries (numbers_in c).levels;
+  moments = entries (numbers_in c).moments;
+  spent = entries (numbers_in c).spent;
 }
 
 -- References hold, and what each organisation and each package needs is there; each grant is on a

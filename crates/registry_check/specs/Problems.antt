@@ -6,8 +6,7 @@ use Rattle.registry_names.specs.Texts.{Text}
 use Rattle.registry_names.specs.declared.status.Status.{Status}
 use Rattle.registry_access.specs.declared.grant.Grant.{Grant}
 use Rattle.registry_access.specs.declared.role.Role.{Role}
-use Rattle.registry_rules.specs.State.{Release}
-use Rattle.registry_tables.specs.Contents.{Archive}
+use Rattle.registry_tables.specs.Contents.{Archive, LiveVersion}
 use Rattle.registry_check.specs.FormRules.{level_forms, maintainer_forms, moment_forms, organisation_forms, package_forms, role_forms, spent_forms, status_forms, tag_forms, target_forms, team_forms, token_forms, user_forms, version_forms}
 use Rattle.registry_check.specs.Rows.{NeedKey, Rows}
 use Rattle.registry_check.specs.Rules.{token_tests, organisation_tests, member_tests, team_tests, team_member_tests, package_tests, grant_tests, maintainer_tests, live_tests, need_tests, held_tests, archive_tests}
@@ -54,7 +53,7 @@ grant e = thing.Grant e.0.0 e.0.1.0 e.0.1.1
 abbrev pub maintainer : Pair × Unit {0} → Thing
 maintainer e = thing.Maintainer e.0.0 e.0.1
 
-abbrev pub version : Pair × Release → Thing
+abbrev pub version : Pair × LiveVersion → Thing
 version e = thing.Version e.0.0 e.0.1
 
 abbrev pub need : NeedKey × Unit {0} → Thing

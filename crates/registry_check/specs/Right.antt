@@ -9,9 +9,8 @@ use Rattle.registry_names.specs.Names.{scope_of}
 use Rattle.registry_names.specs.Texts.{Text}
 use Rattle.registry_publish.specs.Integrity.{has_integrity}
 use Rattle.registry_rules.specs.Kept.{IsKept}
-use Rattle.registry_rules.specs.State.{Release}
-use Rattle.registry_tables.specs.Contents.{Archive, Contents, contents, registry_of}
-use Rattle.registry_check.specs.Numbers.{AreInRange, Numbers, numbers_in}
+use Rattle.registry_tables.specs.Contents.{Archive, Contents, LiveVersion, access_of, contents, registry_of}
+use Rattle.registry_tables.specs.Ranges.{HasNumbersInRange}
 use Rattle.registry_check.specs.Premises.{MeetsPremises, rows_in}
 use Rattle.registry_check.specs.Problems.{problems}
 use Rattle.registry_check.specs.Rows.{Rows}
@@ -21,23 +20,23 @@ use Rattle.registry_check.specs.declared.problem.Problem.{Problem}
 -- something. The organisation of a scope is there, and only packages without a scope have
 -- maintainers. An archive has the integrity that the manifest of its version states, if it states
 -- one. Nothing is in the table `needs`
-pub record HoldsRight (c : Contents) (n : Numbers) : Type 0 where
+pub record HoldsRight (c : Contents) : Type 0 where
   pub premises : MeetsPremises c
   pub kept : IsKept (registry_of c)
-  pub numbers : AreInRange n
-  pub scopes : (p o : Text) → IsSome (at c.packages p) → scope_of p ≡ Some o → IsSome (at c.organisations o)
+  pub numbers : HasNumbersInRange c
+  pub scopes : (p o : Text) → IsSome (at (access_of c).statuses p) → scope_of p ≡ Some o → IsSome (at c.organisations o)
   pub unscoped : (p u : Text) → IsSome (at c.owners (p, u)) → scope_of p ≡ None
-  pub stated : (k : Pair) (release : Release) (number : ℤ) (a : Archive) (m : Data) → at c.versions k ≡ Some release → at c.held k ≡ Some number → at c.archives number ≡ Some a
+  pub stated : (k : Pair) (release : LiveVersion) (number : ℤ) (a : Archive) (m : Data) → at c.versions k ≡ Some release → at c.held k ≡ Some number → at c.archives number ≡ Some a
       → read release.manifest ≡ Some m → has_integrity a.integrity m ≡ true
   pub unused : (k : Triple) → at c.needs k ≡ None
 
 -- what the tables hold is right
 abbrev pub IsRight : Trees → Type 0
-IsRight db = HoldsRight (contents db) (numbers_in db)
+IsRight db = HoldsRight (contents db)
 
 -- all rows of the tables
 abbrev pub rows_at : Trees → Rows
-rows_at db = rows_in (contents db) (numbers_in db)
+rows_at db = rows_in (contents db)
 
 -- these are the problems of everything that is stored
 abbrev pub AreProblems : List Problem → Trees → Type 0

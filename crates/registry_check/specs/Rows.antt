@@ -6,8 +6,7 @@ use Rattle.registry_names.specs.declared.status.Status.{Status}
 use Rattle.registry_access.specs.RowMaps.{organisation_entry, member_entry, team_entry, team_member_entry, grant_entry, package_entry, maintainer_entry}
 use Rattle.registry_access.specs.declared.grant.Grant.{Grant}
 use Rattle.registry_access.specs.declared.role.Role.{Role}
-use Rattle.registry_rules.specs.State.{Release}
-use Rattle.registry_tables.specs.Contents.{Archive}
+use Rattle.registry_tables.specs.Contents.{Archive, LiveVersion}
 use Rattle.registry_check.specs.declared.tables.ArchiveRow.{ArchiveRow}
 use Rattle.registry_check.specs.declared.tables.HeldRow.{HeldRow}
 use Rattle.registry_check.specs.declared.tables.LiveRow.{LiveRow}
@@ -44,7 +43,7 @@ pub record Rows : Type 0 where
   -- package and user
   pub maintainers : List (Pair × Unit {0})
   -- package and version
-  pub live : List (Pair × Release)
+  pub live : List (Pair × LiveVersion)
   pub needs : List (NeedKey × Unit {0})
   -- the number of the archive that a version has, under package and version
   pub held : List (Pair × ℤ)
@@ -70,8 +69,8 @@ user_entry u = (u, tt)
 abbrev pub token_entry : TokenRow → Text × Text
 token_entry r = (r.digest, r.user)
 
-abbrev pub live_entry : LiveRow → Pair × Release
-live_entry r = ((r.package, r.version), record { at = r.at; manifest = r.manifest; archive = r.archive; message = r.message })
+abbrev pub live_entry : LiveRow → Pair × LiveVersion
+live_entry r = ((r.package, r.version), record { published = r.published; manifest = r.manifest; archive = r.archive; message = r.message })
 
 abbrev pub need_entry : NeedRow → NeedKey × Unit {0}
 need_entry r = ((r.package, (r.version, (r.target, r.range))), tt)

@@ -15,9 +15,9 @@ use Rattle.registry_publish.specs.Integrity.{integrity_text}
 use Rattle.registry_publish.specs.Needs.{needs_of}
 use Rattle.registry_publish.specs.declared.need.Need.{Need}
 use Rattle.registry_rules.specs.Refusals.{is_scope}
-use Rattle.registry_rules.specs.State.{Release, developers}
+use Rattle.registry_rules.specs.State.{developers}
 use Rattle.registry_tables.specs.Archives.{is_archive}
-use Rattle.registry_tables.specs.Contents.{Archive}
+use Rattle.registry_tables.specs.Contents.{Archive, LiveVersion}
 use Rattle.registry_tables.specs.Needs.{names_if_any}
 use Rattle.registry_check.specs.Rows.{NeedKey, Rows}
 use Rattle.registry_check.specs.declared.problem.Test.{Test}
@@ -78,7 +78,7 @@ maintainer_tests R (k, v) = test HasPackage (has is R.packages k.0) ∷ test Has
 
 -- the manifest of the live version names the target with this range
 abbrev pub is_named : Rows → NeedKey → Bool
-is_named R k = list_any (λ (e : Pair × Release). pair_is e.0 (k.0, k.1.0) && names_if_any k.1.1.0 k.1.1.1 (needs_of e.1.manifest)) R.live
+is_named R k = list_any (λ (e : Pair × LiveVersion). pair_is e.0 (k.0, k.1.0) && names_if_any k.1.1.0 k.1.1.1 (needs_of e.1.manifest)) R.live
 
 -- both have the same four texts
 abbrev pub need_is : NeedKey → NeedKey → Bool
@@ -90,7 +90,7 @@ abbrev pub are_stored : Rows → Pair → Option (List Need) → Bool
 are_stored R k None = true
 are_stored R k (Some needs) = list_all (λ need. has need_is R.needs (k.0, (k.1, (need.target, need.range)))) needs
 
-abbrev pub live_tests : Rows → Pair × Release → List Test
+abbrev pub live_tests : Rows → Pair × LiveVersion → List Test
 live_tests R (k, v) = test HasNeeds (are_stored R k (needs_of v.manifest)) ∷ test HasArchive (has pair_is R.held k) ∷ test IsBare (length v.archive == 0) ∷ []
 
 abbrev pub need_tests : Rows → NeedKey × Unit {0} → List Test

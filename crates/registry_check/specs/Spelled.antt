@@ -6,9 +6,9 @@ use Rattle.registry_names.specs.Texts.{Text}
 use Rattle.registry_names.specs.declared.status.Status.{Status}
 use Rattle.registry_access.specs.declared.grant.Grant.{Grant}
 use Rattle.registry_access.specs.declared.role.Role.{Role}
-use Rattle.registry_rules.specs.State.{Release}
-use Rattle.registry_rows.specs.Columns.{blob_in, int_in, number_in, text_in}
-use Rattle.registry_tables.specs.Contents.{Archive, grant_of, release_in, role_of, status_of}
+use Rattle.registry_rows.specs.Columns.{blob_in, int_in, text_in}
+use Rattle.registry_tables.specs.Contents.{Archive, LiveVersion, version_in}
+use Rattle.registry_tables.specs.Numbers.{grant_of, role_of, status_of}
 use Rattle.registry_check.specs.Rows.{NeedKey}
 
 abbrev pub name_spelled : Row → Text × Unit {0}
@@ -24,16 +24,16 @@ abbrev pub triple_spelled : Row → Triple × Unit {0}
 triple_spelled r = ((text_in (column r 0), (text_in (column r 1), text_in (column r 2))), tt)
 
 abbrev pub member_spelled : Row → Pair × Role
-member_spelled r = ((text_in (column r 0), text_in (column r 1)), role_of (number_in (column r 2)))
+member_spelled r = ((text_in (column r 0), text_in (column r 1)), role_of (int_in (column r 2)))
 
 abbrev pub package_spelled : Row → Text × Status
-package_spelled r = (text_in (column r 0), status_of (number_in (column r 1)))
+package_spelled r = (text_in (column r 0), status_of (int_in (column r 1)))
 
 abbrev pub grant_spelled : Row → Triple × Grant
-grant_spelled r = ((text_in (column r 0), (text_in (column r 1), text_in (column r 2))), grant_of (number_in (column r 3)))
+grant_spelled r = ((text_in (column r 0), (text_in (column r 1), text_in (column r 2))), grant_of (int_in (column r 3)))
 
-abbrev pub live_spelled : Row → Pair × Release
-live_spelled r = ((text_in (column r 0), text_in (column r 1)), release_in r)
+abbrev pub live_spelled : Row → Pair × LiveVersion
+live_spelled r = ((text_in (column r 0), text_in (column r 1)), version_in r)
 
 abbrev pub need_spelled : Row → NeedKey × Unit {0}
 need_spelled r = ((text_in (column r 0), (text_in (column r 1), (text_in (column r 2), text_in (column r 3)))), tt)

@@ -1,11 +1,10 @@
 //! Whether texts and numbers are in form.
 
 ghost use Rattle.std.specs.Prelude.{◌≡◌, IfOk};
-ghost use Rattle.sqlite.specs.declared.types.Value.TheVariants.{Int};
 ghost use Rattle.registry_names.specs.Idents as idents;
 ghost use Rattle.registry_names.specs.Messages as messages;
 ghost use Rattle.registry_names.specs.Tags as tags;
-ghost use Rattle.registry_rows.specs.Columns.{number_in};
+ghost use Rattle.registry_tables.specs.Numbers as numbers;
 ghost use Rattle.registry_check.specs.Forms as spec;
 
 use crate::search::is_number;
@@ -69,38 +68,28 @@ pub(crate) fn is_message(alloc: Global, text: &str) -> Result<bool, Fault>
 
 /// Whether it is the number of a role.
 pub(crate) fn is_role(number: i64) -> bool
-    ensures { result ≡ spec.is_role number }
+    ensures { result ≡ numbers.is_role number }
 {
     is_number(number, 0) || (is_number(number, 1) || is_number(number, 2))
 }
 
 /// Whether it is the number of a status.
 pub(crate) fn is_status(number: i64) -> bool
-    ensures { result ≡ spec.is_status number }
+    ensures { result ≡ numbers.is_status number }
 {
     is_number(number, 0) || is_number(number, 1)
 }
 
 /// Whether it is the number of what can be granted.
 pub(crate) fn is_level(number: i64) -> bool
-    ensures { result ≡ spec.is_level number }
+    ensures { result ≡ numbers.is_level number }
 {
     is_number(number, 1) || is_number(number, 2)
 }
 
 /// Whether it is the number of seconds of a moment.
 pub(crate) fn is_moment(number: i64) -> bool
-    ensures { result ≡ spec.is_moment number }
+    ensures { result ≡ numbers.is_moment number }
 {
     Moment::new(number).is_some()
-}
-
-/// The number, or 0 where it is below 0: what the registry reads it as.
-pub(crate) fn natural(number: i64) -> u64
-    ensures { result ≡ number_in (Int number) }
-{
-    match u64::try_from(number) {
-        Ok(natural) => natural,
-        Err(_) => 0,
-    }
 }

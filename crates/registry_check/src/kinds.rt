@@ -7,14 +7,12 @@ ghost use Rattle.registry_access.specs.declared.role.Role.{Role as Rank};
 ghost use Rattle.registry_names.specs.Keys.{Pair, Triple};
 ghost use Rattle.registry_names.specs.Texts.{Text as Bytes};
 ghost use Rattle.registry_names.specs.declared.status.Status.{Status as Readers};
-ghost use Rattle.registry_rules.specs.State.{Release};
-ghost use Rattle.registry_tables.specs.Contents as contents;
-ghost use Rattle.registry_tables.specs.Contents.{Archive};
+ghost use Rattle.registry_tables.specs.Contents.{Archive, LiveVersion};
+ghost use Rattle.registry_tables.specs.Numbers as numbers;
 ghost use Rattle.registry_check.specs.Rows.{NeedKey, archive_entry, held_entry, live_entry, need_entry, token_entry, user_entry};
 ghost use Rattle.registry_check.specs.Spelled.{archive_spelled, grant_spelled, held_spelled, live_spelled, member_spelled, name_spelled, need_spelled, package_spelled, pair_spelled, token_spelled, triple_spelled};
 
 use crate::archives::{Archives, Held};
-use crate::forms::natural;
 use crate::packages::{Grants, Maintainers, Published};
 use crate::people::{Members, Organisations, TeamMembers, Teams, Tokens, Users};
 use crate::tables::{ArchiveRow, HeldRow, LiveRow, NeedRow, TokenRow};
@@ -87,7 +85,7 @@ impl RowKind for Members {
     fn read(row: &Row) -> Result<MemberRow, Error> {
         let organisation: String = row.get(0)?;
         let user: String = row.get(1)?;
-        let role = role_of(natural(row.get(2)?));
+        let role = role_of(row.get(2)?);
         Ok(MemberRow {
             organisation: Text::from(organisation),
             user: Text::from(user),
@@ -147,7 +145,7 @@ impl RowKind for Published {
 
     fn read(row: &Row) -> Result<PackageRow, Error> {
         let name: String = row.get(0)?;
-        let status = status_of(natural(row.get(1)?));
+        let status = status_of(row.get(1)?);
         Ok(PackageRow {
             package: Text::from(name),
             status,
@@ -168,7 +166,7 @@ impl RowKind for Grants {
         let organisation: String = row.get(0)?;
         let team: String = row.get(1)?;
         let name: String = row.get(2)?;
-        let grant = grant_of(natural(row.get(3)?));
+        let grant = grant_of(row.get(3)?);
         Ok(GrantRow {
             organisation: Text::from(organisation),
             team: Text::from(team),
@@ -200,7 +198,7 @@ impl RowKind for Maintainers {
 impl RowKind for Live {
     type Value = LiveRow;
 
-    ghost Seen = { Pair × Release };
+    ghost Seen = { Pair × LiveVersion };
 
     ghost seen = { live_entry };
 
@@ -209,14 +207,14 @@ impl RowKind for Live {
     fn read(row: &Row) -> Result<LiveRow, Error> {
         let name: String = row.get(0)?;
         let version: String = row.get(1)?;
-        let at = natural(row.get(2)?);
+        let published = row.get(2)?;
         let manifest: String = row.get(3)?;
         let message: String = row.get(4)?;
         let archive: Vec<u8> = row.get(5)?;
         Ok(LiveRow {
             package: Text::from(name),
             version: Text::from(version),
-            at,
+            published,
             manifest: Text::from(manifest),
             archive: Blob::from(archive),
             message: Text::from(message),
@@ -290,8 +288,8 @@ impl RowKind for Archives {
 }
 
 // What the registry reads the number of a role as.
-fn role_of(number: u64) -> Role
-    ensures { result ≡ contents.role_of number }
+fn role_of(number: i64) -> Role
+    ensures { result ≡ numbers.role_of number }
 {
     if number == 2 {
         Role::Owner
@@ -302,8 +300,8 @@ fn role_of(number: u64) -> Role
     }
 }
 
-fn status_of(number: u64) -> Status
-    ensures { result ≡ contents.status_of number }
+fn status_of(number: i64) -> Status
+    ensures { result ≡ numbers.status_of number }
 {
     if number == 1 {
         Status::Public
@@ -312,8 +310,8 @@ fn status_of(number: u64) -> Status
     }
 }
 
-fn grant_of(number: u64) -> Grant
-    ensures { result ≡ contents.grant_of number }
+fn grant_of(number: i64) -> Grant
+    ensures { result ≡ numbers.grant_of number }
 {
     if number == 2 {
         Grant::ReadWrite

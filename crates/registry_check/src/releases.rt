@@ -3,10 +3,10 @@
 ghost use Rattle.std.specs.Prelude.{◌≡◌, ◌&&◌, ℤ, IfOk};
 ghost use Rattle.registry_names.specs.Keys.{Pair, Triple};
 ghost use Rattle.registry_names.specs.Texts.{Text as Bytes};
-ghost use Rattle.registry_rules.specs.State.{Release};
+ghost use Rattle.registry_tables.specs.Contents.{LiveVersion};
+ghost use Rattle.registry_tables.specs.Numbers as numbers;
 ghost use Rattle.registry_check.specs.FormRules as rules;
 ghost use Rattle.registry_check.specs.FormRules.{spent_forms, tag_forms, target_forms, version_forms};
-ghost use Rattle.registry_check.specs.Forms as forms;
 ghost use Rattle.registry_check.specs.Problems as spec;
 ghost use Rattle.registry_check.specs.Rows.{live_entry, rows_of, spent_entry, tag_entry, target_entry};
 ghost use Rattle.registry_check.specs.Spelled.{spent_spelled, tag_spelled, triple_spelled};
@@ -29,7 +29,7 @@ pub(crate) struct VersionForms;
 impl Checked for VersionForms {
     type Row = LiveRow;
 
-    ghost Entry = { Pair × Release };
+    ghost Entry = { Pair × LiveVersion };
 
     ghost entry = { live_entry };
 
@@ -155,7 +155,7 @@ impl RowKind for Withdrawn {
 
 // Whether both are the numbers of seconds of moments.
 fn are_moments(published: i64, withdrawn: i64) -> bool
-    ensures { result ≡ (forms.is_moment published && forms.is_moment withdrawn) }
+    ensures { result ≡ (numbers.is_moment published && numbers.is_moment withdrawn) }
 {
     is_moment(published) && is_moment(withdrawn)
 }

@@ -20,7 +20,7 @@ pub(crate) struct LiveRow {
     /// The version.
     pub(crate) version: Text,
     /// When it was published, in seconds.
-    pub(crate) at: u64,
+    pub(crate) published: i64,
     /// The manifest.
     pub(crate) manifest: Text,
     /// The bytes that the row holds itself.

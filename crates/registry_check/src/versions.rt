@@ -5,7 +5,7 @@ ghost use Rattle.std.specs.List.{list_all, list_any};
 ghost use Rattle.registry_names.specs.Keys.{Pair, pair_is};
 ghost use Rattle.registry_names.specs.Texts as texts;
 ghost use Rattle.registry_publish.specs.Needs as needs;
-ghost use Rattle.registry_rules.specs.State.{Release};
+ghost use Rattle.registry_tables.specs.Contents.{LiveVersion};
 ghost use Rattle.registry_tables.specs.Needs.{names_if_any};
 ghost use Rattle.registry_check.specs.Problems as spec;
 ghost use Rattle.registry_check.specs.Rows.{NeedKey, live_entry, need_entry, rows_of};
@@ -27,7 +27,7 @@ pub(crate) struct Live;
 impl Checked for Live {
     type Row = LiveRow;
 
-    ghost Entry = { Pair × Release };
+    ghost Entry = { Pair × LiveVersion };
 
     ghost entry = { live_entry };
 

@@ -30,6 +30,7 @@ use Rattle.registry_rules.specs.declared.request.Request.{Request}
 use Rattle.registry_rules.proofs.AllowedFacts.{may_grant, state_passed}
 use Rattle.registry_tables.specs.Changes.{all_stored, stored_by}
 use Rattle.registry_tables.specs.Contents.{Contents, registry_of}
+use Rattle.registry_tables.specs.Numbers.{grant_number}
 use Rattle.registry_tables.specs.Teams.{GrantsInScope}
 use Rattle.registry_laws_history.specs.Runs.{Outcome, IsAnswer, enters}
 use Rattle.registry_laws_history.proofs.RunFacts.{accepted}
@@ -61,10 +62,10 @@ put_keeps c o t p grant within scoped r s q there =
 change_keeps : (change : Change) (c : Contents) → IsInScope change → GrantsInScope c → GrantsInScope (stored_by change c)
 change_keeps (PutGrant o t p grant true) c within scoped = amended_keeps (is_some (at c.grants (o, (t, p))))
   where
-    amended_keeps : (b : Bool) → GrantsInScope (record c { grants = cond b (put c.grants (o, (t, p)) grant) c.grants })
-    amended_keeps true = put_keeps c o t p grant within scoped
+    amended_keeps : (b : Bool) → GrantsInScope (record c { grants = cond b (put c.grants (o, (t, p)) (grant_number grant)) c.grants })
+    amended_keeps true = put_keeps c o t p (grant_number grant) within scoped
     amended_keeps false = scoped
-change_keeps (PutGrant o t p grant false) c within scoped = put_keeps c o t p grant within scoped
+change_keeps (PutGrant o t p grant false) c within scoped = put_keeps c o t p (grant_number grant) within scoped
 change_keeps (DropGrant o t p) c within scoped = λ r s q there. scoped r s q (left_there _ _ (sym (ap is_some (at-erase triple_key c.grants (o, (t, p)) (r, (s, q)))) ∙ there))
 change_keeps (DropTeam o t) c within scoped = λ r s q there. scoped r s q (kept_there _ _ (sym (ap is_some (at-keep triple_key c.grants _ (r, (s, q)))) ∙ there))
 change_keeps _ c within scoped = scoped

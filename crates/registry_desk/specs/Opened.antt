@@ -1,5 +1,5 @@
 -- What an open gives of the database that it finds, and what a crash leaves of that.
-use Rattle.std.specs.Prelude.{◌≡◌, ◌⊎◌, ◌++◌, [], None, Some, IsTrue, codes}
+use Rattle.std.specs.Prelude.{◌≡◌, ◌⊎◌, ◌++◌, [], None, Some, IsTrue, codes, pos}
 use Rattle.sqlite.specs.Effect.{Database}
 use Rattle.sqlite.specs.Files.{AreFoundIn, HoldsDatabase, IsCleanLeft, IsFullLeft, IsNothing, LeavesFiles, faults_left, faults_of, file_state, image_of}
 use Rattle.sqlite.specs.State.{State as Shown, HasCleanDisk}
@@ -28,7 +28,7 @@ use Rattle.registry_desk.specs.declared.open.Unopened.TheVariants as unopened
 
 -- the number of our schema is there
 abbrev pub IsNumbered : Contents → Type 0
-IsNumbered c = at c.meta schema_key ≡ Some schema_number
+IsNumbered c = at c.meta schema_key ≡ Some (pos schema_number)
 
 -- and SQLite counts for the archives alone
 abbrev pub IsOurs : Contents → Type 0

@@ -13,14 +13,14 @@ use Rattle.registry_names.specs.Maps.{PairMap, among, at, entries, keys, put, re
 use Rattle.registry_names.proofs.KeyFacts.{pair_key, same_self, same_true, text_key}
 use Rattle.registry_names.proofs.MapFacts.{at-empty, at-put, at-put_other, at-put_same, at-revise, same_map}
 use Rattle.registry_publish.specs.Integrity.{integrity_text}
-use Rattle.registry_rules.specs.State.{Release}
 use Rattle.registry_rows.specs.Counting.{counted}
 use Rattle.registry_rows.specs.KeyKinds.{NumberMap}
 use Rattle.registry_rows.proofs.CountFacts.{next_is_after}
 use Rattle.registry_rows.proofs.KeyedFacts.{number_key}
 use Rattle.registry_tables.specs.Archives.{HeldAreStored, HoldsArchives, archive_number, is_archive, is_stored, next_archive, number_of, with_archive}
-use Rattle.registry_tables.specs.Contents.{Archive, Contents, bytes_held, live_of, with_bytes}
+use Rattle.registry_tables.specs.Contents.{Archive, Contents, LiveVersion, as_release, bytes_held, live_of, with_bytes}
 use Rattle.registry_tables.proofs.KeptArchiveFacts.{none_stands, stands_after, stood_before, stored_after}
+use Rattle.registry_tables.proofs.ReadFacts.{at-read}
 use Rattle.registry_migration.specs.Migration.{AreNumberedInARow, counted_to}
 use Rattle.registry_migration.specs.Moved.{archive_moved, archives_moved, bare, row_archive, without_bytes}
 use Rattle.registry_migration.specs.Steps.{HasMoved, HasNoArchives, MovesArchive, MovesArchives, StoresArchives, bare_among}
@@ -235,8 +235,8 @@ turn_more : (ks : List Pair) (k : Pair) (c : Contents) → archives_moved (ks ++
 turn_more [] k c = refl
 turn_more (j ∷ ks) k c = turn_more ks k (archive_moved j (row_archive c j) c)
 
-bared_twice : (a b : Bool) (o : Option Release)
-    → option_map (λ (r : Release). cond b (bare r) r) (option_map (λ (r : Release). cond a (bare r) r) o) ≡ option_map (λ (r : Release). cond (a || b) (bare r) r) o
+bared_twice : (a b : Bool) (o : Option LiveVersion)
+    → option_map (λ (r : LiveVersion). cond b (bare r) r) (option_map (λ (r : LiveVersion). cond a (bare r) r) o) ≡ option_map (λ (r : LiveVersion). cond (a || b) (bare r) r) o
 bared_twice a b None = refl
 bared_twice true true (Some r) = refl
 bared_twice true false (Some r) = refl
@@ -247,7 +247,7 @@ not_there : (a : Bool) {X Y : Type 0} (o : Option X) (h : Option Y) → is_some 
 not_there false o h lives free is = refl
 not_there true o h lives free is = absurd (true≢false (sym (ap is_some (sym free) ∙ is ∙ lives)))
 
-module _ (ks : List Pair) (k : Pair) (before mid : Contents) (so_far : HasMoved ks before mid) (release : Release) (lives : at mid.versions k ≡ Some release) (free : at mid.held k ≡ None) where
+module _ (ks : List Pair) (k : Pair) (before mid : Contents) (so_far : HasMoved ks before mid) (release : LiveVersion) (lives : at mid.versions k ≡ Some release) (free : at mid.held k ≡ None) where
   abbrev new : Contents
   new = archive_moved k release.archive mid
 
@@ -255,7 +255,7 @@ module _ (ks : List Pair) (k : Pair) (before mid : Contents) (so_far : HasMoved 
   lived : is_some (at before.versions k) ≡ true
   lived = sym (seen (at before.versions k)) ∙ ap is_some (sym (so_far.rows k) ∙ lives)
     where
-      seen : (o : Option Release) → is_some (option_map (bare_among ks k) o) ≡ is_some o
+      seen : (o : Option LiveVersion) → is_some (option_map (bare_among ks k) o) ≡ is_some o
       seen None = refl
       seen (Some r) = refl
 
@@ -263,7 +263,7 @@ module _ (ks : List Pair) (k : Pair) (before mid : Contents) (so_far : HasMoved 
   unmoved : among pair_is ks k ≡ false
   unmoved = not_there (among pair_is ks k) (at before.versions k) (at mid.held k) lived free (so_far.held k)
 
-  as_before : (r : Release) → at before.versions k ≡ Some r → release ≡ r
+  as_before : (r : LiveVersion) → at before.versions k ≡ Some r → release ≡ r
   as_before r e =
       let is : Some release ≡ Some r = sym lives ∙ so_far.rows k ∙ ap (option_map (bare_among ks k)) e ∙ ap (λ b. Some (cond b (bare r) r)) unmoved in
       cc
@@ -273,10 +273,10 @@ module _ (ks : List Pair) (k : Pair) (before mid : Contents) (so_far : HasMoved 
 
   rows_next : (q : Pair) → at new.versions q ≡ option_map (bare_among more q) (at before.versions q)
   rows_next q =
-      at-revise pair_key mid.versions (λ j (r : Release). cond (pair_is k j) (bare r) r) q
-      ∙ ap (option_map (λ (r : Release). cond (pair_is k q) (bare r) r)) (so_far.rows q)
+      at-revise pair_key mid.versions (λ j (r : LiveVersion). cond (pair_is k j) (bare r) r) q
+      ∙ ap (option_map (λ (r : LiveVersion). cond (pair_is k q) (bare r) r)) (so_far.rows q)
       ∙ bared_twice (among pair_is ks q) (pair_is k q) (at before.versions q)
-      ∙ ap (λ b. option_map (λ (r : Release). cond b (bare r) r) (at before.versions q)) (sym (among_more pair_is ks k q))
+      ∙ ap (λ b. option_map (λ (r : LiveVersion). cond b (bare r) r) (at before.versions q)) (sym (among_more pair_is ks k q))
 
   held_next : (q : Pair) → is_some (at new.held q) ≡ (among pair_is more q && is_some (at before.versions q))
   held_next q = ap is_some (held_at k release.archive mid q) ∙ each (pair_is k q) refl ∙ ap (λ b. b && is_some (at before.versions q)) (sym (among_more pair_is ks k q))
@@ -297,13 +297,13 @@ module _ (ks : List Pair) (k : Pair) (before mid : Contents) (so_far : HasMoved 
   or_not true h = refl
   or_not false h = h
 
-  bytes_next : (q : Pair) (r : Release) → among pair_is more q ≡ true → at before.versions q ≡ Some r → bytes_held new q ≡ r.archive
+  bytes_next : (q : Pair) (r : LiveVersion) → among pair_is more q ≡ true → at before.versions q ≡ Some r → bytes_held new q ≡ r.archive
   bytes_next q r there e = each (pair_is k q) refl
     where
       each : (b : Bool) → pair_is k q ≡ b → bytes_held new q ≡ r.archive
       each true t =
           let same = same_true pair_key k q t in
-          ap (bytes_held new) (sym same) ∙ bytes_new k release.archive mid ∙ ap (λ (x : Release). x.archive) (as_before r (ap (at before.versions) same ∙ e))
+          ap (bytes_held new) (sym same) ∙ bytes_new k release.archive mid ∙ ap (λ (x : LiveVersion). x.archive) (as_before r (ap (at before.versions) same ∙ e))
       each false t =
           let was = or_not (among pair_is ks q) (ap (λ b. among pair_is ks q || b) (sym t) ∙ sym (among_more pair_is ks k q) ∙ there) in
           bytes_other k release.archive mid so_far.stores.stored q t ∙ so_far.bytes q r was e
@@ -315,7 +315,7 @@ module _ (ks : List Pair) (k : Pair) (before mid : Contents) (so_far : HasMoved 
     held = held_next;
     bytes = bytes_next;
     stores = stores_more k release.archive mid free so_far.stores;
-    in_turn = ap (λ (o : Option Release). archive_moved k (unwrap_or (option_map (λ (r : Release). r.archive) o) []) mid) (sym lives)
+    in_turn = ap (λ (o : Option LiveVersion). archive_moved k (unwrap_or (option_map (λ (r : LiveVersion). r.archive) o) []) mid) (sym lives)
         ∙ ap (λ (c : Contents). archive_moved k (row_archive c k) c) so_far.in_turn ∙ sym (turn_more ks k before);
   }
 
@@ -328,29 +328,30 @@ module _ (before after : Contents) (all : HasMoved (keys (entries before.version
   abbrev ks : List Pair
   ks = keys (entries before.versions)
 
-  there : (k : Pair) (r : Release) → at before.versions k ≡ Some r → among pair_is ks k ≡ true
+  there : (k : Pair) (r : LiveVersion) → at before.versions k ≡ Some r → among pair_is ks k ≡ true
   there k r e = among_all pair_key before.versions k ∙ ap is_some e
 
-  live_row : (k : Pair) (o : Option Release) → at before.versions k ≡ o → option_map (with_bytes after k) (option_map (bare_among ks k) o) ≡ o
+  live_row : (k : Pair) (o : Option LiveVersion) → at before.versions k ≡ o → option_map (with_bytes after k) (option_map (bare_among ks k) o) ≡ option_map as_release o
   live_row k None e = refl
   live_row k (Some r) e =
-      ap (λ b. Some (with_bytes after k (cond b (bare r) r))) (there k r e) ∙ ap (λ (b : List ℕ). Some (record r { archive = b })) (all.bytes k r (there k r e) e)
+      ap (λ b. Some (with_bytes after k (cond b (bare r) r))) (there k r e) ∙ ap (λ (b : List ℕ). Some (record (as_release r) { archive = b })) (all.bytes k r (there k r e) e)
 
-  lives_alike : (k : Pair) (o : Option Release) → at before.versions k ≡ o → (among pair_is ks k && is_some o) ≡ is_some (option_map (bare_among ks k) o)
+  lives_alike : (k : Pair) (o : Option LiveVersion) → at before.versions k ≡ o → (among pair_is ks k && is_some o) ≡ is_some (option_map (bare_among ks k) o)
   lives_alike k None e = ap (λ b. b && false) (among_all pair_key before.versions k ∙ ap is_some e)
   lives_alike k (Some r) e = ap (λ b. b && true) (there k r e)
 
-  bare_row : (k : Pair) (o : Option Release) (release : Release) → at before.versions k ≡ o → option_map (bare_among ks k) o ≡ Some release → release.archive ≡ []
+  bare_row : (k : Pair) (o : Option LiveVersion) (release : LiveVersion) → at before.versions k ≡ o → option_map (bare_among ks k) o ≡ Some release → release.archive ≡ []
   bare_row k None release e is = absurd cc
   bare_row k (Some r) release e is =
       let same : Some (bare r) ≡ Some release = ap (λ b. Some (cond b (bare r) r)) (sym (there k r e)) ∙ is in
       let one : bare r ≡ release = cc in
-      ap (λ (x : Release). x.archive) (sym one)
+      ap (λ (x : LiveVersion). x.archive) (sym one)
 
   pub all_moved : MovesArchives before after
   all_moved = record {
     others = all.others;
-    live = same_map pair_key _ _ (λ k. at-revise pair_key after.versions (with_bytes after) k ∙ ap (option_map (with_bytes after k)) (all.rows k) ∙ live_row k (at before.versions k) refl);
+    live = same_map pair_key _ _ (λ k. at-read pair_key after.versions (with_bytes after) k ∙ ap (option_map (with_bytes after k)) (all.rows k) ∙ live_row k (at before.versions k) refl
+        ∙ sym (at-read pair_key before.versions (λ _ r. as_release r) k));
     archives = record {
       lives = λ k. all.held k ∙ lives_alike k (at before.versions k) refl ∙ ap is_some (sym (all.rows k));
       stored = all.stores.stored;
@@ -365,7 +366,7 @@ module _ (before after : Contents) (all : HasMoved (keys (entries before.version
 
 -- ---- a version's archive, call by call
 
-in_row : (o : Option Release) (bytes : List ℕ) → option_map (λ (r : Release). r.archive) o ≡ Some bytes → (release : Release) × (o ≡ Some release) × (release.archive ≡ bytes)
+in_row : (o : Option LiveVersion) (bytes : List ℕ) → option_map (λ (r : LiveVersion). r.archive) o ≡ Some bytes → (release : LiveVersion) × (o ≡ Some release) × (release.archive ≡ bytes)
 in_row None bytes found = absurd cc
 in_row (Some r) bytes found = (r, refl, let same : Some r.archive ≡ Some bytes = found in cc)
 
@@ -374,7 +375,7 @@ pub held_as : (c d : Contents) (a b x y : Text) (m n : ℤ) → a ≡ x → b �
 held_as c d a b x y m n p q same is = is ∙ ap₂ (λ (s t : Text). record c { held = put c.held (s, t) m }) p q ∙ ap (λ (i : ℤ). record c { held = put c.held (x, y) i }) same
 
 -- it is read, stored and held, and its row is cleared
-pub moves_one : (k : Pair) (bytes : List ℕ) (integrity : Text) (n : ℤ) (a b c d e : Contents) → b ≡ a → option_map (λ (r : Release). r.archive) (at a.versions k) ≡ Some bytes → integrity ≡ integrity_text bytes
+pub moves_one : (k : Pair) (bytes : List ℕ) (integrity : Text) (n : ℤ) (a b c d e : Contents) → b ≡ a → option_map (λ (r : LiveVersion). r.archive) (at a.versions k) ≡ Some bytes → integrity ≡ integrity_text bytes
     → c ≡ with_archive integrity bytes b → n ≡ archive_number integrity bytes b → at c.held k ≡ None → d ≡ record c { held = put c.held k n } → e ≡ record d { versions = without_bytes d.versions k } → MovesArchive k a e
 moves_one k bytes integrity n a b c d e same found whole c_is n_is free d_is e_is = record {
   release = release.0;
@@ -386,7 +387,7 @@ moves_one k bytes integrity n a b c d e same found whole c_is n_is free d_is e_i
       ∙ ap (λ (x : List ℕ). archive_moved k x a) (sym release.2);
 }
   where
-    release : (r : Release) × (at a.versions k ≡ Some r) × (r.archive ≡ bytes)
+    release : (r : LiveVersion) × (at a.versions k ≡ Some r) × (r.archive ≡ bytes)
     release = in_row (at a.versions k) bytes found
 
     stored : c ≡ with_archive integrity bytes a

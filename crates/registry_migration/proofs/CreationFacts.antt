@@ -14,7 +14,7 @@ use Rattle.registry_rows.specs.Ready.{DependsOn, Leaves, Ready}
 use Rattle.registry_rows.specs.Rows.{map_of}
 use Rattle.registry_rows.specs.Statements.{MeansTable}
 use Rattle.registry_rows.proofs.CreateFacts.{create_keeps, create_keeps_counter, index_keeps, map_of-none}
-use Rattle.registry_tables.specs.Contents.{Contents, contents, archive_in, held_in, nothing_in, user_in, role_in, grant_in, status_in, release_in, withdrawal_in, named_in, number_named_in}
+use Rattle.registry_tables.specs.Contents.{Contents, contents, archive_in, held_in, nothing_in, user_in, role_in, grant_in, status_in, version_in, spent_in, named_in, number_named_in}
 use Rattle.registry_tables.specs.Creation.{creation}
 use Rattle.registry_tables.specs.Fresh.{first_tables, schema_after}
 use Rattle.registry_tables.specs.Schema as table
@@ -53,8 +53,8 @@ held_alike old new (users, (tokens, (organisations, (members, (teams, (team_memb
   packages = map_of 0 status_in (packages i);
   grants = map_of 2 grant_in (grants i);
   owners = map_of 1 nothing_in (owners i);
-  versions = map_of 1 release_in (versions i);
-  spent = map_of 1 withdrawal_in (spent i);
+  versions = map_of 1 version_in (versions i);
+  spent = map_of 1 spent_in (spent i);
   tags = map_of 1 named_in (tags i);
   needs = map_of 2 nothing_in (needs i);
   meta = map_of 0 number_named_in (meta i);
@@ -83,8 +83,8 @@ archives_alike old new (users, (tokens, (organisations, (members, (teams, (team_
   packages = map_of 0 status_in (packages i);
   grants = map_of 2 grant_in (grants i);
   owners = map_of 1 nothing_in (owners i);
-  versions = map_of 1 release_in (versions i);
-  spent = map_of 1 withdrawal_in (spent i);
+  versions = map_of 1 version_in (versions i);
+  spent = map_of 1 spent_in (spent i);
   tags = map_of 1 named_in (tags i);
   needs = map_of 2 nothing_in (needs i);
   meta = map_of 0 number_named_in (meta i);
@@ -111,8 +111,8 @@ contents_2_depend old new (users, (tokens, (organisations, (members, (teams, (te
   packages = map_of 0 status_in (packages i);
   grants = map_of 2 grant_in (grants i);
   owners = map_of 1 nothing_in (owners i);
-  versions = map_of 1 release_in (versions i);
-  spent = map_of 1 withdrawal_in (spent i);
+  versions = map_of 1 version_in (versions i);
+  spent = map_of 1 spent_in (spent i);
   tags = map_of 1 named_in (tags i);
   needs = map_of 2 nothing_in (needs i);
   meta = map_of 0 number_named_in (meta i);
@@ -152,8 +152,8 @@ ranges_alike old new (users, (tokens, (organisations, (members, (teams, (team_me
   packages = map_of 0 status_in (packages i);
   grants = map_of 2 grant_in (grants i);
   owners = map_of 1 nothing_in (owners i);
-  versions = map_of 1 release_in (versions i);
-  spent = map_of 1 withdrawal_in (spent i);
+  versions = map_of 1 version_in (versions i);
+  spent = map_of 1 spent_in (spent i);
   tags = map_of 1 named_in (tags i);
   needs = map_of 2 nothing_in (needs i);
   meta = map_of 0 number_named_in (meta i);

@@ -1,18 +1,18 @@
 -- The steps of a migration, put together.
-use Rattle.std.proofs.Common.{◌≡◌, ◌∙◌, ℕ, Option, Some, None, option_map, refl, sym, ap, subst}
+use Rattle.std.proofs.Common.{◌≡◌, ◌∙◌, ℤ, pos, Option, Some, None, option_map, refl, sym, ap, subst}
 use Rattle.std.specs.Prelude.{IsSome}
 use Rattle.sqlite_trees.specs.Tree.{Trees}
 use Rattle.registry_names.specs.Keys.{Pair}
 use Rattle.registry_names.specs.Maps.{PairMap, TextMap, at, empty}
 use Rattle.registry_names.proofs.KeyFacts.{pair_key}
-use Rattle.registry_names.proofs.MapFacts.{at-revise}
 use Rattle.registry_publish.specs.Needs.{needs_of}
 use Rattle.registry_rules.specs.State.{Release}
-use Rattle.registry_tables.specs.Contents.{Contents, registry_of, with_bytes}
+use Rattle.registry_tables.specs.Contents.{Contents, LiveVersion, as_release, registry_of, with_bytes}
 use Rattle.registry_tables.specs.Fresh.{CountsArchivesAlone, schema_key, schema_number, with_number}
 use Rattle.registry_tables.specs.Needs.{HoldsNeeds}
 use Rattle.registry_tables.proofs.HeldNeedFacts.{others_hold}
 use Rattle.registry_tables.proofs.KeptArchiveFacts.{others_keep_archives}
+use Rattle.registry_tables.proofs.ReadFacts.{at-read}
 use Rattle.registry_migration.specs.Migration.{Migrates, NeedsAreReadable}
 use Rattle.registry_migration.specs.Older.{contents_of, number_of}
 use Rattle.registry_migration.specs.Steps.{HasNoRanges, HasNoneMoved, Moves, MovesArchives, PutsNeeds}
@@ -63,12 +63,13 @@ module _ (a b c d : Contents) (puts : PutsNeeds a b) (drops : c ≡ record b { n
 
 -- a manifest that can be read in a moved row could be read before
 pub readable_before : (before a : Contents) → MovesArchives before a → NeedsAreReadable a → NeedsAreReadable before
-readable_before before a moves readable k release e = each (at a.versions k) refl (sym (at-revise pair_key a.versions (with_bytes a) k) ∙ ap (λ (m : PairMap Release). at m k) moves.live ∙ e)
+readable_before before a moves readable k release e = each (at a.versions k) refl (sym (at-read pair_key a.versions (with_bytes a) k) ∙ ap (λ (m : PairMap Release). at m k) moves.live
+    ∙ at-read pair_key before.versions (λ _ r. as_release r) k ∙ ap (option_map as_release) e)
   where
-    each : (o : Option Release) → at a.versions k ≡ o → option_map (with_bytes a k) o ≡ Some release → IsSome (needs_of release.manifest)
+    each : (o : Option LiveVersion) → at a.versions k ≡ o → option_map (with_bytes a k) o ≡ Some (as_release release) → IsSome (needs_of release.manifest)
     each None there is = absurd cc
     each (Some r) there is =
-        let one : with_bytes a k r ≡ release = cc in
+        let one : with_bytes a k r ≡ as_release release = cc in
         subst (λ (x : Release). IsSome (needs_of x.manifest)) one (readable k r there)
 
 -- ---- of both schemas
@@ -94,10 +95,10 @@ meta_kept Second before after same = ap (λ (x : Contents). x.meta) same
 pub still_no_ranges : (older : Older) (db : Trees) (before after : Contents) → before ≡ contents_of older db → Moves older before after → HasNoRanges after
 still_no_ranges older db before after same moves = ranges_kept older before after moves ∙ ap (λ (x : Contents). x.need_ranges) same ∙ no_ranges_yet older db
 
-pub number_kept : (older : Older) (first a b c d : Contents) → a ≡ first → Moves older a b → PutsNeeds b c → d ≡ record c { needs = empty } → at first.meta schema_key ≡ Some (number_of older) → IsSome (at d.meta schema_key)
+pub number_kept : (older : Older) (first a b c d : Contents) → a ≡ first → Moves older a b → PutsNeeds b c → d ≡ record c { needs = empty } → at first.meta schema_key ≡ Some (pos (number_of older)) → IsSome (at d.meta schema_key)
 number_kept older first a b c d same moves puts drops numbered =
-    subst (λ (o : Option ℕ). IsSome o) (sym (ap (λ (x : Contents). at x.meta schema_key) (drops ∙ ap (λ (x : Contents). record x { needs = empty }) puts.others)
-    ∙ ap (λ (m : TextMap ℕ). at m schema_key) (meta_kept older a b moves) ∙ ap (λ (x : Contents). at x.meta schema_key) same ∙ numbered)) refl
+    subst (λ (o : Option ℤ). IsSome o) (sym (ap (λ (x : Contents). at x.meta schema_key) (drops ∙ ap (λ (x : Contents). record x { needs = empty }) puts.others)
+    ∙ ap (λ (m : TextMap ℤ). at m schema_key) (meta_kept older a b moves) ∙ ap (λ (x : Contents). at x.meta schema_key) same ∙ numbered)) refl
 
 pub migrated : (older : Older) (first a b c d e : Contents) → a ≡ first → Moves older a b → PutsNeeds b c → d ≡ record c { needs = empty } → e ≡ with_number d schema_number → CountsArchivesAlone first → Migrates older first e
 migrated First first a b c d e same moves puts drops numbers counted = from_first b c d e puts drops numbers first (subst (λ (x : Contents). MovesArchives x b) same moves) counted

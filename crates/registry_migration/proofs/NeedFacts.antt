@@ -9,10 +9,9 @@ use Rattle.registry_names.proofs.KeyFacts.{pair_key, same_true}
 use Rattle.registry_names.proofs.MapFacts.{at-empty, at-erase, same_map}
 use Rattle.registry_publish.specs.Needs.{needs_of}
 use Rattle.registry_publish.specs.declared.need.Need.{Need}
-use Rattle.registry_rules.specs.State.{Release}
 use Rattle.registry_rows.specs.TextKeys.{Texts, TextsMap, texts_are}
 use Rattle.registry_rows.proofs.TextKeyFacts.{texts_key}
-use Rattle.registry_tables.specs.Contents.{Contents}
+use Rattle.registry_tables.specs.Contents.{Contents, LiveVersion}
 use Rattle.registry_tables.specs.Needs.{is_needed, names_if_any, names_range, with_needs}
 use Rattle.registry_tables.proofs.HeldNeedFacts.{at-with_needs}
 use Rattle.registry_migration.specs.Steps.{HasDropped, HasNoRanges, HasPut, PutsNeeds, PutsNeedsOf, without_target, without_targets}
@@ -36,7 +35,7 @@ module _ (ks : List Pair) (k : Pair) (before mid new : Contents) (so_far : HasPu
 
   needed : (target range : Text) → is_needed before.versions k.0 k.1 target range ≡ names_range target range one.needs
   needed target range =
-      ap (λ (o : Option Release). names_if_any target range (option_and_then (λ release. needs_of release.manifest) o)) (sym (as_before k) ∙ one.lives) ∙ ap (names_if_any target range) one.read
+      ap (λ (o : Option LiveVersion). names_if_any target range (option_and_then (λ release. needs_of release.manifest) o)) (sym (as_before k) ∙ one.lives) ∙ ap (names_if_any target range) one.read
 
   is_more : (a n : Bool) → (n || (a && n)) ≡ ((a || true) && n)
   is_more true true = refl
@@ -71,14 +70,14 @@ module _ (ks : List Pair) (k : Pair) (before mid new : Contents) (so_far : HasPu
   or_not true h = refl
   or_not false h = h
 
-  readable_next : (q : Pair) (release : Release) → among pair_is more q ≡ true → at before.versions q ≡ Some release → IsSome (needs_of release.manifest)
+  readable_next : (q : Pair) (release : LiveVersion) → among pair_is more q ≡ true → at before.versions q ≡ Some release → IsSome (needs_of release.manifest)
   readable_next q release there e = each (pair_is k q) refl
     where
       each : (b : Bool) → pair_is k q ≡ b → IsSome (needs_of release.manifest)
       each true t =
           let same : Some one.release ≡ Some release = sym one.lives ∙ ap (at mid.versions) (same_true pair_key k q t) ∙ as_before q ∙ e in
           let is : one.release ≡ release = cc in
-          subst (λ (o : Option (List Need)). IsSome o) (sym one.read ∙ ap (λ (r : Release). needs_of r.manifest) is) refl
+          subst (λ (o : Option (List Need)). IsSome o) (sym one.read ∙ ap (λ (r : LiveVersion). needs_of r.manifest) is) refl
       each false t = so_far.readable q release (or_not (among pair_is ks q) (ap (λ b. among pair_is ks q || b) (sym t) ∙ sym (among_more pair_is ks k q) ∙ there)) e
 
   pub one_put : HasPut more before new
@@ -90,7 +89,7 @@ module _ (ks : List Pair) (k : Pair) (before mid new : Contents) (so_far : HasPu
   }
 
 module _ (before after : Contents) (all : HasPut (keys (entries before.versions)) before after) where
-  each_needed : (p v target range : Text) (o : Option Release) → at before.versions (p, v) ≡ o
+  each_needed : (p v target range : Text) (o : Option LiveVersion) → at before.versions (p, v) ≡ o
       → (is_some o && names_if_any target range (option_and_then (λ release. needs_of release.manifest) o)) ≡ names_if_any target range (option_and_then (λ release. needs_of release.manifest) o)
   each_needed p v target range None e = refl
   each_needed p v target range (Some release) e = refl
@@ -108,11 +107,11 @@ module _ (before after : Contents) (all : HasPut (keys (entries before.versions)
 
 -- ---- a version's needs, call by call
 
-in_row : (o : Option Release) (manifest : Text) → option_map (λ (r : Release). r.manifest) o ≡ Some manifest → (release : Release) × (o ≡ Some release) × (release.manifest ≡ manifest)
+in_row : (o : Option LiveVersion) (manifest : Text) → option_map (λ (r : LiveVersion). r.manifest) o ≡ Some manifest → (release : LiveVersion) × (o ≡ Some release) × (release.manifest ≡ manifest)
 in_row None manifest found = absurd cc
 in_row (Some r) manifest found = (r, refl, let same : Some r.manifest ≡ Some manifest = found in cc)
 
-pub puts_one : (k : Pair) (manifest : Text) (needs : List Need) (a b c d : Contents) → b ≡ a → option_map (λ (r : Release). r.manifest) (at a.versions k) ≡ Some manifest → needs_of manifest ≡ Some needs
+pub puts_one : (k : Pair) (manifest : Text) (needs : List Need) (a b c d : Contents) → b ≡ a → option_map (λ (r : LiveVersion). r.manifest) (at a.versions k) ≡ Some manifest → needs_of manifest ≡ Some needs
     → c ≡ record b { need_ranges = with_needs b.need_ranges k.0 k.1 needs } → d ≡ record c { needs = without_targets c.needs k needs } → PutsNeedsOf k a d
 puts_one k manifest needs a b c d same found is c_is d_is = record {
   release = release.0;
@@ -122,7 +121,7 @@ puts_one k manifest needs a b c d same found is c_is d_is = record {
   put = d_is ∙ ap (λ (x : Contents). record x { needs = without_targets x.needs k needs }) (c_is ∙ ap (λ (x : Contents). record x { need_ranges = with_needs x.need_ranges k.0 k.1 needs }) same);
 }
   where
-    release : (r : Release) × (at a.versions k ≡ Some r) × (r.manifest ≡ manifest)
+    release : (r : LiveVersion) × (at a.versions k ≡ Some r) × (r.manifest ≡ manifest)
     release = in_row (at a.versions k) manifest found
 
 -- ---- needs without

@@ -1,5 +1,5 @@
 -- What the statements of a migration make and show.
-use Rattle.std.proofs.Common.{◌≡◌, ◌∙◌, ℕ, List, [], ◌∷◌, Option, None, Some, Ok, map, option_map, slice_get, pos, codes, refl, sym, ap}
+use Rattle.std.proofs.Common.{◌≡◌, ◌∙◌, ℕ, ℤ, List, [], ◌∷◌, Option, None, Some, Ok, map, option_map, slice_get, pos, codes, refl, sym, ap}
 use Rattle.std.proofs.lemmas.Simd.{map-map}
 use Rattle.sqlite.specs.declared.types.Value.TheVariants.{Int, Blob, Text as Stored}
 use Rattle.sqlite.specs.Listing.{understood}
@@ -10,14 +10,13 @@ use Rattle.sqlite_sql.specs.Term.{col}
 use Rattle.registry_names.specs.Keys.{Pair}
 use Rattle.registry_names.specs.Texts.{Text}
 use Rattle.registry_names.specs.Maps.{at, entries, erase, keys, seen}
-use Rattle.registry_rules.specs.State.{Release}
 use Rattle.registry_rows.specs.Frames.{Wrote}
 use Rattle.registry_rows.specs.Ready.{Ready, Leaves, Reads, Queried}
 use Rattle.registry_rows.specs.Statements.{Means, MeansQuery, IsUncascaded, delete_where, select_where, update_where, by_texts, in_order}
 use Rattle.registry_rows.specs.TextKeys.{Texts}
 use Rattle.registry_rows.proofs.LookUpFacts.{first_listed, select_all, select_finds}
 use Rattle.registry_rows.proofs.StatementFacts.{delete_erases, update_puts, update_revises}
-use Rattle.registry_tables.specs.Contents.{contents}
+use Rattle.registry_tables.specs.Contents.{LiveVersion, contents}
 use Rattle.registry_tables.specs.Effects.{stored}
 use Rattle.registry_tables.specs.Fresh.{schema_key, schema_number, with_number}
 use Rattle.registry_tables.specs.Schema as table
@@ -44,9 +43,9 @@ key_alone r = (key_spelled r, tt)
 pub versions_listed : (old new : Shown) (rows : List Row) → Ready schema old → Queried versions_text [] old new rows → HasCleanDisk new
     → Reads schema old new × (map key_spelled rows ≡ keys (entries (stored old).versions))
 versions_listed old new rows form call clean =
-    let it = select_all versions_mapped versions_text (col 1 1 ∷ col 1 2 ∷ []) _ versions_means key_alone (λ (r : Release). tt) (λ id vs. refl) old new rows form call clean in (
+    let it = select_all versions_mapped versions_text (col 1 1 ∷ col 1 2 ∷ []) _ versions_means key_alone (λ (r : LiveVersion). tt) (λ id vs. refl) old new rows form call clean in (
       it.0,
-      sym (map-map (λ (e : Pair × Unit {0}). e.0) key_alone rows) ∙ ap keys it.1 ∙ map-map (λ (e : Pair × Unit {0}). e.0) (seen (λ (r : Release). tt)) (entries (stored old).versions),
+      sym (map-map (λ (e : Pair × Unit {0}). e.0) key_alone rows) ∙ ap keys it.1 ∙ map-map (λ (e : Pair × Unit {0}). e.0) (seen (λ (r : LiveVersion). tt)) (entries (stored old).versions),
     )
 
 -- ---- one of them
@@ -59,9 +58,9 @@ unfolding understood everything
 archive_means = ((refl, (refl, refl)), refl)
 
 pub archive_found : (p v : Text) (old new : Shown) (rows : List Row) → Ready schema old → Queried archive_text (Stored p ∷ Stored v ∷ []) old new rows → HasCleanDisk new
-    → Reads schema old new × (option_map blob_of_row (slice_get rows 0) ≡ option_map (λ (r : Release). r.archive) (at (stored old).versions (p, v)))
+    → Reads schema old new × (option_map blob_of_row (slice_get rows 0) ≡ option_map (λ (r : LiveVersion). r.archive) (at (stored old).versions (p, v)))
 archive_found p v old new rows form call clean =
-    let it = select_finds versions_mapped archive_text (col 1 6 ∷ []) _ archive_means (p, v) blob_of_row (λ (r : Release). r.archive) (λ id vs. refl) old new rows form call clean in
+    let it = select_finds versions_mapped archive_text (col 1 6 ∷ []) _ archive_means (p, v) blob_of_row (λ (r : LiveVersion). r.archive) (λ id vs. refl) old new rows form call clean in
     (it.0, first_listed blob_of_row rows _ it.1)
 
 abbrev manifest_text : List ℕ
@@ -72,9 +71,9 @@ unfolding understood everything
 manifest_means = ((refl, (refl, refl)), refl)
 
 pub manifest_found : (p v : Text) (old new : Shown) (rows : List Row) → Ready schema old → Queried manifest_text (Stored p ∷ Stored v ∷ []) old new rows → HasCleanDisk new
-    → Reads schema old new × (option_map text_spelled (slice_get rows 0) ≡ option_map (λ (r : Release). r.manifest) (at (stored old).versions (p, v)))
+    → Reads schema old new × (option_map text_spelled (slice_get rows 0) ≡ option_map (λ (r : LiveVersion). r.manifest) (at (stored old).versions (p, v)))
 manifest_found p v old new rows form call clean =
-    let it = select_finds versions_mapped manifest_text (col 1 4 ∷ []) _ manifest_means (p, v) text_spelled (λ (r : Release). r.manifest) (λ id vs. refl) old new rows form call clean in
+    let it = select_finds versions_mapped manifest_text (col 1 4 ∷ []) _ manifest_means (p, v) text_spelled (λ (r : LiveVersion). r.manifest) (λ id vs. refl) old new rows form call clean in
     (it.0, first_listed text_spelled rows _ it.1)
 
 abbrev clear_text : List ℕ
@@ -141,7 +140,7 @@ unfolding understood everything
 number_means = (refl, (refl, refl))
 
 -- it is put where there was one
-pub number_put : (n : ℕ) (old new : Shown) → at (stored old).meta schema_key ≡ Some n → Ready schema old → Wrote number_text (Stored schema_key ∷ Int (pos schema_number) ∷ []) old new → HasCleanDisk new
+pub number_put : (n : ℤ) (old new : Shown) → at (stored old).meta schema_key ≡ Some n → Ready schema old → Wrote number_text (Stored schema_key ∷ Int (pos schema_number) ∷ []) old new → HasCleanDisk new
     → Leaves schema contents (with_number (stored old) schema_number) new
 number_put n old new there form call =
-    update_puts meta_mapped number_text number_sets number_means refl schema_key (Int (pos schema_number) ∷ []) refl (λ m. schema_number) (λ vs. refl) (λ vs. refl) old new n there (Ok call.0) form call.1
+    update_puts meta_mapped number_text number_sets number_means refl schema_key (Int (pos schema_number) ∷ []) refl (λ m. pos schema_number) (λ vs. refl) (λ vs. refl) old new n there (Ok call.0) form call.1

@@ -5,9 +5,8 @@ use Rattle.sqlite.specs.declared.types.Value.TheVariants.{Int}
 use Rattle.registry_names.specs.Keys.{Pair}
 use Rattle.registry_names.specs.Maps.{at, empty, put}
 use Rattle.registry_publish.specs.Needs.{needs_of}
-use Rattle.registry_rules.specs.State.{Release}
 use Rattle.registry_tables.specs.Archives.{HoldsArchives}
-use Rattle.registry_tables.specs.Contents.{Contents, registry_of}
+use Rattle.registry_tables.specs.Contents.{Contents, LiveVersion, registry_of}
 use Rattle.registry_tables.specs.Fresh.{CountsArchivesAlone, schema_key, schema_number}
 use Rattle.registry_tables.specs.Needs.{HoldsNeeds}
 use Rattle.registry_migration.specs.Moved.{AreNumberedInOrder}
@@ -17,12 +16,12 @@ use Rattle.registry_migration.specs.declared.older.Older.TheVariants.{First, Sec
 
 -- each live version has a manifest whose needs can be read
 abbrev pub NeedsAreReadable : Contents → Type 0
-NeedsAreReadable c = (k : Pair) (release : Release) → at c.versions k ≡ Some release → IsSome (needs_of release.manifest)
+NeedsAreReadable c = (k : Pair) (release : LiveVersion) → at c.versions k ≡ Some release → IsSome (needs_of release.manifest)
 
 -- The number is that of the schema, each manifest can be read, and SQLite counts for nothing but
 -- the archives
 pub record MayMigrate (older : Older) (c : Contents) : Type 0 where
-  pub numbered : at c.meta schema_key ≡ Some (number_of older)
+  pub numbered : at c.meta schema_key ≡ Some (pos (number_of older))
   pub readable : NeedsAreReadable c
   pub counted : CountsArchivesAlone c
 
@@ -52,5 +51,5 @@ pub record Migrates (older : Older) (before after : Contents) : Type 0 where
   -- and none is stored without its range
   pub targets : after.needs ≡ empty
   pub archives : KeepsArchives older before after
-  pub numbered : after.meta ≡ put before.meta schema_key schema_number
+  pub numbered : after.meta ≡ put before.meta schema_key (pos schema_number)
   pub counted : CountsArchivesAlone after

@@ -3,15 +3,14 @@ use Rattle.std.specs.Prelude.{◌≡◌, List, [], ◌∷◌, ℕ, option_map, u
 use Rattle.registry_names.specs.Keys.{Pair, pair_is}
 use Rattle.registry_names.specs.Maps.{PairMap, at, entries, keys, put, revise}
 use Rattle.registry_publish.specs.Integrity.{integrity_text}
-use Rattle.registry_rules.specs.State.{Release}
 use Rattle.registry_tables.specs.Archives.{archive_number, with_archive}
-use Rattle.registry_tables.specs.Contents.{Contents}
+use Rattle.registry_tables.specs.Contents.{Contents, LiveVersion}
 
-abbrev pub bare : Release → Release
+abbrev pub bare : LiveVersion → LiveVersion
 bare release = record release { archive = [] }
 
 -- the version's row has no bytes
-abbrev pub without_bytes : PairMap Release → Pair → PairMap Release
+abbrev pub without_bytes : PairMap LiveVersion → Pair → PairMap LiveVersion
 without_bytes live q = revise live (λ k release. if pair_is q k then bare release else release)
 
 -- the version has these bytes as its archive, which is stored, and its row has none
@@ -23,7 +22,7 @@ archive_moved k bytes c = record (with_archive (integrity_text bytes) bytes c) {
 
 -- the bytes in the version's row
 abbrev pub row_archive : Contents → Pair → List ℕ
-row_archive c k = unwrap_or (option_map (λ (r : Release). r.archive) (at c.versions k)) []
+row_archive c k = unwrap_or (option_map (λ (r : LiveVersion). r.archive) (at c.versions k)) []
 
 -- the archives of these versions are moved, one after another
 abbrev pub archives_moved : List Pair → Contents → Contents

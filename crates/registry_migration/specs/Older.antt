@@ -2,10 +2,11 @@
 use Rattle.std.specs.Prelude.{ℕ, [], None}
 use Rattle.sqlite_schema.specs.declared.schema.Schema.{Schema}
 use Rattle.sqlite_trees.specs.Tree.{Trees}
-use Rattle.registry_names.specs.Maps.{empty}
-use Rattle.registry_rules.specs.State.{State}
-use Rattle.registry_tables.specs.Contents.{Contents, contents, registry_of}
+use Rattle.registry_names.specs.Maps.{PairMap, empty}
+use Rattle.registry_rules.specs.State.{Release, State}
+use Rattle.registry_tables.specs.Contents.{Contents, as_release, contents, registry_of}
 use Rattle.registry_tables.specs.Fresh.{first_tables}
+use Rattle.registry_tables.specs.ReadMaps.{read_as}
 use Rattle.registry_tables.specs.Schema.{schema_2}
 use Rattle.registry_migration.specs.declared.older.Older.{Older}
 use Rattle.registry_migration.specs.declared.older.Older.TheVariants.{First, Second}
@@ -39,7 +40,11 @@ abbrev pub contents_of : Older → Trees → Contents
 contents_of First = contents_1
 contents_of Second = contents_2
 
+-- the live versions, each read from its row alone
+abbrev pub live_in_rows : Contents → PairMap Release
+live_in_rows c = read_as c.versions (λ _ r. as_release r)
+
 -- the registry's state by that. In schema 1 a version's archive is in its row
 abbrev pub registry_of_older : Older → Contents → State
-registry_of_older First c = record (registry_of c) { live = c.versions }
+registry_of_older First c = record (registry_of c) { live = live_in_rows c }
 registry_of_older Second c = registry_of c

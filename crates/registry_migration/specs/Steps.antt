@@ -11,16 +11,16 @@ use Rattle.registry_names.specs.Maps.{among, at, empty, entries, erase, keys}
 use Rattle.registry_publish.specs.Integrity.{integrity_text}
 use Rattle.registry_publish.specs.Needs.{needs_of}
 use Rattle.registry_publish.specs.declared.need.Need.{Need}
-use Rattle.registry_rules.specs.State.{Release}
 use Rattle.registry_rows.specs.Columns.{text_in}
 use Rattle.registry_rows.specs.Ready.{Leaves}
 use Rattle.registry_rows.specs.TextKeys.{Texts, TextsMap, texts_are, texts_from}
 use Rattle.registry_tables.specs.Archives.{HeldAreStored, HoldsArchives}
-use Rattle.registry_tables.specs.Contents.{Archive, Contents, bytes_held, contents, live_of}
+use Rattle.registry_tables.specs.Contents.{Archive, Contents, LiveVersion, bytes_held, contents, live_of}
 use Rattle.registry_tables.specs.Effects.{shown, stored_in}
 use Rattle.registry_tables.specs.Needs.{HoldsNeeds, is_needed, with_needs}
 use Rattle.registry_tables.specs.Schema.{schema}
 use Rattle.registry_migration.specs.Migration.{AreNumberedInARow, NeedsAreReadable}
+use Rattle.registry_migration.specs.Older.{live_in_rows}
 use Rattle.registry_migration.specs.Moved.{archive_moved, archives_moved, bare}
 use Rattle.registry_migration.specs.declared.older.Older.{Older}
 use Rattle.registry_migration.specs.declared.older.Older.TheVariants.{First, Second}
@@ -53,7 +53,7 @@ abbrev pub HasNoArchives : Contents → Type 0
 HasNoArchives c = (c.held ≡ empty) × (c.archives ≡ empty) × (c.last_archive ≡ None)
 
 pub record MovesArchive (k : Pair) (before after : Contents) : Type 0 where
-  pub release : Release
+  pub release : LiveVersion
   pub lives : at before.versions k ≡ Some release
   -- it had none yet
   pub free : at before.held k ≡ None
@@ -69,7 +69,7 @@ pub record StoresArchives (c : Contents) : Type 0 where
   pub numbered : AreNumberedInARow c
 
 -- a row of one of these versions has no bytes
-abbrev pub bare_among : List Pair → Pair → Release → Release
+abbrev pub bare_among : List Pair → Pair → LiveVersion → LiveVersion
 bare_among ks k release = if among pair_is ks k then bare release else release
 
 -- the archives of these versions are stored, and no other
@@ -77,14 +77,14 @@ pub record HasMoved (ks : List Pair) (before after : Contents) : Type 0 where
   pub others : after ≡ record before { versions = after.versions; held = after.held; archives = after.archives; last_archive = after.last_archive }
   pub rows : (k : Pair) → at after.versions k ≡ option_map (bare_among ks k) (at before.versions k)
   pub held : (k : Pair) → is_some (at after.held k) ≡ (among pair_is ks k && is_some (at before.versions k))
-  pub bytes : (k : Pair) (release : Release) → among pair_is ks k ≡ true → at before.versions k ≡ Some release → bytes_held after k ≡ release.archive
+  pub bytes : (k : Pair) (release : LiveVersion) → among pair_is ks k ≡ true → at before.versions k ≡ Some release → bytes_held after k ≡ release.archive
   pub stores : StoresArchives after
   pub in_turn : after ≡ archives_moved ks before
 
 -- the live versions have the archives that their rows had
 pub record MovesArchives (before after : Contents) : Type 0 where
   pub others : after ≡ record before { versions = after.versions; held = after.held; archives = after.archives; last_archive = after.last_archive }
-  pub live : live_of after ≡ before.versions
+  pub live : live_of after ≡ live_in_rows before
   pub archives : HoldsArchives after
   pub numbered : AreNumberedInARow after
   pub in_turn : after ≡ archives_moved (keys (entries before.versions)) before
@@ -114,7 +114,7 @@ without_targets m k (need ∷ needs) = without_targets (without_target m k.0 k.1
 
 -- the needs of the version's manifest are stored, and what was stored of them without ranges is gone
 pub record PutsNeedsOf (k : Pair) (before after : Contents) : Type 0 where
-  pub release : Release
+  pub release : LiveVersion
   pub lives : at before.versions k ≡ Some release
   pub needs : List Need
   pub read : needs_of release.manifest ≡ Some needs
@@ -124,7 +124,7 @@ pub record PutsNeedsOf (k : Pair) (before after : Contents) : Type 0 where
 pub record HasPut (ks : List Pair) (before after : Contents) : Type 0 where
   pub others : after ≡ record before { need_ranges = after.need_ranges; needs = after.needs }
   pub stored : (p v target range : Text) → is_some (at after.need_ranges (p, (v, (target, range)))) ≡ (among pair_is ks (p, v) && is_needed before.versions p v target range)
-  pub readable : (k : Pair) (release : Release) → among pair_is ks k ≡ true → at before.versions k ≡ Some release → IsSome (needs_of release.manifest)
+  pub readable : (k : Pair) (release : LiveVersion) → among pair_is ks k ≡ true → at before.versions k ≡ Some release → IsSome (needs_of release.manifest)
 
 -- the needs of all live versions are stored. Of those without ranges some are gone
 pub record PutsNeeds (before after : Contents) : Type 0 where

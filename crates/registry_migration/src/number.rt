@@ -1,6 +1,6 @@
 //! The number of the schema.
 
-ghost use Rattle.std.specs.Prelude.{◌≡◌, IsSome, OnOk, Some};
+ghost use Rattle.std.specs.Prelude.{◌≡◌, IsSome, OnOk, Some, pos};
 ghost use Rattle.sqlite.specs.State.{HasCleanDisk};
 ghost use Rattle.registry_names.specs.Maps.{at};
 ghost use Rattle.registry_rows.specs.Frames.{Stays};
@@ -28,7 +28,7 @@ pub(crate) fn check_number<S: Alter>(tx: &mut Transaction<'_, S>, older: Older) 
     ensures reads { HasCleanDisk (shown S.Store tx.new)
         → OnOk result (Reads schema (shown S.Store tx.old) (shown S.Store tx.new)) }
     ensures numbered { OnlyWhere S.Store tx.old tx.new result
-        (λ c. at c.meta schema_key ≡ Some (number_of older)) }
+        (λ c. at c.meta schema_key ≡ Some (pos (number_of older))) }
     ensures counted { OnlyWhere S.Store tx.old tx.new result CountsArchivesAlone }
 {
     if opened(tx)? != Some(older.number()) {

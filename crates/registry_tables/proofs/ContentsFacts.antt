@@ -7,7 +7,7 @@ use Rattle.registry_rows.specs.Rows.{map_of}
 use Rattle.registry_rows.specs.Ready.{DependsOn}
 use Rattle.registry_tables.specs.Schema as table
 use Rattle.registry_tables.specs.Schema.{schema}
-use Rattle.registry_tables.specs.Contents.{contents, archive_in, held_in, nothing_in, user_in, role_in, grant_in, status_in, release_in, withdrawal_in, named_in, number_named_in}
+use Rattle.registry_tables.specs.Contents.{contents, archive_in, held_in, nothing_in, user_in, role_in, grant_in, status_in, version_in, spent_in, named_in, number_named_in}
 use Rattle.registry_tables.specs.Fresh.{no_contents}
 
 pub contents_depend : DependsOn schema contents
@@ -21,8 +21,8 @@ contents_depend old new (users, (tokens, (organisations, (members, (teams, (team
   packages = map_of 0 status_in (packages i);
   grants = map_of 2 grant_in (grants i);
   owners = map_of 1 nothing_in (owners i);
-  versions = map_of 1 release_in (versions i);
-  spent = map_of 1 withdrawal_in (spent i);
+  versions = map_of 1 version_in (versions i);
+  spent = map_of 1 spent_in (spent i);
   tags = map_of 1 named_in (tags i);
   needs = map_of 2 nothing_in (needs i);
   meta = map_of 0 number_named_in (meta i);

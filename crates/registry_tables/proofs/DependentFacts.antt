@@ -25,7 +25,7 @@ use Rattle.registry_names.specs.Maps.{at, entries}
 use Rattle.registry_names.specs.Versions.{VersionParts}
 use Rattle.registry_names.proofs.EntryFacts.{entries_rise}
 use Rattle.registry_names.proofs.KeyFacts.{pair_key}
-use Rattle.registry_names.proofs.MapFacts.{at-entries, at-revise}
+use Rattle.registry_names.proofs.MapFacts.{at-entries}
 use Rattle.registry_names.proofs.TextFacts.{is_self, is_sym, is_tie, is_true as text_is}
 use Rattle.registry_publish.specs.Needs.{needs_of}
 use Rattle.registry_publish.specs.declared.need.Need.{Need}
@@ -43,7 +43,7 @@ use Rattle.registry_rows.proofs.ListingFacts.{first_risen}
 use Rattle.registry_rows.proofs.LookUpFacts.{select_passes_by, seen_as_is}
 use Rattle.registry_rows.proofs.OrderFacts.{found_has}
 use Rattle.registry_rows.proofs.TextKeyFacts.{and_true, row_parts, texts_key}
-use Rattle.registry_tables.specs.Contents.{Contents, live_of, registry_of, with_bytes}
+use Rattle.registry_tables.specs.Contents.{Contents, LiveVersion, live_of, registry_of, with_bytes}
 use Rattle.registry_tables.specs.Effects.{stored}
 use Rattle.registry_tables.specs.Needs.{HoldsNeeds, is_needed, names_if_any}
 use Rattle.registry_tables.specs.Schema as table
@@ -51,6 +51,7 @@ use Rattle.registry_tables.specs.Schema.{schema}
 use Rattle.registry_tables.specs.Teams.{text_spelled}
 use Rattle.registry_tables.specs.Withdrawals.{is_foreign_need, ranges_on}
 use Rattle.registry_tables.proofs.MappedFacts.{need_ranges_mapped}
+use Rattle.registry_tables.proofs.ReadFacts.{at-read}
 use Rattle.registry_tables.proofs.RetiredFacts.{any_where, where_any}
 
 -- ---- SELECT by target, except a package's own needs
@@ -124,7 +125,7 @@ some_there (Some x) h = (x, refl)
 
 -- a live version whose manifest has these needs, of which one passes
 record IsNeeding (c : Contents) (k : Pair) (test : Need → Bool) : Type 0 where
-  release : Release
+  release : LiveVersion
   needs : List Need
   row : at c.versions k ≡ Some release
   says : needs_of release.manifest ≡ Some needs
@@ -134,28 +135,28 @@ record IsNeeding (c : Contents) (k : Pair) (test : Need → Bool) : Type 0 where
 named_by : (c : Contents) (q w target range : Text) → is_needed c.versions q w target range ≡ true → IsNeeding c (q, w) (λ need. is need.target target && is need.range range)
 named_by c q w target range h = by_row (at c.versions (q, w)) refl h
   where
-    by_needs : (r : Release) → at c.versions (q, w) ≡ Some r → (o : Option (List Need)) → needs_of r.manifest ≡ o → names_if_any target range o ≡ true → IsNeeding c (q, w) (λ need. is need.target target && is need.range range)
+    by_needs : (r : LiveVersion) → at c.versions (q, w) ≡ Some r → (o : Option (List Need)) → needs_of r.manifest ≡ o → names_if_any target range o ≡ true → IsNeeding c (q, w) (λ need. is need.target target && is need.range range)
     by_needs r e None s h = absurd (true≢false (sym h))
     by_needs r e (Some needs) s h = record { release = r; needs = needs; row = e; says = s; any = h }
 
-    by_row : (o : Option Release) → at c.versions (q, w) ≡ o → names_if_any target range (option_and_then (λ (r : Release). needs_of r.manifest) o) ≡ true → IsNeeding c (q, w) (λ need. is need.target target && is need.range range)
+    by_row : (o : Option LiveVersion) → at c.versions (q, w) ≡ o → names_if_any target range (option_and_then (λ (r : LiveVersion). needs_of r.manifest) o) ≡ true → IsNeeding c (q, w) (λ need. is need.target target && is need.range range)
     by_row None e h = absurd (true≢false (sym h))
     by_row (Some r) e h = by_needs r e (needs_of r.manifest) refl h
 
 -- and the other way round
 names_it : (c : Contents) (q w target range : Text) → IsNeeding c (q, w) (λ need. is need.target target && is need.range range) → is_needed c.versions q w target range ≡ true
 names_it c q w target range it =
-    ap (λ (o : Option Release). names_if_any target range (option_and_then (λ (r : Release). needs_of r.manifest) o)) it.row ∙ ap (names_if_any target range) it.says ∙ it.any
+    ap (λ (o : Option LiveVersion). names_if_any target range (option_and_then (λ (r : LiveVersion). needs_of r.manifest) o)) it.row ∙ ap (names_if_any target range) it.says ∙ it.any
 
 -- a live version needs what its row says
 needs_as_row : (c : Contents) (k : Pair) (test : Need → Bool) (live : Release) → at (live_of c) k ≡ Some live → list_any test (needs_in live) ≡ true → IsNeeding c k test
-needs_as_row c k test live e h = by_row (at c.versions k) refl (sym (at-revise pair_key c.versions (with_bytes c) k) ∙ e)
+needs_as_row c k test live e h = by_row (at c.versions k) refl (sym (at-read pair_key c.versions (with_bytes c) k) ∙ e)
   where
-    by_needs : (r : Release) → at c.versions k ≡ Some r → (o : Option (List Need)) → needs_of r.manifest ≡ o → list_any test (unwrap_or o []) ≡ true → IsNeeding c k test
+    by_needs : (r : LiveVersion) → at c.versions k ≡ Some r → (o : Option (List Need)) → needs_of r.manifest ≡ o → list_any test (unwrap_or o []) ≡ true → IsNeeding c k test
     by_needs r row None s any = absurd (true≢false (sym any))
     by_needs r row (Some needs) s any = record { release = r; needs = needs; row = row; says = s; any = any }
 
-    by_row : (o : Option Release) → at c.versions k ≡ o → option_map (with_bytes c k) o ≡ Some live → IsNeeding c k test
+    by_row : (o : Option LiveVersion) → at c.versions k ≡ o → option_map (with_bytes c k) o ≡ Some live → IsNeeding c k test
     by_row None row same = absurd cc
     by_row (Some r) row same =
         let is : with_bytes c k r ≡ live = cc in
@@ -183,7 +184,7 @@ module _ (c : Contents) (h : HoldsNeeds c) (p : Text) (v : VersionParts) where
       let names = and_parts (is need.0.target e.0.1.1.0) (is need.0.range e.0.1.1.1) need.2 in
       let target : is need.0.target p ≡ true = ap (is need.0.target) (text_is p e.0.1.1.0 both.0) ∙ names.0 in
       let range : binds need.0.range v ≡ true = ap binding (text_is need.0.range e.0.1.1.1 names.1 ∙ sym mapped.2) ∙ text.2 in
-      let live = at-revise pair_key c.versions (with_bytes c) k ∙ ap (option_map (with_bytes c k)) needing.row in
+      let live = at-read pair_key c.versions (with_bytes c) k ∙ ap (option_map (with_bytes c k)) needing.row in
       let any : list_any (is_need_of p v) (unwrap_or (needs_of needing.release.manifest) []) ≡ true =
       ap (λ (o : Option (List Need)). list_any (is_need_of p v) (unwrap_or o [])) needing.says ∙ any_where (is_need_of p v) needing.needs need.0 need.1 (and_from _ _ target range) in
       any_where depends (entries (live_of c)) (k, with_bytes c k needing.release) (found_has pair_key k (with_bytes c k needing.release) (entries (live_of c)) (sym (at-entries pair_key (live_of c) k) ∙ live))

@@ -1,5 +1,5 @@
 -- What the statements on grants make and show.
-use Rattle.std.proofs.Common.{◌≡◌, ◌==◌, ℕ, List, [], ◌∷◌, map, pos, Option, Some, None, is_some, not, length, Ok, refl, subst, ◌∙◌, codes}
+use Rattle.std.proofs.Common.{◌≡◌, ◌==◌, ℕ, List, [], ◌∷◌, map, Option, Some, None, is_some, not, length, Ok, refl, sym, ap, subst, ◌∙◌, codes}
 use Rattle.sqlite.specs.declared.types.Value.TheVariants.{Null, Int, Text as Stored}
 use Rattle.sqlite.specs.Command.TheVariants.{Insert, Update, Delete, Select}
 use Rattle.sqlite.specs.Source.TheVariants.{Values}
@@ -9,24 +9,24 @@ use Rattle.sqlite_tied.specs.Compute.{everything}
 use Rattle.sqlite_value.specs.Order.{Row}
 use Rattle.sqlite_sql.specs.Term.{Term, lit, col}
 use Rattle.registry_names.specs.Texts.{Text}
-use Rattle.registry_names.specs.Maps.{at, erase, put}
-use Rattle.registry_names.proofs.KeyFacts.{triple_key}
+use Rattle.registry_names.specs.Maps.{at, erase, pairs_of, parts, put}
+use Rattle.registry_names.proofs.KeyFacts.{pair_key, triple_key}
 use Rattle.registry_access.specs.declared.grant.Grant.{Grant}
-use Rattle.registry_access.specs.declared.grant.Grant.TheVariants.{ReadOnly, ReadWrite}
 use Rattle.registry_rows.specs.Frames.{Wrote}
 use Rattle.registry_rows.specs.Ready.{Ready, Leaves, Reads, Queried}
 use Rattle.registry_rows.specs.Statements.{Means, MeansQuery, IsUncascaded, scan, by_texts, in_order, set_terms}
-use Rattle.registry_rows.proofs.LookUpFacts.{select_lists_two, seen_as_is}
+use Rattle.registry_rows.proofs.LookUpFacts.{select_lists_two}
 use Rattle.registry_rows.proofs.StatementFacts.{insert_puts, insert_meets_none, update_revises, delete_erases}
 use Rattle.registry_tables.specs.Schema.{schema}
 use Rattle.registry_tables.specs.Schema as table
 use Rattle.registry_tables.specs.Changes.{amended}
-use Rattle.registry_tables.specs.Contents.{contents}
+use Rattle.registry_tables.specs.Contents.{access_of, contents}
 use Rattle.registry_tables.specs.Effects.{stored}
-use Rattle.registry_tables.specs.Spelled.{grant_number}
+use Rattle.registry_tables.specs.Numbers.{grant_number, grant_of}
 use Rattle.registry_tables.specs.Teams.{granted_spelled, grants_of}
 use Rattle.registry_tables.proofs.FoundFacts.{there_found}
 use Rattle.registry_tables.proofs.MappedFacts.{grants_mapped}
+use Rattle.registry_tables.proofs.ReadFacts.{part-read, parts-read, some-read}
 use Rattle.registry_tables.proofs.ReviseFacts.{revised}
 
 -- ---- INSERT
@@ -41,15 +41,13 @@ put_means : Means schema put_text (Insert 7 (Values (lit Null ∷ put_cells) 5))
 unfolding understood everything
 put_means = (refl, (refl, refl))
 
-pub grant_put : (o t p : Text) (grant : Grant) (old new : Shown) → Ready schema old → Wrote put_text (Stored o ∷ Stored t ∷ Stored p ∷ Int (pos (grant_number grant)) ∷ []) old new → HasCleanDisk new
-    → Leaves schema contents (record (stored old) { grants = put (stored old).grants (o, (t, p)) grant }) new
-grant_put o t p ReadOnly old new form call = insert_puts grants_mapped put_text put_cells put_means (Stored o ∷ Stored t ∷ Stored p ∷ Int (pos 1) ∷ []) refl old new (Ok call.0) form call.1
-grant_put o t p ReadWrite old new form call = insert_puts grants_mapped put_text put_cells put_means (Stored o ∷ Stored t ∷ Stored p ∷ Int (pos 2) ∷ []) refl old new (Ok call.0) form call.1
+pub grant_put : (o t p : Text) (grant : Grant) (old new : Shown) → Ready schema old → Wrote put_text (Stored o ∷ Stored t ∷ Stored p ∷ Int (grant_number grant) ∷ []) old new → HasCleanDisk new
+    → Leaves schema contents (record (stored old) { grants = put (stored old).grants (o, (t, p)) (grant_number grant) }) new
+grant_put o t p grant old new form call = insert_puts grants_mapped put_text put_cells put_means (Stored o ∷ Stored t ∷ Stored p ∷ Int (grant_number grant) ∷ []) refl old new (Ok call.0) form call.1
 
 -- an answered INSERT had a new key
-pub grant_was_new : (o t p : Text) (grant : Grant) (old new : Shown) → Ready schema old → Wrote put_text (Stored o ∷ Stored t ∷ Stored p ∷ Int (pos (grant_number grant)) ∷ []) old new → HasCleanDisk new → at (stored old).grants (o, (t, p)) ≡ None
-grant_was_new o t p ReadOnly old new form call = insert_meets_none grants_mapped put_text put_cells put_means (Stored o ∷ Stored t ∷ Stored p ∷ Int (pos 1) ∷ []) refl old new (Ok call.0) form call.1
-grant_was_new o t p ReadWrite old new form call = insert_meets_none grants_mapped put_text put_cells put_means (Stored o ∷ Stored t ∷ Stored p ∷ Int (pos 2) ∷ []) refl old new (Ok call.0) form call.1
+pub grant_was_new : (o t p : Text) (grant : Grant) (old new : Shown) → Ready schema old → Wrote put_text (Stored o ∷ Stored t ∷ Stored p ∷ Int (grant_number grant) ∷ []) old new → HasCleanDisk new → at (stored old).grants (o, (t, p)) ≡ None
+grant_was_new o t p grant old new form call = insert_meets_none grants_mapped put_text put_cells put_means (Stored o ∷ Stored t ∷ Stored p ∷ Int (grant_number grant) ∷ []) refl old new (Ok call.0) form call.1
 
 -- ---- UPDATE
 
@@ -64,12 +62,10 @@ set_means : Means schema set_text (Update 7 (record { lets = []; body = scan 14 
 unfolding understood everything
 set_means = (refl, (refl, refl))
 
-pub grant_set : (o t p : Text) (grant : Grant) (old new : Shown) → Ready schema old → Wrote set_text (Stored o ∷ Stored t ∷ Stored p ∷ Int (pos (grant_number grant)) ∷ []) old new → HasCleanDisk new
-    → Leaves schema contents (record (stored old) { grants = amended (stored old).grants (o, (t, p)) grant }) new
-grant_set o t p ReadOnly old new form call clean = subst (λ m. Leaves schema contents (record (stored old) { grants = m }) new) (revised triple_key (stored old).grants (o, (t, p)) ReadOnly)
-    (update_revises grants_mapped set_text sets set_means refl (o, (t, p)) (Int (pos 1) ∷ []) refl (λ _. ReadOnly) (λ vs. refl) (λ vs. refl) old new (Ok call.0) form call.1 clean)
-grant_set o t p ReadWrite old new form call clean = subst (λ m. Leaves schema contents (record (stored old) { grants = m }) new) (revised triple_key (stored old).grants (o, (t, p)) ReadWrite)
-    (update_revises grants_mapped set_text sets set_means refl (o, (t, p)) (Int (pos 2) ∷ []) refl (λ _. ReadWrite) (λ vs. refl) (λ vs. refl) old new (Ok call.0) form call.1 clean)
+pub grant_set : (o t p : Text) (grant : Grant) (old new : Shown) → Ready schema old → Wrote set_text (Stored o ∷ Stored t ∷ Stored p ∷ Int (grant_number grant) ∷ []) old new → HasCleanDisk new
+    → Leaves schema contents (record (stored old) { grants = amended (stored old).grants (o, (t, p)) (grant_number grant) }) new
+grant_set o t p grant old new form call clean = subst (λ m. Leaves schema contents (record (stored old) { grants = m }) new) (revised triple_key (stored old).grants (o, (t, p)) (grant_number grant))
+    (update_revises grants_mapped set_text sets set_means refl (o, (t, p)) (Int (grant_number grant) ∷ []) refl (λ _. grant_number grant) (λ vs. refl) (λ vs. refl) old new (Ok call.0) form call.1 clean)
 
 -- ---- DELETE
 
@@ -99,8 +95,10 @@ unfolding understood everything
 find_means = ((refl, (refl, refl)), refl)
 
 pub grant_found : (o t p : Text) (old new : Shown) (rows : List Row) → Ready schema old → Queried find_text (Stored o ∷ Stored t ∷ Stored p ∷ []) old new rows → HasCleanDisk new
-    → Reads schema old new × (not (length rows == 0) ≡ is_some (at (stored old).grants (o, (t, p))))
-grant_found o t p = there_found grants_mapped find_text (col 1 4 ∷ []) _ find_means (o, (t, p))
+    → Reads schema old new × (not (length rows == 0) ≡ is_some (at (access_of (stored old)).grants (o, (t, p))))
+grant_found o t p old new rows form call clean =
+    let it = there_found grants_mapped find_text (col 1 4 ∷ []) _ find_means (o, (t, p)) old new rows form call clean in
+    (it.0, it.1 ∙ sym (some-read triple_key (stored old).grants (λ _ n. grant_of n) (o, (t, p))))
 
 abbrev list_text : List ℕ
 list_text = codes "SELECT package, level FROM grants WHERE org = ?1 AND team = ?2 ORDER BY package"
@@ -115,5 +113,5 @@ list_means = ((refl, (refl, refl)), refl)
 pub grants_listed : (o t : Text) (old new : Shown) (rows : List Row) → Ready schema old → Queried list_text (Stored o ∷ Stored t ∷ []) old new rows → HasCleanDisk new
     → Reads schema old new × (map granted_spelled rows ≡ grants_of (stored old) o t)
 grants_listed o t old new rows form call clean =
-    let it = select_lists_two grants_mapped list_text list_columns _ list_means o t granted_spelled (λ (grant : Grant). grant) (λ id vs. refl) old new rows form call clean in
-    (it.0, it.1 ∙ seen_as_is (grants_of (stored old) o t))
+    let it = select_lists_two grants_mapped list_text list_columns _ list_means o t granted_spelled grant_of (λ id vs. refl) old new rows form call clean in
+    (it.0, it.1 ∙ sym (ap (λ es. parts es t) (part-read pair_key (stored old).grants grant_of o) ∙ parts-read grant_of (pairs_of (stored old).grants o) t))

@@ -9,12 +9,11 @@ use Rattle.registry_names.proofs.MapFacts.{at-empty, at-put}
 use Rattle.registry_publish.specs.Form.{FormParts}
 use Rattle.registry_publish.specs.Needs.{needs_of}
 use Rattle.registry_publish.specs.declared.need.Need.{Need}
-use Rattle.registry_rules.specs.State.{Release}
 use Rattle.registry_rules.specs.Actions.{version_of}
 use Rattle.registry_rows.specs.TextKeys.{TextsMap}
 use Rattle.registry_rows.proofs.TextKeyFacts.{texts_key}
 use Rattle.registry_tables.specs.Changes.{row_of, version_put}
-use Rattle.registry_tables.specs.Contents.{Contents}
+use Rattle.registry_tables.specs.Contents.{Contents, LiveVersion}
 use Rattle.registry_tables.specs.Fresh.{fresh}
 use Rattle.registry_tables.specs.Needs.{need_key, with_need, with_needs, names_range, names_if_any, HoldsNeeds}
 
@@ -42,9 +41,9 @@ at-with_needs m p v (need ∷ needs) q w target range =
 
 -- ---- what live manifests name
 
--- what the manifest of a release, if there is one, names
-abbrev named_of : Text → Text → Option Release → Bool
-named_of target range o = names_if_any target range (option_and_then (λ release. needs_of release.manifest) o)
+-- what the manifest of a live version, if there is one, names
+abbrev named_of : Text → Text → Option LiveVersion → Bool
+named_of target range o = names_if_any target range (option_and_then (λ (r : LiveVersion). needs_of r.manifest) o)
 
 none_live : {X : Type 0} (o : Option X) → is_some o ≡ false → o ≡ None
 none_live None h = refl
@@ -61,7 +60,7 @@ pub others_hold : (c d : Contents) → d.versions ≡ c.versions → d.need_rang
 others_hold c d versions needs h = record {
   stored = λ p v target range.
       ap (λ (m : TextsMap 3 (Unit {0})). is_some (at m (p, (v, (target, range))))) needs ∙ h.stored p v target range
-      ∙ sym (ap (λ (live : PairMap Release). named_of target range (at live (p, v))) versions);
+      ∙ sym (ap (λ (live : PairMap LiveVersion). named_of target range (at live (p, v))) versions);
 }
 
 pub version_holds : (f : FormParts) (now : ℕ) (c : Contents) → needs_of f.manifest ≡ Some f.needs → is_some (at c.versions (f.name, version_of f)) ≡ false → HoldsNeeds c → HoldsNeeds (version_put f now c)

@@ -1,6 +1,6 @@
 -- What the join of team_members and grants shows: what a user's teams are granted. Those of a
 -- package's scope are all that they have.
-use Rattle.std.proofs.Common.{◌≡◌, inl, inr, ℕ, List, [], ◌∷◌, map, codes, Bool, true, false, ◌&&◌, Option, Some, None, refl, sym, ap, ap₂, subst, ◌∙◌, true≢false}
+use Rattle.std.proofs.Common.{◌≡◌, inl, inr, ℕ, List, [], ◌∷◌, map, codes, Bool, true, false, ◌&&◌, Option, Some, None, option_map, refl, sym, ap, ap₂, subst, ◌∙◌, true≢false}
 use Rattle.std.specs.Prelude.{◌↔◌, IsSome, is_some}
 use Rattle.std.specs.List.{list_any}
 use Rattle.std.proofs.lemmas.Bool.{cases_Bool, and_parts, and_from, false_from_ne_true}
@@ -18,7 +18,7 @@ use Rattle.registry_names.specs.Keys.{Triple, pair_is}
 use Rattle.registry_names.specs.Maps.{at, entries, keys}
 use Rattle.registry_names.specs.Names.{scope_of}
 use Rattle.registry_names.proofs.TextFacts.{is_true, is_self, is_sym}
-use Rattle.registry_names.proofs.KeyFacts.{triple_key}
+use Rattle.registry_names.proofs.KeyFacts.{pair_key, triple_key}
 use Rattle.registry_names.proofs.EntryFacts.{entries_rise}
 use Rattle.registry_names.proofs.MapFacts.{at-entries}
 use Rattle.registry_access.specs.Callers.{grants, team_granted}
@@ -38,6 +38,8 @@ use Rattle.registry_tables.specs.Contents.{Contents, access_of}
 use Rattle.registry_tables.specs.Effects.{stored}
 use Rattle.registry_tables.specs.Teams.{AreGranted, AreTeamsSound, GrantsInScope, grant_spelled, granted_in}
 use Rattle.registry_tables.proofs.MappedFacts.{team_members_mapped, grants_mapped}
+use Rattle.registry_tables.proofs.ReadFacts.{at-read, read_there, some-read}
+use Rattle.registry_tables.specs.Numbers.{grant_of, role_of}
 
 -- the organisation, the user, the organisation again, the team and the package
 abbrev grant_sides : List (Side × Side)
@@ -48,9 +50,9 @@ granted_some None g t = absurd (true≢false (sym t))
 granted_some (Some h) g t = (h, refl, t)
 
 module _ (c : Contents) (o u p : Text) (shown : List Grant)
-    (loads : (y : Grant) → Has shown y ↔ IsJoined 2 2 c.team_members c.grants (joins 2 2 (Stored o ∷ Stored u ∷ Stored p ∷ []) grant_sides) (λ k x l z. z) y) (g : Grant) where
+    (loads : (y : Grant) → Has shown y ↔ IsJoined 2 2 c.team_members c.grants (joins 2 2 (Stored o ∷ Stored u ∷ Stored p ∷ []) grant_sides) (λ k x l n. grant_of n) y) (g : Grant) where
   abbrev test : Triple → Bool
-  test k = pair_is (o, u) (k.0, k.1.1) && grants (at c.grants (k.0, (k.1.0, p))) g
+  test k = pair_is (o, u) (k.0, k.1.1) && grants (at (access_of c).grants (k.0, (k.1.0, p))) g
 
   -- a grant that is shown is one of a team
   shown_granted : is_listed shown g ≡ true → granted_in c o u p g ≡ true
@@ -68,7 +70,7 @@ module _ (c : Contents) (o u p : Text) (shown : List Grant)
       (ap₂ (λ (a b : Text). (a, b)) (sym (is_true k.1.0 l.1.0 team.0)) (sym (is_true p l.1.1 pack.0))) in
       let there : Has (keys (entries c.team_members)) k = map_has (λ (e : Triple × Unit {0}). e.0) (entries c.team_members) _ (found_has triple_key k it.value (entries c.team_members) (sym (at-entries triple_key c.team_members k) ∙ it.there)) in
       some_from test (keys (entries c.team_members)) k there
-      (and_from _ _ (and_from _ _ organisation.0 user.0) (ap (λ x. grants x g) (ap (at c.grants) (sym key) ∙ it.other_there) ∙ ap (λ (z : Grant). is_grant z g) (sym it.shown) ∙ h.2))
+      (and_from _ _ (and_from _ _ organisation.0 user.0) (ap (λ x. grants x g) (ap (at (access_of c).grants) (sym key) ∙ at-read triple_key c.grants (λ _ n. grant_of n) l ∙ ap (option_map grant_of) it.other_there) ∙ ap (λ (z : Grant). is_grant z g) (sym it.shown) ∙ h.2))
 
   -- a grant of a team is shown
   granted_shown : granted_in c o u p g ≡ true → is_listed shown g ≡ true
@@ -79,17 +81,18 @@ module _ (c : Contents) (o u p : Text) (shown : List Grant)
       let e = has_mapped (λ (e : Triple × Unit {0}). e.0) (entries c.team_members) k.0 k.1 in
       let x = first_risen triple_key k.0 e.0.1 (entries c.team_members) (entries_rise c.team_members) (subst (λ (j : Triple). Has (entries c.team_members) (j, e.0.1)) (sym e.2) e.1) in
       let h = granted_some _ g both.1 in
+      let n = read_there triple_key c.grants (λ _ n. grant_of n) (k.0.0, (k.0.1.0, p)) h.0 h.1 in
       let pass : joins 2 2 (Stored o ∷ Stored u ∷ Stored p ∷ []) grant_sides k.0 (k.0.0, (k.0.1.0, p)) ≡ true =
       and_from _ _ own.0 (and_from _ _ own.1 (and_from _ _ own.0 (and_from _ _ (is_self k.0.1.0) (and_from _ _ (is_self p) refl)))) in
       some_from (λ z. is_grant z g) shown h.0 ((loads h.0).1 (record {
         key = k.0;
         value = e.0.1;
         other_key = (k.0.0, (k.0.1.0, p));
-        other = h.0;
+        other = n.0;
         there = at-entries triple_key c.team_members k.0 ∙ x;
-        other_there = h.1;
+        other_there = n.1;
         pass = pass;
-        shown = refl;
+        shown = sym n.2;
       })) h.2
 
   listed_is_granted : is_listed shown g ≡ granted_in c o u p g
@@ -99,7 +102,7 @@ module _ (c : Contents) (o u p : Text) (shown : List Grant)
   ]
 
 joined_are_granted : (c : Contents) (o u p : Text) (shown : List Grant)
-    → ((y : Grant) → Has shown y ↔ IsJoined 2 2 c.team_members c.grants (joins 2 2 (Stored o ∷ Stored u ∷ Stored p ∷ []) grant_sides) (λ k x l z. z) y) → AreGranted c o u p shown
+    → ((y : Grant) → Has shown y ↔ IsJoined 2 2 c.team_members c.grants (joins 2 2 (Stored o ∷ Stored u ∷ Stored p ∷ []) grant_sides) (λ k x l n. grant_of n) y) → AreGranted c o u p shown
 joined_are_granted c o u p shown loads g = listed_is_granted c o u p shown loads g
 
 -- ---- SELECT from team_members and grants
@@ -114,7 +117,7 @@ grants_means = ((refl, (refl, refl)), refl)
 pub grants_listed : (o u p : Text) (old new : Shown) (rows : List Row) → Ready schema old → Queried grants_text (Stored o ∷ Stored u ∷ Stored p ∷ []) old new rows → HasCleanDisk new
     → Reads schema old new × AreGranted (stored old) o u p (map grant_spelled rows)
 grants_listed o u p old new rows form call clean =
-    let it = select_joins team_members_mapped grants_mapped grant_sides grants_text (col 2 4 ∷ []) _ grants_means (Stored o ∷ Stored u ∷ Stored p ∷ []) refl grant_spelled (λ k x l z. z) (λ id other vs us. refl) old new rows form call clean in
+    let it = select_joins team_members_mapped grants_mapped grant_sides grants_text (col 2 4 ∷ []) _ grants_means (Stored o ∷ Stored u ∷ Stored p ∷ []) refl grant_spelled (λ k x l n. grant_of n) (λ id other vs us. refl) old new rows form call clean in
     (it.0, joined_are_granted (stored old) o u p (map grant_spelled rows) it.1)
 
 -- ---- the scope of a package
@@ -128,32 +131,32 @@ is_there e = ap is_some e
 
 module _ (c : Contents) (kept : GrantsInScope c) (u p : Text) (g : Grant) where
   -- whoever's team has a grant on the package, it is one of its scope
-  scope_is : (k : Triple) → grants (at c.grants (k.0, (k.1.0, p))) g ≡ true → scope_of p ≡ Some k.0
-  scope_is k t = kept k.0 k.1.0 p (is_there (granted_some _ g t).1)
+  scope_is : (k : Triple) → grants (at (access_of c).grants (k.0, (k.1.0, p))) g ≡ true → scope_of p ≡ Some k.0
+  scope_is k t = kept k.0 k.1.0 p (sym (some-read triple_key c.grants (λ _ n. grant_of n) (k.0, (k.1.0, p))) ∙ is_there (granted_some _ g t).1)
 
   pub scoped_are_all : (o : Text) → scope_of p ≡ Some o → granted_in c o u p g ≡ team_granted (access_of c) u p g
   scoped_are_all o scope = λ i. list_any (λ k. same k i) (keys (entries c.team_members))
     where
-      same : (k : Triple) → (pair_is (o, u) (k.0, k.1.1) && grants (at c.grants (k.0, (k.1.0, p))) g) ≡ (is k.1.1 u && grants (at c.grants (k.0, (k.1.0, p))) g)
-      same k = elim (cases_Bool (grants (at c.grants (k.0, (k.1.0, p))) g)) [
-        | inl some ↦ ap (λ b. b && grants (at c.grants (k.0, (k.1.0, p))) g) (ap₂ (λ a b. a && b) (ap (is o) (some_same (sym (scope_is k some) ∙ scope)) ∙ is_self o) (is_sym u k.1.1))
+      same : (k : Triple) → (pair_is (o, u) (k.0, k.1.1) && grants (at (access_of c).grants (k.0, (k.1.0, p))) g) ≡ (is k.1.1 u && grants (at (access_of c).grants (k.0, (k.1.0, p))) g)
+      same k = elim (cases_Bool (grants (at (access_of c).grants (k.0, (k.1.0, p))) g)) [
+        | inl some ↦ ap (λ b. b && grants (at (access_of c).grants (k.0, (k.1.0, p))) g) (ap₂ (λ a b. a && b) (ap (is o) (some_same (sym (scope_is k some) ∙ scope)) ∙ is_self o) (is_sym u k.1.1))
         | inr none ↦ ap (λ b. pair_is (o, u) (k.0, k.1.1) && b) none ∙ nothing (pair_is (o, u) (k.0, k.1.1)) ∙ sym (nothing (is k.1.1 u)) ∙ ap (λ b. is k.1.1 u && b) (sym none)
       ]
 
   pub unscoped_have_none : scope_of p ≡ None → team_granted (access_of c) u p g ≡ false
   unscoped_have_none none = false_from_ne_true _ (λ any.
-      let k = some_has (λ (k : Triple). is k.1.1 u && grants (at c.grants (k.0, (k.1.0, p))) g) (keys (entries c.team_members)) any in
+      let k = some_has (λ (k : Triple). is k.1.1 u && grants (at (access_of c).grants (k.0, (k.1.0, p))) g) (keys (entries c.team_members)) any in
       let scope = scope_is k.0 (and_parts _ _ k.2).1 in
       absurd (let e = sym none ∙ scope in cc))
 
 -- who has no role in the organisation of the scope is in none of its teams
-pub strangers_have_none : (c : Contents) → AreTeamsSound c → (o u p : Text) (g : Grant) → scope_of p ≡ Some o → is_some (at c.members (o, u)) ≡ false → team_granted (access_of c) u p g ≡ false
+pub strangers_have_none : (c : Contents) → AreTeamsSound c → (o u p : Text) (g : Grant) → scope_of p ≡ Some o → is_some (at (access_of c).roles (o, u)) ≡ false → team_granted (access_of c) u p g ≡ false
 strangers_have_none c sound o u p g scope none = false_from_ne_true _ (λ any.
-    let k = some_has (λ (k : Triple). is k.1.1 u && grants (at c.grants (k.0, (k.1.0, p))) g) (keys (entries c.team_members)) any in
+    let k = some_has (λ (k : Triple). is k.1.1 u && grants (at (access_of c).grants (k.0, (k.1.0, p))) g) (keys (entries c.team_members)) any in
     let both = and_parts _ _ k.2 in
     let same_organisation : k.0.0 ≡ o = some_same (sym (scope_is c sound.grants u p g k.0 both.1) ∙ scope) in
     let same_user : k.0.1.1 ≡ u = is_true k.0.1.1 u both.0 in
     let e = has_mapped (λ (e : Triple × Unit {0}). e.0) (entries c.team_members) k.0 k.1 in
     let x = first_risen triple_key k.0 e.0.1 (entries c.team_members) (entries_rise c.team_members) (subst (λ (j : Triple). Has (entries c.team_members) (j, e.0.1)) (sym e.2) e.1) in
-    let member : IsSome (at c.members (k.0.0, k.0.1.1)) = sound.members k.0.0 k.0.1.0 k.0.1.1 (is_there (at-entries triple_key c.team_members k.0 ∙ x)) in
-    true≢false (sym member ∙ ap₂ (λ (a b : Text). is_some (at c.members (a, b))) same_organisation same_user ∙ none))
+    let member : IsSome (at (access_of c).roles (k.0.0, k.0.1.1)) = some-read pair_key c.members (λ _ n. role_of n) (k.0.0, k.0.1.1) ∙ sound.members k.0.0 k.0.1.0 k.0.1.1 (is_there (at-entries triple_key c.team_members k.0 ∙ x)) in
+    true≢false (sym member ∙ ap₂ (λ (a b : Text). is_some (at (access_of c).roles (a, b))) same_organisation same_user ∙ none))

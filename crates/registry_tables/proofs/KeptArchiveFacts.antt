@@ -10,13 +10,12 @@ use Rattle.registry_names.specs.Keys.{Pair, pair_is}
 use Rattle.registry_names.specs.Texts.{Text, is}
 use Rattle.registry_names.specs.Maps.{PairMap, at, put, entries}
 use Rattle.registry_names.proofs.KeyFacts.{pair_key, text_key, same_true, same_self}
-use Rattle.registry_names.proofs.MapFacts.{at-empty, at-entries, at-put, at-put_same, at-put_other, at-revise, same_map}
+use Rattle.registry_names.proofs.MapFacts.{at-empty, at-entries, at-put, at-put_same, at-put_other, same_map}
 use Rattle.registry_names.proofs.EntryFacts.{entries_rise}
 use Rattle.registry_publish.specs.Form.{FormParts}
 use Rattle.registry_publish.specs.Integrity.{integrity_text}
 use Rattle.registry_rules.specs.Actions.{version_of}
 use Rattle.registry_rules.specs.Changes.{release_of}
-use Rattle.registry_rules.specs.State.{Release}
 use Rattle.registry_rows.specs.KeyKinds.{NumberMap}
 use Rattle.registry_rows.specs.Counting.{counted}
 use Rattle.registry_rows.proofs.CountFacts.{next_is_new}
@@ -25,8 +24,9 @@ use Rattle.registry_rows.proofs.ListingFacts.{first_risen}
 use Rattle.registry_rows.proofs.OrderFacts.{found_has}
 use Rattle.registry_tables.specs.Archives.{AreArchivesSound, is_archive, number_of, next_archive, archive_number, with_archive, HeldAreStored, HoldsArchives}
 use Rattle.registry_tables.specs.Changes.{row_of, version_put}
-use Rattle.registry_tables.specs.Contents.{Archive, Contents, bytes_held, live_of, with_bytes}
+use Rattle.registry_tables.specs.Contents.{Archive, Contents, LiveVersion, as_release, bytes_held, live_of, with_bytes}
 use Rattle.registry_tables.specs.Fresh.{fresh}
+use Rattle.registry_tables.proofs.ReadFacts.{at-read}
 
 -- ---- looking an archive up
 
@@ -210,16 +210,16 @@ module _ (f : FormParts) (now : ℕ) (c : Contents) where
   -- the live versions have one more, with the form's archive
   pub live_put : HeldAreStored c → live_of after ≡ put (live_of c) key (release_of f now)
   live_put stored = same_map pair_key _ _ (λ k.
-      at-revise pair_key after.versions (with_bytes after) k ∙ ap (option_map (with_bytes after k)) (at-put pair_key c.versions key (row_of f now) k)
+      at-read pair_key after.versions (with_bytes after) k ∙ ap (option_map (with_bytes after k)) (at-put pair_key c.versions key (row_of f now) k)
       ∙ each k (pair_is key k) refl ∙ sym (at-put pair_key (live_of c) key (release_of f now) k))
     where
-      as_row : (k : Pair) (b : List ℕ) → bytes_held after k ≡ b → (o : Option Release) → option_map (with_bytes after k) o ≡ option_map (λ (r : Release). record r { archive = b }) o
+      as_row : (k : Pair) (b : List ℕ) → bytes_held after k ≡ b → (o : Option LiveVersion) → option_map (with_bytes after k) o ≡ option_map (λ (r : LiveVersion). record (as_release r) { archive = b }) o
       as_row k b e None = refl
-      as_row k b e (Some r) = ap (λ (b : List ℕ). Some (record r { archive = b })) e
+      as_row k b e (Some r) = ap (λ (b : List ℕ). Some (record (as_release r) { archive = b })) e
 
       each : (k : Pair) (b : Bool) → pair_is key k ≡ b → option_map (with_bytes after k) (cond b (Some (row_of f now)) (at c.versions k)) ≡ cond b (Some (release_of f now)) (at (live_of c) k)
       each k true t = as_row k f.archive (ap (bytes_held after) (sym (same_true pair_key key k t)) ∙ bytes_new) (Some (row_of f now))
-      each k false t = as_row k (bytes_held c k) (bytes_other stored k t) (at c.versions k) ∙ sym (at-revise pair_key c.versions (with_bytes c) k)
+      each k false t = as_row k (bytes_held c k) (bytes_other stored k t) (at c.versions k) ∙ sym (at-read pair_key c.versions (with_bytes c) k)
 
 -- ---- its form
 
@@ -235,12 +235,12 @@ fresh_archives = record {
 
 pub others_keep_archives : (c d : Contents) → d.versions ≡ c.versions → d.held ≡ c.held → d.archives ≡ c.archives → HoldsArchives c → HoldsArchives d
 others_keep_archives c d versions held archives h = record {
-  lives = λ k. ap (λ (m : PairMap ℤ). is_some (at m k)) held ∙ h.lives k ∙ sym (ap (λ (m : PairMap Release). is_some (at m k)) versions);
+  lives = λ k. ap (λ (m : PairMap ℤ). is_some (at m k)) held ∙ h.lives k ∙ sym (ap (λ (m : PairMap LiveVersion). is_some (at m k)) versions);
   stored = λ k n e. ap (λ (m : NumberMap Archive). is_some (at m n)) archives ∙ h.stored k n (sym (ap (λ (m : PairMap ℤ). at m k) held) ∙ e);
   had = λ n a e. let it = h.had n a (sym (ap (λ (m : NumberMap Archive). at m n) archives) ∙ e) in (it.0, ap (λ (m : PairMap ℤ). at m it.0) held ∙ it.1);
   integrity = λ n a e. h.integrity n a (sym (ap (λ (m : NumberMap Archive). at m n) archives) ∙ e);
   once = λ m n a b e g same. h.once m n a b (sym (ap (λ (o : NumberMap Archive). at o m) archives) ∙ e) (sym (ap (λ (o : NumberMap Archive). at o n) archives) ∙ g) same;
-  bare = λ k release e. h.bare k release (sym (ap (λ (m : PairMap Release). at m k) versions) ∙ e);
+  bare = λ k release e. h.bare k release (sym (ap (λ (m : PairMap LiveVersion). at m k) versions) ∙ e);
 }
 
 module _ (f : FormParts) (now : ℕ) (c : Contents) (integrity : f.integrity ≡ integrity_text f.archive) (new : is_some (at c.versions (f.name, version_of f)) ≡ false) (h : HoldsArchives c) where
@@ -263,8 +263,8 @@ module _ (f : FormParts) (now : ℕ) (c : Contents) (integrity : f.integrity ≡
       ]
   owner n a (inr it) = (key f now c, at-put_same pair_key c.held (key f now c) (number f now c) ∙ ap (λ (i : ℤ). Some i) (sym it.1))
 
-  bare_after : (k : Pair) (release : Release) (b : Bool) → cond b (Some (row_of f now)) (at c.versions k) ≡ Some release → release.archive ≡ []
-  bare_after k release true e = let same : row_of f now ≡ release = cc in ap (λ (r : Release). r.archive) (sym same)
+  bare_after : (k : Pair) (release : LiveVersion) (b : Bool) → cond b (Some (row_of f now)) (at c.versions k) ≡ Some release → release.archive ≡ []
+  bare_after k release true e = let same : row_of f now ≡ release = cc in ap (λ (r : LiveVersion). r.archive) (sym same)
   bare_after k release false e = h.bare k release e
 
   pub version_keeps_archives : HoldsArchives (version_put f now c)

@@ -19,9 +19,12 @@ pub mod MemberFacts
 pub mod MetaFacts
 pub mod NamingFacts
 pub mod NeedFacts
+pub mod NumberFacts
 pub mod OpeningFacts
 pub mod OrganisationFacts
 pub mod ParentFacts
+pub mod RangeFacts
+pub mod ReadFacts
 pub mod ReadableFacts
 pub mod ReferenceFacts
 pub mod RetiredFacts

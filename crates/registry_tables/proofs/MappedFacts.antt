@@ -6,7 +6,7 @@ use Rattle.registry_rows.specs.Counting.{IsCounted}
 use Rattle.registry_rows.specs.Ready.{IsMapped, IsMappedByBytes, IsNumbered}
 use Rattle.registry_tables.specs.Schema.{schema}
 use Rattle.registry_tables.specs.Schema as table
-use Rattle.registry_tables.specs.Contents.{contents, archive_in, held_in, nothing_in, user_in, role_in, grant_in, status_in, release_in, withdrawal_in, named_in}
+use Rattle.registry_tables.specs.Contents.{contents, archive_in, held_in, nothing_in, user_in, role_in, grant_in, status_in, version_in, spent_in, named_in}
 use Rattle.registry_tables.proofs.ContentsFacts.{contents_depend}
 
 pub users_mapped : IsMapped schema contents 0 table.users 0 nothing_in (λ c m. record c { users = m })
@@ -36,7 +36,7 @@ grants_mapped = record { found = refl; shape = refl; index = 7; indexed = refl; 
 pub owners_mapped : IsMapped schema contents 8 table.owners 1 nothing_in (λ c m. record c { owners = m })
 owners_mapped = record { found = refl; shape = refl; index = 8; indexed = refl; plain = refl; texts = refl; depends = contents_depend; alone = λ db rows. refl }
 
-pub versions_mapped : IsMapped schema contents 9 table.versions 1 release_in (λ c m. record c { versions = m })
+pub versions_mapped : IsMapped schema contents 9 table.versions 1 version_in (λ c m. record c { versions = m })
 versions_mapped = record { found = refl; shape = refl; index = 9; indexed = refl; plain = refl; texts = refl; depends = contents_depend; alone = λ db rows. refl }
 
 pub tags_mapped : IsMapped schema contents 11 table.tags 1 named_in (λ c m. record c { tags = m })
@@ -48,7 +48,7 @@ needs_mapped = record { found = refl; shape = refl; index = 12; indexed = refl; 
 pub need_ranges_mapped : IsMapped schema contents 17 table.need_ranges 3 nothing_in (λ c m. record c { need_ranges = m })
 need_ranges_mapped = record { found = refl; shape = refl; index = 16; indexed = refl; plain = refl; texts = refl; depends = contents_depend; alone = λ db rows. refl }
 
-pub spent_mapped : IsMapped schema contents 10 table.spent 1 withdrawal_in (λ c m. record c { spent = m })
+pub spent_mapped : IsMapped schema contents 10 table.spent 1 spent_in (λ c m. record c { spent = m })
 spent_mapped = record { found = refl; shape = refl; index = 10; indexed = refl; plain = refl; texts = refl; depends = contents_depend; alone = λ db rows. refl }
 
 pub held_mapped : IsMapped schema contents 14 table.held 1 held_in (λ c m. record c { held = m })

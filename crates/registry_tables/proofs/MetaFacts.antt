@@ -1,6 +1,6 @@
 -- The table `meta`.
 use Rattle.std.specs.Prelude.{codes}
-use Rattle.std.proofs.Common.{◌≡◌, ℕ, List, [], ◌∷◌, Option, None, Some, option_map, slice_get, Ok, pos, refl, ◌∙◌}
+use Rattle.std.proofs.Common.{◌≡◌, ℕ, ℤ, List, [], ◌∷◌, Option, None, Some, option_map, slice_get, Ok, pos, refl, ◌∙◌}
 use Rattle.sqlite.specs.declared.types.Value.TheVariants.{Null, Int, Text as Stored}
 use Rattle.sqlite_value.specs.Order.{Row, column}
 use Rattle.sqlite_sql.specs.Term.{Term, lit, col}
@@ -10,7 +10,7 @@ use Rattle.sqlite.specs.Listing.{understood}
 use Rattle.sqlite.specs.State.{State, HasCleanDisk}
 use Rattle.sqlite_tied.specs.Compute.{everything}
 use Rattle.registry_names.specs.Maps.{at}
-use Rattle.registry_rows.specs.Columns.{number_in}
+use Rattle.registry_rows.specs.Columns.{int_in}
 use Rattle.registry_rows.specs.Statements.{Means, MeansQuery, scan, by_texts}
 use Rattle.registry_rows.specs.Frames.{Wrote}
 use Rattle.registry_rows.specs.Ready.{Ready, Leaves, Reads, Queried, IsMapped}
@@ -50,11 +50,11 @@ unfolding understood everything
 select_means = ((refl, (refl, refl)), refl)
 
 pub number_found : (old new : State) (rows : List Row) → Ready schema old → Queried select_text (Stored schema_key ∷ []) old new rows → HasCleanDisk new
-    → Reads schema old new × (option_map (λ r. number_in (column r 0)) (slice_get rows 0) ≡ at (stored old).meta schema_key)
+    → Reads schema old new × (option_map (λ r. int_in (column r 0)) (slice_get rows 0) ≡ at (stored old).meta schema_key)
 number_found old new rows form call clean =
-    let it = select_finds meta_mapped select_text (col 1 2 ∷ []) (codes "value" ∷ []) select_means schema_key (λ r. number_in (column r 0)) (λ n. n) (λ id vs. refl) old new rows form call clean in
-    (it.0, first_listed (λ r. number_in (column r 0)) rows _ it.1 ∙ as_is (at (stored old).meta schema_key))
+    let it = select_finds meta_mapped select_text (col 1 2 ∷ []) (codes "value" ∷ []) select_means schema_key (λ r. int_in (column r 0)) (λ n. n) (λ id vs. refl) old new rows form call clean in
+    (it.0, first_listed (λ r. int_in (column r 0)) rows _ it.1 ∙ as_is (at (stored old).meta schema_key))
   where
-    as_is : (o : Option ℕ) → option_map (λ n. n) o ≡ o
+    as_is : (o : Option ℤ) → option_map (λ n. n) o ≡ o
     as_is None = refl
     as_is (Some n) = refl

@@ -1,6 +1,6 @@
 -- What the rows of a table refer to by their first column: the organisation of a member is there,
 -- and the package of a version.
-use Rattle.std.proofs.Common.{◌≡◌, ◌||◌, ℕ, [], ◌∷◌, drop, inl, true, false, Some, is_some, refl, sym, ap, subst, ◌∙◌, codes}
+use Rattle.std.proofs.Common.{◌≡◌, ◌||◌, ℕ, ℤ, [], ◌∷◌, drop, inl, true, false, Some, is_some, refl, sym, ap, subst, ◌∙◌, codes}
 use Rattle.std.proofs.lemmas.Bool.{and_parts}
 use Rattle.sqlite.specs.declared.types.Value.{Value}
 use Rattle.sqlite.specs.declared.types.Value.TheVariants.{Text as Stored}
@@ -23,8 +23,6 @@ use Rattle.registry_names.specs.Texts.{Text}
 use Rattle.registry_names.specs.Maps.{at, put}
 use Rattle.registry_names.proofs.KeyFacts.{pair_key}
 use Rattle.registry_names.proofs.MapFacts.{at-put_same}
-use Rattle.registry_access.specs.declared.role.Role.{Role}
-use Rattle.registry_rules.specs.State.{Release}
 use Rattle.registry_rows.specs.Rows.{key_of, map_of}
 use Rattle.registry_rows.specs.TextKeys.{TextsMap}
 use Rattle.registry_rows.specs.Ready.{IsMapped, IsReady, Leaves}
@@ -34,7 +32,7 @@ use Rattle.registry_rows.proofs.OneRowFacts.{table_rowids}
 use Rattle.registry_rows.proofs.ReferenceFacts.{parent_of}
 use Rattle.registry_rows.proofs.StatementFacts.{rows_tell_by}
 use Rattle.registry_rows.proofs.TextKeyFacts.{row_parts}
-use Rattle.registry_tables.specs.Contents.{Contents, contents}
+use Rattle.registry_tables.specs.Contents.{Contents, LiveVersion, contents}
 use Rattle.registry_tables.specs.Effects.{stored}
 use Rattle.registry_tables.specs.Schema as table
 use Rattle.registry_tables.specs.Schema.{schema}
@@ -70,15 +68,15 @@ to_packages = refl
 
 module _ (s : State) (ready : IsReady schema s) where
   -- the organisation in which a user has a role
-  pub organisation_there : (o u : Text) (role : Role) → at (stored s).members (o, u) ≡ Some role → is_some (at (stored s).organisations o) ≡ true
+  pub organisation_there : (o u : Text) (role : ℤ) → at (stored s).members (o, u) ≡ Some role → is_some (at (stored s).organisations o) ≡ true
   organisation_there = parent_there members_mapped organisations_mapped (codes "orgs") NoAction (inl refl) to_organisations s ready
 
   -- the package of which a version lives
-  pub package_there : (p v : Text) (release : Release) → at (stored s).versions (p, v) ≡ Some release → is_some (at (stored s).packages p) ≡ true
+  pub package_there : (p v : Text) (row : LiveVersion) → at (stored s).versions (p, v) ≡ Some row → is_some (at (stored s).packages p) ≡ true
   package_there = parent_there versions_mapped packages_mapped (codes "packages") NoAction (inl refl) to_packages s ready
 
 -- a version was put where its package was
-pub version_has_package : (p v : Text) (release : Release) (c : Contents) (s : State) → Leaves schema contents (record c { versions = put c.versions (p, v) release }) s → is_some (at c.packages p) ≡ true
-version_has_package p v release c s left =
-    let there : at (stored s).versions (p, v) ≡ Some release = ap (λ (d : Contents). at d.versions (p, v)) left.holds ∙ at-put_same pair_key c.versions (p, v) release in
-    sym (ap (λ (d : Contents). is_some (at d.packages p)) left.holds) ∙ package_there s left.ready p v release there
+pub version_has_package : (p v : Text) (row : LiveVersion) (c : Contents) (s : State) → Leaves schema contents (record c { versions = put c.versions (p, v) row }) s → is_some (at c.packages p) ≡ true
+version_has_package p v row c s left =
+    let there : at (stored s).versions (p, v) ≡ Some row = ap (λ (d : Contents). at d.versions (p, v)) left.holds ∙ at-put_same pair_key c.versions (p, v) row in
+    sym (ap (λ (d : Contents). is_some (at d.packages p)) left.holds) ∙ package_there s left.ready p v row there

@@ -32,7 +32,7 @@ use Rattle.registry_rows.proofs.StatementFacts.{rows_tell_by}
 use Rattle.registry_rows.proofs.TextKeyFacts.{row_parts}
 use Rattle.registry_rows.proofs.TypeFacts.{number_test, text_test}
 use Rattle.registry_tables.specs.Archives.{HeldAreStored}
-use Rattle.registry_tables.specs.Contents.{archive_in, release_in}
+use Rattle.registry_tables.specs.Contents.{archive_in, version_in as version_row}
 use Rattle.registry_tables.specs.Effects.{stored}
 use Rattle.registry_tables.specs.Schema as table
 use Rattle.registry_tables.specs.Schema.{schema}
@@ -114,7 +114,7 @@ module _ (s : State) (ready : IsReady schema s) where
   version_in p here v w first second =
       let texts = texts_of versions_mapped s ready p here in
       let key : (v, w) ≡ key_of 1 p = ap₂ (λ (a b : Text). (a, b)) (told v (column (drop 1 p) 0) texts.0 first) (told w (column (drop 1 p) 1) texts.1 second) in
-      let there = (rows_tell_by (by_texts_given versions_mapped) s ready (key_of 1 p) (release_in (drop 1 p))).1 (p, here, refl, refl) in
+      let there = (rows_tell_by (by_texts_given versions_mapped) s ready (key_of 1 p) (version_row (drop 1 p))).1 (p, here, refl, refl) in
       ap (λ (q : Pair). is_some (at (stored s).versions q)) key ∙ ap is_some there
 
   -- a row of `versions` begins with its rowid

@@ -20,10 +20,11 @@ use Rattle.registry_rows.proofs.ListingFacts.{first_risen}
 use Rattle.registry_rows.proofs.OrderFacts.{found_has}
 use Rattle.registry_rows.proofs.TextKeyFacts.{texts_key}
 use Rattle.registry_tables.specs.Archives.{HeldAreStored, HoldsArchives}
-use Rattle.registry_tables.specs.Contents.{Archive, Contents, bytes_held, live_of, with_bytes}
+use Rattle.registry_tables.specs.Contents.{Archive, Contents, LiveVersion, as_release, bytes_held, live_of, with_bytes}
 use Rattle.registry_tables.specs.Needs.{HoldsNeeds, names_if_any}
 use Rattle.registry_tables.specs.Withdrawals.{archives_left, is_held, version_retired, with_message, without_rows}
 use Rattle.registry_tables.proofs.FoundFacts.{some_seen}
+use Rattle.registry_tables.proofs.ReadFacts.{at-read}
 
 -- ---- lists in which something passes
 
@@ -117,16 +118,16 @@ module _ (p v : Text) (published withdrawn : ℕ) (c : Contents) where
   -- the live versions have one less
   pub live_retired : live_of after ≡ erase (live_of c) key
   live_retired = same_map pair_key _ _ (λ k.
-      at-revise pair_key after.versions (with_bytes after) k ∙ ap (option_map (with_bytes after k)) (at-erase pair_key c.versions key k)
+      at-read pair_key after.versions (with_bytes after) k ∙ ap (option_map (with_bytes after k)) (at-erase pair_key c.versions key k)
       ∙ each k (pair_is key k) refl ∙ sym (at-erase pair_key (live_of c) key k))
     where
-      as_row : (k : Pair) → bytes_held after k ≡ bytes_held c k → (o : Option Release) → option_map (with_bytes after k) o ≡ option_map (with_bytes c k) o
+      as_row : (k : Pair) → bytes_held after k ≡ bytes_held c k → (o : Option LiveVersion) → option_map (with_bytes after k) o ≡ option_map (with_bytes c k) o
       as_row k e None = refl
-      as_row k e (Some r) = ap (λ (b : List ℕ). Some (record r { archive = b })) e
+      as_row k e (Some r) = ap (λ (b : List ℕ). Some (record (as_release r) { archive = b })) e
 
       each : (k : Pair) (b : Bool) → pair_is key k ≡ b → option_map (with_bytes after k) (cond b None (at c.versions k)) ≡ cond b None (at (live_of c) k)
       each k true t = refl
-      each k false t = as_row k (bytes_same k t) (at c.versions k) ∙ sym (at-revise pair_key c.versions (with_bytes c) k)
+      each k false t = as_row k (bytes_same k t) (at c.versions k) ∙ sym (at-read pair_key c.versions (with_bytes c) k)
 
   -- ---- its form
 
@@ -135,7 +136,7 @@ module _ (p v : Text) (published withdrawn : ℕ) (c : Contents) where
     both_live k true = refl
     both_live k false = h.lives k
 
-    was_live : (k : Pair) (release : Release) (b : Bool) → cond b None (at c.versions k) ≡ Some release → at c.versions k ≡ Some release
+    was_live : (k : Pair) (release : LiveVersion) (b : Bool) → cond b None (at c.versions k) ≡ Some release → at c.versions k ≡ Some release
     was_live k release true e = absurd cc
     was_live k release false e = e
 
@@ -165,9 +166,9 @@ module _ (p v : Text) (published withdrawn : ℕ) (c : Contents) where
       bare = λ k release e. h.bare k release (was_live k release (pair_is key k) (sym (at-erase pair_key c.versions key k) ∙ e));
     }
 
-  -- what the manifest of a release, if there is one, names
-  abbrev named_of : Text → Text → Option Release → Bool
-  named_of target range o = names_if_any target range (option_and_then (λ (r : Release). needs_of r.manifest) o)
+  -- what the manifest of a live version, if there is one, names
+  abbrev named_of : Text → Text → Option LiveVersion → Bool
+  named_of target range o = names_if_any target range (option_and_then (λ (r : LiveVersion). needs_of r.manifest) o)
 
   pub retired_keeps_needs : HoldsNeeds c → HoldsNeeds after
   retired_keeps_needs h = record {
@@ -186,20 +187,27 @@ module _ (p v message : Text) (c : Contents) where
   abbrev messaged : Contents
   messaged = record c { versions = with_message c.versions (p, v) message }
 
-  abbrev with_new : Bool → Release → Release
+  abbrev with_new : Bool → LiveVersion → LiveVersion
   with_new b r = if b then record r { message = message } else r
 
-  abbrev new_at : Pair → Release → Release
+  abbrev new_at : Pair → LiveVersion → LiveVersion
   new_at k r = with_new (pair_is (p, v) k) r
 
+  -- the same of a release
+  abbrev released_with : Bool → Release → Release
+  released_with b r = if b then record r { message = message } else r
+
+  abbrev released_at : Pair → Release → Release
+  released_at k r = released_with (pair_is (p, v) k) r
+
   -- the live version has the message
-  pub live_messaged : live_of messaged ≡ revise (live_of c) new_at
+  pub live_messaged : live_of messaged ≡ revise (live_of c) released_at
   live_messaged = same_map pair_key _ _ (λ k.
-      at-revise pair_key messaged.versions (with_bytes c) k ∙ ap (option_map (with_bytes c k)) (at-revise pair_key c.versions new_at k)
+      at-read pair_key messaged.versions (with_bytes c) k ∙ ap (option_map (with_bytes c k)) (at-revise pair_key c.versions new_at k)
       ∙ each k (pair_is (p, v) k) (at c.versions k)
-      ∙ sym (at-revise pair_key (live_of c) new_at k ∙ ap (option_map (new_at k)) (at-revise pair_key c.versions (with_bytes c) k)))
+      ∙ sym (at-revise pair_key (live_of c) released_at k ∙ ap (option_map (released_at k)) (at-read pair_key c.versions (with_bytes c) k)))
     where
-      each : (k : Pair) (b : Bool) (o : Option Release) → option_map (with_bytes c k) (option_map (with_new b) o) ≡ option_map (with_new b) (option_map (with_bytes c k) o)
+      each : (k : Pair) (b : Bool) (o : Option LiveVersion) → option_map (with_bytes c k) (option_map (with_new b) o) ≡ option_map (released_with b) (option_map (with_bytes c k) o)
       each k b None = refl
       each k true (Some r) = refl
       each k false (Some r) = refl
@@ -214,15 +222,15 @@ module _ (p v message : Text) (c : Contents) where
     bare = λ k release e. each k release (at c.versions k) refl (sym (at-revise pair_key c.versions new_at k) ∙ e);
   }
     where
-      bare_with : (b : Bool) (r : Release) → (with_new b r).archive ≡ r.archive
+      bare_with : (b : Bool) (r : LiveVersion) → (with_new b r).archive ≡ r.archive
       bare_with true r = refl
       bare_with false r = refl
 
-      each : (k : Pair) (release : Release) (o : Option Release) → at c.versions k ≡ o → option_map (new_at k) o ≡ Some release → release.archive ≡ []
+      each : (k : Pair) (release : LiveVersion) (o : Option LiveVersion) → at c.versions k ≡ o → option_map (new_at k) o ≡ Some release → release.archive ≡ []
       each k release None e same = absurd cc
       each k release (Some r) e same =
           let is : new_at k r ≡ release = cc in
-          ap (λ (x : Release). x.archive) (sym is) ∙ bare_with (pair_is (p, v) k) r ∙ h.bare k r e
+          ap (λ (x : LiveVersion). x.archive) (sym is) ∙ bare_with (pair_is (p, v) k) r ∙ h.bare k r e
 
   pub messaged_keeps_needs : HoldsNeeds c → HoldsNeeds messaged
   messaged_keeps_needs h = record {
@@ -231,10 +239,10 @@ module _ (p v message : Text) (c : Contents) where
         ∙ sym (ap (named target range) (at-revise pair_key c.versions new_at (q, w)) ∙ each target range (pair_is (p, v) (q, w)) (at c.versions (q, w)));
   }
     where
-      named : Text → Text → Option Release → Bool
-      named target range o = names_if_any target range (option_and_then (λ (r : Release). needs_of r.manifest) o)
+      named : Text → Text → Option LiveVersion → Bool
+      named target range o = names_if_any target range (option_and_then (λ (r : LiveVersion). needs_of r.manifest) o)
 
-      each : (target range : Text) (b : Bool) (o : Option Release) → named target range (option_map (with_new b) o) ≡ named target range o
+      each : (target range : Text) (b : Bool) (o : Option LiveVersion) → named target range (option_map (with_new b) o) ≡ named target range o
       each target range b None = refl
       each target range true (Some r) = refl
       each target range false (Some r) = refl

@@ -20,12 +20,16 @@ use Rattle.registry_rows.specs.Ready.{Ready, Reads, Queried}
 use Rattle.registry_rows.specs.Statements.{MeansQuery, scan, by_texts, in_order}
 use Rattle.registry_rows.proofs.LookUpFacts.{select_finds, select_lists}
 use Rattle.registry_tables.specs.Schema.{schema}
-use Rattle.registry_tables.specs.Contents.{registry_of}
+use Rattle.registry_tables.specs.Contents.{Contents, SpentVersion, as_withdrawal, registry_of}
 use Rattle.registry_tables.specs.Effects.{stored}
-use Rattle.registry_tables.specs.Spelled.{number_spelled, second_spelled}
+use Rattle.registry_tables.specs.Numbers.{seconds_of}
+use Rattle.registry_tables.specs.Spelled.{held_spelled, number_spelled, second_spelled}
 use Rattle.registry_tables.specs.Withdrawals.{last_number}
+use Rattle.registry_names.proofs.KeyFacts.{text_key}
 use Rattle.registry_tables.proofs.FoundFacts.{some_found, some_seen}
 use Rattle.registry_tables.proofs.MappedFacts.{spent_mapped}
+use Rattle.registry_tables.proofs.NumberFacts.{as_seconds}
+use Rattle.registry_tables.proofs.ReadFacts.{part-read}
 
 abbrev find_text : List ℕ
 find_text = codes "SELECT withdrawn FROM spent WHERE package = ?1 AND version = ?2"
@@ -37,8 +41,8 @@ find_means = ((refl, (refl, refl)), refl)
 pub withdrawal_found : (p v : Text) (old new : Shown) (rows : List Row) → Ready schema old → Queried find_text (Stored p ∷ Stored v ∷ []) old new rows → HasCleanDisk new
     → Reads schema old new × (not (length rows == 0) ≡ is_some (at (stored old).spent (p, v)))
 withdrawal_found p v old new rows form call clean =
-    let it = select_finds spent_mapped find_text (col 1 4 ∷ []) _ find_means (p, v) number_spelled (λ (w : Withdrawal). w.withdrawn) (λ id vs. refl) old new rows form call clean in
-    (it.0, some_found number_spelled rows _ it.1 ∙ some_seen (λ (w : Withdrawal). w.withdrawn) (at (stored old).spent (p, v)))
+    let it = select_finds spent_mapped find_text (col 1 4 ∷ []) _ find_means (p, v) held_spelled (λ (w : SpentVersion). w.withdrawn) (λ id vs. refl) old new rows form call clean in
+    (it.0, some_found held_spelled rows _ it.1 ∙ some_seen (λ (w : SpentVersion). w.withdrawn) (at (stored old).spent (p, v)))
 
 -- ---- SELECT by package
 
@@ -56,6 +60,10 @@ last_means = ((refl, (refl, refl)), refl)
 abbrev withdrawn_entry : Row → Text × ℕ
 withdrawn_entry r = (text_in (column r 2), number_spelled r)
 
+-- those of the registry's state are what the rows say
+spent_as_rows : (c : Contents) (p : Text) → of (registry_of c).spent p ≡ map (seen as_withdrawal) (of c.spent p)
+spent_as_rows c p = part-read text_key c.spent as_withdrawal p
+
 -- the last of some withdrawals is that of their moments
 last_as_number : (es : List (Text × Withdrawal)) → last_number (map (λ (e : Text × ℕ). e.1) (map (seen (λ (w : Withdrawal). w.withdrawn)) es)) ≡ last_of es
 last_as_number [] = refl
@@ -64,20 +72,27 @@ last_as_number (e ∷ es) = ap (λ (o : Option ℕ). Some (max e.1.withdrawn (un
 pub last_found : (p : Text) (old new : Shown) (rows : List Row) → Ready schema old → Queried last_text (Stored p ∷ []) old new rows → HasCleanDisk new
     → Reads schema old new × (last_number (map number_spelled rows) ≡ last_withdrawal (registry_of (stored old)) p)
 last_found p old new rows form call clean =
-    let it = select_lists spent_mapped last_text last_columns _ last_means p withdrawn_entry (λ (w : Withdrawal). w.withdrawn) (λ id vs. refl) old new rows form call clean in
-    (it.0, ap last_number (sym (map-map (λ (e : Text × ℕ). e.1) withdrawn_entry rows) ∙ ap (map (λ (e : Text × ℕ). e.1)) it.1) ∙ last_as_number (of (stored old).spent p))
+    let es = of (stored old).spent p in
+    let it = select_lists spent_mapped last_text last_columns _ last_means p withdrawn_entry (λ (w : SpentVersion). seconds_of w.withdrawn) (λ id vs. ap (λ (n : ℕ). (text_in (column vs 1), n)) (as_seconds (column vs 3))) old new rows form call clean in (
+      it.0,
+      ap last_number (sym (map-map (λ (e : Text × ℕ). e.1) withdrawn_entry rows) ∙ ap (map (λ (e : Text × ℕ). e.1)) (it.1 ∙ sym (map-map (seen (λ (w : Withdrawal). w.withdrawn)) (seen as_withdrawal) es)))
+          ∙ last_as_number (map (seen as_withdrawal) es) ∙ ap last_of (sym (spent_as_rows (stored old) p)),
+    )
 
 -- a version, and when it was published
 abbrev published_entry : Row → Text × ℕ
 published_entry r = (text_in (column r 2), second_spelled r)
 
 pub publications_found : (p : Text) (old new : Shown) (rows : List Row) → Ready schema old → Queried last_text (Stored p ∷ []) old new rows → HasCleanDisk new
-    → Reads schema old new × (map second_spelled rows ≡ spent_publications (of (stored old).spent p))
+    → Reads schema old new × (map second_spelled rows ≡ spent_publications (of (registry_of (stored old)).spent p))
 publications_found p old new rows form call clean =
-    let it = select_lists spent_mapped last_text last_columns _ last_means p published_entry (λ (w : Withdrawal). w.published) (λ id vs. refl) old new rows form call clean in (
+    let es = of (stored old).spent p in
+    let it = select_lists spent_mapped last_text last_columns _ last_means p published_entry (λ (w : SpentVersion). seconds_of w.published) (λ id vs. ap (λ (n : ℕ). (text_in (column vs 1), n)) (as_seconds (column vs 2))) old new rows form call clean in (
       it.0,
       sym (map-map (λ (e : Text × ℕ). e.1) published_entry rows) ∙ ap (map (λ (e : Text × ℕ). e.1)) it.1
-          ∙ map-map (λ (e : Text × ℕ). e.1) (seen (λ (w : Withdrawal). w.published)) (of (stored old).spent p),
+          ∙ map-map (λ (e : Text × ℕ). e.1) (seen (λ (w : SpentVersion). seconds_of w.published)) es
+          ∙ sym (map-map (λ (e : Text × Withdrawal). e.1.published) (seen as_withdrawal) es)
+          ∙ ap spent_publications (sym (spent_as_rows (stored old) p)),
     )
 
 -- ---- one moment after another

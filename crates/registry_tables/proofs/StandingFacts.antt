@@ -1,5 +1,5 @@
 -- What is granted to a caller, as it is asked for, and in which organisation they have a role.
-use Rattle.std.proofs.Common.{◌≡◌, List, [], Option, Some, None, is_some, true, refl, sym, ap, subst, ◌∙◌, true≢false}
+use Rattle.std.proofs.Common.{◌≡◌, ℤ, List, [], Option, Some, None, is_some, true, refl, sym, ap, subst, ◌∙◌, true≢false}
 use Rattle.sqlite.specs.Effect.{Database}
 use Rattle.sqlite.specs.State.{State as Shown}
 use Rattle.registry_names.specs.Names.{scope_of}
@@ -13,6 +13,7 @@ use Rattle.registry_access.specs.declared.grant.Grant.{Grant}
 use Rattle.registry_access.specs.declared.role.Role.{Role}
 use Rattle.registry_access.specs.declared.role.Role.TheVariants.{Developer, Admin, Owner}
 use Rattle.registry_names.specs.Maps.{at}
+use Rattle.registry_names.proofs.KeyFacts.{pair_key}
 use Rattle.registry_rows.specs.Ready.{IsReady}
 use Rattle.registry_tables.specs.Contents.{Contents, access_of, contents}
 use Rattle.registry_tables.specs.Effects.{stored}
@@ -20,6 +21,8 @@ use Rattle.registry_tables.specs.Schema.{schema}
 use Rattle.registry_tables.specs.Teams.{AreGranted, AreGrantedTo}
 use Rattle.registry_tables.proofs.JoinedFacts.{scoped_are_all, strangers_have_none, unscoped_have_none}
 use Rattle.registry_tables.proofs.ParentFacts.{organisation_there}
+use Rattle.registry_tables.proofs.ReadFacts.{some-read}
+use Rattle.registry_tables.specs.Numbers.{role_of}
 
 -- those of their teams in the organisation of the scope
 pub members_grants : (c : Contents) (o u p : Text) (role : Option Role) (gs : List Grant) → scope_of p ≡ Some o → AreGranted c o u p gs → AreGrantedTo c (User u) p role gs
@@ -55,9 +58,9 @@ grants_before who p role gs d e same = subst (λ (d : Database). AreGrantedTo (c
 pub scope_there : (s : Shown) → IsReady schema s → (who : Caller) (scope : Option Text) → is_some (scope_role (access_of (stored s)) who scope) ≡ true → has_scope (access_of (stored s)) scope ≡ true
 scope_there s ready who None h = h
 scope_there s ready Operator (Some o) h = absurd (true≢false (sym h))
-scope_there s ready (User u) (Some o) h = go (at (stored s).members (o, u)) refl h
+scope_there s ready (User u) (Some o) h = go (at (stored s).members (o, u)) refl (sym (some-read pair_key (stored s).members (λ _ n. role_of n) (o, u)) ∙ h)
   where
-    go : (role : Option Role) → at (stored s).members (o, u) ≡ role → is_some role ≡ true → is_some (at (stored s).organisations o) ≡ true
+    go : (role : Option ℤ) → at (stored s).members (o, u) ≡ role → is_some role ≡ true → is_some (at (stored s).organisations o) ≡ true
     go None e h = absurd (true≢false (sym h))
     go (Some role) e h = organisation_there s ready o u role e
 scope_there s ready Anonymous (Some o) h = absurd (true≢false (sym h))

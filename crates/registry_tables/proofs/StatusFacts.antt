@@ -1,6 +1,5 @@
 -- What the statements on statuses make and show.
-use Rattle.std.proofs.Common.{◌≡◌, ℕ, List, [], ◌∷◌, pos, Option, Some, None, option_map, slice_get, Ok, refl, subst, ◌∙◌, codes}
-use Rattle.std.proofs.lemmas.Iterator.Adapters.{option_map_id}
+use Rattle.std.proofs.Common.{◌≡◌, ℕ, List, [], ◌∷◌, Option, Some, None, option_map, slice_get, Ok, refl, sym, subst, ◌∙◌, codes}
 use Rattle.sqlite.specs.declared.types.Value.TheVariants.{Null, Int, Text as Stored}
 use Rattle.sqlite.specs.Command.TheVariants.{Insert, Update, Select}
 use Rattle.sqlite.specs.Source.TheVariants.{Values}
@@ -13,18 +12,19 @@ use Rattle.registry_names.specs.Texts.{Text}
 use Rattle.registry_rows.specs.Frames.{Wrote}
 use Rattle.registry_rows.specs.Ready.{Ready, Leaves, Reads, Queried}
 use Rattle.registry_tables.specs.Schema.{schema}
-use Rattle.registry_tables.specs.Contents.{contents}
+use Rattle.registry_tables.specs.Contents.{access_of, contents}
 use Rattle.registry_tables.specs.Effects.{stored}
 use Rattle.registry_names.specs.Maps.{at, put}
 use Rattle.registry_names.specs.declared.status.Status.{Status}
-use Rattle.registry_names.specs.declared.status.Status.TheVariants.{Public, Restricted}
 use Rattle.registry_names.proofs.KeyFacts.{text_key}
 use Rattle.registry_rows.specs.Statements.{Means, MeansQuery, scan, by_texts, set_terms}
 use Rattle.registry_rows.proofs.StatementFacts.{insert_puts, insert_meets_none, update_revises}
 use Rattle.registry_rows.proofs.LookUpFacts.{select_finds, first_listed}
 use Rattle.registry_tables.specs.Changes.{amended}
-use Rattle.registry_tables.specs.Spelled.{status_number, status_spelled}
+use Rattle.registry_tables.specs.Numbers.{status_number, status_of}
+use Rattle.registry_tables.specs.Spelled.{status_spelled}
 use Rattle.registry_tables.proofs.MappedFacts.{packages_mapped}
+use Rattle.registry_tables.proofs.ReadFacts.{at-read}
 use Rattle.registry_tables.proofs.ReviseFacts.{revised}
 
 -- ---- INSERT
@@ -39,15 +39,13 @@ put_means : Means schema put_text (Insert 6 (Values (lit Null ∷ put_cells) 3))
 unfolding understood everything
 put_means = (refl, (refl, refl))
 
-pub status_put : (p : Text) (status : Status) (old new : Shown) → Ready schema old → Wrote put_text (Stored p ∷ Int (pos (status_number status)) ∷ []) old new → HasCleanDisk new
-    → Leaves schema contents (record (stored old) { packages = put (stored old).packages p status }) new
-status_put p Public old new form call = insert_puts packages_mapped put_text put_cells put_means (Stored p ∷ Int (pos 1) ∷ []) refl old new (Ok call.0) form call.1
-status_put p Restricted old new form call = insert_puts packages_mapped put_text put_cells put_means (Stored p ∷ Int (pos 0) ∷ []) refl old new (Ok call.0) form call.1
+pub status_put : (p : Text) (status : Status) (old new : Shown) → Ready schema old → Wrote put_text (Stored p ∷ Int (status_number status) ∷ []) old new → HasCleanDisk new
+    → Leaves schema contents (record (stored old) { packages = put (stored old).packages p (status_number status) }) new
+status_put p status old new form call = insert_puts packages_mapped put_text put_cells put_means (Stored p ∷ Int (status_number status) ∷ []) refl old new (Ok call.0) form call.1
 
 -- an answered INSERT had a new key
-pub status_was_new : (p : Text) (status : Status) (old new : Shown) → Ready schema old → Wrote put_text (Stored p ∷ Int (pos (status_number status)) ∷ []) old new → HasCleanDisk new → at (stored old).packages p ≡ None
-status_was_new p Public old new form call = insert_meets_none packages_mapped put_text put_cells put_means (Stored p ∷ Int (pos 1) ∷ []) refl old new (Ok call.0) form call.1
-status_was_new p Restricted old new form call = insert_meets_none packages_mapped put_text put_cells put_means (Stored p ∷ Int (pos 0) ∷ []) refl old new (Ok call.0) form call.1
+pub status_was_new : (p : Text) (status : Status) (old new : Shown) → Ready schema old → Wrote put_text (Stored p ∷ Int (status_number status) ∷ []) old new → HasCleanDisk new → at (stored old).packages p ≡ None
+status_was_new p status old new form call = insert_meets_none packages_mapped put_text put_cells put_means (Stored p ∷ Int (status_number status) ∷ []) refl old new (Ok call.0) form call.1
 
 -- ---- UPDATE
 
@@ -62,12 +60,10 @@ set_means : Means schema set_text (Update 6 (record { lets = []; body = scan 12 
 unfolding understood everything
 set_means = (refl, (refl, refl))
 
-pub status_set : (p : Text) (status : Status) (old new : Shown) → Ready schema old → Wrote set_text (Stored p ∷ Int (pos (status_number status)) ∷ []) old new → HasCleanDisk new
-    → Leaves schema contents (record (stored old) { packages = amended (stored old).packages p status }) new
-status_set p Public old new form call clean = subst (λ m. Leaves schema contents (record (stored old) { packages = m }) new) (revised text_key (stored old).packages p Public)
-    (update_revises packages_mapped set_text sets set_means refl p (Int (pos 1) ∷ []) refl (λ _. Public) (λ vs. refl) (λ vs. refl) old new (Ok call.0) form call.1 clean)
-status_set p Restricted old new form call clean = subst (λ m. Leaves schema contents (record (stored old) { packages = m }) new) (revised text_key (stored old).packages p Restricted)
-    (update_revises packages_mapped set_text sets set_means refl p (Int (pos 0) ∷ []) refl (λ _. Restricted) (λ vs. refl) (λ vs. refl) old new (Ok call.0) form call.1 clean)
+pub status_set : (p : Text) (status : Status) (old new : Shown) → Ready schema old → Wrote set_text (Stored p ∷ Int (status_number status) ∷ []) old new → HasCleanDisk new
+    → Leaves schema contents (record (stored old) { packages = amended (stored old).packages p (status_number status) }) new
+status_set p status old new form call clean = subst (λ m. Leaves schema contents (record (stored old) { packages = m }) new) (revised text_key (stored old).packages p (status_number status))
+    (update_revises packages_mapped set_text sets set_means refl p (Int (status_number status) ∷ []) refl (λ _. status_number status) (λ vs. refl) (λ vs. refl) old new (Ok call.0) form call.1 clean)
 
 -- ---- SELECT
 
@@ -79,7 +75,7 @@ unfolding understood everything
 find_means = ((refl, (refl, refl)), refl)
 
 pub status_found : (p : Text) (old new : Shown) (rows : List Row) → Ready schema old → Queried find_text (Stored p ∷ []) old new rows → HasCleanDisk new
-    → Reads schema old new × (option_map status_spelled (slice_get rows 0) ≡ at (stored old).packages p)
+    → Reads schema old new × (option_map status_spelled (slice_get rows 0) ≡ at (access_of (stored old)).statuses p)
 status_found p old new rows form call clean =
-    let it = select_finds packages_mapped find_text (col 1 2 ∷ []) _ find_means p status_spelled (λ (s : Status). s) (λ id vs. refl) old new rows form call clean in
-    (it.0, first_listed status_spelled rows _ it.1 ∙ option_map_id (at (stored old).packages p))
+    let it = select_finds packages_mapped find_text (col 1 2 ∷ []) _ find_means p status_spelled status_of (λ id vs. refl) old new rows form call clean in
+    (it.0, first_listed status_spelled rows _ it.1 ∙ sym (at-read text_key (stored old).packages (λ _ n. status_of n) p))

@@ -19,6 +19,9 @@ use Rattle.registry_rows.proofs.LookUpFacts.{select_lists, seen_as_is}
 use Rattle.registry_tables.specs.Schema.{schema}
 use Rattle.registry_rules.specs.Kept.{IsSound}
 use Rattle.registry_tables.specs.Contents.{Contents, access_of, contents}
+use Rattle.registry_tables.specs.Numbers.{grant_of, role_of}
+use Rattle.registry_tables.proofs.ReadFacts.{some-read}
+use Rattle.registry_names.proofs.KeyFacts.{pair_key, triple_key}
 use Rattle.registry_tables.specs.Effects.{stored}
 use Rattle.registry_tables.specs.Teams.{AreTeamsSound, text_spelled}
 use Rattle.registry_tables.proofs.FoundFacts.{there_found}
@@ -78,6 +81,6 @@ teams_listed o old new rows form call clean =
 
 pub sound_teams : (c : Contents) → IsSound (access_of c) → AreTeamsSound c
 sound_teams c sound = record {
-  members = λ o t u there. (sound.team_members o t u there).1;
-  grants = λ o t p there. (sound.grants o t p there).scope;
+  members = λ o t u there. sym (some-read pair_key c.members (λ _ n. role_of n) (o, u)) ∙ (sound.team_members o t u there).1;
+  grants = λ o t p there. (sound.grants o t p (some-read triple_key c.grants (λ _ n. grant_of n) (o, (t, p)) ∙ there)).scope;
 }

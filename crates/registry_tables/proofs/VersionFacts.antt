@@ -7,26 +7,29 @@ use Rattle.sqlite.specs.Source.TheVariants.{Values}
 use Rattle.sqlite.specs.Listing.{understood}
 use Rattle.sqlite.specs.State.{State as Shown, HasCleanDisk}
 use Rattle.sqlite_tied.specs.Compute.{everything}
-use Rattle.sqlite_value.specs.Order.{Row}
+use Rattle.sqlite_value.specs.Order.{Row, column}
 use Rattle.sqlite_sql.specs.Term.{Term, lit, col}
 use Rattle.registry_names.specs.Texts.{Text}
+use Rattle.registry_rows.specs.Columns.{text_in}
 use Rattle.registry_rows.specs.Frames.{Wrote}
 use Rattle.registry_rows.specs.Ready.{Ready, Leaves, Reads, Queried}
 use Rattle.registry_tables.specs.Schema.{schema}
-use Rattle.registry_tables.specs.Contents.{contents, live_of, registry_of}
+use Rattle.registry_tables.specs.Contents.{LiveVersion, as_release, contents, live_of, registry_of}
 use Rattle.registry_tables.specs.Effects.{stored}
 use Rattle.registry_names.specs.Maps.{at, keys, of, put, seen}
-use Rattle.registry_rules.specs.State.{Release, has_live}
+use Rattle.registry_rules.specs.State.{has_live}
 use Rattle.registry_rules.specs.Withdrawals.{live_versions, published_at}
 use Rattle.registry_rows.specs.Statements.{Means, MeansQuery, scan, first_of, by_texts, in_order, set_terms}
 use Rattle.registry_rows.proofs.StatementFacts.{insert_puts, insert_meets_none, update_revises}
 use Rattle.registry_rows.proofs.LookUpFacts.{select_finds, select_lists, select_lists_first, first_listed}
 use Rattle.registry_tables.specs.Teams.{text_spelled}
 use Rattle.registry_tables.specs.Withdrawals.{with_message}
-use Rattle.registry_tables.specs.Spelled.{number_spelled, document, document_spelled, published, row_spelled, time_spelled, version_spelled}
+use Rattle.registry_tables.specs.Numbers.{seconds_of}
+use Rattle.registry_tables.specs.Spelled.{held_spelled, number_spelled, document, document_spelled, published, row_spelled, time_spelled, version_spelled}
 use Rattle.registry_tables.proofs.FoundFacts.{some_found, some_seen}
 use Rattle.registry_tables.proofs.LiveFacts.{document_as_row, documents_as_rows, lives_as_row, lives_as_rows, published_as_row, first_shown, times_as_rows, versions_as_rows}
 use Rattle.registry_tables.proofs.MappedFacts.{versions_mapped}
+use Rattle.registry_tables.proofs.NumberFacts.{as_seconds}
 
 -- ---- INSERT
 
@@ -42,7 +45,7 @@ put_means = (refl, (refl, refl))
 
 pub version_inserted : (p v : Text) (published : ℕ) (manifest : Text) (old new : Shown) → Ready schema old
     → Wrote put_text (Stored p ∷ Stored v ∷ Int (pos published) ∷ Stored manifest ∷ []) old new → HasCleanDisk new
-    → Leaves schema contents (record (stored old) { versions = put (stored old).versions (p, v) (record { at = published; manifest = manifest; archive = []; message = [] }) }) new
+    → Leaves schema contents (record (stored old) { versions = put (stored old).versions (p, v) (record { published = pos published; manifest = manifest; archive = []; message = [] }) }) new
 version_inserted p v published manifest old new form call = insert_puts versions_mapped put_text put_cells put_means (Stored p ∷ Stored v ∷ Int (pos published) ∷ Stored manifest ∷ []) refl old new (Ok call.0) form call.1
 
 -- an answered INSERT had a new key
@@ -66,7 +69,7 @@ set_means = (refl, (refl, refl))
 pub message_set : (p v message : Text) (old new : Shown) → Ready schema old → Wrote set_text (Stored p ∷ Stored v ∷ Stored message ∷ []) old new → HasCleanDisk new
     → Leaves schema contents (record (stored old) { versions = with_message (stored old).versions (p, v) message }) new
 message_set p v message old new form call =
-    update_revises versions_mapped set_text sets set_means refl (p, v) (Stored message ∷ []) refl (λ (r : Release). record r { message = message }) (λ vs. refl) (λ vs. refl) old new (Ok call.0) form call.1
+    update_revises versions_mapped set_text sets set_means refl (p, v) (Stored message ∷ []) refl (λ (r : LiveVersion). record r { message = message }) (λ vs. refl) (λ vs. refl) old new (Ok call.0) form call.1
 
 -- ---- SELECT by package and version
 
@@ -80,13 +83,13 @@ find_means = ((refl, (refl, refl)), refl)
 pub version_found : (p v : Text) (old new : Shown) (rows : List Row) → Ready schema old → Queried find_text (Stored p ∷ Stored v ∷ []) old new rows → HasCleanDisk new
     → Reads schema old new × (not (length rows == 0) ≡ is_some (at (live_of (stored old)) (p, v)))
 version_found p v old new rows form call clean =
-    let it = select_finds versions_mapped find_text (col 1 3 ∷ []) _ find_means (p, v) number_spelled (λ (r : Release). r.at) (λ id vs. refl) old new rows form call clean in
-    (it.0, some_found number_spelled rows _ it.1 ∙ some_seen (λ (r : Release). r.at) (at (stored old).versions (p, v)) ∙ sym (lives_as_row (stored old) (p, v)))
+    let it = select_finds versions_mapped find_text (col 1 3 ∷ []) _ find_means (p, v) held_spelled (λ (r : LiveVersion). r.published) (λ id vs. refl) old new rows form call clean in
+    (it.0, some_found held_spelled rows _ it.1 ∙ some_seen (λ (r : LiveVersion). r.published) (at (stored old).versions (p, v)) ∙ sym (lives_as_row (stored old) (p, v)))
 
 pub published_found : (p v : Text) (old new : Shown) (rows : List Row) → Ready schema old → Queried find_text (Stored p ∷ Stored v ∷ []) old new rows → HasCleanDisk new
     → Reads schema old new × (option_map number_spelled (slice_get rows 0) ≡ published_at (registry_of (stored old)) p v)
 published_found p v old new rows form call clean =
-    let it = select_finds versions_mapped find_text (col 1 3 ∷ []) _ find_means (p, v) number_spelled (λ (r : Release). r.at) (λ id vs. refl) old new rows form call clean in
+    let it = select_finds versions_mapped find_text (col 1 3 ∷ []) _ find_means (p, v) number_spelled (λ (r : LiveVersion). seconds_of r.published) (λ id vs. as_seconds (column vs 2)) old new rows form call clean in
     (it.0, first_listed number_spelled rows _ it.1 ∙ sym (published_as_row (stored old) (p, v)))
 
 abbrev document_text : List ℕ
@@ -99,7 +102,7 @@ document_means = ((refl, (refl, refl)), refl)
 pub document_found : (p v : Text) (old new : Shown) (rows : List Row) → Ready schema old → Queried document_text (Stored p ∷ Stored v ∷ []) old new rows → HasCleanDisk new
     → Reads schema old new × (option_map document_spelled (slice_get rows 0) ≡ option_map document (at (live_of (stored old)) (p, v)))
 document_found p v old new rows form call clean =
-    let it = select_finds versions_mapped document_text (col 1 4 ∷ col 1 5 ∷ []) _ document_means (p, v) document_spelled document (λ id vs. refl) old new rows form call clean in
+    let it = select_finds versions_mapped document_text (col 1 4 ∷ col 1 5 ∷ []) _ document_means (p, v) document_spelled (λ (r : LiveVersion). document (as_release r)) (λ id vs. refl) old new rows form call clean in
     (it.0, first_listed document_spelled rows _ it.1 ∙ sym (document_as_row (stored old) (p, v)))
 
 -- ---- SELECT by package
@@ -117,7 +120,7 @@ list_means = ((refl, (refl, refl)), refl)
 pub versions_listed : (p : Text) (old new : Shown) (rows : List Row) → Ready schema old → Queried list_text (Stored p ∷ []) old new rows → HasCleanDisk new
     → Reads schema old new × (map row_spelled rows ≡ map (seen document) (of (live_of (stored old)) p))
 versions_listed p old new rows form call clean =
-    let it = select_lists versions_mapped list_text list_columns _ list_means p row_spelled document (λ id vs. refl) old new rows form call clean in
+    let it = select_lists versions_mapped list_text list_columns _ list_means p row_spelled (λ (r : LiveVersion). document (as_release r)) (λ id vs. refl) old new rows form call clean in
     (it.0, it.1 ∙ sym (documents_as_rows (stored old) p))
 
 abbrev times_text : List ℕ
@@ -134,7 +137,7 @@ times_means = ((refl, (refl, refl)), refl)
 pub times_listed : (p : Text) (old new : Shown) (rows : List Row) → Ready schema old → Queried times_text (Stored p ∷ []) old new rows → HasCleanDisk new
     → Reads schema old new × (map time_spelled rows ≡ map (seen published) (of (live_of (stored old)) p))
 times_listed p old new rows form call clean =
-    let it = select_lists versions_mapped times_text times_columns _ times_means p time_spelled published (λ id vs. refl) old new rows form call clean in
+    let it = select_lists versions_mapped times_text times_columns _ times_means p time_spelled (λ (r : LiveVersion). published (as_release r)) (λ id vs. ap (λ (n : ℕ). (text_in (column vs 1), n)) (as_seconds (column vs 2))) old new rows form call clean in
     (it.0, it.1 ∙ sym (times_as_rows (stored old) p))
 
 abbrev live_text : List ℕ
@@ -151,10 +154,10 @@ live_means = ((refl, (refl, refl)), refl)
 pub live_listed : (p : Text) (old new : Shown) (rows : List Row) → Ready schema old → Queried live_text (Stored p ∷ []) old new rows → HasCleanDisk new
     → Reads schema old new × (map text_spelled rows ≡ live_versions (registry_of (stored old)) p)
 live_listed p old new rows form call clean =
-    let it = select_lists versions_mapped live_text live_columns _ live_means p version_spelled (λ (r : Release). tt) (λ id vs. refl) old new rows form call clean in (
+    let it = select_lists versions_mapped live_text live_columns _ live_means p version_spelled (λ (r : LiveVersion). tt) (λ id vs. refl) old new rows form call clean in (
       it.0,
       sym (map-map (λ (e : Text × Unit {0}). e.0) version_spelled rows) ∙ ap keys it.1
-          ∙ map-map (λ (e : Text × Unit {0}). e.0) (seen (λ (r : Release). tt)) (of (stored old).versions p) ∙ sym (versions_as_rows (stored old) p),
+          ∙ map-map (λ (e : Text × Unit {0}). e.0) (seen (λ (r : LiveVersion). tt)) (of (stored old).versions p) ∙ sym (versions_as_rows (stored old) p),
     )
 
 abbrev first_text : List ℕ
@@ -168,5 +171,5 @@ first_means = ((refl, (refl, refl)), refl)
 pub live_found : (p : Text) (old new : Shown) (rows : List Row) → Ready schema old → Queried first_text (Stored p ∷ []) old new rows → HasCleanDisk new
     → Reads schema old new × (not (length rows == 0) ≡ has_live (registry_of (stored old)) p)
 live_found p old new rows form call clean =
-    let it = select_lists_first versions_mapped 1 first_text (col 1 2 ∷ []) _ first_means p version_spelled (λ (r : Release). tt) (λ id vs. refl) old new rows form call clean in
-    (it.0, first_shown version_spelled rows (λ (r : Release). tt) (of (stored old).versions p) it.1 ∙ sym (lives_as_rows (stored old) p))
+    let it = select_lists_first versions_mapped 1 first_text (col 1 2 ∷ []) _ first_means p version_spelled (λ (r : LiveVersion). tt) (λ id vs. refl) old new rows form call clean in
+    (it.0, first_shown version_spelled rows (λ (r : LiveVersion). tt) (of (stored old).versions p) it.1 ∙ sym (lives_as_rows (stored old) p))

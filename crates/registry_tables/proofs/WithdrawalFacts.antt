@@ -156,7 +156,7 @@ put_means = (refl, (refl, refl))
 
 pub withdrawal_put : (p v : Text) (published withdrawn : ℕ) (old new : Shown) → Ready schema old
     → Wrote put_text (Stored p ∷ Stored v ∷ Int (pos published) ∷ Int (pos withdrawn) ∷ []) old new → HasCleanDisk new
-    → Leaves schema contents (record (stored old) { spent = put (stored old).spent (p, v) (record { published = published; withdrawn = withdrawn }) }) new
+    → Leaves schema contents (record (stored old) { spent = put (stored old).spent (p, v) (record { published = pos published; withdrawn = pos withdrawn }) }) new
 withdrawal_put p v published withdrawn old new form call = insert_puts spent_mapped put_text put_cells put_means (Stored p ∷ Stored v ∷ Int (pos published) ∷ Int (pos withdrawn) ∷ []) refl old new (Ok call.0) form call.1
 
 -- an answered INSERT had a new key

@@ -6,10 +6,9 @@ use Rattle.registry_names.specs.Keys.{Pair}
 use Rattle.registry_names.specs.Texts.{Text, is}
 use Rattle.registry_names.specs.Maps.{at, put, entries}
 use Rattle.registry_publish.specs.Integrity.{integrity_text}
-use Rattle.registry_rules.specs.State.{Release}
 use Rattle.registry_rows.specs.Counting.{counted, next_number}
 use Rattle.registry_rows.specs.KeyKinds.{NumberMap}
-use Rattle.registry_tables.specs.Contents.{Archive, Contents}
+use Rattle.registry_tables.specs.Contents.{Archive, Contents, LiveVersion}
 
 -- ---- how one is stored
 
@@ -69,4 +68,4 @@ pub record HoldsArchives (c : Contents) : Type 0 where
   pub integrity : (n : ℤ) (a : Archive) → at c.archives n ≡ Some a → a.integrity ≡ integrity_text a.bytes
   -- the same bytes occur once
   pub once : (m n : ℤ) (a b : Archive) → at c.archives m ≡ Some a → at c.archives n ≡ Some b → a.bytes ≡ b.bytes → m ≡ n
-  pub bare : (k : Pair) (release : Release) → at c.versions k ≡ Some release → release.archive ≡ []
+  pub bare : (k : Pair) (row : LiveVersion) → at c.versions k ≡ Some row → row.archive ≡ []

@@ -1,15 +1,15 @@
 -- What a change makes of what is stored.
-use Rattle.std.specs.Prelude.{◌≡◌, ℕ, Bool, true, false, List, [], ◌∷◌, None, Some, is_some, if◌then◌else◌}
+use Rattle.std.specs.Prelude.{◌≡◌, ℕ, pos, Bool, true, false, List, [], ◌∷◌, None, Some, is_some, if◌then◌else◌}
 use Rattle.registry_names.specs.Texts.{Text}
 use Rattle.std.specs.declared.cmp.Ordering.{Ordering}
 use Rattle.registry_names.specs.Maps.{MapBy, at, put, erase}
 use Rattle.registry_publish.specs.Form.{FormParts}
 use Rattle.registry_rules.specs.Actions.{version_of}
-use Rattle.registry_rules.specs.Changes.{Change, AddUser, AddToken, DropToken, AddOrg, PutMember, DropMember, AddTeam, PutTeamMember, DropTeamMember, DropTeam, PutGrant, DropGrant, PutOwner, DropOwner, PutStatus, AddVersion, RetireVersion, PutDeprecation, PutTag, DropTag, release_of}
-use Rattle.registry_rules.specs.State.{Release}
+use Rattle.registry_rules.specs.Changes.{Change, AddUser, AddToken, DropToken, AddOrg, PutMember, DropMember, AddTeam, PutTeamMember, DropTeamMember, DropTeam, PutGrant, DropGrant, PutOwner, DropOwner, PutStatus, AddVersion, RetireVersion, PutDeprecation, PutTag, DropTag}
 use Rattle.registry_tables.specs.Archives.{archive_number, with_archive}
-use Rattle.registry_tables.specs.Contents.{Contents}
+use Rattle.registry_tables.specs.Contents.{Contents, LiveVersion}
 use Rattle.registry_tables.specs.Needs.{with_needs}
+use Rattle.registry_tables.specs.Numbers.{grant_number, role_number, status_number}
 use Rattle.registry_tables.specs.Teams.{without_member, without_team}
 use Rattle.registry_tables.specs.Withdrawals.{version_retired, with_message}
 
@@ -29,9 +29,10 @@ IsFree m k = at m k ≡ None
 abbrev pub IsFreeUnless : {K X : Type 0} {cmp : K → K → Ordering} → MapBy cmp X → K → Bool → Type 0
 IsFreeUnless m k stands = stands ≡ false → IsFree m k
 
--- the row of a version that is published at this moment: its archive is elsewhere
-abbrev pub row_of : FormParts → ℕ → Release
-row_of f now = record (release_of f now) { archive = [] }
+-- the row of a version that is published at this moment and not deprecated: its archive is
+-- elsewhere
+abbrev pub row_of : FormParts → ℕ → LiveVersion
+row_of f now = record { published = pos now; manifest = f.manifest; archive = []; message = [] }
 
 -- the version of a form has its archive, which is stored
 abbrev pub with_archive_of : FormParts → Contents → Contents
@@ -52,17 +53,17 @@ stored_by (AddUser u) c = record c { users = put c.users u tt }
 stored_by (AddToken digest u) c = record c { tokens = put c.tokens digest u }
 stored_by (DropToken digest) c = record c { tokens = erase c.tokens digest }
 stored_by (AddOrg o) c = record c { organisations = put c.organisations o tt }
-stored_by (PutMember o u role stands) c = record c { members = with_row c.members (o, u) role stands }
+stored_by (PutMember o u role stands) c = record c { members = with_row c.members (o, u) (role_number role) stands }
 stored_by (DropMember o u) c = without_member o u c
 stored_by (AddTeam o t) c = record c { teams = put c.teams (o, t) tt }
 stored_by (PutTeamMember o t u) c = record c { team_members = put c.team_members (o, (t, u)) tt }
 stored_by (DropTeamMember o t u) c = record c { team_members = erase c.team_members (o, (t, u)) }
 stored_by (DropTeam o t) c = without_team o t c
-stored_by (PutGrant o t p grant stands) c = record c { grants = with_row c.grants (o, (t, p)) grant stands }
+stored_by (PutGrant o t p grant stands) c = record c { grants = with_row c.grants (o, (t, p)) (grant_number grant) stands }
 stored_by (DropGrant o t p) c = record c { grants = erase c.grants (o, (t, p)) }
 stored_by (PutOwner p u) c = record c { owners = put c.owners (p, u) tt }
 stored_by (DropOwner p u) c = record c { owners = erase c.owners (p, u) }
-stored_by (PutStatus p status stands) c = record c { packages = with_row c.packages p status stands }
+stored_by (PutStatus p status stands) c = record c { packages = with_row c.packages p (status_number status) stands }
 stored_by (AddVersion f now) c = version_put f now c
 stored_by (RetireVersion p v published withdrawn) c = version_retired p v published withdrawn c
 stored_by (PutDeprecation p v message) c = record c { versions = with_message c.versions (p, v) message }

@@ -1,5 +1,5 @@
 -- The tables as they are made, and what they hold then.
-use Rattle.std.specs.Prelude.{◌≡◌, ℕ, [], ◌∷◌, ◌++◌, None, map, take, codes, nat_lt, if◌then◌else◌}
+use Rattle.std.specs.Prelude.{◌≡◌, ℕ, [], ◌∷◌, ◌++◌, None, map, take, codes, pos, nat_lt, if◌then◌else◌}
 use Rattle.sqlite_schema.specs.declared.schema.Schema.{Schema}
 use Rattle.sqlite_trees.specs.declared.store.Store.{Ghosts}
 use Rattle.sqlite.specs.State.{HasCleanDisk}
@@ -34,7 +34,7 @@ abbrev pub schema_number : ℕ
 schema_number = 3
 
 abbrev pub with_number : Contents → ℕ → Contents
-with_number c n = record c { meta = put c.meta schema_key n }
+with_number c n = record c { meta = put c.meta schema_key (pos n) }
 
 -- SQLite counts for the archives, and for nothing else
 abbrev pub CountsArchivesAlone : Contents → Type 0

@@ -7,7 +7,10 @@ pub mod Effects
 pub mod Fresh
 pub mod Laws
 pub mod Needs
+pub mod Numbers
 pub mod Opening
+pub mod Ranges
+pub mod ReadMaps
 pub mod Schema
 pub mod Spelled
 pub mod Teams

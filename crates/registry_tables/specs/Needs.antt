@@ -5,9 +5,8 @@ use Rattle.registry_names.specs.Texts.{Text, is}
 use Rattle.registry_names.specs.Maps.{PairMap, at, put}
 use Rattle.registry_publish.specs.Needs.{needs_of}
 use Rattle.registry_publish.specs.declared.need.Need.{Need}
-use Rattle.registry_rules.specs.State.{Release}
 use Rattle.registry_rows.specs.TextKeys.{Texts, TextsMap}
-use Rattle.registry_tables.specs.Contents.{Contents}
+use Rattle.registry_tables.specs.Contents.{Contents, LiveVersion}
 
 -- ---- how they are stored
 
@@ -36,8 +35,8 @@ names_if_any target range (Some needs) = names_range target range needs
 
 -- the manifest of the live version names the target with this range. False where the version
 -- doesn't live
-abbrev pub is_needed : PairMap Release → Text → Text → Text → Text → Bool
-is_needed live p v target range = names_if_any target range (option_and_then (λ release. needs_of release.manifest) (at live (p, v)))
+abbrev pub is_needed : PairMap LiveVersion → Text → Text → Text → Text → Bool
+is_needed live p v target range = names_if_any target range (option_and_then (λ (r : LiveVersion). needs_of r.manifest) (at live (p, v)))
 
 -- the needs that are stored are exactly those of live manifests
 pub record HoldsNeeds (c : Contents) : Type 0 where

@@ -10,7 +10,7 @@ use Rattle.sqlite.specs.Listing.{understood, reads_listing}
 use Rattle.sqlite.specs.State.{State, HasCleanDisk}
 use Rattle.sqlite.specs.declared.transaction.Transaction.{Transaction}
 use Rattle.sqlite_trees.specs.declared.store.Store.{Ghosts}
-use Rattle.registry_rows.specs.Columns.{number_in}
+use Rattle.registry_rows.specs.Columns.{int_in}
 use Rattle.registry_rows.specs.Frames.{Wrote}
 use Rattle.registry_rows.specs.Ready.{Queried}
 use Rattle.registry_tables.specs.Creation.{creation}
@@ -77,7 +77,7 @@ module _ {S : Type 0} (store : Ghosts S) where
 
   -- the query of the number was answered, and showed this one first
   abbrev pub ShowsNumber : ℕ → Transaction S → Transaction S → Type 0
-  ShowsNumber number old new = (rows : List Row) × Queried number_query (Stored schema_key ∷ []) (shown store old) (shown store new) rows × (option_map (λ r. number_in (column r 0)) (slice_get rows 0) ≡ Some number)
+  ShowsNumber number old new = (rows : List Row) × Queried number_query (Stored schema_key ∷ []) (shown store old) (shown store new) rows × (option_map (λ r. int_in (column r 0)) (slice_get rows 0) ≡ Some (pos number))
 
   -- what an answer was read from: none where the database showed that it has nothing, and a number
   -- where it showed something and then that number

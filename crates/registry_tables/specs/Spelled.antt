@@ -1,56 +1,36 @@
--- What values are kept as, and what the rows of answers spell, column by column.
+-- What the rows of answers spell, column by column.
 use Rattle.std.specs.Prelude.{ℕ, ℤ, List, Option, option_map}
 use Rattle.std.specs.List.{find}
 use Rattle.sqlite_value.specs.Order.{Row, column}
 use Rattle.registry_names.specs.Texts.{Text, is}
 use Rattle.registry_names.specs.declared.dist_tag.DistTag.{DistTag}
 use Rattle.registry_names.specs.declared.status.Status.{Status}
-use Rattle.registry_names.specs.declared.status.Status.TheVariants.{Public, Restricted}
 use Rattle.registry_access.specs.declared.role.Role.{Role}
-use Rattle.registry_access.specs.declared.role.Role.TheVariants.{Developer, Admin, Owner}
-use Rattle.registry_access.specs.declared.grant.Grant.{Grant}
-use Rattle.registry_access.specs.declared.grant.Grant.TheVariants.{ReadOnly, ReadWrite}
 use Rattle.registry_packument.specs.declared.list.Member.{Member}
 use Rattle.registry_packument.specs.declared.packument.VersionRow.{VersionRow}
 use Rattle.registry_rules.specs.State.{Release}
 use Rattle.registry_rows.specs.Columns.{text_in, number_in, int_in, blob_in}
-use Rattle.registry_tables.specs.Contents.{role_of, status_of}
+use Rattle.registry_tables.specs.Numbers.{role_of, status_of}
 use Rattle.registry_tables.specs.declared.versions.DocumentRow.{DocumentRow}
 
 -- bytes alone
 abbrev pub blob_of_row : Row → List ℕ
 blob_of_row r = blob_in (column r 0)
 
--- the number that a status is kept as
-abbrev pub status_number : Status → ℕ
-status_number Restricted = 0
-status_number Public = 1
-
 -- a status alone
 abbrev pub status_spelled : Row → Status
-status_spelled r = status_of (number_in (column r 0))
-
--- the number that a role is kept as
-abbrev pub role_number : Role → ℕ
-role_number Developer = 0
-role_number Admin = 1
-role_number Owner = 2
+status_spelled r = status_of (int_in (column r 0))
 
 -- a role alone
 abbrev pub role_spelled : Row → Role
-role_spelled r = role_of (number_in (column r 0))
+role_spelled r = role_of (int_in (column r 0))
 
 -- a member and their role
 abbrev pub member_spelled : Row → Text × Role
-member_spelled r = (text_in (column r 0), role_of (number_in (column r 1)))
+member_spelled r = (text_in (column r 0), role_of (int_in (column r 1)))
 
 abbrev pub member_entry : Member → Text × Role
 member_entry m = (m.user, m.role)
-
--- the number that a grant is kept as
-abbrev pub grant_number : Grant → ℕ
-grant_number ReadOnly = 1
-grant_number ReadWrite = 2
 
 -- a tag and its version
 abbrev pub tag_spelled : Row → Text × Text
@@ -100,6 +80,16 @@ number_spelled r = number_in (column r 0)
 -- a number that comes second
 abbrev pub second_spelled : Row → ℕ
 second_spelled r = number_in (column r 1)
+
+-- the numbers in the second, the third and the fourth column, as they stand there
+abbrev pub second_number : Row → ℤ
+second_number r = int_in (column r 1)
+
+abbrev pub third_number : Row → ℤ
+third_number r = int_in (column r 2)
+
+abbrev pub fourth_number : Row → ℤ
+fourth_number r = int_in (column r 3)
 
 -- the number of an archive, alone
 abbrev pub held_spelled : Row → ℤ

@@ -15,8 +15,9 @@ use Rattle.registry_access.specs.declared.caller.Caller.{Caller}
 use Rattle.registry_access.specs.declared.grant.Grant.{Grant}
 use Rattle.registry_access.specs.declared.role.Role.{Role}
 use Rattle.registry_packument.specs.declared.list.Granted.{Granted}
-use Rattle.registry_rows.specs.Columns.{text_in, number_in}
-use Rattle.registry_tables.specs.Contents.{Contents, access_of, grant_of}
+use Rattle.registry_rows.specs.Columns.{text_in, int_in}
+use Rattle.registry_tables.specs.Contents.{Contents, access_of}
+use Rattle.registry_tables.specs.Numbers.{grant_of}
 
 -- ---- what goes
 
@@ -45,7 +46,7 @@ users_of c o t = keys (parts (pairs_of c.team_members o) t)
 
 -- whether a team of the organisation that the user is in has this grant on the package
 abbrev pub granted_in : Contents → Text → Text → Text → Grant → Bool
-granted_in c o u p g = list_any (λ k. pair_is (o, u) (k.0, k.1.1) && grants (at c.grants (k.0, (k.1.0, p))) g) (keys (entries c.team_members))
+granted_in c o u p g = list_any (λ k. pair_is (o, u) (k.0, k.1.1) && grants (at (access_of c).grants (k.0, (k.1.0, p))) g) (keys (entries c.team_members))
 
 -- the list has exactly what is granted so. Neither the order nor how often a grant occurs
 -- there counts
@@ -73,7 +74,7 @@ AreGrantedTo c who p role gs = AreTeamsSound c → role ≡ scope_role (access_o
 
 -- what a team is granted, in byte order of the packages
 abbrev pub grants_of : Contents → Text → Text → List (Text × Grant)
-grants_of c o t = parts (pairs_of c.grants o) t
+grants_of c o t = parts (pairs_of (access_of c).grants o) t
 
 -- those of some grants that are on packages that the caller reads
 abbrev pub readable : Contents → Caller → List (Text × Grant) → List (Text × Grant)
@@ -91,11 +92,11 @@ text_spelled r = text_in (column r 0)
 
 -- a package, and what is granted on it
 abbrev pub granted_spelled : Row → Text × Grant
-granted_spelled r = (text_in (column r 0), grant_of (number_in (column r 1)))
+granted_spelled r = (text_in (column r 0), grant_of (int_in (column r 1)))
 
 abbrev pub granted_entry : Granted → Text × Grant
 granted_entry g = (g.name, g.grant)
 
 -- a grant alone
 abbrev pub grant_spelled : Row → Grant
-grant_spelled r = grant_of (number_in (column r 0))
+grant_spelled r = grant_of (int_in (column r 0))

@@ -1,14 +1,13 @@
 -- What a withdrawal and a deprecation leave of what is stored, and who needs a package.
-use Rattle.std.specs.Prelude.{ℕ, ℤ, Bool, not, ◌&&◌, List, [], ◌∷◌, map, filter, max, unwrap_or, Option, Some, None, if◌then◌else◌}
+use Rattle.std.specs.Prelude.{ℕ, ℤ, pos, Bool, not, ◌&&◌, List, [], ◌∷◌, map, filter, max, unwrap_or, Option, Some, None, if◌then◌else◌}
 use Rattle.std.specs.List.{list_any}
 use Rattle.std.specs.Ordering.{int_eq}
 use Rattle.registry_names.specs.Keys.{Pair, pair_is}
 use Rattle.registry_names.specs.Texts.{Text, is}
 use Rattle.registry_names.specs.Maps.{PairMap, at, put, erase, keep, revise, entries}
-use Rattle.registry_rules.specs.State.{Release}
 use Rattle.registry_rows.specs.KeyKinds.{NumberMap}
 use Rattle.registry_rows.specs.TextKeys.{Texts}
-use Rattle.registry_tables.specs.Contents.{Archive, Contents}
+use Rattle.registry_tables.specs.Contents.{Archive, Contents, LiveVersion}
 
 -- ---- a withdrawal
 
@@ -36,14 +35,14 @@ without_rows p v c = record c {
 abbrev pub version_retired : Text → Text → ℕ → ℕ → Contents → Contents
 version_retired p v published withdrawn c = record (without_rows p v c) {
   archives = archives_left (at c.held (p, v)) (without_rows p v c);
-  spent = put c.spent (p, v) (record { published = published; withdrawn = withdrawn });
+  spent = put c.spent (p, v) (record { published = pos published; withdrawn = pos withdrawn });
 }
 
 -- ---- a deprecation
 
 -- a version that has a row has this message, and all else as it was
-abbrev pub with_message : PairMap Release → Pair → Text → PairMap Release
-with_message live q message = revise live (λ k (r : Release). if pair_is q k then record r { message = message } else r)
+abbrev pub with_message : PairMap LiveVersion → Pair → Text → PairMap LiveVersion
+with_message live q message = revise live (λ k (v : LiveVersion). if pair_is q k then record v { message = message } else v)
 
 -- ---- who needs a package
 

@@ -1,9 +1,11 @@
 //! Changes, made in the tables.
 
+ghost use Rattle.std.specs.Prelude.{OnOk};
 ghost use Rattle.registry_rows.specs.Frames.{Stays};
 ghost use Rattle.registry_rules.specs.Changes.{change_of};
 ghost use Rattle.registry_tables.specs.Changes.{Asks, stored_by};
 ghost use Rattle.registry_tables.specs.Effects.{InForm, Makes, OnlyWhere};
+ghost use Rattle.registry_tables.specs.Ranges.{HasMoments};
 
 use crate::grants::{drop_grant, put_grant};
 use crate::maintainers::{drop_owner, put_owner};
@@ -35,6 +37,7 @@ pub fn make<S: Alter>(tx: &mut Transaction<'_, S>, change: &Change<'_>) -> Resul
     ensures stays { Stays S.Store tx.old tx.new }
     ensures makes { Makes S.Store tx.old tx.new result (stored_by (change_of change.now)) }
     ensures asks { OnlyWhere S.Store tx.old tx.new result (Asks (change_of change.now)) }
+    ensures in_time { OnOk result (HasMoments (change_of change.now)) }
 {
     match *change {
         Change::AddUser { user } => add_user(tx, user.text()),

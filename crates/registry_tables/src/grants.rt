@@ -1,13 +1,14 @@
 //! The table `grants`: what teams are granted on packages of their organisation's scope.
 
-ghost use Rattle.std.specs.Prelude.{◌≡◌, IfOk, is_some, map, pos};
+ghost use Rattle.std.specs.Prelude.{◌≡◌, IfOk, is_some, map};
 ghost use Rattle.registry_access.specs.declared.grant.Grant.{Grant as Right};
 ghost use Rattle.registry_names.specs.Maps.{at, erase, put};
 ghost use Rattle.registry_names.specs.Texts.{Text as Bytes};
 ghost use Rattle.registry_rows.specs.Frames.{Stays};
 ghost use Rattle.registry_tables.specs.Changes.{IsFree, IsFreeUnless, amended, with_row};
+ghost use Rattle.registry_tables.specs.Contents.{access_of};
 ghost use Rattle.registry_tables.specs.Effects.{InForm, Makes, OnlyWhere, Loads};
-ghost use Rattle.registry_tables.specs.Spelled.{grant_number};
+ghost use Rattle.registry_tables.specs.Numbers.{grant_number};
 ghost use Rattle.registry_tables.specs.Teams.{AreGranted, grant_spelled, granted_entry, granted_spelled, grants_of};
 
 use registry_access::Grant;
@@ -27,7 +28,8 @@ pub fn has_grant<S: Alter>(
     requires in_form { InForm S.Store tx.old }
     ensures stays { Stays S.Store tx.old tx.new }
     ensures loads { Loads S.Store tx.old tx.new result
-        (λ has c. has ≡ is_some (at c.grants (organisation.now, (team.now, name.now)))) }
+        (λ has c. has
+        ≡ is_some (at (access_of c).grants (organisation.now, (team.now, name.now)))) }
 {
     let rows = read(
         tx,
@@ -50,7 +52,8 @@ pub(crate) fn put_grant<S: Alter>(
     ensures stays { Stays S.Store tx.old tx.new }
     ensures makes { Makes S.Store tx.old tx.new result
         (λ c. record c {
-          grants = with_row c.grants (organisation.now, (team.now, name.now)) grant stands;
+          grants = with_row c.grants
+              (organisation.now, (team.now, name.now)) (grant_number grant) stands;
         }) }
     ensures was_new { OnlyWhere S.Store tx.old tx.new result
         (λ c. IsFreeUnless c.grants (organisation.now, (team.now, name.now)) stands) }
@@ -72,7 +75,9 @@ fn insert_grant<S: Alter>(
     requires in_form { InForm S.Store tx.old }
     ensures stays { Stays S.Store tx.old tx.new }
     ensures makes { Makes S.Store tx.old tx.new result
-        (λ c. record c { grants = put c.grants (organisation.now, (team.now, name.now)) grant }) }
+        (λ c. record c {
+          grants = put c.grants (organisation.now, (team.now, name.now)) (grant_number grant);
+        }) }
     ensures was_new { OnlyWhere S.Store tx.old tx.new result
         (λ c. IsFree c.grants (organisation.now, (team.now, name.now))) }
 {
@@ -94,7 +99,8 @@ fn update_grant<S: Alter>(
     ensures stays { Stays S.Store tx.old tx.new }
     ensures makes { Makes S.Store tx.old tx.new result
         (λ c. record c {
-          grants = amended c.grants (organisation.now, (team.now, name.now)) grant;
+          grants = amended c.grants
+              (organisation.now, (team.now, name.now)) (grant_number grant);
         }) }
 {
     write(
@@ -124,7 +130,7 @@ pub(crate) fn drop_grant<S: Alter>(
 }
 
 fn number_of(grant: Grant) -> i64
-    ensures { result ≡ pos (grant_number grant) }
+    ensures { result ≡ grant_number grant }
 {
     match grant {
         Grant::ReadOnly => 1,
@@ -215,7 +221,7 @@ impl RowKind for GrantRow {
 
 // No other number is ever written.
 fn grant_of(number: i64) -> Result<Grant, Error>
-    ensures { IfOk result (λ grant. number ≡ pos (grant_number grant)) }
+    ensures { IfOk result (λ grant. number ≡ grant_number grant) }
 {
     match number {
         1 => Ok(Grant::ReadOnly),

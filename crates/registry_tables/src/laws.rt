@@ -9,6 +9,7 @@ ghost use Rattle.registry_tables.specs.Laws.{DeprecationsKeepNeeds, OthersKeepNe
 ghost use Rattle.registry_tables.specs.Laws.{MakingIsUnderstood, NoneTellsOfNothing, NumbersTellOfTables, UsersAloneStopMaking, UsersAloneTellNoNumber};
 ghost use Rattle.registry_tables.specs.Laws.{NoScopeGrantsNothing, ScopesGrantAll, TeamsStaySound};
 ghost use Rattle.registry_tables.specs.Needs.{HoldsNeeds};
+ghost use Rattle.registry_tables.specs.Ranges.{ChangesKeepRanges, HasNumbersInRange, ListsKeepRanges, NumbersAreReadBack};
 
 use sqlite::Alter;
 
@@ -50,6 +51,16 @@ pub fn needs_are_kept()
     ensures versions { VersionsKeepNeeds }
     ensures withdrawals { WithdrawalsKeepNeeds }
     ensures deprecations { DeprecationsKeepNeeds }
+{}
+
+/// The numbers that are stored are in range: there are none at first, and each change keeps it so,
+/// where its moments are ones that the registry has, as those of each change are
+/// ([`make`](crate::make)). A number that is written is read as what it stands for.
+pub fn numbers_stay_in_range()
+    ensures fresh { HasNumbersInRange fresh }
+    ensures one { ChangesKeepRanges }
+    ensures all { ListsKeepRanges }
+    ensures read_back { NumbersAreReadBack }
 {}
 
 /// Whatever a database holds, the answer is that it has no tables only where it has nothing, and is

@@ -1,6 +1,6 @@
 //! The table `members`: the members of every organisation, each with their role.
 
-ghost use Rattle.std.specs.Prelude.{◌≡◌, ◌&&◌, IfOk, Some, map, not, pos};
+ghost use Rattle.std.specs.Prelude.{◌≡◌, ◌&&◌, IfOk, Some, map, not};
 ghost use Rattle.std.specs.List.{list_any};
 ghost use Rattle.registry_access.specs.declared.role.Role.{Role as Rank};
 ghost use Rattle.registry_access.specs.Levels.{is_owner};
@@ -9,9 +9,10 @@ ghost use Rattle.registry_names.specs.Texts.{Text as Bytes, is};
 ghost use Rattle.registry_rows.specs.Frames.{Stays};
 ghost use Rattle.registry_rules.specs.State as spec;
 ghost use Rattle.registry_tables.specs.Changes.{IsFree, IsFreeUnless, amended, with_row};
-ghost use Rattle.registry_tables.specs.Contents.{registry_of};
+ghost use Rattle.registry_tables.specs.Contents.{access_of, registry_of};
 ghost use Rattle.registry_tables.specs.Effects.{InForm, Makes, OnlyWhere, Loads};
-ghost use Rattle.registry_tables.specs.Spelled.{member_entry, member_spelled, role_number, role_spelled};
+ghost use Rattle.registry_tables.specs.Numbers.{role_number};
+ghost use Rattle.registry_tables.specs.Spelled.{member_entry, member_spelled, role_spelled};
 ghost use Rattle.registry_tables.specs.Teams.{without_member};
 
 use registry_access::Role;
@@ -30,7 +31,7 @@ pub fn load_role<S: Alter>(
     requires in_form { InForm S.Store tx.old }
     ensures stays { Stays S.Store tx.old tx.new }
     ensures loads { Loads S.Store tx.old tx.new result
-        (λ role c. role ≡ at c.members (organisation.now, user.now)) }
+        (λ role c. role ≡ at (access_of c).roles (organisation.now, user.now)) }
 {
     let rows = read(
         tx,
@@ -49,7 +50,8 @@ pub fn load_members<S: Alter>(
     requires in_form { InForm S.Store tx.old }
     ensures stays { Stays S.Store tx.old tx.new }
     ensures loads { Loads S.Store tx.old tx.new result
-        (λ members c. map member_entry members.items ≡ of c.members organisation.now) }
+        (λ members c. map member_entry members.items
+        ≡ of (access_of c).roles organisation.now) }
 {
     let rows = read(
         tx,
@@ -100,7 +102,9 @@ pub(crate) fn put_member<S: Alter>(
     requires in_form { InForm S.Store tx.old }
     ensures stays { Stays S.Store tx.old tx.new }
     ensures makes { Makes S.Store tx.old tx.new result
-        (λ c. record c { members = with_row c.members (organisation.now, user.now) role stands }) }
+        (λ c. record c {
+          members = with_row c.members (organisation.now, user.now) (role_number role) stands;
+        }) }
     ensures was_new { OnlyWhere S.Store tx.old tx.new result
         (λ c. IsFreeUnless c.members (organisation.now, user.now) stands) }
 {
@@ -120,7 +124,9 @@ fn insert_member<S: Alter>(
     requires in_form { InForm S.Store tx.old }
     ensures stays { Stays S.Store tx.old tx.new }
     ensures makes { Makes S.Store tx.old tx.new result
-        (λ c. record c { members = put c.members (organisation.now, user.now) role }) }
+        (λ c. record c {
+          members = put c.members (organisation.now, user.now) (role_number role);
+        }) }
     ensures was_new { OnlyWhere S.Store tx.old tx.new result
         (λ c. IsFree c.members (organisation.now, user.now)) }
 {
@@ -140,7 +146,9 @@ fn update_member<S: Alter>(
     requires in_form { InForm S.Store tx.old }
     ensures stays { Stays S.Store tx.old tx.new }
     ensures makes { Makes S.Store tx.old tx.new result
-        (λ c. record c { members = amended c.members (organisation.now, user.now) role }) }
+        (λ c. record c {
+          members = amended c.members (organisation.now, user.now) (role_number role);
+        }) }
 {
     write(
         tx,
@@ -206,7 +214,7 @@ impl RowKind for ListedMember {
 }
 
 fn number_of(role: Role) -> i64
-    ensures { result ≡ pos (role_number role) }
+    ensures { result ≡ role_number role }
 {
     match role {
         Role::Developer => 0,
@@ -217,7 +225,7 @@ fn number_of(role: Role) -> i64
 
 // No other number is ever written.
 fn role_of(number: i64) -> Result<Role, Error>
-    ensures { IfOk result (λ role. number ≡ pos (role_number role)) }
+    ensures { IfOk result (λ role. number ≡ role_number role) }
 {
     match number {
         0 => Ok(Role::Developer),

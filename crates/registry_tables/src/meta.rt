@@ -1,10 +1,10 @@
 //! The table `meta`: what the tables are.
 
-ghost use Rattle.std.specs.Prelude.{◌≡◌, IfOk, IsSome, None, OnOk, Some, false, option_map, slice_get, true};
+ghost use Rattle.std.specs.Prelude.{◌≡◌, IfOk, IsSome, None, OnOk, Some, false, option_map, pos, slice_get, true};
 ghost use Rattle.sqlite_value.specs.Order.{column};
 ghost use Rattle.sqlite.specs.State.{HasCleanDisk, KeepsCommit, Survives};
 ghost use Rattle.registry_names.specs.Maps.{at};
-ghost use Rattle.registry_rows.specs.Columns.{number_in};
+ghost use Rattle.registry_rows.specs.Columns.{int_in};
 ghost use Rattle.registry_rows.specs.Frames.{Stays};
 ghost use Rattle.registry_tables.specs.Effects.{GoesOn, HasNoTables, InForm, Makes, Loads, TellsNone, shown};
 ghost use Rattle.registry_tables.specs.Fresh.{schema_key, schema_number, with_number};
@@ -28,7 +28,8 @@ pub fn opened<S: Alter>(tx: &mut Transaction<'_, S>) -> Result<Option<u32>, Faul
     ensures survives { Survives (shown S.Store tx.old) (shown S.Store tx.new) (λ _. ⊥) }
     ensures opened { IfOk result (λ number. Opened S.Store number tx.old tx.new) }
     ensures ours { InForm S.Store tx.old → Loads S.Store tx.old tx.new result
-        (λ number c. IsSome number × (number ≡ at c.meta schema_key)) }
+        (λ number c. IsSome number
+        × (option_map (λ n. pos n) number ≡ at c.meta schema_key)) }
     ensures none { HasNoTables S.Store tx.old → TellsNone S.Store tx.old tx.new result
         (λ number. number ≡ None) }
 {
@@ -62,7 +63,7 @@ fn load_schema<S: Alter>(tx: &mut Transaction<'_, S>) -> Result<u32, Fault>
     ensures survives { Survives (shown S.Store tx.old) (shown S.Store tx.new) (λ _. ⊥) }
     ensures shows { IfOk result (λ number. ShowsNumber S.Store number tx.old tx.new) }
     ensures ours { InForm S.Store tx.old → Loads S.Store tx.old tx.new result
-        (λ number c. at c.meta schema_key ≡ Some number) }
+        (λ number c. at c.meta schema_key ≡ Some (pos number)) }
 {
     let rows = read(
         tx,
@@ -74,7 +75,7 @@ fn load_schema<S: Alter>(tx: &mut Transaction<'_, S>) -> Result<u32, Fault>
 
 fn first_number(rows: &[Row]) -> Result<u32, Fault>
     ensures { IfOk result (λ number.
-        option_map (λ r. number_in (column r 0)) (slice_get rows.now 0) ≡ Some number) }
+        option_map (λ r. int_in (column r 0)) (slice_get rows.now 0) ≡ Some (pos number)) }
 {
     let Some(row) = rows.first() else {
         return Err(Fault::Database);

@@ -1,7 +1,8 @@
 //! The table `spent`: the versions that were withdrawn, which are never published again.
 
-ghost use Rattle.std.specs.Prelude.{◌≡◌, is_some};
+ghost use Rattle.std.specs.Prelude.{◌≡◌, ◌≤◌, is_some, pos};
 ghost use Rattle.registry_names.specs.Maps.{at, of, put};
+ghost use Rattle.registry_names.specs.Moments.{last_second};
 ghost use Rattle.registry_rows.specs.Frames.{Stays};
 ghost use Rattle.registry_rules.specs.Moments.{spent_publications};
 ghost use Rattle.registry_rules.specs.Withdrawals.{last_withdrawal};
@@ -24,7 +25,21 @@ pub fn is_spent<S: Alter>(
     requires in_form { InForm S.Store tx.old }
     ensures stays { Stays S.Store tx.old tx.new }
     ensures loads { Loads S.Store tx.old tx.new result
-        (λ spent c. spent ≡ is_some (at c.spent (name.now, version.now))) }
+        (λ spent c. spent ≡ is_some (at (registry_of c).spent (name.now, version.now))) }
+{
+    has_withdrawal(tx, name, version)
+}
+
+/// The same, by its row.
+pub(crate) fn has_withdrawal<S: Alter>(
+    tx: &mut Transaction<'_, S>,
+    name: &Name,
+    version: &str,
+) -> Result<bool, Fault>
+    requires in_form { InForm S.Store tx.old }
+    ensures stays { Stays S.Store tx.old tx.new }
+    ensures loads { Loads S.Store tx.old tx.new result
+        (λ has c. has ≡ is_some (at c.spent (name.now, version.now))) }
 {
     let rows = read(
         tx,
@@ -61,7 +76,7 @@ pub fn load_spent_publications<S: Alter>(
     requires in_form { InForm S.Store tx.old }
     ensures stays { Stays S.Store tx.old tx.new }
     ensures loads { Loads S.Store tx.old tx.new result
-        (λ moments c. moments.items ≡ spent_publications (of c.spent name.now)) }
+        (λ moments c. moments.items ≡ spent_publications (of (registry_of c).spent name.now)) }
 {
     let rows = read(
         tx,
@@ -87,10 +102,11 @@ pub(crate) fn put_withdrawal<S: Alter>(
     ensures makes { Makes S.Store tx.old tx.new result
         (λ c. record c {
           spent = put c.spent (name.now, version.now)
-              (record { published = published; withdrawn = withdrawn });
+              (record { published = pos published; withdrawn = pos withdrawn });
         }) }
     ensures was_new { OnlyWhere S.Store tx.old tx.new result
         (λ c. IsFree c.spent (name.now, version.now)) }
+    ensures in_time { (published ≤ last_second) × (withdrawn ≤ last_second) }
 {
     write(
         tx,

@@ -1,12 +1,14 @@
 //! The table `packages`: every name that was ever published, and who may read it.
 
-ghost use Rattle.std.specs.Prelude.{◌≡◌, IfOk, pos};
+ghost use Rattle.std.specs.Prelude.{◌≡◌, IfOk};
 ghost use Rattle.registry_names.specs.Maps.{at, put};
 ghost use Rattle.registry_names.specs.declared.status.Status.{Status as Readers};
 ghost use Rattle.registry_rows.specs.Frames.{Stays};
 ghost use Rattle.registry_tables.specs.Changes.{IsFree, IsFreeUnless, amended, with_row};
+ghost use Rattle.registry_tables.specs.Contents.{access_of};
 ghost use Rattle.registry_tables.specs.Effects.{InForm, Makes, OnlyWhere, Loads};
-ghost use Rattle.registry_tables.specs.Spelled.{status_number, status_spelled};
+ghost use Rattle.registry_tables.specs.Numbers.{status_number};
+ghost use Rattle.registry_tables.specs.Spelled.{status_spelled};
 
 use registry_names::{Fault, Name, Status};
 use registry_rows::{RowKind, read, value_of_first_row, write};
@@ -20,7 +22,7 @@ pub fn load_status<S: Alter>(
     requires in_form { InForm S.Store tx.old }
     ensures stays { Stays S.Store tx.old tx.new }
     ensures loads { Loads S.Store tx.old tx.new result
-        (λ status c. status ≡ at c.packages name.now) }
+        (λ status c. status ≡ at (access_of c).statuses name.now) }
 {
     let rows = read(
         tx,
@@ -40,7 +42,9 @@ pub(crate) fn put_status<S: Alter>(
     requires in_form { InForm S.Store tx.old }
     ensures stays { Stays S.Store tx.old tx.new }
     ensures makes { Makes S.Store tx.old tx.new result
-        (λ c. record c { packages = with_row c.packages name.now status stands }) }
+        (λ c. record c {
+          packages = with_row c.packages name.now (status_number status) stands;
+        }) }
     ensures was_new { OnlyWhere S.Store tx.old tx.new result
         (λ c. IsFreeUnless c.packages name.now stands) }
 {
@@ -59,7 +63,7 @@ fn insert_status<S: Alter>(
     requires in_form { InForm S.Store tx.old }
     ensures stays { Stays S.Store tx.old tx.new }
     ensures makes { Makes S.Store tx.old tx.new result
-        (λ c. record c { packages = put c.packages name.now status }) }
+        (λ c. record c { packages = put c.packages name.now (status_number status) }) }
     ensures was_new { OnlyWhere S.Store tx.old tx.new result
         (λ c. IsFree c.packages name.now) }
 {
@@ -78,7 +82,7 @@ fn update_status<S: Alter>(
     requires in_form { InForm S.Store tx.old }
     ensures stays { Stays S.Store tx.old tx.new }
     ensures makes { Makes S.Store tx.old tx.new result
-        (λ c. record c { packages = amended c.packages name.now status }) }
+        (λ c. record c { packages = amended c.packages name.now (status_number status) }) }
 {
     write(
         tx,
@@ -105,7 +109,7 @@ impl RowKind for StatusRow {
 }
 
 fn number_of(status: Status) -> i64
-    ensures { result ≡ pos (status_number status) }
+    ensures { result ≡ status_number status }
 {
     match status {
         Status::Restricted => 0,
@@ -115,7 +119,7 @@ fn number_of(status: Status) -> i64
 
 // No other number is ever written.
 fn status_of(number: i64) -> Result<Status, Error>
-    ensures { IfOk result (λ status. number ≡ pos (status_number status)) }
+    ensures { IfOk result (λ status. number ≡ status_number status) }
 {
     match number {
         0 => Ok(Status::Restricted),

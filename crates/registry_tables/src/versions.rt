@@ -1,7 +1,8 @@
 //! The table `versions`: the live versions of every package.
 
-ghost use Rattle.std.specs.Prelude.{◌≡◌, ℕ, true, IfOk, is_some, map, option_map};
+ghost use Rattle.std.specs.Prelude.{◌≡◌, ◌≤◌, ℕ, true, IfOk, OnOk, is_some, map, option_map};
 ghost use Rattle.registry_names.specs.Maps.{at, of, put, seen};
+ghost use Rattle.registry_names.specs.Moments.{last_second};
 ghost use Rattle.registry_names.specs.Texts.{Text as Bytes};
 ghost use Rattle.registry_names.specs.Versions.{text_of_version};
 ghost use Rattle.registry_rows.specs.Frames.{Stays};
@@ -18,7 +19,7 @@ ghost use Rattle.registry_tables.specs.Withdrawals.{with_message};
 use crate::archives::put_archive;
 use crate::moments::MomentRow;
 use crate::needs::put_needs;
-use crate::spent::is_spent;
+use crate::spent::has_withdrawal;
 use crate::texts::{read_back, texts_in};
 use registry_names::{Fault, Moment, Name, Text, Ver};
 use registry_packument::{VersionRow, VersionTime};
@@ -191,8 +192,9 @@ pub fn put_version<S: Alter>(
     ensures stays { Stays S.Store tx.old tx.new }
     ensures makes { Makes S.Store tx.old tx.new result (version_put form.now published) }
     ensures was_new { OnlyWhere S.Store tx.old tx.new result (IsNew form.now) }
+    ensures in_time { OnOk result (published ≤ last_second) }
 {
-    if is_spent(tx, form.name(), form.version().text())? {
+    if has_withdrawal(tx, form.name(), form.version().text())? {
         return Err(Fault::Database);
     }
     insert_version(tx, form, published)?;
@@ -216,6 +218,7 @@ fn insert_version<S: Alter>(
         (λ c. IsFree c.versions (form.now.name, actions.version_of form.now)) }
     ensures has_status { OnlyWhere S.Store tx.old tx.new result
         (λ c. is_some (at c.packages form.now.name) ≡ true) }
+    ensures in_time { published ≤ last_second }
 {
     write(
         tx,

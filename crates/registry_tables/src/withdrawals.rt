@@ -1,5 +1,7 @@
 //! Withdrawals: what goes with a version.
 
+ghost use Rattle.std.specs.Prelude.{◌≤◌, OnOk};
+ghost use Rattle.registry_names.specs.Moments.{last_second};
 ghost use Rattle.registry_rows.specs.Frames.{Stays};
 ghost use Rattle.registry_tables.specs.Changes.{IsUntagged, MayRetire};
 ghost use Rattle.registry_tables.specs.Effects.{InForm, Makes, OnlyWhere};
@@ -28,6 +30,7 @@ pub(crate) fn retire_version<S: Alter>(
     ensures makes { Makes S.Store tx.old tx.new result
         (version_retired name.now version.now published withdrawn) }
     ensures may_retire { OnlyWhere S.Store tx.old tx.new result (MayRetire name.now version.now) }
+    ensures in_time { OnOk result ((published ≤ last_second) × (withdrawn ≤ last_second)) }
 {
     let Some(number) = held_archive(tx, name, version)? else {
         return Err(Fault::Database);

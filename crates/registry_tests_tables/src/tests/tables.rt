@@ -53,6 +53,11 @@ fn tokens_are_listed_and_dropped(rt: HostRuntime) -> Result<(), Fail> {
 }
 
 #[test]
+fn numbers_out_of_range_are_found(rt: HostRuntime) -> Result<(), Fail> {
+    all_come_out(rt.alloc(), &NUMBERS)
+}
+
+#[test]
 fn calls_put_rows_that_fit(rt: HostRuntime) -> Result<(), Fail> {
     all_come_out(rt.alloc(), &ROWS)
 }
@@ -227,6 +232,49 @@ static STATUSES: [Case; 4] = [
             ("kid", Call::Number(7), "done"),
         ],
         end: End::Fault("kid", Call::Status),
+    },
+];
+
+// Numbers of roles, statuses, grants and moments.
+static NUMBERS: [Case; 3] = [
+    Case {
+        shows: "the numbers that calls write are in range",
+        calls: &[
+            ("kit", Call::InRange, "true"),
+            ("kit", Call::NewStatus(Status::Public), "done"),
+            ("pad", Call::NewStatus(Status::Restricted), "done"),
+            ("kit", Call::Add(Body::Plain("1.0.0"), 253_402_300_799), "done"),
+            ("kit", Call::Add(Body::Plain("1.1.0"), 1), "done"),
+            ("kit", Call::Retire("1.1.0"), "done"),
+            ("kit", Call::Teams(User("ann")), "done"),
+            ("kit", Call::Teams(Organisation("lab")), "done"),
+            ("kit", Call::Teams(Member("lab", "ann")), "done"),
+            ("kit", Call::Teams(Team("lab", "core")), "done"),
+            ("kit", Call::Teams(Grant("lab", "core", 2)), "done"),
+            ("kit", Call::InRange, "true"),
+        ],
+        end: End::Nothing,
+    },
+    Case {
+        shows: "a status of a number that is none is found",
+        calls: &[
+            ("kit", Call::Number(1), "done"),
+            ("kit", Call::InRange, "true"),
+            ("kid", Call::Number(-1), "done"),
+            ("kit", Call::InRange, "false"),
+        ],
+        end: End::Nothing,
+    },
+    Case {
+        shows: "a grant of a number that is none is found",
+        calls: &[
+            ("@lab/kit", Call::NewStatus(Status::Restricted), "done"),
+            ("@lab/kit", Call::Teams(Organisation("lab")), "done"),
+            ("@lab/kit", Call::Teams(Team("lab", "core")), "done"),
+            ("@lab/kit", Call::Teams(Grant("lab", "core", 0)), "done"),
+            ("@lab/kit", Call::InRange, "false"),
+        ],
+        end: End::Nothing,
     },
 ];
 

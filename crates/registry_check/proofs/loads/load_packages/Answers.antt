@@ -1,29 +1,29 @@
 use Rattle.registry_names.specs.Maps.{entries}
 use Rattle.registry_rows.proofs.QuietFacts.{stays_then}
-use Rattle.registry_tables.specs.Contents.{contents}
+use Rattle.registry_tables.specs.Contents.{access_of, contents}
 use Rattle.registry_check.specs.Spelled.{grant_spelled, package_spelled, pair_spelled}
 use Rattle.registry_check.proofs.LoadFacts.{answered, left, next, still}
 use Rattle.registry_check.proofs.QueryFacts.{packages_listed, grants_listed, maintainers_listed}
 use Rattle.registry_check.proofs.loads.load_packages.Goals as goal
 
 pub returns-in_err-published-clause-stays : goal.returns-in_err-published-clause-stays
-returns-in_err-published-clause-stays g c = left g.S.Store package_spelled (λ db. entries (contents db).packages) packages_listed c.args.tx.now c.load.new.tx c.requires.in_form c.load.ensures.same_reference c.load.ensures.finds
+returns-in_err-published-clause-stays g c = left g.S.Store package_spelled (λ db. entries (access_of (contents db)).statuses) packages_listed c.args.tx.now c.load.new.tx c.requires.in_form c.load.ensures.same_reference c.load.ensures.finds
 
 pub returns-in_err-grants-clause-stays : goal.returns-in_err-grants-clause-stays
 returns-in_err-grants-clause-stays g c =
-    let one = answered g.S.Store package_spelled (λ db. entries (contents db).packages) packages_listed c.args.tx.now c.load.new.tx _ c.requires.in_form c.load.ensures.same_reference c.in_ok-published.ensures.finds in
-    stays_then g.S.Store c.args.tx.now c.load.new.tx c.load-2.new.tx one.stays (left g.S.Store grant_spelled (λ db. entries (contents db).grants) grants_listed c.load.new.tx c.load-2.new.tx (still g.S.Store c.args.tx.now c.load.new.tx _ one) c.load-2.ensures.same_reference c.load-2.ensures.finds)
+    let one = answered g.S.Store package_spelled (λ db. entries (access_of (contents db)).statuses) packages_listed c.args.tx.now c.load.new.tx _ c.requires.in_form c.load.ensures.same_reference c.in_ok-published.ensures.finds in
+    stays_then g.S.Store c.args.tx.now c.load.new.tx c.load-2.new.tx one.stays (left g.S.Store grant_spelled (λ db. entries (access_of (contents db)).grants) grants_listed c.load.new.tx c.load-2.new.tx (still g.S.Store c.args.tx.now c.load.new.tx _ one) c.load-2.ensures.same_reference c.load-2.ensures.finds)
 
 pub returns-in_err-maintainers-clause-stays : goal.returns-in_err-maintainers-clause-stays
 returns-in_err-maintainers-clause-stays g c =
-    let one = answered g.S.Store package_spelled (λ db. entries (contents db).packages) packages_listed c.args.tx.now c.load.new.tx _ c.requires.in_form c.load.ensures.same_reference c.in_ok-published.ensures.finds in
-    let two = answered g.S.Store grant_spelled (λ db. entries (contents db).grants) grants_listed c.load.new.tx c.load-2.new.tx _ (still g.S.Store c.args.tx.now c.load.new.tx _ one) c.load-2.ensures.same_reference c.in_ok-grants.ensures.finds in
+    let one = answered g.S.Store package_spelled (λ db. entries (access_of (contents db)).statuses) packages_listed c.args.tx.now c.load.new.tx _ c.requires.in_form c.load.ensures.same_reference c.in_ok-published.ensures.finds in
+    let two = answered g.S.Store grant_spelled (λ db. entries (access_of (contents db)).grants) grants_listed c.load.new.tx c.load-2.new.tx _ (still g.S.Store c.args.tx.now c.load.new.tx _ one) c.load-2.ensures.same_reference c.in_ok-grants.ensures.finds in
     stays_then g.S.Store c.args.tx.now c.load-2.new.tx c.load-3.new.tx (next g.S.Store c.args.tx.now c.load.new.tx c.load-2.new.tx _ _ one two).stays (left g.S.Store pair_spelled (λ db. entries (contents db).owners) maintainers_listed c.load-2.new.tx c.load-3.new.tx (still g.S.Store c.load.new.tx c.load-2.new.tx _ two) c.load-3.ensures.same_reference c.load-3.ensures.finds)
 
 pub returns : goal.returns
 returns g c =
-    let one = answered g.S.Store package_spelled (λ db. entries (contents db).packages) packages_listed c.args.tx.now c.load.new.tx _ c.requires.in_form c.load.ensures.same_reference c.in_ok-published.ensures.finds in
-    let two = answered g.S.Store grant_spelled (λ db. entries (contents db).grants) grants_listed c.load.new.tx c.load-2.new.tx _ (still g.S.Store c.args.tx.now c.load.new.tx _ one) c.load-2.ensures.same_reference c.in_ok-grants.ensures.finds in
+    let one = answered g.S.Store package_spelled (λ db. entries (access_of (contents db)).statuses) packages_listed c.args.tx.now c.load.new.tx _ c.requires.in_form c.load.ensures.same_reference c.in_ok-published.ensures.finds in
+    let two = answered g.S.Store grant_spelled (λ db. entries (access_of (contents db)).grants) grants_listed c.load.new.tx c.load-2.new.tx _ (still g.S.Store c.args.tx.now c.load.new.tx _ one) c.load-2.ensures.same_reference c.in_ok-grants.ensures.finds in
     let three = answered g.S.Store pair_spelled (λ db. entries (contents db).owners) maintainers_listed c.load-2.new.tx c.load-3.new.tx _ (still g.S.Store c.load.new.tx c.load-2.new.tx _ two) c.load-3.ensures.same_reference c.in_ok-maintainers.ensures.finds in
     let all = next g.S.Store c.args.tx.now c.load-2.new.tx c.load-3.new.tx _ _ (next g.S.Store c.args.tx.now c.load.new.tx c.load-2.new.tx _ _ one two) three in
     record {

@@ -1,14 +1,12 @@
-use Rattle.std.proofs.Common.{◌==◌, ◌∙◌, ap, not}
-use Rattle.registry_rows.proofs.QuietFacts.{read_stays}
-use Rattle.registry_tables.specs.Effects.{shown}
-use Rattle.registry_tables.proofs.SpentFacts.{withdrawal_found}
+use Rattle.std.proofs.Common.{◌∙◌, sym}
+use Rattle.std.proofs.lemmas.Result.{IfOk-weaker}
+use Rattle.registry_names.proofs.KeyFacts.{pair_key}
+use Rattle.registry_tables.specs.Contents.{as_withdrawal}
+use Rattle.registry_tables.specs.Effects.{stored_in}
+use Rattle.registry_tables.proofs.ReadFacts.{some-read}
 use Rattle.registry_tables.proofs.spent.is_spent.Goals as goal
 
-pub returns : goal.returns
-returns g c =
-    let call = rw (c.params-to_sql.ensures, c.params-to_sql-2.ensures, c.text.ensures.text) at c.in_ok-rows.ensures.shown in
-    let it = withdrawal_found c.args.name.now c.args.version.now (shown g.S.Store c.args.tx.now) (shown g.S.Store c.read.new.tx) _ c.requires.in_form call in
-    record {
-      stays = read_stays g.S.Store _ _ _ c.args.tx.now c.read.new.tx _ c.in_ok-rows.ensures.same_reference call (λ clean. (it clean).0);
-      loads = λ clean. ((it clean).0, ap not (c.is_empty.ensures ∙ ap (λ n. n == 0) c.in_ok-rows.rows.ok.0) ∙ (it clean).1);
-    }
+pub returns-clause-loads : goal.returns-clause-loads
+returns-clause-loads g c clean =
+    IfOk-weaker c.has_withdrawal.result _ _ (λ _ it. (it.0, it.1 ∙ sym (some-read pair_key (stored_in g.S.Store c.args.tx.now).spent (λ _ v. as_withdrawal v) (c.args.name.now, c.args.version.now))))
+    (c.has_withdrawal.ensures.loads clean)

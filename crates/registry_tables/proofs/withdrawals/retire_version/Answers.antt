@@ -2,9 +2,8 @@ use Rattle.std.proofs.Common.{◌≡◌, ◌∙◌, arith, ap, sym}
 use Rattle.sqlite.specs.Effect.{Database}
 use Rattle.sqlite.specs.State.{HasCleanDisk}
 use Rattle.registry_names.specs.Maps.{PairMap, at}
-use Rattle.registry_rules.specs.State.{Withdrawal}
 use Rattle.registry_rows.proofs.QuietFacts.{on_answer, stays_then}
-use Rattle.registry_tables.specs.Contents.{Contents, contents}
+use Rattle.registry_tables.specs.Contents.{Contents, SpentVersion, contents}
 use Rattle.registry_tables.specs.Effects.{shown, stored_in}
 use Rattle.registry_tables.proofs.ReferenceFacts.{version_there}
 use Rattle.registry_tables.proofs.withdrawals.retire_version.Goals as goal
@@ -35,7 +34,7 @@ returns-clause-may_retire g c clean =
     on_answer c.put_withdrawal.result
     (λ free. record {
       lives = version_there old ready (c.args.name.now, c.args.version.now) c.in-Some.number held;
-      not_spent = ap (λ (m : PairMap Withdrawal). at m (c.args.name.now, c.args.version.now)) (sym before) ∙ free;
+      not_spent = ap (λ (m : PairMap SpentVersion). at m (c.args.name.now, c.args.version.now)) (sym before) ∙ free;
       untagged = λ t named. untagged t (ap (λ (d : Database). at (contents d.trees).tags (c.args.name.now, t)) same ∙ named);
     })
     (rw (c.text-2.ensures.text) at (c.put_withdrawal.ensures.was_new clean))

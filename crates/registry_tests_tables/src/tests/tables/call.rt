@@ -16,7 +16,7 @@ use registry_rows::write;
 use registry_rules::Change;
 use registry_tables::{
     create, has_live, has_tag, has_version, is_spent, load_archive, load_status, load_tags,
-    load_times, make, put_version,
+    load_times, make, numbers_are_in_range, put_version,
 };
 use registry_tests_support::{otherwise, same};
 use sqlite::{Alter, Connection, Row, Transaction, params};
@@ -80,6 +80,8 @@ pub enum Call {
     Times,
     /// The length of the version's archive, and its last bytes.
     Archive(&'static str),
+    /// Whether all stored numbers are in range.
+    InRange,
     /// A call over the teams that may be granted something on it.
     Teams(TeamCall),
     /// A call over what callers may do with it.
@@ -234,6 +236,7 @@ fn told_of<S: Alter>(
         Call::Tags => tags_text(alloc, &load_tags(alloc, tx, name)?),
         Call::Times => times_text(alloc, &load_times(alloc, tx, name)?),
         Call::Archive(version) => archive_text(alloc, &load_archive(tx, name, version)?),
+        Call::InRange => word_text(alloc, numbers_are_in_range(alloc, tx)?),
         Call::Teams(call) => teams::told(alloc, tx, name, call),
         Call::Rights(call) => rights::told(alloc, tx, name, call),
         Call::Tokens(call) => tokens::told(alloc, tx, call),

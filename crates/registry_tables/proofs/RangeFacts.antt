@@ -1,0 +1,369 @@
+-- The numbers that are stored stay in range, and tests of all rows tell whether they are.
+use Rattle.std.proofs.Common.{◌≡◌, ◌≤◌, ◌∙◌, ℕ, ℤ, Bool, true, false, cond, ◌&&◌, List, [], ◌∷◌, map, pos, is_some, refl, sym, ap, ap₂, subst, Ordering, Some, None, Option, option_map, IsTrue, All, codes, if◌then◌else◌}
+use Rattle.std.specs.Prelude.{nat_le}
+use Rattle.std.specs.List.{AllByRecursion, list_all}
+use Rattle.std.proofs.lemmas.Bool.{and_from, and_parts, le-leb}
+use Rattle.std.proofs.lemmas.List.Elements.{All-head, All-tail}
+use Rattle.std.proofs.lemmas.Simd.{map-map}
+use Rattle.sqlite.specs.Effect.{Database}
+use Rattle.sqlite.specs.Listing.{understood}
+use Rattle.sqlite.specs.State.{State as Shown, HasCleanDisk}
+use Rattle.sqlite_sql.specs.Term.{Term, col}
+use Rattle.sqlite_tied.specs.Compute.{everything}
+use Rattle.sqlite_value.specs.Order.{Row, column}
+use Rattle.registry_names.specs.Keys.{IsKey, Pair, Triple}
+use Rattle.registry_names.specs.Maps.{MapBy, at, empty, entries, erase, first_at, keep, put, revise, seen}
+use Rattle.registry_names.specs.Moments.{last_second}
+use Rattle.registry_names.specs.Texts.{Text}
+use Rattle.registry_names.specs.declared.status.Status.{Status}
+use Rattle.registry_names.specs.declared.status.Status.TheVariants.{Public, Restricted}
+use Rattle.registry_names.proofs.EntryFacts.{IsFoundIn, entries_rise, rows_found}
+use Rattle.registry_names.proofs.KeyFacts.{pair_key, text_key, triple_key}
+use Rattle.registry_names.proofs.MapFacts.{at-empty, at-entries, at-erase, at-keep, at-put, at-revise}
+use Rattle.registry_access.specs.declared.grant.Grant.{Grant}
+use Rattle.registry_access.specs.declared.grant.Grant.TheVariants.{ReadOnly, ReadWrite}
+use Rattle.registry_access.specs.declared.role.Role.{Role}
+use Rattle.registry_access.specs.declared.role.Role.TheVariants.{Developer, Admin, Owner}
+use Rattle.registry_rules.specs.Changes.{Change, AddUser, AddToken, DropToken, AddOrg, PutMember, DropMember, AddTeam, PutTeamMember, DropTeamMember, DropTeam, PutGrant, DropGrant, PutOwner, DropOwner, PutStatus, AddVersion, RetireVersion, PutDeprecation, PutTag, DropTag}
+use Rattle.registry_rows.specs.Columns.{text_in}
+use Rattle.registry_rows.specs.Ready.{Queried, Reads, Ready}
+use Rattle.registry_rows.specs.Statements.{MeansQuery, in_order, select_where}
+use Rattle.registry_rows.proofs.LookUpFacts.{select_all}
+use Rattle.registry_rows.proofs.QuietFacts.{reads_then}
+use Rattle.registry_tables.specs.Changes.{all_stored, stored_by, with_row}
+use Rattle.registry_tables.specs.Contents.{Contents, LiveVersion, SpentVersion, contents}
+use Rattle.registry_tables.specs.Effects.{stored}
+use Rattle.registry_tables.specs.Fresh.{fresh}
+use Rattle.registry_tables.specs.Numbers.{grant_number, is_level, is_moment, is_role, is_status, role_number, status_number}
+use Rattle.registry_tables.specs.Ranges.{HasMoments, HasNumbersInRange, NumbersAreReadBack, TellsRanges, all_pass}
+use Rattle.registry_tables.specs.Schema as table
+use Rattle.registry_tables.specs.Schema.{schema}
+use Rattle.registry_tables.specs.Spelled.{fourth_number, second_number, third_number}
+use Rattle.registry_tables.proofs.MappedFacts.{grants_mapped, members_mapped, packages_mapped, spent_mapped, versions_mapped}
+use Rattle.registry_tables.proofs.NumberFacts.{grant_again, role_again, status_again}
+
+-- ---- a number that is written
+
+role_within : (role : Role) → IsTrue (is_role (role_number role))
+role_within Developer = refl
+role_within Admin = refl
+role_within Owner = refl
+
+status_within : (status : Status) → IsTrue (is_status (status_number status))
+status_within Restricted = refl
+status_within Public = refl
+
+grant_within : (grant : Grant) → IsTrue (is_level (grant_number grant))
+grant_within ReadOnly = refl
+grant_within ReadWrite = refl
+
+moment_within : (now : ℕ) → now ≤ last_second → IsTrue (is_moment (pos now))
+moment_within now h = ap (λ (b : Bool). is_some (if b then Some now else None)) (le-leb now last_second h)
+
+pub numbers_read_back : NumbersAreReadBack
+numbers_read_back = record {
+  roles = λ role. (role_again role, role_within role);
+  statuses = λ status. (status_again status, status_within status);
+  grants = λ grant. (grant_again grant, grant_within grant);
+  moments = λ now h. (refl, moment_within now h);
+}
+
+-- ---- what holds of each value of a map
+
+abbrev IsOfEach : {K X : Type 0} {cmp : K → K → Ordering} → (X → Type 0) → MapBy cmp X → Type 0
+IsOfEach {K} {X} P m = (k : K) (x : X) → at m k ≡ Some x → P x
+
+module _ {K X : Type 0} {cmp : K → K → Ordering} {same : K → K → Bool} (key : IsKey cmp same) (P : X → Type 0) where
+  of_none : IsOfEach P (empty {K = K} {X = X} {cmp = cmp})
+  of_none k x e = absurd (let none = sym (at-empty key k) ∙ e in cc)
+
+  of_put : (m : MapBy cmp X) (q : K) (y : X) → P y → IsOfEach P m → IsOfEach P (put m q y)
+  of_put m q y p each k x e = go (same q k) (sym (at-put key m q y k) ∙ e)
+    where
+      go : (b : Bool) → cond b (Some y) (at m k) ≡ Some x → P x
+      go true i = let is : y ≡ x = cc in subst P is p
+      go false i = each k x i
+
+  of_row : (m : MapBy cmp X) (q : K) (y : X) (stands : Bool) → P y → IsOfEach P m → IsOfEach P (with_row m q y stands)
+  of_row m q y false p each = of_put m q y p each
+  of_row m q y true p each = go (is_some (at m q))
+    where
+      go : (b : Bool) → IsOfEach P (if b then put m q y else m)
+      go true = of_put m q y p each
+      go false = each
+
+  of_erased : (m : MapBy cmp X) (q : K) → IsOfEach P m → IsOfEach P (erase m q)
+  of_erased m q each k x e = go (same q k) (sym (at-erase key m q k) ∙ e)
+    where
+      go : (b : Bool) → cond b None (at m k) ≡ Some x → P x
+      go true i = absurd cc
+      go false i = each k x i
+
+  of_kept : (m : MapBy cmp X) (test : K → Bool) → IsOfEach P m → IsOfEach P (keep m test)
+  of_kept m test each k x e = go (test k) (sym (at-keep key m test k) ∙ e)
+    where
+      go : (b : Bool) → cond b (at m k) None ≡ Some x → P x
+      go true i = each k x i
+      go false i = absurd cc
+
+  of_revised : (m : MapBy cmp X) (f : K → X → X) → ((k : K) (x : X) → P x → P (f k x)) → IsOfEach P m → IsOfEach P (revise m f)
+  of_revised m f keeps each k x e = go (at m k) refl (sym (at-revise key m f k) ∙ e)
+    where
+      go : (o : Option X) → at m k ≡ o → option_map (f k) o ≡ Some x → P x
+      go None i h = absurd cc
+      go (Some y) i h = let is : f k y ≡ x = cc in subst P is (keeps k y (each k y i))
+
+-- ---- changes
+
+-- what leaves the five tables alone
+pub others_in_range : (c d : Contents) → d.members ≡ c.members → d.packages ≡ c.packages → d.grants ≡ c.grants → d.versions ≡ c.versions → d.spent ≡ c.spent → HasNumbersInRange c → HasNumbersInRange d
+others_in_range c d members packages grants versions spent h = record {
+  roles = λ k n e. h.roles k n (sym (ap (λ m. at m k) members) ∙ e);
+  statuses = λ p n e. h.statuses p n (sym (ap (λ m. at m p) packages) ∙ e);
+  levels = λ k n e. h.levels k n (sym (ap (λ m. at m k) grants) ∙ e);
+  live = λ k v e. h.live k v (sym (ap (λ m. at m k) versions) ∙ e);
+  spent = λ k v e. h.spent k v (sym (ap (λ m. at m k) spent) ∙ e);
+}
+
+pub fresh_in_range : HasNumbersInRange fresh
+fresh_in_range = record {
+  roles = of_none pair_key (λ n. IsTrue (is_role n));
+  statuses = of_none text_key (λ n. IsTrue (is_status n));
+  levels = of_none triple_key (λ n. IsTrue (is_level n));
+  live = of_none pair_key (λ (v : LiveVersion). IsTrue (is_moment v.published));
+  spent = of_none pair_key (λ (v : SpentVersion). IsTrue (is_moment v.published) × IsTrue (is_moment v.withdrawn));
+}
+
+messaged : (p v message : Text) (k : Pair) (r : LiveVersion) (b : Bool) → IsTrue (is_moment r.published) → IsTrue (is_moment (if b then record r { message = message } else r).published)
+messaged p v message k r true h = h
+messaged p v message k r false h = h
+
+pub change_in_range : (change : Change) (c : Contents) → HasMoments change → HasNumbersInRange c → HasNumbersInRange (stored_by change c)
+change_in_range (AddUser u) c in_time h = others_in_range c _ refl refl refl refl refl h
+change_in_range (AddToken digest u) c in_time h = others_in_range c _ refl refl refl refl refl h
+change_in_range (DropToken digest) c in_time h = others_in_range c _ refl refl refl refl refl h
+change_in_range (AddOrg o) c in_time h = others_in_range c _ refl refl refl refl refl h
+change_in_range (PutMember o u role stands) c in_time h = record {
+  roles = of_row pair_key (λ n. IsTrue (is_role n)) c.members (o, u) (role_number role) stands (role_within role) h.roles;
+  statuses = h.statuses;
+  levels = h.levels;
+  live = h.live;
+  spent = h.spent;
+}
+change_in_range (DropMember o u) c in_time h = record {
+  roles = of_erased pair_key (λ n. IsTrue (is_role n)) c.members (o, u) h.roles;
+  statuses = h.statuses;
+  levels = h.levels;
+  live = h.live;
+  spent = h.spent;
+}
+change_in_range (AddTeam o t) c in_time h = others_in_range c _ refl refl refl refl refl h
+change_in_range (PutTeamMember o t u) c in_time h = others_in_range c _ refl refl refl refl refl h
+change_in_range (DropTeamMember o t u) c in_time h = others_in_range c _ refl refl refl refl refl h
+change_in_range (DropTeam o t) c in_time h = record {
+  roles = h.roles;
+  statuses = h.statuses;
+  levels = of_kept triple_key (λ n. IsTrue (is_level n)) c.grants _ h.levels;
+  live = h.live;
+  spent = h.spent;
+}
+change_in_range (PutGrant o t p grant stands) c in_time h = record {
+  roles = h.roles;
+  statuses = h.statuses;
+  levels = of_row triple_key (λ n. IsTrue (is_level n)) c.grants (o, (t, p)) (grant_number grant) stands (grant_within grant) h.levels;
+  live = h.live;
+  spent = h.spent;
+}
+change_in_range (DropGrant o t p) c in_time h = record {
+  roles = h.roles;
+  statuses = h.statuses;
+  levels = of_erased triple_key (λ n. IsTrue (is_level n)) c.grants (o, (t, p)) h.levels;
+  live = h.live;
+  spent = h.spent;
+}
+change_in_range (PutOwner p u) c in_time h = others_in_range c _ refl refl refl refl refl h
+change_in_range (DropOwner p u) c in_time h = others_in_range c _ refl refl refl refl refl h
+change_in_range (PutStatus p status stands) c in_time h = record {
+  roles = h.roles;
+  statuses = of_row text_key (λ n. IsTrue (is_status n)) c.packages p (status_number status) stands (status_within status) h.statuses;
+  levels = h.levels;
+  live = h.live;
+  spent = h.spent;
+}
+change_in_range (AddVersion f now) c in_time h = record {
+  roles = h.roles;
+  statuses = h.statuses;
+  levels = h.levels;
+  live = of_put pair_key (λ (v : LiveVersion). IsTrue (is_moment v.published)) c.versions _ _ (moment_within now in_time) h.live;
+  spent = h.spent;
+}
+change_in_range (RetireVersion p v published withdrawn) c in_time h = record {
+  roles = h.roles;
+  statuses = h.statuses;
+  levels = h.levels;
+  live = of_erased pair_key (λ (v : LiveVersion). IsTrue (is_moment v.published)) c.versions (p, v) h.live;
+  spent = of_put pair_key (λ (v : SpentVersion). IsTrue (is_moment v.published) × IsTrue (is_moment v.withdrawn)) c.spent (p, v) _
+      (moment_within published in_time.0, moment_within withdrawn in_time.1) h.spent;
+}
+change_in_range (PutDeprecation p v message) c in_time h = record {
+  roles = h.roles;
+  statuses = h.statuses;
+  levels = h.levels;
+  live = of_revised pair_key (λ (v : LiveVersion). IsTrue (is_moment v.published)) c.versions _ (λ k r. messaged p v message k r _) h.live;
+  spent = h.spent;
+}
+change_in_range (PutTag p t v stands) c in_time h = others_in_range c _ refl refl refl refl refl h
+change_in_range (DropTag p t) c in_time h = others_in_range c _ refl refl refl refl refl h
+
+pub changes_in_range : (changes : List Change) (c : Contents) → AllByRecursion HasMoments changes → HasNumbersInRange c → HasNumbersInRange (all_stored changes c)
+changes_in_range [] c in_time h = h
+changes_in_range (change ∷ changes) c in_time h = changes_in_range changes (stored_by change c) in_time.1 (change_in_range change c in_time.0 h)
+
+-- ---- all rows
+
+module _ {K X : Type 0} {cmp : K → K → Ordering} {same : K → K → Bool} (key : IsKey cmp same) (test : X → Bool) (m : MapBy cmp X) where
+  found_pass : (es : List (K × X)) → list_all test (map (λ (e : K × X). e.1) es) ≡ true → (k : K) (x : X) → first_at same es k ≡ Some x → test x ≡ true
+  found_pass [] all k x h = absurd cc
+  found_pass (e ∷ es) all k x h = let both = and_parts (test e.1) _ all in go both.0 (found_pass es both.1 k x) (same e.0 k) h
+    where
+      go : test e.1 ≡ true → (first_at same es k ≡ Some x → test x ≡ true) → (b : Bool) → cond b (Some e.1) (first_at same es k) ≡ Some x → test x ≡ true
+      go one rest true i = let is : e.1 ≡ x = cc in subst (λ y. test y ≡ true) is one
+      go one rest false i = rest i
+
+  pass_found : (whole es : List (K × X)) → All (IsFoundIn key whole) es → ((k : K) (x : X) → first_at same whole k ≡ Some x → test x ≡ true) → list_all test (map (λ (e : K × X). e.1) es) ≡ true
+  pass_found whole [] found each = refl
+  pass_found whole (e ∷ es) found each = and_from (test e.1) _ (each e.0 e.1 (All-head (IsFoundIn key whole) e es found)) (pass_found whole es (All-tail (IsFoundIn key whole) e es found) each)
+
+  pass_each : all_pass test m ≡ true → IsOfEach (λ x. test x ≡ true) m
+  pass_each all k x e = found_pass (entries m) all k x (sym (at-entries key m k) ∙ e)
+
+  each_pass : IsOfEach (λ x. test x ≡ true) m → all_pass test m ≡ true
+  each_pass each = pass_found (entries m) (entries m) (rows_found key (entries m) (entries_rise m)) (λ k x i. each k x (at-entries key m k ∙ i))
+
+-- all five tables pass exactly where the numbers are in range
+pub tests_tell : (c : Contents) → TellsRanges (all_pass is_role c.members && (all_pass is_status c.packages && (all_pass is_level c.grants && (all_pass (λ v. is_moment v.published) c.versions
+    && (all_pass (λ v. is_moment v.published) c.spent && all_pass (λ v. is_moment v.withdrawn) c.spent))))) c
+tests_tell c = (
+  λ all.
+      let one = and_parts _ _ all in
+      let two = and_parts _ _ one.1 in
+      let three = and_parts _ _ two.1 in
+      let four = and_parts _ _ three.1 in
+      let five = and_parts _ _ four.1 in
+      record {
+        roles = pass_each pair_key is_role c.members one.0;
+        statuses = pass_each text_key is_status c.packages two.0;
+        levels = pass_each triple_key is_level c.grants three.0;
+        live = pass_each pair_key (λ (v : LiveVersion). is_moment v.published) c.versions four.0;
+        spent = λ k v e. (pass_each pair_key (λ (v : SpentVersion). is_moment v.published) c.spent five.0 k v e, pass_each pair_key (λ (v : SpentVersion). is_moment v.withdrawn) c.spent five.1 k v e);
+      },
+  λ h.
+      and_from _ _ (each_pass pair_key is_role c.members h.roles)
+      (and_from _ _ (each_pass text_key is_status c.packages h.statuses)
+      (and_from _ _ (each_pass triple_key is_level c.grants h.levels)
+      (and_from _ _ (each_pass pair_key (λ (v : LiveVersion). is_moment v.published) c.versions h.live)
+      (and_from _ _ (each_pass pair_key (λ (v : SpentVersion). is_moment v.published) c.spent (λ k v e. (h.spent k v e).0))
+      (each_pass pair_key (λ (v : SpentVersion). is_moment v.withdrawn) c.spent (λ k v e. (h.spent k v e).1)))))),
+)
+
+-- ---- SELECT of all rows
+
+-- rows that show numbers of the values pass where these do
+shown_pass : {K X : Type 0} (test : ℤ → Bool) (g : X → ℤ) (read : Row → K × ℤ) (rows : List Row) (es : List (K × X)) → map read rows ≡ map (seen g) es
+    → list_all test (map (λ r. (read r).1) rows) ≡ list_all (λ x. test (g x)) (map (λ (e : K × X). e.1) es)
+shown_pass {K} {X} test g read rows es h = ap (list_all test) (sym (map-map (λ (e : K × ℤ). e.1) read rows) ∙ ap (map (λ (e : K × ℤ). e.1)) h) ∙ seen_pass es
+  where
+    seen_pass : (es : List (K × X)) → list_all test (map (λ (e : K × ℤ). e.1) (map (seen g) es)) ≡ list_all (λ x. test (g x)) (map (λ (e : K × X). e.1) es)
+    seen_pass [] = refl
+    seen_pass (e ∷ es) = ap (λ b. test (g e.1) && b) (seen_pass es)
+
+abbrev pair_number : Row → Pair × ℤ
+pair_number r = ((text_in (column r 0), text_in (column r 1)), third_number r)
+
+abbrev roles_text : List ℕ
+roles_text = codes "SELECT org, user, role FROM members ORDER BY org, user"
+
+roles_means : MeansQuery schema roles_text (select_where table.members (col 1 1 ∷ col 1 2 ∷ col 1 3 ∷ []) [] (in_order 1 1) (codes "org" ∷ codes "user" ∷ codes "role" ∷ []))
+unfolding understood everything
+roles_means = ((refl, (refl, refl)), refl)
+
+pub roles_pass : (old new : Shown) (rows : List Row) → Ready schema old → Queried roles_text [] old new rows → HasCleanDisk new
+    → Reads schema old new × (list_all is_role (map third_number rows) ≡ all_pass is_role (stored old).members)
+roles_pass old new rows form call clean =
+    let it = select_all members_mapped roles_text (col 1 1 ∷ col 1 2 ∷ col 1 3 ∷ []) _ roles_means pair_number (λ (n : ℤ). n) (λ id vs. refl) old new rows form call clean in
+    (it.0, shown_pass is_role (λ (n : ℤ). n) pair_number rows (entries (stored old).members) it.1)
+
+abbrev statuses_text : List ℕ
+statuses_text = codes "SELECT name, status FROM packages ORDER BY name"
+
+statuses_means : MeansQuery schema statuses_text (select_where table.packages (col 1 1 ∷ col 1 2 ∷ []) [] (in_order 0 1) (codes "name" ∷ codes "status" ∷ []))
+unfolding understood everything
+statuses_means = ((refl, (refl, refl)), refl)
+
+abbrev text_number : Row → Text × ℤ
+text_number r = (text_in (column r 0), second_number r)
+
+pub statuses_pass : (old new : Shown) (rows : List Row) → Ready schema old → Queried statuses_text [] old new rows → HasCleanDisk new
+    → Reads schema old new × (list_all is_status (map second_number rows) ≡ all_pass is_status (stored old).packages)
+statuses_pass old new rows form call clean =
+    let it = select_all packages_mapped statuses_text (col 1 1 ∷ col 1 2 ∷ []) _ statuses_means text_number (λ (n : ℤ). n) (λ id vs. refl) old new rows form call clean in
+    (it.0, shown_pass is_status (λ (n : ℤ). n) text_number rows (entries (stored old).packages) it.1)
+
+abbrev levels_text : List ℕ
+levels_text = codes "SELECT org, team, package, level FROM grants ORDER BY org, team, package"
+
+levels_means : MeansQuery schema levels_text (select_where table.grants (col 1 1 ∷ col 1 2 ∷ col 1 3 ∷ col 1 4 ∷ []) [] (in_order 2 1) (codes "org" ∷ codes "team" ∷ codes "package" ∷ codes "level" ∷ []))
+unfolding understood everything
+levels_means = ((refl, (refl, refl)), refl)
+
+abbrev triple_number : Row → Triple × ℤ
+triple_number r = ((text_in (column r 0), (text_in (column r 1), text_in (column r 2))), fourth_number r)
+
+pub levels_pass : (old new : Shown) (rows : List Row) → Ready schema old → Queried levels_text [] old new rows → HasCleanDisk new
+    → Reads schema old new × (list_all is_level (map fourth_number rows) ≡ all_pass is_level (stored old).grants)
+levels_pass old new rows form call clean =
+    let it = select_all grants_mapped levels_text (col 1 1 ∷ col 1 2 ∷ col 1 3 ∷ col 1 4 ∷ []) _ levels_means triple_number (λ (n : ℤ). n) (λ id vs. refl) old new rows form call clean in
+    (it.0, shown_pass is_level (λ (n : ℤ). n) triple_number rows (entries (stored old).grants) it.1)
+
+abbrev live_text : List ℕ
+live_text = codes "SELECT package, version, published FROM versions ORDER BY package, version"
+
+live_means : MeansQuery schema live_text (select_where table.versions (col 1 1 ∷ col 1 2 ∷ col 1 3 ∷ []) [] (in_order 1 1) (codes "package" ∷ codes "version" ∷ codes "published" ∷ []))
+unfolding understood everything
+live_means = ((refl, (refl, refl)), refl)
+
+pub live_pass : (old new : Shown) (rows : List Row) → Ready schema old → Queried live_text [] old new rows → HasCleanDisk new
+    → Reads schema old new × (list_all is_moment (map third_number rows) ≡ all_pass (λ v. is_moment v.published) (stored old).versions)
+live_pass old new rows form call clean =
+    let it = select_all versions_mapped live_text (col 1 1 ∷ col 1 2 ∷ col 1 3 ∷ []) _ live_means pair_number (λ (v : LiveVersion). v.published) (λ id vs. refl) old new rows form call clean in
+    (it.0, shown_pass is_moment (λ (v : LiveVersion). v.published) pair_number rows (entries (stored old).versions) it.1)
+
+abbrev spent_text : List ℕ
+spent_text = codes "SELECT package, version, published, withdrawn FROM spent ORDER BY package, version"
+
+abbrev spent_columns : List Term
+spent_columns = col 1 1 ∷ col 1 2 ∷ col 1 3 ∷ col 1 4 ∷ []
+
+spent_means : MeansQuery schema spent_text (select_where table.spent spent_columns [] (in_order 1 1) (codes "package" ∷ codes "version" ∷ codes "published" ∷ codes "withdrawn" ∷ []))
+unfolding understood everything
+spent_means = ((refl, (refl, refl)), refl)
+
+abbrev pair_fourth : Row → Pair × ℤ
+pair_fourth r = ((text_in (column r 0), text_in (column r 1)), fourth_number r)
+
+pub spent_pass : (old new : Shown) (rows : List Row) → Ready schema old → Queried spent_text [] old new rows → HasCleanDisk new
+    → Reads schema old new × ((list_all is_moment (map third_number rows) && list_all is_moment (map fourth_number rows))
+    ≡ (all_pass (λ v. is_moment v.published) (stored old).spent && all_pass (λ v. is_moment v.withdrawn) (stored old).spent))
+spent_pass old new rows form call clean =
+    let one = select_all spent_mapped spent_text spent_columns _ spent_means pair_number (λ (v : SpentVersion). v.published) (λ id vs. refl) old new rows form call clean in
+    let two = select_all spent_mapped spent_text spent_columns _ spent_means pair_fourth (λ (v : SpentVersion). v.withdrawn) (λ id vs. refl) old new rows form call clean in (
+      one.0,
+      ap₂ (λ a b. a && b) (shown_pass is_moment (λ (v : SpentVersion). v.published) pair_number rows (entries (stored old).spent) one.1)
+          (shown_pass is_moment (λ (v : SpentVersion). v.withdrawn) pair_fourth rows (entries (stored old).spent) two.1),
+    )
+
+-- ---- one query after another
+
+-- a query that tells of what is stored, after one that changed nothing
+pub then_found : {Y : Type 0} (a b c : Shown) (f : Contents → Y) (y : Y) → Reads schema a b → Reads schema b c × (y ≡ f (stored b)) → Reads schema a c × (y ≡ f (stored a))
+then_found a b c f y one two = (reads_then schema a b c one two.0, two.1 ∙ ap (λ (d : Database). f (contents d.trees)) one.same)

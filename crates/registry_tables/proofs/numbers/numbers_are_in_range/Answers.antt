@@ -1,0 +1,57 @@
+use Rattle.std.proofs.Common.{◌≡◌, ◌∙◌, ◌&&◌, Bool, arith, ap, ap₂, subst, sym}
+use Rattle.sqlite.specs.State.{State as Shown, HasCleanDisk}
+use Rattle.registry_rows.proofs.QuietFacts.{stays_then}
+use Rattle.registry_tables.specs.Contents.{Contents, contents}
+use Rattle.registry_tables.specs.Effects.{shown, stored_in}
+use Rattle.registry_tables.specs.Numbers.{is_level, is_moment, is_role, is_status}
+use Rattle.registry_tables.specs.Ranges.{TellsRanges, all_pass}
+use Rattle.registry_tables.proofs.RangeFacts.{tests_tell, then_found}
+use Rattle.registry_tables.proofs.numbers.numbers_are_in_range.Goals as goal
+
+pub returns-clause-loads : goal.returns-clause-loads
+returns-clause-loads g c clean =
+    let s0 : Shown = shown g.S.Store c.args.tx.now in
+    let s1 : Shown = shown g.S.Store c.find_roles.new.tx in
+    let s2 : Shown = shown g.S.Store c.find_statuses.new.tx in
+    let s3 : Shown = shown g.S.Store c.find_levels.new.tx in
+    let s4 : Shown = shown g.S.Store c.find_live.new.tx in
+    let s5 : Shown = shown g.S.Store c.find_spent.new.tx in
+    let w5 : HasCleanDisk s5 = clean in
+    let w4 : HasCleanDisk s4 = omega (arith, c.find_spent.ensures.stays.survives.clean, w5) in
+    let w3 : HasCleanDisk s3 = omega (arith, c.find_live.ensures.stays.survives.clean, w4) in
+    let w2 : HasCleanDisk s2 = omega (arith, c.find_levels.ensures.stays.survives.clean, w3) in
+    let w1 : HasCleanDisk s1 = omega (arith, c.find_statuses.ensures.stays.survives.clean, w2) in
+    let r1 = c.in_ok-roles.ensures.loads w1 in
+    let r2 = then_found s0 s1 s2 (λ x. all_pass is_status x.packages) c.in_ok-statuses.statuses r1.0 (c.in_ok-statuses.ensures.loads w2) in
+    let r3 = then_found s0 s2 s3 (λ x. all_pass is_level x.grants) c.in_ok-levels.levels r2.0 (c.in_ok-levels.ensures.loads w3) in
+    let r4 = then_found s0 s3 s4 (λ x. all_pass (λ v. is_moment v.published) x.versions) c.in_ok-live.live r3.0 (c.in_ok-live.ensures.loads w4) in
+    let r5 = then_found s0 s4 s5 (λ x. all_pass (λ v. is_moment v.published) x.spent && all_pass (λ v. is_moment v.withdrawn) x.spent) c.in_ok-spent.spent r4.0 (c.in_ok-spent.ensures.loads w5) in
+    let is = c.are_all.ensures ∙ ap₂ (λ a b. a && b) r1.1 (ap₂ (λ a b. a && b) r2.1 (ap₂ (λ a b. a && b) r3.1 (ap₂ (λ a b. a && b) r4.1 r5.1))) in
+    (r5.0, subst (λ (fine : Bool). TellsRanges fine (stored_in g.S.Store c.args.tx.now)) (sym is) (tests_tell (stored_in g.S.Store c.args.tx.now)))
+
+pub find_statuses-requires : goal.find_statuses-requires
+find_statuses-requires g c = record { in_form = λ clean up. (c.in_ok-roles.ensures.loads clean).0.ready }
+
+pub find_levels-requires : goal.find_levels-requires
+find_levels-requires g c = record { in_form = λ clean up. (c.in_ok-statuses.ensures.loads clean).0.ready }
+
+pub find_live-requires : goal.find_live-requires
+find_live-requires g c = record { in_form = λ clean up. (c.in_ok-levels.ensures.loads clean).0.ready }
+
+pub find_spent-requires : goal.find_spent-requires
+find_spent-requires g c = record { in_form = λ clean up. (c.in_ok-live.ensures.loads clean).0.ready }
+
+pub returns-in_err-statuses-clause-stays : goal.returns-in_err-statuses-clause-stays
+returns-in_err-statuses-clause-stays g c = stays_then g.S.Store c.args.tx.now c.find_roles.new.tx c.find_statuses.new.tx c.find_roles.ensures.stays c.find_statuses.ensures.stays
+
+pub returns-in_err-levels-clause-stays : goal.returns-in_err-levels-clause-stays
+returns-in_err-levels-clause-stays g c = stays_then g.S.Store c.args.tx.now c.find_statuses.new.tx c.find_levels.new.tx (stays_then g.S.Store c.args.tx.now c.find_roles.new.tx c.find_statuses.new.tx c.find_roles.ensures.stays c.find_statuses.ensures.stays) c.find_levels.ensures.stays
+
+pub returns-in_err-live-clause-stays : goal.returns-in_err-live-clause-stays
+returns-in_err-live-clause-stays g c = stays_then g.S.Store c.args.tx.now c.find_levels.new.tx c.find_live.new.tx (stays_then g.S.Store c.args.tx.now c.find_statuses.new.tx c.find_levels.new.tx (stays_then g.S.Store c.args.tx.now c.find_roles.new.tx c.find_statuses.new.tx c.find_roles.ensures.stays c.find_statuses.ensures.stays) c.find_levels.ensures.stays) c.find_live.ensures.stays
+
+pub returns-in_err-spent-clause-stays : goal.returns-in_err-spent-clause-stays
+returns-in_err-spent-clause-stays g c = stays_then g.S.Store c.args.tx.now c.find_live.new.tx c.find_spent.new.tx (stays_then g.S.Store c.args.tx.now c.find_levels.new.tx c.find_live.new.tx (stays_then g.S.Store c.args.tx.now c.find_statuses.new.tx c.find_levels.new.tx (stays_then g.S.Store c.args.tx.now c.find_roles.new.tx c.find_statuses.new.tx c.find_roles.ensures.stays c.find_statuses.ensures.stays) c.find_levels.ensures.stays) c.find_live.ensures.stays) c.find_spent.ensures.stays
+
+pub returns-clause-stays : goal.returns-clause-stays
+returns-clause-stays g c = stays_then g.S.Store c.args.tx.now c.find_live.new.tx c.find_spent.new.tx (stays_then g.S.Store c.args.tx.now c.find_levels.new.tx c.find_live.new.tx (stays_then g.S.Store c.args.tx.now c.find_statuses.new.tx c.find_levels.new.tx (stays_then g.S.Store c.args.tx.now c.find_roles.new.tx c.find_statuses.new.tx c.find_roles.ensures.stays c.find_statuses.ensures.stays) c.find_levels.ensures.stays) c.find_live.ensures.stays) c.find_spent.ensures.stays
