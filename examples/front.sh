@@ -305,7 +305,7 @@ try 'and a package without a scope, of an address with a port' moves older http:
 try 'and one whose address has an escaped slash' moves @lab/escaped http://old.example/@lab%2fescaped/-/escaped-1.0.0.tgz
 
 no_archive() { [ "$(status_of "$address/-/from/old.example/-/org/lab")" = 404 ] && [ "$(status_of -X PUT "$address/-/from/a/kit/-/kit-1.0.0.tgz")" = 404 ]; }
-try 'behind /-/from/ there are archives alone' no_archive
+try 'after /-/from/ there are archives alone' no_archive
 
 # ---- what else npm does
 

@@ -223,7 +223,7 @@ static void note_lengths(void)
     for (int i = 3; i < FILES; i++) lengths[i] = !fstat(i, &file) && S_ISREG(file.st_mode) ? (long)file.st_size : -1;
 }
 
-/* Takes away what an earlier copy has put behind the files. */
+/* Takes away what an earlier copy has put after the files. */
 static void cut_files(void)
 {
     struct stat file;

@@ -89,12 +89,13 @@ class Call:
 
 def clauses_below(lines, at, indent):
     """The names of the clauses of the function whose first line this is."""
-    found = []
+    found, depth = [], 0
     for line in lines[at:]:
+        depth += line.count('{') - line.count('}')
         begun = re.match(rf'{indent}    (ensures|requires)\*? ?(\w*)', line)
         if begun and begun[1] == 'ensures':
             found.append(begun[2])
-        if line.startswith((f'{indent}{{', f'{indent}}}')) or line.endswith(';'):
+        if line.startswith((f'{indent}{{', f'{indent}}}')) or line.endswith(';') and depth <= 0:
             break
         if line.endswith(' {') and not begun and not found:
             break
