@@ -172,17 +172,18 @@ module _ {S : Type 0} (received sent : S → Option (List ℕ)) {D : Type 0} (an
 
   -- ---- which turns they are
 
-  none-taken : (M N : Beside D) (P : D) (new : OpenGuest S) (answered : Option Output) → GuestsLead answers M N → P ≡ N.service
+  none-taken : (M N : Beside D) (P : D) (new : OpenGuest S) (answered : Option Output) (r r2 : Option (List ℕ)) → GuestsLead answers M N → P ≡ N.service → r2 ≡ r
       → ShowsGuest received sent answers answered new ⊎ ((answered ≡ None) × (output : Output) × (prints output ≡ on_memory) × ShowsGuest received sent answers (Some output) new)
-      → TakesNone received sent answers answered new M N P
-  none-taken M N P new answered lead same answer = record { service = same; answer = answer; lead = lead-same answers M N P lead same }
+      → TakesNone received sent answers answered new M N P r r2
+  none-taken M N P new answered r r2 lead same unasked answer = record { service = same; unasked = unasked; answer = answer; lead = lead-same answers M N P lead same }
 
   one-taken : (M N : Beside D) (P : D) (old new : OpenGuest S) (output : Output) (r r2 : Option (List ℕ)) → GuestsLead answers M N → ShowsGuest received sent answers (Some output) new
-      → guests.TakesTurn answers old.held output N.service P r r2 → TakesOne received sent answers old new M N P
+      → guests.TakesTurn answers old.held output N.service P r r2 → TakesOne received sent answers old new M N P r r2
   one-taken M N P old new output r r2 lead shows t = record {
     turn = record { arguments = t.0; body = t.1; at = t.2; output = output };
     words = t.3;
     message = t.4;
+    asked = t.6;
     answer = shows;
     lead = go-on answers M N P (record { arguments = t.0; body = t.1; at = t.2; output = output }) lead t.5;
   }
@@ -190,10 +191,10 @@ module _ {S : Type 0} (received sent : S → Option (List ℕ)) {D : Type 0} (an
   pub guests-follow : GuestsFollow received sent answers has_none
   guests-follow M N P most old new r r2 answered lead s v =
       elim (answers-once most old new N.service P r r2 answered s v) [
-        | inl (shows, same, unasked) ↦ inr (none-taken M N P new answered lead same (inl shows))
+        | inl (shows, same, unasked) ↦ inr (none-taken M N P new answered r r2 lead same unasked (inl shows))
         | inr (none, output, shows, why) ↦
             elim why [
               | inl all ↦ inl (none, one-taken M N P old new output r r2 lead shows all.turn)
-              | inr starves ↦ inr (none-taken M N P new answered lead starves.1 (inr (none, output, starves.0, shows)))
+              | inr starves ↦ inr (none-taken M N P new answered r r2 lead starves.1 starves.2 (inr (none, output, starves.0, shows)))
             ]
       ]

@@ -1,6 +1,7 @@
 -- Connections beside guests, which take turns with the same service.
 use Rattle.std.specs.Prelude.{◌≡◌, ◌⊎◌, ◌++◌, ◌∷◌, ℕ, Bool, true, List, [], Option, Some, None, IfSome}
 use Rattle.clap.specs.Walk.{Text}
+use Rattle.registry_service.specs.Courses.{Gave}
 use Rattle.registry_service.specs.Histories.{IsOneHistory, Reached, World}
 use Rattle.registry_service.specs.Turns.{Answering}
 use Rattle.registry_server.specs.Connections.{OpenConnection}
@@ -83,18 +84,21 @@ module _ {S : Type 0} (received sent : S → Option (List ℕ)) {D : Type 0} (an
       ⊎ ((answered ≡ None) × (output : Output) × ShowsGuest (Some output) new
       × (AnswersAll has_none old.held new output M N readings readings2 ⊎ Starves answers output M N readings readings2))
 
-  -- The turn of a guest is taken for everything that is held of it, and its answer begins. This
-  -- turn is the newest of the guests' turns.
-  pub record TakesOne (old new : OpenGuest S) (M N : Beside D) (P : D) : Type 0 where
+  -- The turn of a guest is taken for everything that is held of it, at the moment that the clock
+  -- gives, and its answer begins. This turn is the newest of the guests' turns.
+  pub record TakesOne (old new : OpenGuest S) (M N : Beside D) (P : D) (readings readings2 : Option (List ℕ)) : Type 0 where
     pub turn : GuestTurn
     pub words : AreWords turn.arguments
     pub message : old.held ≡ spelling turn.arguments turn.body
+    pub asked : Gave readings readings2 (turn.at ∷ [])
     pub answer : ShowsGuest (Some turn.output) new
     pub lead : GuestsLead answers M (beside P (turn ∷ N.turns))
 
-  -- No guest's turn is taken: no answer begins, or it says that there is no memory.
-  pub record TakesNone (answered : Option Output) (new : OpenGuest S) (M N : Beside D) (P : D) : Type 0 where
+  -- No guest's turn is taken, and the clock isn't read: no answer begins, or it says that there is
+  -- no memory.
+  pub record TakesNone (answered : Option Output) (new : OpenGuest S) (M N : Beside D) (P : D) (readings readings2 : Option (List ℕ)) : Type 0 where
     pub service : P ≡ N.service
+    pub unasked : readings2 ≡ readings
     pub answer : ShowsGuest answered new ⊎ ((answered ≡ None) × (output : Output) × (prints output ≡ on_memory) × ShowsGuest (Some output) new)
     pub lead : GuestsLead answers M (beside P N.turns)
 
@@ -103,4 +107,4 @@ module _ {S : Type 0} (received sent : S → Option (List ℕ)) {D : Type 0} (an
   abbrev pub GuestsFollow : (S → Bool) → Type 0
   GuestsFollow has_none = (M N : Beside D) (P : D) (most : ℕ) (old new : OpenGuest S) (readings readings2 : Option (List ℕ)) (answered : Option Output)
       → GuestsLead answers M N → ShowsGuest answered old → guests.Visits received sent has_none answers most old new N.service P readings readings2
-      → ((answered ≡ None) × TakesOne old new M N P) ⊎ TakesNone answered new M N P
+      → ((answered ≡ None) × TakesOne old new M N P readings readings2) ⊎ TakesNone answered new M N P readings readings2

@@ -30,7 +30,8 @@ pub fn guests_hold_little<S: Socket, D: Service>()
 /// reached; and in it there is one list of turns such that the service is what they leave, each
 /// taken at what all older ones and the guests' turns before it left. The turns of guests are kept
 /// beside the service, and are those that guests are answered by: a visit of a guest adds the turn
-/// that is taken in it, if one is, and nothing else adds a turn.
+/// that is taken in it, if one is, at the moment that the clock gives in it, and nothing else adds a
+/// turn.
 pub fn guests_share_one_history<S: Socket, D: Service>()
     ensures guests { GuestsGoOn D.answers }
     ensures answered { GuestsFollow S.received S.sent D.answers S.has_none }

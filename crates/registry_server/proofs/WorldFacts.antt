@@ -4,11 +4,11 @@ use Rattle.std.proofs.lemmas.Bool.Decides.{nat_tests}
 use Rattle.std.proofs.lemmas.List.{take-append-drop}
 use Rattle.registry_wire.specs.Reading.{TakenOf}
 use Rattle.registry_service.specs.Courses.{count_of, taken_for}
-use Rattle.registry_service.specs.Histories.{Transcript, Reached, World, at_end, comes, is_last, on_connection, sends, shuts, turned_on, turns, turns_of, with_bytes, with_sent, with_turn}
+use Rattle.registry_service.specs.Histories.{LogEntry, Transcript, Reached, World, at_end, comes, is_last, on_connection, sends, shuts, turned_on, turns, turns_of, with_bytes, with_sent, with_turn}
 use Rattle.registry_service.specs.Turns.{Answering, Cause, IsTurn, IsTurnFor, Turn, bad_input, is_request, no_memory, request, response_of}
 use Rattle.registry_service.proofs.CourseFacts.{bytes-same, on-not_last, on-request}
 use Rattle.registry_server.specs.ConnectionStates.{Pending, TakesTurn, holding, sending}
-use Rattle.registry_server.specs.Worlds.{Begins, Comes, Lasts, LeadsTo, MayHave, Sends, Shuts, StateShows, TakesTurns}
+use Rattle.registry_server.specs.Worlds.{AddsNone, AddsOne, Begins, Comes, Lasts, LeadsTo, MayHave, Sends, Shuts, StateShows, TakesTurns}
 
 -- ---- one connection of a world
 
@@ -104,22 +104,25 @@ pub same-after : {D : Type 0} (u v w : World D) (j : ℕ) → IsSame u v j → I
 same-after u v w j first second = record { transcript = second.transcript ∙ first.transcript; turned = second.turned ∙ first.turned }
 
 module _ {D : Type 0} (answers : Answering D) where
-  -- From a world another is reached, at this service, in which this state shows this connection, on
-  -- which so much came and was sent. Each other one is what it was.
-  pub record Goes (M : D) (w : World D) (k : ℕ) (over : Bool) (p : Pending) (came sent : List ℕ) (N : D) : Type 0 where
+  -- From a world another is reached, at this service and with these turns, in which this state shows
+  -- this connection, on which so much came and was sent. Each other one is what it was.
+  pub record Goes (M : D) (w : World D) (k : ℕ) (over : Bool) (p : Pending) (came sent : List ℕ) (log : List LogEntry) (N : D) : Type 0 where
     pub world : World D
     pub reached : Reached answers M world
     pub service : world.service ≡ N
     pub stands : StateShows world k over p
     pub came_so_far : (world.transcripts k).came ≡ came
     pub sent_so_far : (world.transcripts k).sent ≡ sent
+    pub log_so_far : world.log ≡ log
     pub others : (j : ℕ) → (j == k) ≡ false → IsSame w world j
 
-  pub going-leads : (M : D) (w : World D) (k : ℕ) (over : Bool) (p : Pending) (came sent : List ℕ) (N : D) → Goes M w k over p came sent N → LeadsTo answers M w k over p N
-  going-leads M w k over p came sent N g = record {
+  pub going-leads : (Adds : List LogEntry → List LogEntry → Type 0) (M : D) (w : World D) (k : ℕ) (over : Bool) (p : Pending) (came sent : List ℕ) (log : List LogEntry) (N : D) → Adds w.log log → Goes M w k over p came sent log N
+      → LeadsTo answers Adds M w k over p N
+  going-leads Adds M w k over p came sent log N adds g = record {
     world = g.world;
     reached = g.reached;
     service = g.service;
+    log = subst (λ (l : List LogEntry). Adds w.log l) (sym g.log_so_far) adds;
     stands = g.stands;
     others = λ j o q e s. stands-still w g.world j o q (g.others j e).transcript (g.others j e).turned s;
   }
@@ -127,7 +130,7 @@ module _ {D : Type 0} (answers : Answering D) where
   -- a change of one connection alone
   goes-on : (M : D) (w : World D) (k : ℕ) (over : Bool) (q : Pending) (change : Transcript → Transcript) → Reached answers M (on_connection w k change)
       → (change (w.transcripts k)).rest ≡ q.held → (change (w.transcripts k)).shut ≡ over → (change (w.transcripts k)).out ≡ (change (w.transcripts k)).sent ++ q.outgoing
-      → (q.ends ≡ None → MayHave (turns_of k w.log) q.left) → Goes M w k over q (change (w.transcripts k)).came (change (w.transcripts k)).sent w.service
+      → (q.ends ≡ None → MayHave (turns_of k w.log) q.left) → Goes M w k over q (change (w.transcripts k)).came (change (w.transcripts k)).sent w.log w.service
   goes-on M w k over q change reached held shut outgoing may =
       let changed = pick-first (k == k) (change (w.transcripts k)) (w.transcripts k) (at-same k) in
       record {
@@ -137,6 +140,7 @@ module _ {D : Type 0} (answers : Answering D) where
         stands = stands-with (on_connection w k change) k over q (change (w.transcripts k)) (turns_of k w.log) changed refl held shut outgoing may;
         came_so_far = ap (λ (l : Transcript). l.came) changed;
         sent_so_far = ap (λ (l : Transcript). l.sent) changed;
+        log_so_far = refl;
         others = λ j e. record { transcript = pick-second (j == k) (change (w.transcripts j)) (w.transcripts j) e; turned = refl };
       }
 
@@ -149,22 +153,22 @@ module _ {D : Type 0} (answers : Answering D) where
   }
 
   pub goes-by-comes : (M : D) (w : World D) (k : ℕ) (p : Pending) (bytes : List ℕ) → Reached answers M w → StateShows w k false p
-      → Goes M w k false (holding p (p.held ++ bytes)) ((w.transcripts k).came ++ bytes) (w.transcripts k).sent w.service
+      → Goes M w k false (holding p (p.held ++ bytes)) ((w.transcripts k).came ++ bytes) (w.transcripts k).sent w.log w.service
   goes-by-comes M w k p bytes r s = goes-on M w k false (holding p (p.held ++ bytes)) (with_bytes bytes) (comes w r k bytes s.shut)
       (ap (λ (l : List ℕ). l ++ bytes) s.held) s.shut s.outgoing s.may_have
 
   pub state-comes : Comes answers
-  state-comes M w k p bytes r s = going-leads M w k false (holding p (p.held ++ bytes)) _ _ w.service (goes-by-comes M w k p bytes r s)
+  state-comes M w k p bytes r s = going-leads AddsNone M w k false (holding p (p.held ++ bytes)) _ _ w.log w.service refl (goes-by-comes M w k p bytes r s)
 
   pub goes-by-shuts : (M : D) (w : World D) (k : ℕ) (over : Bool) (p : Pending) → Reached answers M w → StateShows w k over p
-      → Goes M w k true p (w.transcripts k).came (w.transcripts k).sent w.service
+      → Goes M w k true p (w.transcripts k).came (w.transcripts k).sent w.log w.service
   goes-by-shuts M w k over p r s = goes-on M w k true p at_end (shuts w r k) s.held refl s.outgoing s.may_have
 
   pub state-shuts : Shuts answers
-  state-shuts M w k over p r s = going-leads M w k true p _ _ w.service (goes-by-shuts M w k over p r s)
+  state-shuts M w k over p r s = going-leads AddsNone M w k true p _ _ w.log w.service refl (goes-by-shuts M w k over p r s)
 
   pub goes-by-sends : (M : D) (w : World D) (k : ℕ) (over : Bool) (p : Pending) (put rest : List ℕ) → Reached answers M w → StateShows w k over p → p.outgoing ≡ put ++ rest
-      → Goes M w k over (sending p rest) (w.transcripts k).came ((w.transcripts k).sent ++ put) w.service
+      → Goes M w k over (sending p rest) (w.transcripts k).came ((w.transcripts k).sent ++ put) w.log w.service
   goes-by-sends M w k over p put rest r s is =
       let l = w.transcripts k in
       let split : l.out ≡ (l.sent ++ put) ++ rest = s.outgoing ∙ ap (λ (u : List ℕ). l.sent ++ u) is ∙ sym (append_assoc l.sent put rest) in
@@ -172,11 +176,12 @@ module _ {D : Type 0} (answers : Answering D) where
 
   pub state-sends : Sends answers
   state-sends M w k over p count r s =
-      going-leads M w k over (sending p (drop count p.outgoing)) _ _ w.service
+      going-leads AddsNone M w k over (sending p (drop count p.outgoing)) _ _ w.log w.service refl
       (goes-by-sends M w k over p (take count p.outgoing) (drop count p.outgoing) r s (sym (take-append-drop count p.outgoing)))
 
   pub goes-by-turns : (M : D) (w : World D) (k : ℕ) (over : Bool) (p q : Pending) (N : D) (readings readings2 : Option (List ℕ)) → Reached answers M w → StateShows w k over p → p.ends ≡ None → p.outgoing ≡ []
-      → TakesTurn answers p q w.service N readings readings2 over → Goes M w k over q (w.transcripts k).came (w.transcripts k).sent N
+      → TakesTurn answers p q w.service N readings readings2 over
+      → (log : List LogEntry) × AddsOne k readings readings2 w.log log × Goes M w k over q (w.transcripts k).came (w.transcripts k).sent log N
   goes-by-turns M w k over p q N readings readings2 r s going none t =
       let l = w.transcripts k in
       let ts = turns_of k w.log in
@@ -199,19 +204,25 @@ module _ {D : Type 0} (answers : Answering D) where
       let last = on-not_last answers t.cause w.service (p.left == 1) t.turns.outcome t.turned.end N t.turns.is_turn ended in
       may-more ts turn p.left q.left may ended last (t.left ∙ ap (λ (n : ℕ). p.left - n) one) in
       let changed = pick-first (k == k) (with_turn turn q.held l) l (at-same k) in
-      record {
-        world = v;
-        reached = turns w r k stops turn q.held N may.go_on took is_turn;
-        service = refl;
-        stands = stands-with v k over q (with_turn turn q.held l) (turn ∷ ts) changed (pick-first (k == k) (turn ∷ ts) ts (at-same k)) refl s.shut outgoing later;
-        came_so_far = ap (λ (m : Transcript). m.came) changed;
-        sent_so_far = ap (λ (m : Transcript). m.sent) changed;
-        others = λ j e. record {
-          transcript = pick-second (j == k) (with_turn turn q.held (w.transcripts j)) (w.transcripts j) e;
-          turned = pick-second (j == k) (turn ∷ turns_of j w.log) (turns_of j w.log) e;
-        };
-      }
+      let log = record { from = k; stops = stops; turn = turn } ∷ w.log in (
+        log,
+        record { stops = stops; turn = turn; log = refl; asked = t.asked },
+        record {
+          world = v;
+          reached = turns w r k stops turn q.held N may.go_on took is_turn;
+          service = refl;
+          stands = stands-with v k over q (with_turn turn q.held l) (turn ∷ ts) changed (pick-first (k == k) (turn ∷ ts) ts (at-same k)) refl s.shut outgoing later;
+          came_so_far = ap (λ (m : Transcript). m.came) changed;
+          sent_so_far = ap (λ (m : Transcript). m.sent) changed;
+          log_so_far = refl;
+          others = λ j e. record {
+            transcript = pick-second (j == k) (with_turn turn q.held (w.transcripts j)) (w.transcripts j) e;
+            turned = pick-second (j == k) (turn ∷ turns_of j w.log) (turns_of j w.log) e;
+          };
+        },
+      )
 
   pub state-turns : TakesTurns answers
   state-turns M w k over p q N readings readings2 r s going none t =
-      going-leads M w k over q _ _ N (goes-by-turns M w k over p q N readings readings2 r s going none t)
+      let it = goes-by-turns M w k over p q N readings readings2 r s going none t in
+      going-leads (AddsOne k readings readings2) M w k over q _ _ it.0 N it.1 it.2

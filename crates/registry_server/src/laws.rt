@@ -11,6 +11,8 @@ use registry_service::Service;
 /// also where its next request is the last because the server is to end (`lasts`): what calls make
 /// of it, on any connection and in any order, happens among the connections that `one_history` of
 /// `registry_service` speaks of. So there is one list of turns, and the service is what they leave.
+/// A turn that is taken is added to it (`turns`), and its request is asked at the moment that the
+/// clock gives. Nothing else adds a turn.
 pub fn connections_make_one_history<D: Service>()
     ensures begins { Begins D.answers }
     ensures comes { Comes D.answers }
@@ -25,7 +27,8 @@ pub fn connections_make_one_history<D: Service>()
 /// everything that was received from the socket came on it, in this order, and more only after it
 /// has ended; and what the socket took to send is what was sent on it. So no byte of a connection
 /// is of another connection's socket, no byte is lost, and no byte is there twice. It stays that
-/// connection where its next request is its last (`finishes`).
+/// connection where its next request is its last (`finishes`). A visit adds the turn that is taken
+/// in it, if one is, at the moment that the clock gives in that visit.
 pub fn visits_make_one_history<S: Socket, D: Service>()
     ensures visits { VisitsLead S.received S.sent D.answers }
     ensures finishes { Finishes D S.received S.sent }

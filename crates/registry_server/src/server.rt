@@ -4,7 +4,7 @@ ghost use Rattle.std.specs.Prelude.{◌≡◌, ◌≤◌, ◌||◌, ◌⊎◌, A
 ghost use Rattle.mio.specs.declared.net.stream.TcpStream.{TcpStream};
 ghost use Rattle.registry_server.specs.Listening.{lets_in};
 ghost use Rattle.registry_server.specs.Pools as spec;
-ghost use Rattle.registry_server.specs.Pools.{AreWoken, IsUnderWay, MayHaveOne, at_place, new_at};
+ghost use Rattle.registry_server.specs.Pools.{AreWoken, IsPlaceFor, IsUnderWay, MayHaveOne, at_place, new_at};
 
 use crate::clocks::{Timer, WallClock};
 use crate::guests::{FIRST_GUEST, GUEST_TOKENS, Guests, NoGuests};
@@ -283,15 +283,11 @@ impl Server {
         Ok(())
     }
 
-    // Lets in those who are there. Where every place is taken, it first looks on which connections
-    // something has come, so that none of these ends for a new one.
+    // Lets in those who are there, and leaves the system a descriptor.
     fn let_in<G: Guests>(&mut self, alloc: Global, now: u64, guests: &mut G) -> io::Result<()>
         ensures shut { lets_in self.old.listener.left ≡ false → self.new.listener ≡ self.old.listener }
     {
         if self.listener.is_asked() {
-            if self.pool.is_full() {
-                self.look(0, guests)?;
-            }
             self.admit(alloc, now, guests)?;
             self.leave_descriptor(guests)?;
         }
@@ -316,7 +312,7 @@ impl Server {
             if !self.listener.is_asked() {
                 return Ok(());
             }
-            let Some(place) = self.pool.place() else {
+            let Some(place) = self.place(guests)? else {
                 return Ok(());
             };
             match self.listener.admit() {
@@ -334,6 +330,20 @@ impl Server {
             }
         }
         Ok(())
+    }
+
+    // The place for a new connection, if there is one. Where every place is taken, it first looks on
+    // which connections something has come, so that none of these ends for the new one.
+    fn place<G: Guests>(&mut self, guests: &mut G) -> io::Result<Option<usize>>
+        ensures place { IfOk result (λ place. IsPlaceFor self.new.pool.places.items place) }
+        ensures keeps { AreWoken self.old.pool.places.items self.new.pool.places.items }
+        ensures left { self.new.listener.left ≡ self.old.listener.left }
+    {
+        if !self.pool.is_full() {
+            return Ok(self.pool.place());
+        }
+        self.look(0, guests)?;
+        Ok(self.pool.place())
     }
 
     // Ends the connection on which nothing has been begun for longest, and says whether there is

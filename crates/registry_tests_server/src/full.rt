@@ -13,16 +13,14 @@ use std::io;
 use std::net::{Shutdown, TcpStream};
 use std::test::Fail;
 
-/// So many clients have asked and have gone before the server saw them. They take all places but two,
-/// and no descriptor here: a process may often have 1,024, so it can't have both ends of each.
-const GONE: usize = CONNECTION_COUNT - 2;
-
 /// A service that does whatever it is asked. When it is asked first, a client asks that was idle until
 /// then; and once those who have gone are answered, the other idle client ends.
 #[derive(Drop)]
 struct Waking<'a> {
     rt: &'a HostRuntime,
     asked: usize,
+    // How many clients have gone that have asked.
+    gone: usize,
     asks: &'a TcpStream,
     idle: &'a TcpStream,
 }
@@ -35,7 +33,7 @@ impl Waking<'_> {
             wait(self.rt);
         }
         // It fails where the connection has ended, as it should have.
-        if self.asked > GONE {
+        if self.asked > self.gone {
             let _ = self.idle.shutdown(Shutdown::Write);
         }
         Ok(())
@@ -68,29 +66,55 @@ fn ask(rt: &HostRuntime, server: &Server) -> Result<TcpStream, Fail> {
     Ok(client)
 }
 
-// Each client comes in the order in which it connects. The server has looked at the first two, on which
-// nothing had come, when it comes to those who have gone.
-#[test]
-fn an_idle_connection_ends_for_a_newcomer(rt: HostRuntime) -> Result<(), Fail> {
-    let count = CONNECTION_COUNT as u64 + 1;
-    let server = Server::bind(&rt, rt.alloc(), 0, count)?;
-    let asks = client(&rt, &server)?;
-    let idle = client(&rt, &server)?;
-    for _ in 0..GONE {
-        drop(ask(&rt, &server)?);
+// Clients come in the order in which they connect: two that are idle, `left` that leave at once, as
+// many that have asked and have gone as take all other places, and then newcomers, one more than have
+// left. The server has looked at the first two, on which nothing had come, when it comes to those who
+// have gone. These take no descriptor here: a process may often have 1,024, so it can't have both ends
+// of each connection.
+fn newcomers_come(rt: &HostRuntime, left: usize) -> Result<(), Fail> {
+    let gone = CONNECTION_COUNT - 2 - left;
+    let count = CONNECTION_COUNT + left + 1;
+    let server = Server::bind(rt, rt.alloc(), 0, count as u64)?;
+    let asks = client(rt, &server)?;
+    let idle = client(rt, &server)?;
+    for _ in 0..left {
+        drop(client(rt, &server)?);
     }
-    let newcomer = ask(&rt, &server)?;
-    wait(&rt);
+    for _ in 0..gone {
+        drop(ask(rt, &server)?);
+    }
+    let mut newcomers = Vec::new(rt.alloc());
+    for _ in 0..left + 1 {
+        newcomers.push(ask(rt, &server)?)?;
+    }
+    wait(rt);
     let mut service = Waking {
-        rt: &rt,
+        rt,
         asked: 0,
+        gone,
         asks: &asks,
         idle: &idle,
     };
-    let ended = server.run(&rt, rt.alloc(), Moment::clamped(0), &mut service)?;
+    let ended = server.run(rt, rt.alloc(), Moment::clamped(0), &mut service)?;
     same("it ended", ended, Ended::Enough)?;
     same("asked", service.asked, CONNECTION_COUNT)?;
-    same("who has asked", heard(&rt, &asks)?.as_str(), ANSWER)?;
-    same("who is idle", heard(&rt, &idle)?.as_str(), "")?;
-    same("the newcomer", heard(&rt, &newcomer)?.as_str(), ANSWER)
+    same("who has asked", heard(rt, &asks)?.as_str(), ANSWER)?;
+    same("who is idle", heard(rt, &idle)?.as_str(), "")?;
+    for newcomer in &newcomers {
+        same("a newcomer", heard(rt, newcomer)?.as_str(), ANSWER)?;
+    }
+    Ok(())
+}
+
+// Every place is taken when the newcomer is let in.
+#[test]
+fn an_idle_connection_ends_for_a_newcomer(rt: HostRuntime) -> Result<(), Fail> {
+    newcomers_come(&rt, 0)
+}
+
+// One place is free when both newcomers are let in: the first takes it, and so every place is taken
+// when the second is.
+#[test]
+fn an_idle_connection_ends_for_the_second_newcomer(rt: HostRuntime) -> Result<(), Fail> {
+    newcomers_come(&rt, 1)
 }
