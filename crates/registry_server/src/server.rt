@@ -239,6 +239,7 @@ impl Server {
         }
         self.pool.visit_all(alloc, service, clock, buffer, now);
         guests.visit(alloc, service, clock, buffer, self.poll.registry(), now);
+        service.look_up(alloc);
         service.rest();
         if service.is_over() {
             return Ok(false);

@@ -1,5 +1,5 @@
 -- What turns take of all the bytes of a connection.
-use Rattle.std.proofs.Common.{◌≡◌, ◌⊎◌, ◌++◌, ◌∷◌, ◌∙◌, [], ℕ, List, sym, ap, subst, inl, inr, append_assoc, append-nil}
+use Rattle.std.proofs.Common.{◌≡◌, ◌⊎◌, ◌++◌, ◌∷◌, ◌∙◌, [], ℕ, Bool, List, Option, refl, sym, ap, subst, inl, inr, append_assoc, append-nil}
 use Rattle.registry_names.specs.declared.refusal.Refusal.{Refusal}
 use Rattle.registry_wire.specs.Reading.{TakenOf}
 use Rattle.registry_wire.specs.Spelling.{EndsWith, IsBad, Spells}
@@ -8,8 +8,10 @@ use Rattle.registry_wire.specs.declared.first.Ending.TheVariants as ending
 use Rattle.registry_wire.specs.declared.wanted.Wanted.{Wanted}
 use Rattle.registry_wire.proofs.RequestFacts.{request-more, bad-more}
 use Rattle.registry_service.specs.Courses.{AtEndOf, Took, taken_for}
-use Rattle.registry_service.specs.Laws.{TakenOfAll, TurnsAreSpelled, wanted_by, wanted_of}
-use Rattle.registry_service.specs.Turns.{Answering, Cause, Turn, bad_input, no_memory, request}
+use Rattle.registry_service.specs.HttpAnswers.{Outcome}
+use Rattle.registry_service.specs.Laws.{LookUpsAreUnseen, TakenOfAll, TurnsAreSpelled, wanted_by, wanted_of}
+use Rattle.registry_service.specs.Turns.{Answering, AnswersAsBefore, Cause, IsAnswered, IsTurnFor, Serves, Turn, bad_input, no_memory, request}
+use Rattle.registry_service.specs.declared.turning.End.{End}
 use Rattle.registry_service.proofs.CourseFacts.{took-more}
 
 -- ---- spelled
@@ -53,3 +55,25 @@ taken-of_all answers old new ts left left2 c told told2 loud =
     let whole : left ≡ c.got ++ left2 = rw (told, told2) at gave in
     subst (λ (bytes : List ℕ). Took bytes ts (new.held ++ left2) (left2 ≡ [])) (append_assoc old.held c.got left2 ∙ ap (λ (l : List ℕ). old.held ++ l) (sym whole))
     (took-end (old.held ++ c.got) left2 ts new.held (AtEndOf new) (λ last. let end = last loud in rw told2 at end) c.took)
+
+-- ---- after a look-up
+
+module _ {D : Type 0} (answers : Answering D) (M K : D) (before : AnswersAsBefore answers M K) where
+  -- what is left where nothing was asked
+  unasked : (N : D) → N ≡ K → AnswersAsBefore answers M N
+  unasked N same = subst (λ (left : D). AnswersAsBefore answers M left) (sym same) before
+
+  answered-unseen : (w : Wanted) (at : ℕ) (o : Outcome) (N : D) → IsAnswered answers K w at o N → (left : D) × IsAnswered answers M w at o left × AnswersAsBefore answers left N
+  answered-unseen w at o N (inl asked) = (N, inl (asked.0, asked.1, before asked.0 o N asked.2), λ r p left a. a)
+  answered-unseen w at o N (inr stopped) = (M, inr (stopped.0, stopped.1, stopped.2, refl), unasked N stopped.3)
+
+  turn-unseen : (c : Cause) (last : Bool) (o : Outcome) (ended : Option End) (N : D) → IsTurnFor answers c K last o ended N
+      → (left : D) × IsTurnFor answers c M last o ended left × AnswersAsBefore answers left N
+  turn-unseen (request w at) last o ended N serves =
+      let it = answered-unseen w at o N serves.answered in
+      (it.0, record { answered = it.1; ends = serves.ends }, it.2)
+  turn-unseen (bad_input r) last o ended N away = (M, (away.0, refl), unasked N away.1)
+  turn-unseen no_memory last o ended N away = (M, (away.0, refl), unasked N away.1)
+
+pub look-up-unseen : {D : Type 0} (answers : Answering D) → LookUpsAreUnseen answers
+look-up-unseen answers M K N last t before turn = turn-unseen answers M K before t.cause last t.outcome t.ended N turn

@@ -1,10 +1,10 @@
 -- What holds of every connection: the laws that the functions of `src/laws.rt` ensure.
-use Rattle.std.specs.Prelude.{◌≡◌, ◌++◌, ◌∷◌, [], ℕ, false, List, Some}
+use Rattle.std.specs.Prelude.{◌≡◌, ◌++◌, ◌∷◌, [], ℕ, Bool, false, List, Some}
 use Rattle.registry_wire.specs.Spelling.{Spells}
 use Rattle.registry_wire.specs.declared.first.Ending.{Ending}
 use Rattle.registry_wire.specs.declared.wanted.Wanted.{Wanted}
 use Rattle.registry_service.specs.Courses.{Course, Side, Took}
-use Rattle.registry_service.specs.Turns.{Answering, Cause, Turn, bad_input, no_memory, request}
+use Rattle.registry_service.specs.Turns.{Answering, AnswersAsBefore, Cause, IsTurn, Turn, bad_input, no_memory, request}
 
 abbrev pub wanted_by : Cause → List Wanted
 wanted_by (request w at) = w ∷ []
@@ -25,3 +25,9 @@ TurnsAreSpelled = (came rest : List ℕ) (ts : List Turn) (vs : List Wanted) (e 
 abbrev pub TakenOfAll : {D : Type 0} → Answering D → Type 0
 TakenOfAll {D} answers = (old new : Side D) (ts : List Turn) (left left2 : List ℕ) → Course answers old new ts → old.left ≡ Some left → new.left ≡ Some left2 → new.unknown ≡ false
     → Took (old.held ++ left) ts (new.held ++ left2) (left2 ≡ [])
+
+-- A turn that is taken after a look-up might have been taken without it, and what may be answered
+-- after it might then be answered, too
+abbrev pub LookUpsAreUnseen : {D : Type 0} → Answering D → Type 0
+LookUpsAreUnseen {D} answers = (M K N : D) (last : Bool) (t : Turn) → AnswersAsBefore answers M K → IsTurn answers K last t N
+    → (left : D) × IsTurn answers M last t left × AnswersAsBefore answers left N

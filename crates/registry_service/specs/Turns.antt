@@ -88,6 +88,10 @@ module _ {D : Type 0} (answers : Answering D) where
     pub answer : AnswersSo outcome t.answer
     pub counts : t.is_request ≡ is_request c
 
+  -- whatever the new service may answer, and leave, the old one might have
+  abbrev pub AnswersAsBefore : D → D → Type 0
+  AnswersAsBefore M N = (r : Request) (o : Outcome) (K : D) → answers N r o K → answers M r o K
+
 -- the turn of input that isn't a request, for which no service is asked
 pub record TurnsAway (c : Cause) (t : Turned) : Type 0 where
   pub outcome : Outcome

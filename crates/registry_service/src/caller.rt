@@ -12,7 +12,7 @@ const NO_CALLER: Stop = Stop::Refused(Refusal::NoCaller);
 
 /// What the caller shows of themselves: nothing, or the token that their authorization bears. Any
 /// other authorization is `NoCaller`.
-pub(crate) fn credential(authorization: &Authorization) -> Result<Credential, Stop>
+pub fn credential(authorization: &Authorization) -> Result<Credential, Stop>
     ensures { spec.reads_caller authorization.now result }
 {
     match authorization {

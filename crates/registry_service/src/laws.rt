@@ -1,7 +1,7 @@
 //! Laws of turns. Each is the contract of a function that does nothing.
 
 ghost use Rattle.registry_service.specs.Histories.{IsOneHistory, Reached, World};
-ghost use Rattle.registry_service.specs.Laws.{TakenOfAll, TurnsAreSpelled};
+ghost use Rattle.registry_service.specs.Laws.{LookUpsAreUnseen, TakenOfAll, TurnsAreSpelled};
 
 use crate::turning::Service;
 
@@ -24,4 +24,10 @@ pub fn turns_are_spelled()
 /// held or left, and what follows them is still held or left.
 pub fn turns_are_taken_of_all<D: Service>()
     ensures { TakenOfAll D.answers }
+{}
+
+/// Whatever a service looks up between two turns, nobody can tell by what is answered: each turn after
+/// it might have been taken without it. So turns with look-ups between them are turns without any.
+pub fn look_ups_are_unseen<D: Service>()
+    ensures { LookUpsAreUnseen D.answers }
 {}

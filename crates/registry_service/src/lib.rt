@@ -20,9 +20,10 @@ mod serving;
 mod turning;
 
 pub use crate::answer::{Answer, Body};
+pub use crate::caller::credential;
 pub use crate::request::request_of;
 pub use crate::sending::PackumentService;
 pub use crate::serving::{Clock, Served, serve};
 pub use crate::turning::{
-    End, REQUESTS_PER_CONNECTION, Service, Turned, turn, turn_away, turn_starved,
+    AnsweredCommand, End, REQUESTS_PER_CONNECTION, Service, Turned, turn, turn_away, turn_starved,
 };

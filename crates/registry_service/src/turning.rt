@@ -6,17 +6,31 @@ ghost use Rattle.registry_rules.specs.declared.reply.Reply.{Reply};
 ghost use Rattle.registry_rules.specs.declared.request.Request.{Request};
 ghost use Rattle.registry_service.specs.Servings.{IsTurnWith};
 ghost use Rattle.registry_service.specs.Turns as spec;
-ghost use Rattle.registry_service.specs.Turns.{IsAnswered, Turns, bad_input, no_memory, request};
+ghost use Rattle.registry_service.specs.Turns.{AnswersAsBefore, IsAnswered, Turns, bad_input, no_memory, request};
 
 use crate::answer::Answer;
 use crate::request::request_of;
-use registry_names::{Fault, Moment, Refusal, Stop};
+use registry_names::{Fault, Moment, Refusal, Stop, Text};
 use registry_rules::{Reply, Request};
 use registry_wire::Wanted;
 use std::alloc::Global;
 
 /// The most requests of one connection.
 pub const REQUESTS_PER_CONNECTION: u32 = 1000;
+
+/// A command beside the server, once it was answered.
+#[derive(Clone, Copy)]
+pub struct AnsweredCommand<'a> {
+    /// Who asked: `operator`, or the name of a user. Empty where nobody is known.
+    pub caller: &'a str,
+    /// The subcommand's name, and those of its arguments that may be seen. Empty where the words of
+    /// the command are no line.
+    pub words: &'a [Text],
+    /// The exit status of its program.
+    pub status: u8,
+    /// How many bytes it prints.
+    pub length: u64,
+}
 
 /// Where requests are answered, one after the other.
 pub trait Service {
@@ -39,13 +53,30 @@ pub trait Service {
     ///
     /// The server of many connections calls it, once for each turn: after the call of
     /// [`answer`](Service::answer), where the turn has one, and before anything of the response is
-    /// sent. Neither [`serve`](crate::serve) nor a command beside the server calls it.
+    /// sent. Neither [`serve`](crate::serve) nor a command beside the server calls it; for a command
+    /// there is [`note_command`](Service::note_command).
     ///
     /// An implementation may keep a log of what was answered. It changes nothing that contracts see
     /// of the service, and can't fail. It should not wait, since nobody is answered meanwhile. The
     /// default does nothing.
     fn note(&mut self, _wanted: Option<&Wanted>, _turned: &Turned)
         ensures { self.new ≡ self.old }
+    {}
+
+    /// A command beside the server was answered. Its guests call it once for each, after the call of
+    /// [`answer`](Service::answer), where it has one, and before anything of its output is sent. Where
+    /// there was no memory to read a command, it isn't called. What [`note`](Service::note) says of an
+    /// implementation is true of this one, too.
+    fn note_command(&mut self, _command: &AnsweredCommand<'_>)
+        ensures { self.new ≡ self.old }
+    {}
+
+    /// A round of turns is over, and [`rest`](Service::rest) follows. An implementation may look up
+    /// what it lacks of what it noted, such as whose token a request had that it wasn't asked. All
+    /// that it may answer afterwards, it might have answered before. The default does nothing.
+    fn look_up(&mut self, _alloc: Global)
+        ensures before { AnswersAsBefore answers self.old self.new }
+        ensures over { over self.new ≡ over self.old }
     {}
 
     /// A round of turns is over. The server of many connections calls it once in each round in
