@@ -4,6 +4,7 @@ ghost use Rattle.std.specs.Prelude.{◌≡◌, [], is_some, false, true};
 ghost use Rattle.std.specs.Io.BufRead.{strip_last};
 ghost use Rattle.registry_cli.specs.Asked as spec;
 ghost use Rattle.registry_cli.specs.Lines.{IsWhole, asks_to_serve, argument_at};
+ghost use Rattle.registry_cli.specs.Readings.{reads_token};
 ghost use Rattle.registry_cli.specs.declared.action.Verb.TheVariants as verbs;
 
 use crate::argument_values::{argument_at, four, one, says_input, three, two};
@@ -208,8 +209,16 @@ fn token_add(alloc: Global, arguments: &[Text]) -> Result<Action, Stop>
 fn token_remove(arguments: &[Text], body: &[u8]) -> Result<Action, Stop>
     ensures { spec.asked verbs.TokenRemove arguments.now body.now result }
 {
-    match TokenDigest::of_bytes(said_token(arguments, body)) {
-        Some(digest) => Ok(Action::TokenRemove { digest }),
+    let digest = digest_of(said_token(arguments, body))?;
+    Ok(Action::TokenRemove { digest })
+}
+
+// The digest of a token with this text.
+fn digest_of(text: &[u8]) -> Result<TokenDigest, Stop>
+    ensures { reads_token text.now result }
+{
+    match TokenDigest::of_bytes(text) {
+        Some(digest) => Ok(digest),
         None => Err(Stop::Refused(Refusal::BadBody)),
     }
 }
