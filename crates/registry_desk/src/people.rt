@@ -80,12 +80,14 @@ pub(crate) fn facts_for_tokens_remove<S: Alter>(
         → FoundTells found (registry_of c) at caller.now (asked.TokensRemove user.now)) }
 {
     let user_exists = has_user(tx, user.text())?;
-    if let Err(refusal) = may_operate(caller) {
-        return Ok(Found::Refused(refusal));
+    match may_operate(caller) {
+        Ok(_) => {
+            let digests = load_user_tokens(alloc, tx, user)?;
+            Ok(Found::About(About::TokensRemove {
+                user_exists,
+                digests,
+            }))
+        }
+        Err(refusal) => Ok(Found::Refused(refusal)),
     }
-    let digests = load_user_tokens(alloc, tx, user)?;
-    Ok(Found::About(About::TokensRemove {
-        user_exists,
-        digests,
-    }))
 }
