@@ -8,6 +8,7 @@
 
 mod archives;
 mod checked;
+mod floats;
 mod forms;
 mod kinds;
 pub mod laws;
