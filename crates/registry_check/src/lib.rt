@@ -8,7 +8,6 @@
 
 mod archives;
 mod checked;
-mod floats;
 mod forms;
 mod kinds;
 pub mod laws;
