@@ -1,11 +1,11 @@
 //! A registry in a file.
 
-ghost use Rattle.std.specs.Prelude.{◌≡◌, ◌↔◌, codes, false, true, Err, IfErr, IfOk, IsErrAnd, IsOk, IsTrue, OnErr, OnOk, Some};
+ghost use Rattle.std.specs.Prelude.{◌≡◌, ◌↔◌, codes, false, true, Err, IfErr, IfOk, IfSome, IsErrAnd, IsOk, IsTrue, None, OnErr, OnOk, Some};
 ghost use Rattle.sqlite.specs.Files.{Finds, IsBlankAs, IsCleanLeft, IsOpened, LeavesFiles, file_state, image_of};
 ghost use Rattle.sqlite.specs.Held.{IsNew, state};
 ghost use Rattle.sqlite.specs.Start.{FindsIn};
 ghost use Rattle.sqlite.specs.State.{HasCleanDisk, Survives};
-ghost use Rattle.sqlite_std_file.specs.File.{IsFresh, file_is_usable};
+ghost use Rattle.sqlite_std_file.specs.File.{file_is_usable};
 ghost use Rattle.sqlite_store.specs.FileStore.{view};
 ghost use Rattle.sqlite_wal.specs.Files.{image_at};
 ghost use Rattle.registry_rows.specs.Frames.{Stays};
@@ -16,7 +16,7 @@ ghost use Rattle.registry_tables.specs.Fresh.{CountsArchivesAlone};
 ghost use Rattle.registry_tables.specs.Schema as tables;
 ghost use Rattle.registry_migration.specs.Older.{schema_of};
 ghost use Rattle.registry_desk.specs.Adopted.{AreFilesOf, CanBeAdopted, IsHandedBack, IsMade, IsSettled, IsUndone, LeavesCommitted, SurvivesAdoption};
-ghost use Rattle.registry_desk.specs.Opened.{FailsToConnect, FailsToOpen, HoldsEach, HoldsFound, IsFreshIfEmpty, IsGuarded, IsMadeOf, IsMigrated, IsNumbered, IsUnlimited, IsUri, LeavesAtMost, LeavesMigrated};
+ghost use Rattle.registry_desk.specs.Opened.{AreFresh, FailsToConnect, FailsToOpen, FailsToOpenSome, HoldsEach, HoldsFound, IsFreshIfEmpty, IsGuarded, IsMadeOf, IsMigrated, IsNumbered, IsUnlimited, IsUri, LeavesAtMost, LeavesAtMostOf, LeavesMigrated};
 ghost use Rattle.registry_desk.specs.Promises.{IsSure};
 ghost use Rattle.registry_desk.specs.Resting.{Rests};
 
@@ -110,17 +110,22 @@ impl Registry<FileStore<File>> {
         ensures memory { path.now ≡ codes ":memory:" → result ≡ Err Fault.Database }
         ensures uri { IsUri path.now → result ≡ Err Fault.Database }
     {
-        Registry::open_from(rt, path, Unknown)
+        match Registry::open_from(rt, path, Unknown) {
+            Ok(registry) => Ok(registry),
+            Err((fault, _)) => Err(fault),
+        }
     }
 }
 
 impl<S: Start> Registry<FileStore<FileFrom<S>>> {
-    /// The same over a `start`, which represents what the files held and how a crash is read.
+    /// The same over a `start`, which represents what the files held and how a crash is read. A
+    /// fault hands back what is left of the files, as that of
+    /// [`open_files`](Registry::open_files) does, or `None` where none were opened.
     pub fn open_from(
         rt: &HostRuntime,
         path: &str,
         start: S,
-    ) -> Result<Registry<FileStore<FileFrom<S>>>, Fault>
+    ) -> Result<Registry<FileStore<FileFrom<S>>>, (Fault, Option<Unopened<FileFrom<S>>>)>
         ensures found { IfOk result (λ r. HoldsFound (image_at S.Start) (file_state r)) }
         ensures each { IfOk result (λ r. HoldsEach (image_at S.Start) (file_state r)) }
         ensures empty { IfOk result (λ r. IsFreshIfEmpty (image_at S.Start) (file_state r)) }
@@ -129,14 +134,22 @@ impl<S: Start> Registry<FileStore<FileFrom<S>>> {
         ensures durable { IfOk result (λ r. HasCleanDisk (file_state r) → IsSure (file_state r)) }
         ensures guarded { IfOk result (λ r. IsGuarded (file_state r)) }
         ensures unlimited { IfOk result (λ r. IsUnlimited (file_state r)) }
-        ensures memory { path.now ≡ codes ":memory:" → result ≡ Err Fault.Database }
-        ensures uri { IsUri path.now → result ≡ Err Fault.Database }
+        ensures left { IfErr result (λ e. IfSome e.1 (LeavesAtMostOf AreFresh)) }
+        ensures cause { IfErr result (λ e. IfSome e.1 (FailsToOpenSome AreFresh e.0)) }
+        ensures memory { path.now ≡ codes ":memory:" → result ≡ Err (Fault.Database, None) }
+        ensures uri { IsUri path.now → result ≡ Err (Fault.Database, None) }
     {
-        let options = options(rt)?;
-        let files = files_at(rt, path, start)?;
+        let options = match options(rt) {
+            Ok(options) => options,
+            Err(fault) => return Err((fault, None)),
+        };
+        let files = match files_at(rt, path, start) {
+            Ok(files) => files,
+            Err(fault) => return Err((fault, None)),
+        };
         match Registry::open_files(rt.alloc(), files, options) {
             Ok(registry) => Ok(registry),
-            Err((fault, _)) => Err(fault),
+            Err((fault, left)) => Err(handed_back(fault, left)),
         }
     }
 }
@@ -278,13 +291,20 @@ fn files_at<S: Start>(rt: &HostRuntime, path: &str, start: S) -> Result<Files<Fi
     ensures uri { IsUri path.now → IsErrAnd result (λ fault. fault ≡ Fault.Database) }
     ensures log { IfOk result (λ files. IsTrue (file_is_usable S.Start files.log)) }
     ensures db { IfOk result (λ files. IsTrue (file_is_usable S.Start files.db)) }
-    ensures fresh { IfOk result (λ files. IsFresh true files.log × IsFresh false files.db) }
+    ensures fresh { IfOk result AreFresh }
 {
     if path == ":memory:" || path.starts_with("file:") {
         return Err(Fault::Database);
     }
     make(rt, path);
     sqlite_std_file::open(rt, path, start).map_err(fault_of_open)
+}
+
+// Of files that were opened, what is left is handed back.
+fn handed_back<D: Disk + Drop>(fault: Fault, left: Unopened<D>) -> (Fault, Option<Unopened<D>>)
+    ensures { result ≡ (fault, Some left) }
+{
+    (fault, Some(left))
 }
 
 // Makes a file that isn't there, for its owner alone. A new log gets the same mode. Where the file
