@@ -1,5 +1,5 @@
 -- What an open finds in files: rows whose rowids rise.
-use Rattle.std.proofs.Common.{◌≡◌, ◌⊎◌, ◌∙◌, ℕ, filter, true, List, [], inl, inr, ap, sym, subst, IsTrue, OnOk, Result, Ok, Err, length, refl, arith}
+use Rattle.std.proofs.Common.{◌≡◌, ◌⊎◌, ◌∙◌, ℕ, filter, true, List, [], inl, inr, ap, sym, subst, IsOk, IsTrue, OnOk, MatchResult, Result, Ok, Err, length, refl, arith}
 use Rattle.std.proofs.Math.Logic.{∥∥₁_elim}
 use Rattle.std.specs.List.{AllByRecursion}
 use Rattle.sqlite_rules.specs.Lists.{Has}
@@ -107,10 +107,19 @@ migrated_left older old new is survives = record {
   ];
 }
 
+-- an answer is no error
+pub no_error : {V E : Type 0} (x : V) (e : E) → Ok x ≡ Err e → ⊥
+no_error {V} {E} x e is = subst (λ (r : Result V E). MatchResult r (λ _. Unit {0}) (λ _. ⊥)) is tt
+
 -- two facts of an answer
 pub both_ok : {A E : Type 0} {P Q R : Type 0} (r : Result A E) → (P → Q → R) → OnOk r P → OnOk r Q → OnOk r R
 both_ok (Ok a) f p q = f p q
 both_ok (Err e) f p q = tt
+
+-- a fact of an answer that is one
+pub when_ok : {A E : Type 0} {P : Type 0} (r : Result A E) → (IsOk r → P) → OnOk r P
+when_ok (Ok a) f = f refl
+when_ok (Err e) f = tt
 
 -- ---- of the trees that the files hold
 

@@ -1,5 +1,5 @@
 -- What an open gives of the database that it finds, and what a crash leaves of that.
-use Rattle.std.specs.Prelude.{◌≡◌, ◌⊎◌, ◌++◌, [], None, Some, IsTrue, codes, pos}
+use Rattle.std.specs.Prelude.{◌≡◌, ◌⊎◌, ◌++◌, [], false, true, None, Some, IsTrue, codes, pos}
 use Rattle.sqlite.specs.Effect.{Database}
 use Rattle.sqlite.specs.Files.{AreFoundIn, HoldsDatabase, IsCleanLeft, IsFullLeft, IsNothing, LeavesFiles, faults_left, faults_of, file_state, image_of}
 use Rattle.sqlite.specs.State.{State as Shown, HasCleanDisk}
@@ -8,6 +8,11 @@ use Rattle.sqlite_catalog.specs.Listing.{IsSound}
 use Rattle.sqlite_disk.specs.Disk.{MoreFaults}
 use Rattle.sqlite_disk.specs.declared.Disk as disk
 use Rattle.sqlite_disk.specs.declared.Files.{Files}
+use Rattle.sqlite_disk.specs.declared.calls.Calls as calls
+use Rattle.sqlite_disk.specs.declared.modelled.Modelled.{Modelled}
+use Rattle.sqlite_disk.specs.declared.start.Start.{Ghosts}
+use Rattle.sqlite_std_file.specs.File.{IsFresh}
+use Rattle.sqlite_std_file.specs.declared.host.Host.{Host}
 use Rattle.sqlite_trees.specs.Tree.{Trees}
 use Rattle.sqlite_wal.specs.Recovery.{Image}
 use Rattle.registry_names.specs.Maps.{at}
@@ -19,6 +24,7 @@ use Rattle.registry_tables.specs.Contents.{Contents, contents}
 use Rattle.registry_tables.specs.Effects.{stored}
 use Rattle.registry_tables.specs.Fresh.{CountsArchivesAlone, fresh, schema_key, schema_number}
 use Rattle.registry_tables.specs.Schema.{schema}
+use Rattle.registry_tables.specs.Teams.{GrantsInScope}
 use Rattle.registry_migration.specs.Migration.{MayMigrate, Migrates}
 use Rattle.registry_migration.specs.Older.{contents_of, schema_of}
 use Rattle.registry_migration.specs.declared.older.Older.{Older}
@@ -30,14 +36,17 @@ use Rattle.registry_desk.specs.declared.open.Unopened.TheVariants as unopened
 abbrev pub IsNumbered : Contents → Type 0
 IsNumbered c = at c.meta schema_key ≡ Some (pos schema_number)
 
--- and SQLite counts for the archives alone
-abbrev pub IsOurs : Contents → Type 0
-IsOurs c = IsNumbered c × CountsArchivesAlone c
+-- SQLite counts for the archives alone, and each grant is on a package of its organisation's scope
+pub record IsOurs (c : Contents) : Type 0 where
+  pub numbered : IsNumbered c
+  pub counted : CountsArchivesAlone c
+  pub granted : GrantsInScope c
 
--- c is what a migration makes of a registry of the older schema
+-- c is what a migration makes of a registry of the older schema, with each grant in scope
 pub record IsMigrated (older : Older) (db : Trees) (c : Contents) : Type 0 where
   pub asked : MayMigrate older (contents_of older db)
   pub made : Migrates older (contents_of older db) c
+  pub granted : GrantsInScope c
 
 -- the database has the tables of a registry, and they hold such a c
 pub record LeavesMigrated (older : Older) (db left : Trees) : Type 0 where
@@ -91,6 +100,16 @@ module _ {D : Type 0} {g : disk.Ghosts D} (files : Files D) where
       HasCleanDisk (file_state conn) → (db : Trees) × AreFoundIn (image_of g files) db × ((held : Trees) → HoldsDatabase (image_of g files) held → db ≡ held)
       × ((later : Trees) → (file_state conn).may_leave later → LeavesFound db later) × (IsTrue (file_state conn).is_open → (later : Trees) → (file_state conn).may_leave later → later ≡ db)
 
+-- files that were opened just now: nothing has happened to them since
+module _ {S : Type 0} {c : calls.Ghosts Host} where
+  abbrev pub AreFresh : {start : Ghosts S} → Files (Modelled Host S c start) → Type 0
+  AreFresh files = IsFresh true files.log × IsFresh false files.db
+
+-- what is left of files that an open found itself, and of which this holds
+module _ {D : Type 0} {g : disk.Ghosts D} (IsFound : Files D → Type 0) where
+  abbrev pub LeavesAtMostOf : Unopened D g → Type 0
+  LeavesAtMostOf rest = (files : Files D) × IsFound files × LeavesAtMost files rest
+
 -- what is read later is tested against a digest of what was written
 abbrev pub IsGuarded : Shown → Type 0
 IsGuarded s = HasCleanDisk s → s.IsShielded
@@ -114,6 +133,11 @@ module _ {D : Type 0} {g : disk.Ghosts D} (files : Files D) where
   abbrev pub FailsToOpen : Unopened D g → Fault → Type 0
   FailsToOpen (unopened.Files rest) fault = IsCleanLeft rest → FailsToConnect rest fault
   FailsToOpen (unopened.Database conn) fault = Unit {0}
+
+-- the same of files that an open found itself, and of which this holds
+module _ {D : Type 0} {g : disk.Ghosts D} (IsFound : Files D → Type 0) where
+  abbrev pub FailsToOpenSome : Fault → Unopened D g → Type 0
+  FailsToOpenSome fault rest = (files : Files D) × IsFound files × FailsToOpen files rest fault
 
 -- a path that begins with "file:", which is a URI to SQLite
 abbrev pub IsUri : Text → Type 0

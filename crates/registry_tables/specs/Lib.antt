@@ -12,6 +12,7 @@ pub mod Opening
 pub mod Ranges
 pub mod ReadMaps
 pub mod Schema
+pub mod Scopes
 pub mod Spelled
 pub mod Teams
 pub mod WalkLaws

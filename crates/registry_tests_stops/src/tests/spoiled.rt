@@ -237,7 +237,13 @@ fn no_file_opens(
 ) -> Result<(), Fail> {
     write_spoiled(rt, whole, place)?;
     let fault = outcomes_at(rt, queries).err();
-    same(place, fault, Some(Fault::Database))
+    same(place, fault, Some(Fault::Database))?;
+    same(("left of it", place), is_handed_back(rt), true)
+}
+
+// Whether the file isn't opened, and what is left of it is handed back.
+fn is_handed_back(rt: &HostRuntime) -> bool {
+    matches!(Registry::open_from(rt, PATH, Wary), Err((_, Some(_))))
 }
 
 fn write_spoiled(rt: &HostRuntime, whole: &[u8], place: usize) -> Result<(), Fail> {
@@ -250,7 +256,7 @@ fn write_spoiled(rt: &HostRuntime, whole: &[u8], place: usize) -> Result<(), Fai
 fn outcomes_at(rt: &HostRuntime, requests: &[Request]) -> Result<Vec<Outcome>, Fault> {
     match Registry::open_from(rt, PATH, Wary) {
         Ok(registry) => outcomes_closed(rt.alloc(), registry, requests),
-        Err(fault) => Err(fault),
+        Err((fault, _)) => Err(fault),
     }
 }
 

@@ -26,25 +26,35 @@ module _ {S : Type 0} {g : calls.Ghosts Host} {start : Ghosts S} where
   fresh_image : (files : Files (Modelled Host S g start)) → IsFresh true files.log → IsFresh false files.db → image (seen_in files.log) (seen_in files.db) ≡ image_at start
   fresh_image files log db = ap₂ image (ap₂ (seen start.log start.db) log.0 log.1) (ap₂ (seen start.log start.db) db.0 db.1)
 
-pub returns-in-Ok-clause-found : goal.returns-in-Ok-clause-found
-returns-in-Ok-clause-found g c = subst (λ i. HoldsFound i (file_state c.in-Ok.registry)) (fresh_image c.in_ok-files.files c.in_ok-files.ensures.fresh.0 c.in_ok-files.ensures.fresh.1) c.in-Ok.ensures.found
+-- ---- what is left of the files
 
-pub returns-in-Ok-clause-each : goal.returns-in-Ok-clause-each
-returns-in-Ok-clause-each g c = subst (λ i. HoldsEach i (file_state c.in-Ok.registry)) (fresh_image c.in_ok-files.files c.in_ok-files.ensures.fresh.0 c.in_ok-files.ensures.fresh.1) c.in-Ok.ensures.each
+pub returns-in-Err-open_files-clause-left : goal.returns-in-Err-open_files-clause-left
+returns-in-Err-open_files-clause-left g c = rw c.handed_back.ensures (c.in-Ok-files_at.files, c.in-Ok-files_at.ensures.fresh, c.in-Err-open_files.ensures.left)
 
-pub returns-in-Ok-clause-empty : goal.returns-in-Ok-clause-empty
-returns-in-Ok-clause-empty g c = subst (λ i. IsFreshIfEmpty i (file_state c.in-Ok.registry)) (fresh_image c.in_ok-files.files c.in_ok-files.ensures.fresh.0 c.in_ok-files.ensures.fresh.1) c.in-Ok.ensures.empty
+pub returns-in-Err-open_files-clause-cause : goal.returns-in-Err-open_files-clause-cause
+returns-in-Err-open_files-clause-cause g c = rw c.handed_back.ensures (c.in-Ok-files_at.files, c.in-Ok-files_at.ensures.fresh, c.in-Err-open_files.ensures.cause)
+
+pub returns-in-Err-open_files-clause-again : goal.returns-in-Err-open_files-clause-again
+returns-in-Err-open_files-clause-again g c = rw c.handed_back.ensures c.in-Err-open_files.ensures.again
+
+-- ---- what the registry holds
+
+pub returns-in-Ok-open_files-clause-found : goal.returns-in-Ok-open_files-clause-found
+returns-in-Ok-open_files-clause-found g c =
+    subst (λ i. HoldsFound i (file_state c.in-Ok-open_files.registry)) (fresh_image c.in-Ok-files_at.files c.in-Ok-files_at.ensures.fresh.0 c.in-Ok-files_at.ensures.fresh.1) c.in-Ok-open_files.ensures.found
+
+pub returns-in-Ok-open_files-clause-each : goal.returns-in-Ok-open_files-clause-each
+returns-in-Ok-open_files-clause-each g c =
+    subst (λ i. HoldsEach i (file_state c.in-Ok-open_files.registry)) (fresh_image c.in-Ok-files_at.files c.in-Ok-files_at.ensures.fresh.0 c.in-Ok-files_at.ensures.fresh.1) c.in-Ok-open_files.ensures.each
+
+pub returns-in-Ok-open_files-clause-empty : goal.returns-in-Ok-open_files-clause-empty
+returns-in-Ok-open_files-clause-empty g c =
+    subst (λ i. IsFreshIfEmpty i (file_state c.in-Ok-open_files.registry)) (fresh_image c.in-Ok-files_at.files c.in-Ok-files_at.ensures.fresh.0 c.in-Ok-files_at.ensures.fresh.1) c.in-Ok-open_files.ensures.empty
 
 -- ---- a path that is no file's
 
-pub returns-in-Ok-clause-memory : goal.returns-in-Ok-clause-memory
-returns-in-Ok-clause-memory g c memory = absurd (c.in_ok-files.ensures.memory memory)
+pub returns-in-Ok-open_files-clause-uri : goal.returns-in-Ok-open_files-clause-uri
+returns-in-Ok-open_files-clause-uri g c uri = absurd (c.in-Ok-files_at.ensures.uri uri)
 
-pub returns-in-Ok-clause-uri : goal.returns-in-Ok-clause-uri
-returns-in-Ok-clause-uri g c uri = absurd (c.in_ok-files.ensures.uri uri)
-
-pub returns-clause-memory : goal.returns-clause-memory
-returns-clause-memory g c memory = absurd (c.in_ok-files.ensures.memory memory)
-
-pub returns-clause-uri : goal.returns-clause-uri
-returns-clause-uri g c uri = absurd (c.in_ok-files.ensures.uri uri)
+pub returns-in-Err-open_files-clause-uri : goal.returns-in-Err-open_files-clause-uri
+returns-in-Err-open_files-clause-uri g c uri = absurd (c.in-Ok-files_at.ensures.uri uri)

@@ -14,7 +14,7 @@ use Rattle.registry_rules.proofs.SoundSteps.{nothing_sound}
 use Rattle.registry_tables.proofs.LiveFacts.{fresh_is_nothing}
 use Rattle.registry_tables.proofs.HeldNeedFacts.{fresh_holds}
 use Rattle.registry_tables.proofs.KeptArchiveFacts.{fresh_archives}
-use Rattle.registry_tables.proofs.TeamFacts.{sound_teams}
+use Rattle.registry_desk.proofs.CommitFacts.{fresh_in_scope}
 use Rattle.registry_desk.proofs.registry.Registry+MemStore.in_memory.Goals as goal
 
 pub invariant_of-result : goal.invariant_of-result
@@ -36,7 +36,7 @@ pub returns-clause-sound : goal.returns-clause-sound
 returns-clause-sound c =
     let made = c.in_ok-create_tables.ensures.made (memory_is_clean c.create_tables.new.conn) in
     record {
-      grants = subst GrantsInScope (sym made) (sound_teams fresh (subst (λ (S : State). IsSound S.access) (sym fresh_is_nothing) nothing_sound)).grants;
+      grants = subst GrantsInScope (sym made) fresh_in_scope;
       needs = subst HoldsNeeds (sym made) fresh_holds;
     }
 
