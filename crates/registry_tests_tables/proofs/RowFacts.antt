@@ -1,6 +1,6 @@
 -- What the statements of the tests leave, whose rows no call puts.
 use Rattle.std.proofs.Common.{ℕ, ℤ, List, [], ◌∷◌, pos, Ok, refl, codes}
-use Rattle.sqlite.specs.declared.types.Value.TheVariants.{Null, Int, Text as Stored}
+use Rattle.sqlite.specs.declared.types.Value.TheVariants.{Blob, Null, Int, Text as Stored}
 use Rattle.sqlite.specs.Command.TheVariants.{Insert}
 use Rattle.sqlite.specs.Source.TheVariants.{Values}
 use Rattle.sqlite.specs.Listing.{understood}
@@ -13,6 +13,7 @@ use Rattle.registry_rows.specs.Ready.{Ready}
 use Rattle.registry_rows.specs.Statements.{Means}
 use Rattle.registry_rows.proofs.StatementFacts.{insert_puts}
 use Rattle.registry_tables.specs.Schema.{schema}
+use Rattle.registry_tables.proofs.TokenFacts.{token_put}
 use Rattle.registry_tables.proofs.MappedFacts.{users_mapped, organisations_mapped, members_mapped, teams_mapped, team_members_mapped, packages_mapped, grants_mapped, spent_mapped}
 
 -- ---- any number for a status
@@ -59,6 +60,11 @@ user_means = (refl, (refl, refl))
 
 pub user_keeps : (u : Text) (old new : State) → Ready schema old → Wrote user_text (Stored u ∷ []) old new → Ready schema new
 user_keeps u old new form call clean on = (insert_puts users_mapped user_text user_cells user_means (Stored u ∷ []) refl old new (Ok call.0) form call.1 clean).ready
+
+-- ---- tokens, of bytes of any length
+
+pub token_keeps : (digest u : Text) (old new : State) → Ready schema old → Wrote (codes "INSERT INTO tokens VALUES (?1, ?2)") (Blob digest ∷ Stored u ∷ []) old new → Ready schema new
+token_keeps digest u old new form call clean on = (token_put digest u old new form call clean).ready
 
 -- ---- organisations
 

@@ -20,7 +20,7 @@ returns-in-TokenRemove-clause-loads g c clean =
 
 pub returns-in-TokensRemove-clause-loads : goal.returns-in-TokensRemove-clause-loads
 returns-in-TokensRemove-clause-loads g c clean =
-    found_so (Reads schema (shown g.S.Store c.args.tx.now) (shown g.S.Store c.facts_for_tokens_remove.new.tx)) (stored_in g.S.Store c.args.tx.now) c.args.request.now.at c.args.caller.now c.args.request.now.what (asked.TokensRemove c.in-TokensRemove.user) c.facts_for_tokens_remove.result c.in-TokensRemove.is (λ y told sound needs. told c.args.request.now.at) (c.facts_for_tokens_remove.ensures.loads clean)
+    found_so (Reads schema (shown g.S.Store c.args.tx.now) (shown g.S.Store c.facts_for_tokens_remove.new.tx)) (stored_in g.S.Store c.args.tx.now) c.args.request.now.at c.args.caller.now c.args.request.now.what (asked.TokensRemove c.in-TokensRemove.user) c.facts_for_tokens_remove.result c.in-TokensRemove.is (λ y told sound. told c.args.request.now.at) (c.facts_for_tokens_remove.ensures.loads clean)
 
 pub returns-in-OrgCreate-clause-loads : goal.returns-in-OrgCreate-clause-loads
 returns-in-OrgCreate-clause-loads g c clean =
