@@ -1,5 +1,5 @@
 -- What the statement on all grants shows, and what it says of their scopes.
-use Rattle.std.proofs.Common.{◌≡◌, ◌≢◌, ◌==◌, ◌∙◌, ◌↔◌, ◌&&◌, ℕ, Bool, true, false, cond, List, [], ◌∷◌, map, Option, None, Some, IsSome, IsTrue, is_some, Ordering, refl, sym, ap, subst, codes, true≢false, if◌then◌else◌}
+use Rattle.std.proofs.Common.{◌≡◌, ◌≢◌, ◌==◌, ◌∙◌, ◌↔◌, ◌&&◌, ℕ, ℤ, Bool, true, false, cond, List, [], ◌∷◌, map, Option, None, Some, IsSome, IsTrue, is_some, Ordering, refl, sym, ap, subst, codes, true≢false, if◌then◌else◌}
 use Rattle.std.specs.List.{before_first, list_all}
 use Rattle.std.proofs.lemmas.Bool.{and_from, and_parts, eqb-true}
 use Rattle.std.proofs.lemmas.List.Folds.{list_all-map}
@@ -15,7 +15,6 @@ use Rattle.registry_names.specs.Names.{scope_of}
 use Rattle.registry_names.specs.Texts.{Text}
 use Rattle.registry_names.proofs.KeyFacts.{same_self, same_true, text_key, triple_key}
 use Rattle.registry_names.proofs.MapFacts.{at-entries}
-use Rattle.registry_access.specs.declared.grant.Grant.{Grant}
 use Rattle.registry_rules.specs.Refusals.{is_scope}
 use Rattle.registry_rows.specs.Columns.{text_in}
 use Rattle.registry_rows.specs.Ready.{Ready, Reads, Queried}
@@ -61,9 +60,9 @@ placed e = (e.0.0, e.0.1.1)
 pub places_listed : (old new : Shown) (rows : List Row) → Ready schema old → Queried list_text [] old new rows → HasCleanDisk new
     → Reads schema old new × (map place_spelled rows ≡ grant_places (stored old))
 places_listed old new rows form call clean =
-    let it = select_all grants_mapped list_text list_columns _ list_means key_spelled (λ (grant : Grant). tt) (λ id vs. refl) old new rows form call clean in
+    let it = select_all grants_mapped list_text list_columns _ list_means key_spelled (λ (grant : ℤ). tt) (λ id vs. refl) old new rows form call clean in
     let es = entries (stored old).grants in
-    (it.0, sym (map-map placed key_spelled rows) ∙ ap (map placed) it.1 ∙ map-map placed (λ (e : Triple × Grant). (e.0, tt)) es ∙ sym (map-map (λ (k : Triple). (k.0, k.1.1)) (λ (e : Triple × Grant). e.0) es))
+    (it.0, sym (map-map placed key_spelled rows) ∙ ap (map placed) it.1 ∙ map-map placed (λ (e : Triple × ℤ). (e.0, tt)) es ∙ sym (map-map (λ (k : Triple). (k.0, k.1.1)) (λ (e : Triple × ℤ). e.0) es))
 
 -- ---- tests of all keys
 
