@@ -2,7 +2,7 @@
 use Rattle.std.specs.Prelude.{◌≡◌, true, Some, map, filter, option_map}
 use Rattle.registry_names.specs.Maps.{at, keys, of, pairs_of, parts, seen}
 use Rattle.registry_names.specs.Texts.{Text}
-use Rattle.registry_names.specs.Versions.{VersionParts, text_of_version}
+use Rattle.registry_names.specs.Versions.{text_of_version}
 use Rattle.registry_names.specs.Tags.{latest}
 use Rattle.registry_access.specs.Levels.{reads}
 use Rattle.registry_access.specs.Positions.{level_in}

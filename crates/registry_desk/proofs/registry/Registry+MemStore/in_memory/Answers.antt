@@ -4,7 +4,6 @@ use Rattle.registry_cache.specs.Caches.{AreRight, Cache}
 use Rattle.registry_cache.proofs.RightFacts.{new_right}
 use Rattle.registry_tables.specs.Archives.{HoldsArchives}
 use Rattle.registry_tables.specs.Contents.{registry_of}
-use Rattle.registry_tables.specs.Fresh.{fresh}
 use Rattle.registry_tables.specs.Needs.{HoldsNeeds}
 use Rattle.registry_tables.specs.Teams.{GrantsInScope}
 use Rattle.registry_rules.specs.Kept.{IsKept, IsSound}
