@@ -1,1 +1,2 @@
 mod BesideFacts
+mod UnseenFacts

@@ -3,6 +3,7 @@
 
 ghost use Rattle.registry_http.specs.Services.{shown};
 ghost use Rattle.registry_laws_beside.specs.Beside.{LogRunsBeside, TurnsRunBeside};
+ghost use Rattle.registry_laws_beside.specs.Unseen.{CommandsPrintTheSame, ConnectionsAreAnsweredTheSame, WorldsAreSuch};
 
 use sqlite::Alter;
 
@@ -18,4 +19,25 @@ use sqlite::Alter;
 pub fn turns_beside_guests_are_one_run<S: Alter>()
     ensures turns { TurnsRunBeside (shown S.Store) }
     ensures all { LogRunsBeside (shown S.Store) }
+{}
+
+/// What is asked about a package, on connections and by commands beside them, changes no byte of
+/// what strangers to it are told. Take two registries whose servers answer commands, too. Legal
+/// histories left them, which are one list once the entries that name the package are dropped. In
+/// each world, turns may be taken that aren't in the other: for requests to change the package, for
+/// requests that change nothing, and where nothing is asked. All other turns are taken in both
+/// worlds, in one order, each for the same.
+///
+/// Then a connection is answered the same in both worlds, byte for byte (`connections`), if none of
+/// its turns is in only one world, and if its requests are of callers who have no level on the
+/// package at that point of either world, show the package in both worlds or in neither, and meet
+/// no fault. A command of such a caller prints the same in both worlds (`commands`), if its request
+/// is like that. This holds as long as the package, whoever asks, keeps no withdrawal from being
+/// done in only one of the worlds, and as long as no fault in one world keeps a request undone that
+/// doesn't name the package and that the other world accepts. Each world of a server beside
+/// commands, whose registry is in order, is one that this law speaks of (`worlds`).
+pub fn unread_packages_change_nothing_that_is_told<S: Alter>()
+    ensures worlds { WorldsAreSuch (shown S.Store) }
+    ensures connections { ConnectionsAreAnsweredTheSame (shown S.Store) }
+    ensures commands { CommandsPrintTheSame (shown S.Store) }
 {}
