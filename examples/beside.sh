@@ -331,6 +331,51 @@ waits_for_a_start() {
 }
 try 'a command beside a server that is just starting is answered' waits_for_a_start
 
+# Has the file for so many seconds, as a command has it that is under way.
+hold_file() {
+    python3 -c 'import fcntl, sys, time
+held = open(sys.argv[1], "r+b")
+fcntl.lockf(held, fcntl.LOCK_EX, 512, 1 << 30)
+print("held", flush=True)
+time.sleep(float(sys.argv[2]))' "$1" "$2" > "$work/holder" &
+    others=$!
+    for _ in $(seq 1 500); do
+        if grep -q held "$work/holder"; then return 0; fi
+        sleep 0.01
+    done
+    return 1
+}
+
+waits_for_the_file() {
+    stop
+    hold_file "$db" 2 || return 1
+    before=$(date +%s%N)
+    serve "$db" || return 1
+    after=$(date +%s%N)
+    wait "$others"
+    others=
+    echo "$(((after - before) / 1000000)) ms" >> "$work/said"
+    [ $((after - before)) -ge 1500000000 ] || return 1
+    run one "$db" --operator user-add fay
+    is one 1 Exists
+}
+try 'a server that starts waits for a file that another process has for a moment' waits_for_the_file
+
+gives_up() {
+    stop
+    hold_file "$db" 60 || return 1
+    before=$(date +%s)
+    run one "$db" serve --port "$(free_port)"
+    after=$(date +%s)
+    kill "$others"
+    wait "$others" || true
+    others=
+    is one 3 "another process has the registry's file" || return 1
+    [ $((after - before)) -ge 4 ] && [ $((after - before)) -le 12 ] || return 1
+    serve "$db"
+}
+try 'and gives up after some five seconds' gives_up
+
 ends_in_time() {
     kill -STOP "$server"
     before=$(date +%s)

@@ -6,6 +6,7 @@ ghost use Rattle.sqlite.specs.Files.{file_state};
 ghost use Rattle.sqlite_wal.specs.Reads.{AreClean};
 ghost use Rattle.registry_desk.specs.Resting.{Rests};
 
+use crate::beside::{TRIES, busy, is_busy, pause};
 use crate::ending::{Ending, Failure, Obstacle};
 use registry_desk::{Registry, SCHEMA, Unopened};
 use registry_migration::older_schema;
@@ -27,13 +28,27 @@ pub fn open(rt: &HostRuntime, path: &str) -> Result<Registry<FileStore<File>>, E
     }
 }
 
-/// Why the file at the path wasn't opened: it is tried once more, as any database is.
+/// Why the file at the path wasn't opened. Where it opens now, another process had it.
 pub fn unopened(rt: &HostRuntime, path: &str) -> Ending {
-    let obstacle = match Connection::open_with_sums(rt, path) {
-        Ok(conn) => obstacle_left(rt.alloc(), Unopened::Database(conn)),
-        Err(error) => obstacle_of(error),
+    let seen = seen_obstacle(rt, path);
+    let obstacle = match Registry::open(rt, path) {
+        Ok(_registry) => Obstacle::Busy,
+        Err(_) => seen,
     };
     Ending::Fault(Failure::Opening(obstacle))
+}
+
+/// The registry in the file at the path. Where another process has the file, it is tried again, for
+/// five seconds.
+pub fn open_soon(rt: &HostRuntime, path: &str) -> Result<Registry<FileStore<File>>, Ending> {
+    for _ in 0..TRIES {
+        let opened = open(rt, path);
+        if !is_busy(&opened) {
+            return opened;
+        }
+        pause(rt);
+    }
+    Err(busy())
 }
 
 /// A file that isn't empty has to be at the path. Without this check, an open would make a registry
@@ -97,6 +112,14 @@ fn unclosed(error: Error) -> Ending {
     match error {
         Error::SqliteFailure(ErrorCode::OutOfMemory) => Ending::from(Fault::Memory),
         error => Ending::Fault(Failure::Opening(obstacle_of(error))),
+    }
+}
+
+// What is seen to keep the file from being opened: it is tried as any database is.
+fn seen_obstacle(rt: &HostRuntime, path: &str) -> Obstacle {
+    match Connection::open_with_sums(rt, path) {
+        Ok(conn) => obstacle_left(rt.alloc(), Unopened::Database(conn)),
+        Err(error) => obstacle_of(error),
     }
 }
 

@@ -3,7 +3,7 @@
 use crate::ending::{Blockage, Ending, Failure};
 use crate::logging::{is_allowed, log_at};
 use crate::moment::read_moment;
-use crate::opening::{close_files, open};
+use crate::opening::{close_files, open_soon};
 use registry_cli::{Line, Serving};
 use registry_desk::Registry;
 use registry_guests::CommandListener;
@@ -202,7 +202,7 @@ fn no_socket(error: io::Error) -> Ending {
     Ending::Fault(Failure::Socket(why))
 }
 
-// Opens the file, and serves its registry.
+// Opens the file, and serves its registry. A command may have the file for a moment.
 fn serve_file<K: LogClock + Drop, W: LineSink + Drop, O: ByteOut, E: ByteOut>(
     rt: &HostRuntime,
     alloc: Global,
@@ -212,7 +212,7 @@ fn serve_file<K: LogClock + Drop, W: LineSink + Drop, O: ByteOut, E: ByteOut>(
     output: &mut O,
     errors: &mut E,
 ) -> Result<Ended, Ending> {
-    match open(rt, bound.options.path) {
+    match open_soon(rt, bound.options.path) {
         Ok(registry) => {
             keep_room(alloc);
             serve_registry(rt, alloc, bound, log, registry, listener, output, errors)

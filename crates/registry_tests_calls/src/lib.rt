@@ -11,6 +11,8 @@ mod access;
 #[cfg(test)]
 mod arguments;
 #[cfg(test)]
+mod caller;
+#[cfg(test)]
 mod crowd;
 #[cfg(test)]
 mod ends;
