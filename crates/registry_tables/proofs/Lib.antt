@@ -27,6 +27,7 @@ pub mod ReferenceFacts
 pub mod RetiredFacts
 pub mod ReviseFacts
 pub mod SchemaFacts
+pub mod ScopeFacts
 pub mod SpentFacts
 pub mod StandingFacts
 pub mod StatusFacts

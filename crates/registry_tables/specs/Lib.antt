@@ -9,6 +9,7 @@ pub mod Laws
 pub mod Needs
 pub mod Opening
 pub mod Schema
+pub mod Scopes
 pub mod Spelled
 pub mod Teams
 pub mod WalkLaws
