@@ -6,18 +6,25 @@ use Rattle.sqlite.specs.Held.{Held, state}
 use Rattle.sqlite.specs.State.{State as Shown, HasCleanDisk, IsRolledBack, KeepsCommit, Shows}
 use Rattle.sqlite.specs.Steps.{FailsToCommit, IsEmpty}
 use Rattle.sqlite.specs.declared.error.Error.{Error}
-use Rattle.sqlite_catalog.specs.Listing.{IsSound}
+use Rattle.sqlite_catalog.specs.Listing as listing
 use Rattle.sqlite_schema.specs.declared.schema.Schema.{Schema}
 use Rattle.sqlite_trees.specs.Tree.{Trees}
 use Rattle.sqlite_trees.specs.declared.store.Store.{Ghosts}
 use Rattle.registry_names.specs.declared.stop.Fault.{Fault}
+use Rattle.registry_rules.specs.Kept.{IsSound}
+use Rattle.registry_rules.specs.State.{State}
+use Rattle.registry_rules.proofs.SoundSteps.{nothing_sound}
 use Rattle.registry_rows.specs.Frames.{CommitFails, IsCommitted}
 use Rattle.registry_rows.specs.Ready.{IsReady, Leaves, Ready}
 use Rattle.registry_rows.specs.Rows.{HasRowids}
 use Rattle.registry_tables.specs.Contents.{Contents, contents}
 use Rattle.registry_rows.specs.Tables.{no_tables}
 use Rattle.registry_tables.specs.Effects.{stored}
+use Rattle.registry_tables.specs.Fresh.{fresh}
 use Rattle.registry_tables.specs.Schema.{schema}
+use Rattle.registry_tables.specs.Teams.{GrantsInScope}
+use Rattle.registry_tables.proofs.LiveFacts.{fresh_is_nothing}
+use Rattle.registry_tables.proofs.TeamFacts.{sound_teams}
 use Rattle.registry_desk.specs.Adopted.{CanBeAdopted, IsHandedBack, IsSettled, IsUndone, LeavesCommitted}
 use Rattle.registry_desk.specs.Promises.{IsSure}
 use Rattle.registry_desk.specs.Resting.{IsRegistryOf, Rests}
@@ -39,7 +46,7 @@ ready_again mid new same ready = record {
 
 -- a database that is seen so is left so
 pub registry_left : (s : Shown) (db : Trees) (c : Contents) → IsReady schema s → db ≡ s.now.trees → stored s ≡ c → IsRegistryOf db c
-registry_left s db c ready is holds = (subst (IsSound schema) (sym is) (subst (λ k. IsSound k s.now.trees) ready.schema_is ready.sound), ap contents is ∙ holds)
+registry_left s db c ready is holds = (subst (listing.IsSound schema) (sym is) (subst (λ k. listing.IsSound k s.now.trees) ready.schema_is ready.sound), ap contents is ∙ holds)
 
 -- so it is where what is seen was committed
 pub rests_sure : {S : Type 0} (store : Ghosts S) (h : Held S) → ((db : Trees) → (state store h).may_leave db → db ≡ (state store h).committed.trees) → Rests (state store h)
@@ -51,19 +58,24 @@ rests_sure store h settled rests clean on db left =
 pub begun_in_form : {S : Type 0} (store : Ghosts S) (h : Held S) → Ready schema (state store h) → Ready schema (state store (record h { in_transaction = true }))
 begun_in_form store h ready clean on = ready_again (state store h) (state store (record h { in_transaction = true })) refl (ready clean on)
 
+-- a fresh registry grants nothing
+pub fresh_in_scope : GrantsInScope fresh
+fresh_in_scope = (sound_teams fresh (subst (λ (S : State). IsSound S.access) (sym fresh_is_nothing) nothing_sound)).grants
+
 -- what a commit leaves, however the disk is
-pub commit_rests : (left : Contents) (mid new : Shown) → new.in_transaction ≡ false → (HasCleanDisk new → Leaves schema contents left mid) → (HasCleanDisk new → Shows mid new mid.now mid.now false) → Rests new
-commit_rests left mid new ended leaves shows = record {
+pub commit_rests : (left : Contents) (mid new : Shown) → new.in_transaction ≡ false → (HasCleanDisk new → Leaves schema contents left mid) → (HasCleanDisk new → GrantsInScope left) → (HasCleanDisk new → Shows mid new mid.now mid.now false) → Rests new
+commit_rests left mid new ended leaves scoped shows = record {
   idle = ended;
+  grants = λ clean _. subst GrantsInScope (sym (ap (λ (d : Database). contents d.trees) (shows clean).now_is ∙ (leaves clean).holds)) (scoped clean);
   in_form = λ clean _. ready_again mid new (shows clean).now_is (leaves clean).ready;
   settled = λ clean _. (shows clean).now_is ∙ sym (shows clean).committed_is;
 }
 
 -- the same of what the commit answers
 pub commit_rests_on : {A E : Type 0} (result : Result A E) (left : Contents) (mid new : Shown) → new.in_transaction ≡ false
-    → (HasCleanDisk new → Leaves schema contents left mid) → (HasCleanDisk new → OnOk result (IsCommitted mid new)) → OnOk result (Rests new)
-commit_rests_on (Ok done) left mid new ended leaves commits = commit_rests left mid new ended leaves (λ clean. (commits clean).1)
-commit_rests_on (Err e) left mid new ended leaves commits = tt
+    → (HasCleanDisk new → Leaves schema contents left mid) → (HasCleanDisk new → GrantsInScope left) → (HasCleanDisk new → OnOk result (IsCommitted mid new)) → OnOk result (Rests new)
+commit_rests_on (Ok done) left mid new ended leaves scoped commits = commit_rests left mid new ended leaves scoped (λ clean. (commits clean).1)
+commit_rests_on (Err e) left mid new ended leaves scoped commits = tt
 
 -- ---- what is left where nothing was committed
 
@@ -94,6 +106,8 @@ module _ (old mid new : Shown) where
   pub undone_rests : Rests old → new.in_transaction ≡ false → (HasCleanDisk new → HasCleanDisk old × KeepsCommit old mid × IsRolledBack mid new) → Rests new
   undone_rests rests ended back = record {
     idle = ended;
+    grants = λ clean on. let b = back clean in
+        subst GrantsInScope (sym (undone_stored rests b.0 b.1 b.2 on)) (rests.grants b.0 (undone b.1 b.2 on).0);
     in_form = λ clean on. let b = back clean in
         ready_again old new (undone_now rests b.0 b.1 b.2 on) (rests.in_form b.0 (undone b.1 b.2 on).0);
     settled = λ clean on. let b = back clean in let left = undone b.1 b.2 on in left.1 ∙ sym left.2;

@@ -20,7 +20,7 @@ step_counts : (r : Request) (c : Contents) → (stepped r c).counters ≡ c.coun
 step_counts r c = changes_count (effects_of (registry_of c) r) c
 
 pub opens_count : OpensCountArchivesAlone
-opens_count db c (inl (sound, found, is)) = ap (λ (d : Contents). d.counters) is ∙ found.1
+opens_count db c (inl (sound, found, is)) = ap (λ (d : Contents). d.counters) is ∙ found.counted
 opens_count db c (inr (inl (none, is))) = ap (λ (d : Contents). d.counters) is
 opens_count db c (inr (inr (older, sound, is))) = is.made.counted
 

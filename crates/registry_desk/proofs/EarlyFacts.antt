@@ -1,7 +1,10 @@
 -- What is refused early, and what was found otherwise.
-use Rattle.std.proofs.Common.{◌≡◌, ◌∙◌, ◌⊎◌, ℕ, Bool, true, false, ap, inl, inr, refl, sym, subst, Option, Some, None, Result, Ok, Err, IfOk, IsOkAnd, MatchResult, unwrap_or, []}
+use Rattle.std.proofs.Common.{◌≡◌, ◌∙◌, ◌⊎◌, ◌&&◌, ◌||◌, ℕ, Bool, true, false, not, cond, if◌then◌else◌, List, [], ◌∷◌, filter, ap, inl, inr, refl, sym, subst, Option, Some, None, option_map, Result, Ok, Err, IfOk, IsOkAnd, MatchResult, unwrap_or}
+use Rattle.std.specs.List.{list_any}
 use Rattle.std.specs.Option.{option_or}
-use Rattle.registry_names.specs.Texts.{Text}
+use Rattle.registry_names.specs.Keys.{Pair}
+use Rattle.registry_names.specs.Maps.{at, entries, keep, keys}
+use Rattle.registry_names.specs.Texts.{Text, is}
 use Rattle.registry_names.specs.declared.refusal.Refusal.{Refusal}
 use Rattle.registry_names.specs.declared.refusal.Refusal.TheVariants.{TooLate, Depended}
 use Rattle.registry_names.specs.declared.stop.Fault.{Fault}
@@ -16,17 +19,20 @@ use Rattle.registry_access.specs.declared.rows.AccessRows.{AccessRows}
 use Rattle.registry_rules.specs.Callers.{caller_of}
 use Rattle.registry_rules.specs.Facts.{AboutTells}
 use Rattle.registry_rules.specs.Refusals.{refuse, refusal, refusal_for, state_refusal, withdraw_refusal}
-use Rattle.registry_rules.specs.State.{State}
-use Rattle.registry_rules.specs.Withdrawals.{is_depended, is_too_old, published_at}
+use Rattle.registry_rules.specs.State.{State, Release}
+use Rattle.registry_rules.specs.Withdrawals.{is_depended, is_need_of, is_too_old, live_versions, needs_in, published_at}
 use Rattle.registry_rules.specs.declared.facts.About.{About}
 use Rattle.registry_rules.specs.declared.request.Action.{Action}
 use Rattle.registry_rules.specs.declared.request.Action.TheVariants as asked
 use Rattle.registry_rules.specs.declared.request.Request.{Request}
-use Rattle.registry_names.specs.Versions.{text_of_version}
+use Rattle.registry_names.specs.Versions.{VersionParts}
+use Rattle.registry_names.proofs.EntryFacts.{entries-keep}
+use Rattle.registry_names.proofs.KeyFacts.{pair_key, same_self, text_key}
+use Rattle.registry_names.proofs.MapFacts.{at-keep}
+use Rattle.registry_names.proofs.PartFacts.{same_part}
 use Rattle.registry_tables.specs.Contents.{Contents, registry_of}
 use Rattle.registry_tables.specs.Teams.{AreTeamsSound}
-use Rattle.registry_desk.specs.Early.{EarlyRefusalsStand, FoundTells, asked_organisation, denial, early_refusal}
-use Rattle.registry_desk.specs.Found.{NeedsFor}
+use Rattle.registry_desk.specs.Early.{EarlyRefusalsStand, FoundTells, IsFound, TellsSome, asked_organisation, early_refusal}
 use Rattle.registry_desk.specs.declared.policy.Found.{Found}
 use Rattle.registry_desk.specs.declared.policy.Found.TheVariants as found
 
@@ -41,28 +47,13 @@ IsNothing (Some x) = ⊥
 first_stays : (first second : Option Refusal) (why : Refusal) → first ≡ Some why → option_or first second ≡ Some why
 first_stays first second why e = ap (λ o. option_or o second) e
 
-second_stays : (first second other : Option Refusal) (why : Refusal) → (second ≡ Some why → other ≡ Some why) → option_or first second ≡ Some why → option_or first other ≡ Some why
-second_stays None second other why more e = more e
-second_stays (Some it) second other why more e = e
-
-late_or_depended : (late depended : Bool) (why : Refusal) → refuse late TooLate (refuse false Depended None) ≡ Some why → refuse late TooLate (refuse depended Depended None) ≡ Some why
-late_or_depended true depended why e = e
-late_or_depended false depended why e = absurd (subst IsNothing e tt)
-
--- who needs the version doesn't count for these reasons
-whoever_needs_it : (now : ℕ) (published : Option ℕ) (depended : Bool) (why : Refusal) → withdraw_refusal now published false ≡ Some why → withdraw_refusal now published depended ≡ Some why
-whoever_needs_it now None depended why e = e
-whoever_needs_it now (Some at) depended why e = late_or_depended (is_too_old now at) depended why e
-
 pub early_refusals_stand : EarlyRefusalsStand
 early_refusals_stand S now who (asked.OrgSet o u role) why e = first_stays _ (state_refusal S now (asked.OrgSet o u role)) why e
 early_refusals_stand S now who (asked.OrgRemove o u) why e = first_stays _ (state_refusal S now (asked.OrgRemove o u)) why e
 early_refusals_stand S now who (asked.OwnerRemove p u) why e = first_stays _ (state_refusal S now (asked.OwnerRemove p u)) why e
 early_refusals_stand S now who (asked.Publish f) why e = first_stays _ (state_refusal S now (asked.Publish f)) why e
 early_refusals_stand S now who (asked.Deprecate p selector message) why e = first_stays _ (state_refusal S now (asked.Deprecate p selector message)) why e
-early_refusals_stand S now who (asked.Withdraw p v) why e =
-    second_stays (denial S.access who (asked.Withdraw p v)) (withdraw_refusal now (published_at S p (text_of_version v)) false) (state_refusal S now (asked.Withdraw p v)) why
-    (whoever_needs_it now (published_at S p (text_of_version v)) (is_depended S p v) why) e
+early_refusals_stand S now who (asked.Withdraw p v) why e = e
 early_refusals_stand S now who _ why e = absurd (subst IsNothing e tt)
 
 -- the request of a known caller is refused so
@@ -89,10 +80,18 @@ or_first = first_stays
 -- all that was said of an action of which nothing is refused early is said of the one that is asked
 module _ (reads : Type 0) (c : Contents) (now : ℕ) (who : Caller) (what : Action) where
   abbrev pub IsTold : Found → Type 0
-  IsTold y = AreTeamsSound c → NeedsFor what c → FoundTells y (registry_of c) now who what
+  IsTold y = AreTeamsSound c → IsFound y c now who what
 
   abbrev pub IsMade : Result About Fault → Result Found Fault → Type 0
   IsMade about result = MatchResult about (λ x. IsOkAnd result (λ y. y ≡ found.About x)) (λ e. result ≡ Err e)
+
+  -- what tells of the registry tells of some state
+  tells_some : (y : Found) → FoundTells y (registry_of c) now who what → TellsSome y (registry_of c) who what
+  tells_some (found.Refused why) told = tt
+  tells_some (found.About about) told = (registry_of c, refl, told.1)
+
+  found_of : (y : Found) → FoundTells y (registry_of c) now who what → IsFound y c now who what
+  found_of y told = record { tells = λ needs. told; some = tells_some y told }
 
   pub found_about : (this : Action) {P : About → Type 0} (about : Result About Fault) (result : Result Found Fault) → what ≡ this
       → early_refusal (registry_of c) now who this ≡ None → IsMade about result
@@ -100,10 +99,10 @@ module _ (reads : Type 0) (c : Contents) (now : ℕ) (who : Caller) (what : Acti
       → IfOk about (λ x. reads × P x) → IfOk result (λ y. reads × IsTold y)
   found_about this (Ok x) (Ok y) is early made so told = (
     told.0,
-    λ sound needs. subst (λ (z : Found). FoundTells z (registry_of c) now who what) (sym made) (
+    λ sound. found_of y (subst (λ (z : Found). FoundTells z (registry_of c) now who what) (sym made) (
       subst (λ (action : Action). early_refusal (registry_of c) now who action ≡ None) (sym is) early,
       subst (λ (action : Action). AboutTells x (registry_of c) who action) (sym is) (so x told.1 sound),
-    ),
+    )),
   )
   found_about this (Ok x) (Err e) is early made so told = tt
   found_about this (Err e) (Ok y) is early made so told = absurd (subst (λ (r : Result Found Fault). MatchResult r (λ _. Unit {0}) (λ _. ⊥)) made tt)
@@ -120,11 +119,68 @@ module _ (reads : Type 0) (c : Contents) (now : ℕ) (who : Caller) (what : Acti
 
   -- what was found of this action was found of the one that is asked
   pub found_so : (this : Action) {P : Found → Type 0} (result : Result Found Fault) → what ≡ this
-      → ((y : Found) → P y → AreTeamsSound c → NeedsFor this c → FoundTells y (registry_of c) now who this)
+      → ((y : Found) → P y → AreTeamsSound c → FoundTells y (registry_of c) now who this)
       → IfOk result (λ y. reads × P y) → IfOk result (λ y. reads × IsTold y)
   found_so this (Ok y) is so told =
-      (told.0, subst (λ (action : Action). AreTeamsSound c → NeedsFor action c → FoundTells y (registry_of c) now who action) (sym is) (so y told.1))
+      (told.0, λ sound. found_of y (subst (λ (action : Action). FoundTells y (registry_of c) now who action) (sym is) (so y told.1 sound)))
   found_so this (Err e) is so told = tt
+
+  -- the same where it may have been found of another state
+  pub found_some : (this : Action) (result : Result Found Fault) → what ≡ this
+      → IfOk result (λ y. reads × (AreTeamsSound c → IsFound y c now who this)) → IfOk result (λ y. reads × IsTold y)
+  found_some this (Ok y) is told = (told.0, λ sound. subst (IsFound y c now who) (sym is) (told.1 sound))
+  found_some this (Err e) is told = tt
+
+-- ---- a withdrawal
+
+-- what is too old, or doesn't live, isn't withdrawn, whoever needs it
+late_is_late : (late depended : Bool) (why : Refusal) → refuse late TooLate (refuse false Depended None) ≡ Some why → refuse late TooLate (refuse depended Depended None) ≡ Some why
+late_is_late true depended why e = e
+late_is_late false depended why e = absurd (subst IsNothing e tt)
+
+pub too_old : (now : ℕ) (published : Option ℕ) (depended : Bool) (why : Refusal) → withdraw_refusal now published false ≡ Some why → withdraw_refusal now published depended ≡ Some why
+too_old now None depended why e = e
+too_old now (Some at) depended why e = late_is_late (is_too_old now at) depended why e
+
+-- what is young enough isn't withdrawn where another package needs it
+young_is_depended : (late : Bool) → refuse late TooLate (refuse false Depended None) ≡ None → refuse late TooLate (refuse true Depended None) ≡ Some Depended
+young_is_depended true e = absurd cc
+young_is_depended false e = refl
+
+pub depended_is : (now : ℕ) (published : Option ℕ) (depended : Bool) → withdraw_refusal now published false ≡ None → depended ≡ true → withdraw_refusal now published depended ≡ Some Depended
+depended_is now None depended e needed = absurd cc
+depended_is now (Some at) depended e needed = ap (λ (b : Bool). refuse (is_too_old now at) TooLate (refuse b Depended None)) needed ∙ young_is_depended (is_too_old now at) e
+
+-- ---- what nothing needs
+
+abbrev needs_it : Text → VersionParts → Pair × Release → Bool
+needs_it p v e = not (is e.0.0 p) && list_any (is_need_of p v) (needs_in e.1)
+
+none_more : (p : Text) (v : VersionParts) (e : Pair × Release) (own : List (Pair × Release)) (b : Bool) → is e.0.0 p ≡ b → list_any (needs_it p v) own ≡ false
+    → list_any (needs_it p v) (if b then e ∷ own else own) ≡ false
+none_more p v e own true same none = ap (λ (is_own : Bool). (not is_own && list_any (is_need_of p v) (needs_in e.1)) || list_any (needs_it p v) own) same ∙ none
+none_more p v e own false same none = none
+
+none_of_its_own : (p : Text) (v : VersionParts) (es : List (Pair × Release)) → list_any (needs_it p v) (filter (λ (e : Pair × Release). is e.0.0 p) es) ≡ false
+none_of_its_own p v [] = refl
+none_of_its_own p v (e ∷ es) = none_more p v e (filter (λ (d : Pair × Release). is d.0.0 p) es) (is e.0.0 p) refl (none_of_its_own p v es)
+
+module _ (S : State) (p : Text) where
+  -- the state in which no other package has a version
+  abbrev pub alone : State
+  alone = record S { live = keep S.live (λ k. is k.0 p) }
+
+  pub nothing_needs : (v : VersionParts) → is_depended alone p v ≡ false
+  nothing_needs v = ap (list_any (needs_it p v)) (entries-keep pair_key S.live (λ k. is k.0 p)) ∙ none_of_its_own p v (entries S.live)
+
+  same_there : (v : Text) → at alone.live (p, v) ≡ at S.live (p, v)
+  same_there v = at-keep pair_key S.live (λ k. is k.0 p) (p, v) ∙ ap (λ b. cond b (at S.live (p, v)) None) (same_self text_key p)
+
+  pub same_moment : (v : Text) → published_at alone p v ≡ published_at S p v
+  same_moment v = ap (option_map (λ (r : Release). r.at)) (same_there v)
+
+  pub same_versions : live_versions alone p ≡ live_versions S p
+  same_versions = ap keys (same_part text_key alone.live S.live p same_there)
 
 -- ---- rows
 

@@ -19,7 +19,7 @@ use Rattle.registry_publish.specs.Form.{FormParts}
 use Rattle.registry_rules.specs.Actions.{version_of}
 use Rattle.registry_rules.specs.Callers.{caller_of}
 use Rattle.registry_rules.specs.Changes.{Change, AddVersion, DropGrant, DropTag, DropTeam, PutGrant, PutTag}
-use Rattle.registry_rules.specs.Effects.{deprecation, effects, effects_for, first_right, freed, joining, maintaining, membership, put_status, right_to, withdrawal}
+use Rattle.registry_rules.specs.Effects.{deprecation, effects, effects_for, effects_of, first_right, freed, joining, maintaining, membership, put_status, right_to, withdrawal}
 use Rattle.registry_rules.specs.Refusals.{refusal, refusal_by, refusal_for}
 use Rattle.registry_rules.specs.State.{State, has_maintainer, has_team, is_in_team, is_published}
 use Rattle.registry_rules.specs.Withdrawals.{live_versions, others, published_at, selected, tags_of}
@@ -159,12 +159,17 @@ effects_in_scope S now who (command.TagSet p t v) may = (tt, tt)
 effects_in_scope S now who (command.TagRemove p t) may = (tt, tt)
 effects_in_scope S now who _ may = tt
 
-stepped_keeps : (c : Contents) (r : Request) (who : Option Caller) → refusal_for (registry_of c) r.at who r.what ≡ None → GrantsInScope c → GrantsInScope (all_stored (effects_for (registry_of c) r.at who r.what) c)
-stepped_keeps c r None may scoped = scoped
-stepped_keeps c r (Some who) may scoped = changes_keep (effects (registry_of c) r.at who r.what) c (effects_in_scope (registry_of c) r.at who r.what may) scoped
+effects_for_in_scope : (S : State) (now : ℕ) (who : Option Caller) (what : Action) → refusal_for S now who what ≡ None → AreInScope (effects_for S now who what)
+effects_for_in_scope S now None what may = tt
+effects_for_in_scope S now (Some who) what may = effects_in_scope S now who what may
+
+-- what a request changes that nothing refuses, whatever the state is in which it was decided
+pub made_in_scope : (S : State) (r : Request) (changes : List Change) (c : Contents) → refusal S r ≡ None → changes ≡ effects_of S r → GrantsInScope c → GrantsInScope (all_stored changes c)
+made_in_scope S r changes c may are scoped =
+    subst (λ (made : List Change). GrantsInScope (all_stored made c)) (sym are) (changes_keep (effects_of S r) c (effects_for_in_scope S r.at (caller_of S r.who) r.what may) scoped)
 
 keeps_if : (b : Bool) (c : Contents) (r : Request) → (b ≡ true → refusal (registry_of c) r ≡ None) → GrantsInScope c → GrantsInScope (cond b (stepped r c) c)
-keeps_if true c r allowed scoped = stepped_keeps c r (caller_of (registry_of c) r.who) (allowed refl) scoped
+keeps_if true c r allowed scoped = made_in_scope (registry_of c) r (effects_of (registry_of c) r) c (allowed refl) refl scoped
 keeps_if false c r allowed scoped = scoped
 
 -- what an outcome leaves

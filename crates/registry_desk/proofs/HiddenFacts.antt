@@ -12,7 +12,6 @@ use Rattle.registry_laws_history.specs.History.{Entry, Legal, after}
 use Rattle.registry_laws_history.specs.Runs.{HaveOutcomes, IsAnswer, Outcome, grown, next}
 use Rattle.registry_laws_history.proofs.RunFacts.{legal_grown}
 use Rattle.registry_laws_hidden.specs.Concerns.{is_shown}
-use Rattle.registry_laws_hidden.specs.Laws.{RepliesAreAlike}
 use Rattle.registry_laws_hidden.specs.Levels.{IsStranger}
 use Rattle.registry_laws_hidden.specs.Without.{state_without}
 use Rattle.registry_laws_hidden.proofs.LeftFacts.{rests_are_alike}

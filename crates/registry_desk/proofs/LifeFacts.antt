@@ -8,7 +8,6 @@ use Rattle.registry_names.specs.declared.stop.Fault.{Fault}
 use Rattle.registry_rules.specs.Actions.{is_command}
 use Rattle.registry_rules.specs.Changes.{Change}
 use Rattle.registry_rules.specs.Effects.{effects_of, step}
-use Rattle.registry_rules.specs.Kept.{IsSound}
 use Rattle.registry_rules.specs.Requests.{IsInForm}
 use Rattle.registry_rules.specs.State.{State}
 use Rattle.registry_rules.specs.declared.reply.Reply.{Reply}
@@ -24,19 +23,17 @@ use Rattle.registry_tables.proofs.HeldNeedFacts.{fresh_holds}
 use Rattle.registry_tables.proofs.KeptArchiveFacts.{fresh_archives}
 use Rattle.registry_tables.proofs.LiveFacts.{fresh_is_nothing}
 use Rattle.registry_tables.proofs.StepFacts.{change_keeps}
-use Rattle.registry_tables.proofs.TeamFacts.{sound_teams}
-use Rattle.registry_rules.proofs.SoundSteps.{nothing_sound}
 use Rattle.registry_laws_history.specs.Answers.{answer}
 use Rattle.registry_laws_history.specs.Runs.{Outcome, HaveOutcomes, IsAnswer, Ran, end_of, enters, next}
 use Rattle.registry_laws_history.proofs.RunFacts.{headline_from, run_says}
-use Rattle.registry_desk.specs.Promises.{HoldsSound}
+use Rattle.registry_desk.specs.Promises.{HasRun}
 use Rattle.registry_desk.specs.Resting.{IsRegistryOf, end_stored, left_by, next_stored, settled_by, stepped}
-use Rattle.registry_desk.specs.Lives.{AreFaults, AreInForm, AreLives, AskedInTurn, ComesTo, Did, DidAll, Follows, HasLived, HasRun, IsInOrder, IsOpenedAgain, Life, LivesAreOneRun, LivesComeToRuns, LivesHaveHeadline, StopsKeepOutcomes, StopsLeaveAllOrNothing, TurnsAreRuns}
+use Rattle.registry_desk.specs.Lives.{AreFaults, AreInForm, AreLives, AskedInTurn, ComesTo, Did, DidAll, Follows, HasLived, IsInOrder, IsOpenedAgain, Life, LivesAreOneRun, LivesComeToRuns, LivesHaveHeadline, StopsKeepOutcomes, StopsLeaveAllOrNothing, TurnsAreRuns}
 use Rattle.registry_desk.proofs.GrantFacts.{grants_next}
 use Rattle.registry_desk.proofs.KeepingFacts.{archives_kept, holds_next, needs_kept, registry_next}
 use Rattle.registry_desk.proofs.SettlingFacts.{faulted_next, settled_next}
 use Rattle.registry_desk.proofs.StopFacts.{found_again, still_stored, stops_in_a_row_lose_nothing}
-use Rattle.registry_desk.proofs.StoredFacts.{has_run_more, has_run_none, sound_for_each}
+use Rattle.registry_desk.proofs.StoredFacts.{has_run_more, has_run_none, needs_for_each}
 
 -- ---- one request
 
@@ -233,9 +230,6 @@ comes_to life c d held it same = record {
   same = same;
 }
 
-sound_of : (s : Shown) → IsInOrder (stored s) → HoldsSound s
-sound_of s order = record { grants = order.grants; needs = order.needs }
-
 -- what is found again of what a registry left: no open that was stopped has changed that
 found_after : (last next : Shown) (c : Contents) (again : IsOpenedAgain last next) → HasCleanDisk next → IsRegistryOf again.db c → stored next ≡ c
 found_after last next c again clean is =
@@ -248,16 +242,16 @@ module _ (first last next : Shown) (life : Life) (lived : HasLived first last li
   -- a registry that is open at the end
   left_open : HasCleanDisk last → IsTrue last.is_open → stored next ≡ stored last → ComesTo life before (stored next)
   left_open was_clean on same =
-      let sound = sound_for_each life.requests first (sound_of first order) in
-      let it = kept_after life.is_open life.requests life.outcomes before order.archives.stored (lived.ran sound was_clean).answers in
-      comes_to life before (stored next) order.archives.stored it.0 (same ∙ lived.stored sound was_clean on ∙ it.1)
+      let needs = needs_for_each life.requests before order.needs in
+      let it = kept_after life.is_open life.requests life.outcomes before order.archives.stored (lived.ran needs was_clean).answers in
+      comes_to life before (stored next) order.archives.stored it.0 (same ∙ lived.stored needs was_clean on ∙ it.1)
 
   -- one that a fault has shut
   left_shut : (again : IsOpenedAgain last next) → last.is_open ≡ false → ComesTo life before (stored next)
   left_shut again shut =
-      let sound = sound_for_each life.requests first (sound_of first order) in
+      let needs = needs_for_each life.requests before order.needs in
       let it = left_after (IsTrue first.is_open) first.may_leave life.is_open life.requests life.outcomes before again.db (lived.ends ∙ shut) lived.sure order.archives.stored
-      (lived.ran sound again.was_clean).answers (lived.survives sound again.was_clean again.db again.left) in
+      (lived.ran needs again.was_clean).answers (lived.survives needs again.was_clean again.db again.left) in
       comes_to life before (stored next) order.archives.stored it.0 (found_after last next _ again clean it.1)
 
   comes : Follows last next → ComesTo life before (stored next)
@@ -280,17 +274,22 @@ record Come (c d : Contents) (lives : List Life) : Type 0 where
 
 still_in_order : (rs : List Request) (os : List Outcome) (c : Contents) → AllByRecursion IsInForm rs → HaveOutcomes (registry_of c) rs os → IsInOrder c → IsInOrder (end_stored rs os c)
 still_in_order rs os c forms answers order = record {
-  grants = all_keep GrantsInScope (λ c r o form answered. grants_next c (next_stored r o c) r o answered refl) rs os c forms order.archives.stored answers order.grants;
   needs = all_keep HoldsNeeds (λ c r o form answered. holds_next HoldsNeeds needs_kept c (next_stored r o c) r o form answered refl) rs os c forms order.archives.stored answers order.needs;
   archives = all_keep HoldsArchives (λ c r o form answered. holds_next HoldsArchives archives_kept c (next_stored r o c) r o form answered refl) rs os c forms order.archives.stored answers order.archives;
 }
 
-all_lived : (lives : List Life) (c d : Contents) → IsInOrder c → AreInForm lives → AreLives lives c d → Come c d lives × IsInOrder d
-all_lived [] c d order forms same = (record { requests = []; replies = []; did = (refl, refl); answers = tt; same = same }, subst IsInOrder (sym same) order)
+still_granted : (rs : List Request) (os : List Outcome) (c : Contents) → AllByRecursion IsInForm rs → HaveOutcomes (registry_of c) rs os → IsInOrder c → GrantsInScope c → GrantsInScope (end_stored rs os c)
+still_granted rs os c forms answers order = all_keep GrantsInScope (λ c r o form answered. grants_next c (next_stored r o c) r o answered refl) rs os c forms order.archives.stored answers
+
+all_lived : (lives : List Life) (c d : Contents) → IsInOrder c → AreInForm lives → AreLives lives c d → Come c d lives × IsInOrder d × (GrantsInScope c → GrantsInScope d)
+all_lived [] c d order forms same =
+    (record { requests = []; replies = []; did = (refl, refl); answers = tt; same = same }, subst IsInOrder (sym same) order, subst GrantsInScope (sym same))
 all_lived (life ∷ lives) c d order forms are =
     let next = are.0 in
     let one = are.1 order in
-    let done : IsInOrder next = subst IsInOrder (sym one.same) (still_in_order one.requests one.replies c (did_form life.is_open life.requests life.outcomes one.requests one.replies forms.0 one.did) one.ran.answers order) in
+    let form = did_form life.is_open life.requests life.outcomes one.requests one.replies forms.0 one.did in
+    let done : IsInOrder next = subst IsInOrder (sym one.same) (still_in_order one.requests one.replies c form one.ran.answers order) in
+    let granted : GrantsInScope c → GrantsInScope next = λ scoped. subst GrantsInScope (sym one.same) (still_granted one.requests one.replies c form one.ran.answers order scoped) in
     let rest = all_lived lives next d done forms.1 are.2 in
     let both = joined one.requests one.replies rest.0.requests rest.0.replies c order.archives.stored one.ran.answers
     (subst (λ (e : Contents). HaveOutcomes (registry_of e) rest.0.requests rest.0.replies) one.same rest.0.answers) in (
@@ -302,6 +301,7 @@ all_lived (life ∷ lives) c d order forms are =
         same = rest.0.same ∙ ap (end_stored rest.0.requests rest.0.replies) one.same ∙ sym both.1;
       },
       rest.1,
+      λ scoped. rest.2 (granted scoped),
     )
 
 pub lives_are_one_run : LivesAreOneRun
@@ -319,14 +319,13 @@ lives_are_one_run lives c d order forms are =
       ran = ran;
       same = it.same;
       in_order = all.1;
+      grants = all.2;
       headline = λ empty. headline_from (registry_of c) it.requests it.replies true (registry_of d) empty ran refl;
       says = λ h legal is. run_says h (registry_of c) it.requests it.replies true (registry_of d) ran refl legal is;
     }
 
 fresh_in_order : IsInOrder fresh
-fresh_in_order =
-    let empty = subst (λ (S : State). IsSound S.access) (sym fresh_is_nothing) nothing_sound in
-    record { grants = (sound_teams fresh empty).grants; needs = fresh_holds; archives = fresh_archives }
+fresh_in_order = record { needs = fresh_holds; archives = fresh_archives }
 
 pub lives_have_headline : LivesHaveHeadline
 lives_have_headline lives last forms are =
@@ -338,15 +337,15 @@ module _ {C D : Type 0} (show : C → Shown) (show_next : D → Shown) where
   lives_come_to_runs first last next life lived follows clean order = comes (show first) (show last) (show_next next) life lived order clean follows
 
   pub stops_leave_all_or_nothing : StopsLeaveAllOrNothing show show_next
-  stops_leave_all_or_nothing first last next r sound sure survives again clean =
+  stops_leave_all_or_nothing first last next r needs sure survives again clean =
       elim (survives.crash again.was_clean again.db again.left) [
         | inl before ↦ inl (found_after (show last) (show_next next) (stored (show first)) again clean (sure again.db before))
-        | inr made ↦ inr (found_after (show last) (show_next next) (settled_by r (stored (show first))) again clean (made.form, made.settled sound))
+        | inr made ↦ inr (found_after (show last) (show_next next) (settled_by r (stored (show first))) again clean (made.form, made.settled needs))
       ]
 
   pub stops_keep_outcomes : StopsKeepOutcomes show show_next
-  stops_keep_outcomes first last next r o sound step durable on again clean =
-      found_after (show last) (show_next next) (stored (show last)) again clean (durable again.was_clean on again.db again.left) ∙ step sound again.was_clean on
+  stops_keep_outcomes first last next r o needs step durable on again clean =
+      found_after (show last) (show_next next) (stored (show last)) again clean (durable again.was_clean on again.db again.left) ∙ step needs again.was_clean on
 
 module _ {C : Type 0} (show : C → Shown) where
   -- requests that are asked after a run make it longer

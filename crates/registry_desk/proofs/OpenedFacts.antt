@@ -1,5 +1,5 @@
 -- What an open finds in files: rows whose rowids rise.
-use Rattle.std.proofs.Common.{◌≡◌, ◌⊎◌, ◌∙◌, ℕ, filter, true, List, [], inl, inr, ap, sym, subst, IsTrue, OnOk, MatchResult, Result, Ok, Err, length, refl, arith}
+use Rattle.std.proofs.Common.{◌≡◌, ◌⊎◌, ◌∙◌, ℕ, filter, true, List, [], inl, inr, ap, sym, subst, IsOk, IsTrue, OnOk, MatchResult, Result, Ok, Err, length, refl, arith}
 use Rattle.std.proofs.Math.Logic.{∥∥₁_elim}
 use Rattle.std.specs.List.{AllByRecursion}
 use Rattle.sqlite_rules.specs.Lists.{Has}
@@ -115,6 +115,11 @@ no_error {V} {E} x e is = subst (λ (r : Result V E). MatchResult r (λ _. Unit 
 pub both_ok : {A E : Type 0} {P Q R : Type 0} (r : Result A E) → (P → Q → R) → OnOk r P → OnOk r Q → OnOk r R
 both_ok (Ok a) f p q = f p q
 both_ok (Err e) f p q = tt
+
+-- a fact of an answer that is one
+pub when_ok : {A E : Type 0} {P : Type 0} (r : Result A E) → (IsOk r → P) → OnOk r P
+when_ok (Ok a) f = f refl
+when_ok (Err e) f = tt
 
 -- ---- of the trees that the files hold
 

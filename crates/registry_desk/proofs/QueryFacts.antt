@@ -68,7 +68,7 @@ module _ (old new : Shown) (r : Request) (query : is_command r.what ≡ false) (
   query_unchanged o clean on none = left.same clean on
 
   pub query_steps : (o : Outcome) → Stepped old new r o
-  query_steps o sound clean on = left.same clean on ∙ sym (query_stays r query (stored old) o)
+  query_steps o needs clean on = left.same clean on ∙ sym (query_stays r query (stored old) o)
 
   pub query_survives : SurvivesOne old new r
   query_survives = survives_weaker old new _ _ (λ clean db it. query_leaves r query old db it) left.survives

@@ -29,7 +29,7 @@ use Rattle.registry_rows.specs.Ready.{Reads}
 use Rattle.registry_rules.specs.Actions.{is_command}
 use Rattle.registry_rules.specs.Callers.{caller_of}
 use Rattle.registry_rules.specs.Effects.{step}
-use Rattle.registry_rules.specs.Kept.{IsKept, IsSound}
+use Rattle.registry_rules.specs.Kept.{IsKept}
 use Rattle.registry_rules.specs.Permissions.{permission}
 use Rattle.registry_rules.specs.Refusals.{refusal, refusal_by, refusal_for, state_refusal, unless_allowed, unless_there}
 use Rattle.registry_rules.specs.State.{State, has_live}
@@ -54,10 +54,9 @@ use Rattle.registry_laws_history.proofs.RunFacts.{history_says}
 use Rattle.registry_laws_hidden.specs.Laws.{RepliesAreAlike}
 use Rattle.registry_laws_hidden.specs.Without.{state_without}
 use Rattle.registry_desk.specs.Caches.{HasAnswers, KeepNoMore, KeepsNoMore}
-use Rattle.registry_desk.specs.Lives.{HasAnswered}
-use Rattle.registry_desk.specs.Promises.{Answered, HoldsReferences, HoldsSoundFor, LeavesOne, Served}
+use Rattle.registry_desk.specs.Promises.{Answered, Applied, HoldsReferences, LeavesOne, Served}
 use Rattle.registry_desk.specs.Resting.{IsRegistryOf, Rests, next_stored, settled_by, stepped}
-use Rattle.registry_desk.specs.Sending.{AnswersAsApply, BrokenBeginTheAnswer, IsOrigin, IsShownBy, LeavesAll, MayAnswer, Sends, SentAreAsked, answers_as_apply, head_in, versions_in}
+use Rattle.registry_desk.specs.Sending.{BrokenBeginTheAnswer, IsOrigin, IsShownBy, LeavesAll, MayAnswer, Sends, SentAreAsked, answers_as_apply, head_in, versions_in}
 use Rattle.registry_desk.specs.declared.cache.Caches.{Caches}
 use Rattle.registry_desk.specs.declared.sending.Origin.{Origin}
 use Rattle.registry_desk.specs.declared.sending.Origin.TheVariants as origin
@@ -67,7 +66,6 @@ use Rattle.registry_desk.proofs.CommitFacts.{commit_rests, ready_again, registry
 use Rattle.registry_desk.proofs.LivingFacts.{live_so}
 use Rattle.registry_desk.proofs.HiddenFacts.{leaves_the_rest, same_answer}
 use Rattle.registry_desk.proofs.SettlingFacts.{settled_next}
-use Rattle.registry_desk.proofs.StoredFacts.{refers_for_one}
 
 -- ---- reading, where a part may need no statement
 
@@ -143,13 +141,13 @@ module _ (r : Request) (query : is_command r.what ≡ false) where
     was_open = it.0;
     form = it.1.0;
     query = λ _. it.1.1;
-    settled = λ sound. it.1.1 ∙ sym (query_settles (stored old));
+    settled = λ needs. it.1.1 ∙ sym (query_settles (stored old));
   }
 
 -- a query that leaves all that was stored is answered as `apply` answers it
 module _ {S : Type 0} (store : Ghosts S) (old : Shown) (h : Held S) (settled : (db : Trees) → IsTrue (state store h).is_open → (state store h).may_leave db → db ≡ (state store h).committed.trees)
     (replies : RepliesAreAlike) (r : Request) (query : is_command r.what ≡ false) (left : LeavesAll old (state store h)) where
-  pub answered_as : (o : Outcome) → Answered old (state store h) r o → Served old (state store h) o → AnswersAsApply old (state store h) r o
+  pub answered_as : (o : Outcome) → Answered old (state store h) r o → Served old (state store h) o → Applied old (state store h) r o
   answered_as o told served =
       let new = state store h in
       let state_stays = λ (clean : HasCleanDisk new) (on : IsTrue new.is_open). ap registry_of (left.same clean on) in
@@ -158,21 +156,20 @@ module _ {S : Type 0} (store : Ghosts S) (old : Shown) (h : Held S) (settled : (
         served = served;
         opened = left.opened;
         unchanged = λ clean on none. left.same clean on;
-        step = λ sound clean on. left.same clean on ∙ sym (query_stays r query (stored old) o);
-        moves = λ sound clean on. state_stays clean on ∙ sym (query_next r query (registry_in old) o);
+        step = λ needs clean on. left.same clean on ∙ sym (query_stays r query (stored old) o);
+        moves = λ needs clean on. state_stays clean on ∙ sym (query_next r query (registry_in old) o);
         history = λ needs clean on g legal is.
             subst (λ (k : List Entry). Says k (registry_in new)) (sym (query_grown r query g (registry_in old) o))
             (subst (Says g) (sym is ∙ sym (state_stays clean on)) (history_says g legal));
         hidden = λ needs clean g legal is p stranger quiet.
-            let refers = subst (λ (T : State). IsSound T.access) (sym is) (history_says g legal).sound in
-            let answered = subst (λ (T : State). IsAnswer T r o) is (told (refers_for_one r old refers needs) clean) in (
+            let answered = subst (λ (T : State). IsAnswer T r o) is (told needs clean) in (
               same_answer _ _ r o (replies g p r legal stranger quiet) answered,
               λ on. ap (λ (T : State). state_without T p) (state_stays clean on ∙ is ∙ sym (query_next r query (after g) o)) ∙ leaves_the_rest g p r o legal stranger quiet answered,
             );
-        grants = λ sound clean on holds. subst GrantsInScope (sym (left.same clean on)) holds;
-        needs = λ sound clean on holds. subst HoldsNeeds (sym (left.same clean on)) holds;
-        refers = λ sound clean on holds. subst HoldsReferences (sym (left.same clean on)) holds;
-        archives = λ sound clean on holds. subst HoldsArchives (sym (left.same clean on)) holds;
+        grants = left.rests.grants;
+        needs = λ needed clean on holds. subst HoldsNeeds (sym (left.same clean on)) holds;
+        refers = λ needed clean on holds. subst HoldsReferences (sym (left.same clean on)) holds;
+        archives = λ needed clean on holds. subst HoldsArchives (sym (left.same clean on)) holds;
         form = λ needs clean on kept. subst IsKept (sym (state_stays clean on)) kept;
         survives = survives_weaker old new _ _ (λ clean db it. query_leaves r query old db it) left.survives;
         durable = λ clean on. rests_sure store h (λ db. settled db on) left.rests clean on;
@@ -209,6 +206,7 @@ module _ (mid new : Shown) (rests : Rests mid) (left : IsLeftAlone mid new) wher
   pub walk_rests : Rests new
   walk_rests = record {
     idle = left.idle rests.idle;
+    grants = λ clean on. subst GrantsInScope (sym (walk_stored clean on)) (rests.grants (clean_before clean) (left.opened clean on));
     in_form = λ clean on. ready_again mid new (seen_again clean on) (rests.in_form (clean_before clean) (left.opened clean on));
     settled = λ clean on. seen_again clean on ∙ rests.settled (clean_before clean) (left.opened clean on) ∙ sym (left.committed clean on);
   }
@@ -253,27 +251,27 @@ module _ {S : Type 0} (store : Ghosts S) (settled : (h : Held S) (db : Trees) �
   fault_sends fault a s = (answered_as store (state store M) mid (settled mid) replies r query all (Err fault) (λ _ _. tt) (λ _. tt), Writes-nothing a s)
 
   module _ (open_still : HasCleanDisk (state store mid) → IsTrue (state store mid).is_open) where
-    pub refused_sends : (why : Refusal) → (HoldsSoundFor r (state store M) → HasCleanDisk (state store mid) → answer (registry_in (state store M)) r ≡ reply.Refused why) → (a : Option (List ℕ)) (s : Bool)
+    pub refused_sends : (why : Refusal) → (HasCleanDisk (state store mid) → answer (registry_in (state store M)) r ≡ reply.Refused why) → (a : Option (List ℕ)) (s : Bool)
         → Sends (answers_as_apply store) opens M r (Refused why) mid a a s
     refused_sends why told a s =
-        (answered_as store (state store M) mid (settled mid) replies r query all (Ok (reply.Refused why)) (λ sound clean. sym (told sound clean)) (λ clean. on_both open_still clean), Writes-nothing a s)
+        (answered_as store (state store M) mid (settled mid) replies r query all (Ok (reply.Refused why)) (λ needs clean. sym (told clean)) (λ clean. on_both open_still clean), Writes-nothing a s)
 
     -- a document, which the registry answers
-    as_document : (text : Text) → (HoldsSoundFor r (state store M) → HasCleanDisk (state store mid) → Doc text ≡ answer (registry_in (state store M)) r) → answers_as_apply store M r (Ok (Doc text)) mid
-    as_document text told = answered_as store (state store M) mid (settled mid) replies r query all (Ok (Doc text)) told (λ clean. on_both open_still clean)
+    as_document : (text : Text) → (HasCleanDisk (state store mid) → Doc text ≡ answer (registry_in (state store M)) r) → answers_as_apply store M r (Ok (Doc text)) mid
+    as_document text told = answered_as store (state store M) mid (settled mid) replies r query all (Ok (Doc text)) (λ needs. told) (λ clean. on_both open_still clean)
 
-    pub kept_sends : (text : Text) → (HoldsSoundFor r (state store M) → HasCleanDisk (state store mid) → answer (registry_in (state store M)) r ≡ Doc text) → (a b : Option (List ℕ)) (s : Bool) (sent : Sent)
+    pub kept_sends : (text : Text) → (HasCleanDisk (state store mid) → answer (registry_in (state store M)) r ≡ Doc text) → (a b : Option (List ℕ)) (s : Bool) (sent : Sent)
         → Takes opens (λ bytes. bytes ≡ text) a b s sent → Sends (answers_as_apply store) opens M r sent mid a b s
     kept_sends text told a b s sent takes =
-        let whole = λ (bytes : Text) (is : bytes ≡ text). as_document bytes (λ sound clean. ap Doc is ∙ sym (told sound clean)) in
+        let whole = λ (bytes : Text) (is : bytes ≡ text). as_document bytes (λ clean. ap Doc is ∙ sym (told clean)) in
         sends_by (answers_as_apply store) opens M mid r a b s (λ bytes. bytes ≡ text) sent (λ _. whole)
         (λ fault. answered_as store (state store M) mid (settled mid) replies r query all (Err fault) (λ _ _. tt) (λ _. tt)) (λ fault bytes is. (mid, whole bytes is, fault_after mid mid (leaves_itself (state store mid) all.rests) fault)) takes
 
-    module _ (head : HeadParts) (told : HoldsSoundFor r (state store M) → HasCleanDisk (state store mid) → (answer (registry_in (state store M)) r ≡ Doc (packument_in (registry_in (state store M)) p)) × (head ≡ head_in (registry_in (state store M)) p)) where
+    module _ (head : HeadParts) (told : HasCleanDisk (state store mid) → (answer (registry_in (state store M)) r ≡ Doc (packument_in (registry_in (state store M)) p)) × (head ≡ head_in (registry_in (state store M)) p)) where
       -- the text that is made of what is stored is the answer
-      made : (text : Text) → pack_text head (versions_in (registry_in (state store mid)) p) ≡ Some text → HoldsSoundFor r (state store M) → HasCleanDisk (state store mid) → Doc text ≡ answer (registry_in (state store M)) r
-      made text written sound clean =
-          let it = told sound clean in
+      made : (text : Text) → pack_text head (versions_in (registry_in (state store mid)) p) ≡ Some text → HasCleanDisk (state store mid) → Doc text ≡ answer (registry_in (state store M)) r
+      made text written clean =
+          let it = told clean in
           let stays : registry_in (state store mid) ≡ registry_in (state store M) = ap registry_of (all.same clean (open_still clean)) in
           ap Doc (packument_from (registry_in (state store M)) p head text it.1 (subst (λ (T : State). pack_text head (versions_in T p) ≡ Some text) stays written)) ∙ sym it.0
 
@@ -285,12 +283,12 @@ module _ {S : Type 0} (store : Ghosts S) (settled : (h : Held S) (db : Trees) �
           let whole = walk_leaves (state store mid) (state store N) all.rests left (state store M) all in
           let before = λ (clean : HasCleanDisk (state store N)). clean_before (state store mid) (state store N) all.rests left clean in
           sends_by (answers_as_apply store) opens M N r a b s (λ text. HasCleanDisk (state store N) → pack_text head (versions_in (registry_in (state store mid)) p) ≡ Some text) sent
-          (λ unbroken text written. answered_as store (state store M) N (settled N) replies r query whole (Ok (Doc text)) (λ sound clean. made text (written clean) sound (before clean))
+          (λ unbroken text written. answered_as store (state store M) N (settled N) replies r query whole (Ok (Doc text)) (λ needs clean. made text (written clean) (before clean))
           (λ clean. (whole.opened clean (unshut clean unbroken), unshut clean unbroken)))
           (λ fault. answered_as store (state store M) N (settled N) replies r query whole (Err fault) (λ _ _. tt) (λ _. tt))
           (λ fault text written. elim (is_clean (state store N).is_clean) [
-            | inl clean ↦ (mid, as_document text (λ sound were. made text (written clean) sound were), fault_after mid N (walk_leaves (state store mid) (state store N) all.rests left (state store mid) (leaves_itself (state store mid) all.rests)) fault)
-            | inr unclean ↦ (N, answered_as store (state store M) N (settled N) replies r query whole (Ok (Doc text)) (λ sound clean. absurd (unclean clean)) (λ clean. absurd (unclean clean)), fault_after N N (leaves_itself (state store N) whole.rests) fault)
+            | inl clean ↦ (mid, as_document text (λ were. made text (written clean) were), fault_after mid N (walk_leaves (state store mid) (state store N) all.rests left (state store mid) (leaves_itself (state store mid) all.rests)) fault)
+            | inr unclean ↦ (N, answered_as store (state store M) N (settled N) replies r query whole (Ok (Doc text)) (λ needs clean. absurd (unclean clean)) (λ clean. absurd (unclean clean)), fault_after N N (leaves_itself (state store N) whole.rests) fault)
           ])
           takes
 
@@ -304,6 +302,9 @@ module _ {S : Type 0} (store : Ghosts S) (old : Held S) (mid new : Shown) (rests
     were : HasCleanDisk new → HasCleanDisk mid
     were clean = omega (arith, last.clean, clean)
 
+    before : HasCleanDisk new → HasCleanDisk (state store old)
+    before clean = omega (arith, first.clean, were clean)
+
     -- a crash leaves what was stored
     read_survives : Survives (state store old) new (λ db. IsTrue (state store old).is_open × IsRegistryOf db (stored (state store old)))
     read_survives =
@@ -316,7 +317,9 @@ module _ {S : Type 0} (store : Ghosts S) (old : Held S) (mid new : Shown) (rests
     -- it was committed
     pub committed_all : (HasCleanDisk new → IsCommitted mid new) → LeavesAll (state store old) new
     committed_all ok = record {
-      rests = commit_rests (stored mid) mid new ended (λ clean. let it = reads (were clean) in record { holds = refl; ready = it.ready; mode = it.mode }) (λ clean. (ok clean).1);
+      rests = commit_rests (stored mid) mid new ended (λ clean. let it = reads (were clean) in record { holds = refl; ready = it.ready; mode = it.mode }) (λ clean.
+          let it = reads (were clean) in
+          subst GrantsInScope (sym (ap (λ (d : Database). contents d.trees) it.same)) (rests.grants (before clean) it.was_open)) (λ clean. (ok clean).1);
       opened = λ clean on. (reads (were clean)).was_open;
       same = λ clean on. ap (λ (d : Database). contents d.trees) ((ok clean).1.now_is ∙ (reads (were clean)).same);
       survives = read_survives;
@@ -325,7 +328,6 @@ module _ {S : Type 0} (store : Ghosts S) (old : Held S) (mid new : Shown) (rests
     -- it couldn't be committed
     pub uncommitted_all : (HasCleanDisk new → IsRolledBack mid new) → LeavesAll (state store old) new
     uncommitted_all back =
-        let before = λ (clean : HasCleanDisk new). (let clean_old : HasCleanDisk (state store old) = omega (arith, first.clean, were clean) in clean_old) in
         let keeps = λ (clean : HasCleanDisk new). (let k = (reads (were clean)).committed in let whole : KeepsCommit (state store old) mid = record { was_open = k.was_open; committed = k.committed } in whole) in
         record {
           rests = undone_rests (state store old) mid new rests ended (λ clean. (before clean, keeps clean, back clean));
@@ -385,31 +387,15 @@ walk_rows s p rows e = versions_are (registry_in s) p rows e
 
 -- ---- a packument that was sent was asked
 
-asked_as : (old new : Shown) (r : Request) (o : Outcome) → AnswersAsApply old new r o → HasAnswered old new r o
-asked_as old new r o a = record {
-  answer = a.answer;
-  served = a.served;
-  opened = a.opened;
-  step = a.step;
-  moves = a.moves;
-  grants = a.grants;
-  needs = a.needs;
-  refers = a.refers;
-  archives = a.archives;
-  form = a.form;
-  survives = a.survives;
-  durable = a.durable;
-}
-
 pub sent_are_asked : {S : Type 0} (store : Ghosts S) → SentAreAsked store
-sent_are_asked store opens M N r (Refused why) a b s it = (Ok (reply.Refused why), refl, asked_as _ _ r _ it.0)
-sent_are_asked store opens M N r Whole a b s it = (Ok (Doc it.0), (it.0, refl), asked_as _ _ r _ it.1)
-sent_are_asked store opens M N r WriteFault a b s it = (Ok (Doc it.0), (it.0, refl), asked_as _ _ r _ it.1)
-sent_are_asked store opens M N r (Broken fault false) a b s it = (Err fault, refl, asked_as _ _ r _ it.0)
-sent_are_asked store opens M N r (Broken fault true) a b s it = (Err fault, refl, asked_as _ _ r _ it.0)
+sent_are_asked store opens M N r (Refused why) a b s it = (Ok (reply.Refused why), refl, it.0)
+sent_are_asked store opens M N r Whole a b s it = (Ok (Doc it.0), (it.0, refl), it.1)
+sent_are_asked store opens M N r WriteFault a b s it = (Ok (Doc it.0), (it.0, refl), it.1)
+sent_are_asked store opens M N r (Broken fault false) a b s it = (Err fault, refl, it.0)
+sent_are_asked store opens M N r (Broken fault true) a b s it = (Err fault, refl, it.0)
 
 -- the disk was as clean where the document may have been answered
 pub broken_begin : {S : Type 0} (store : Ghosts S) → BrokenBeginTheAnswer store
-broken_begin store opens M N r fault a b s (failed, (text, may, wrote)) sound clean =
+broken_begin store opens M N r fault a b s (failed, (text, may, wrote)) needs clean =
     let were : HasCleanDisk (state store may.0) = omega (arith, may.2.survives.clean, clean) in
-    (text, sym (may.1.answer sound were), wrote)
+    (text, sym (may.1.answer needs were), wrote)

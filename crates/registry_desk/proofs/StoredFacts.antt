@@ -1,5 +1,5 @@
 -- Runs, one request at a time, and what they leave of all that is stored.
-use Rattle.std.proofs.Common.{◌≡◌, ◌⊎◌, inl, inr, ◌∙◌, arith, Bool, true, false, List, [], ◌∷◌, ◌++◌, Ok, Err, OnOk, IsTrue, true≢false, refl, sym, ap, subst}
+use Rattle.std.proofs.Common.{◌≡◌, ◌⊎◌, inl, inr, ◌∙◌, arith, Bool, true, false, List, [], ◌∷◌, ◌++◌, Ok, Err, OnOk, IsTrue, true≢false, length-append, refl, sym, ap, subst}
 use Rattle.sqlite.specs.State.{State as Shown, HasCleanDisk}
 use Rattle.sqlite.proofs.StateLemmas.{survives_then}
 use Rattle.sqlite_trees.specs.Tree.{Trees}
@@ -10,15 +10,14 @@ use Rattle.registry_rules.specs.declared.request.Request.{Request}
 use Rattle.registry_tables.specs.Contents.{Contents}
 use Rattle.registry_tables.specs.Effects.{registry_in, stored}
 use Rattle.registry_tables.specs.Needs.{HoldsNeeds}
-use Rattle.registry_tables.proofs.TeamFacts.{sound_teams}
 use Rattle.registry_rows.proofs.QuietFacts.{on_answer}
 use Rattle.registry_desk.specs.Found.{NeedsFor}
-use Rattle.registry_desk.specs.Lives.{HasAnswered, HasRun}
-use Rattle.registry_desk.specs.Promises.{HoldsReferences, HoldsSound, HoldsSoundFor, HoldsSoundForEach, NeedsForEach}
+use Rattle.registry_desk.specs.Promises.{Applied, HasHeadline, HasRun, HidesUnreadRun, NeedsForEach, RanTo, WritesHistory}
 use Rattle.registry_desk.specs.Resting.{IsRegistryOf, Serves, end_stored, left_by, next_stored, settled_by}
+use Rattle.registry_desk.proofs.HiddenFacts.{hide_along}
 use Rattle.registry_desk.proofs.SettlingFacts.{faulted_next}
 use Rattle.registry_laws_history.specs.Runs.{Outcome, HaveOutcomes, IsAnswer, next}
-use Rattle.registry_laws_history.proofs.RunFacts.{ran_none, ran_push}
+use Rattle.registry_laws_history.proofs.RunFacts.{headline_from, ran_none, ran_push, run_says}
 
 -- ---- what decides requests
 
@@ -30,20 +29,6 @@ needs_for _ c holds = tt
 pub needs_for_each : (rs : List Request) (c : Contents) → HoldsNeeds c → NeedsForEach rs c
 needs_for_each [] c holds = tt
 needs_for_each (r ∷ rs) c holds = (needs_for r.what c holds, needs_for_each rs c holds)
-
--- what is so for every request is so for one, and for a run
-pub sound_for_one : (r : Request) (s : Shown) → HoldsSound s → HoldsSoundFor r s
-sound_for_one r s sound = record { grants = sound.grants; needs = needs_for r.what (stored s) sound.needs }
-
-pub sound_for_each : (rs : List Request) (s : Shown) → HoldsSound s → HoldsSoundForEach rs s
-sound_for_each rs s sound = record { grants = sound.grants; needs = needs_for_each rs (stored s) sound.needs }
-
--- where references hold, grants are in scope
-pub refers_for_one : (r : Request) (s : Shown) → HoldsReferences (stored s) → NeedsFor r.what (stored s) → HoldsSoundFor r s
-refers_for_one r s refers needs = record { grants = (sound_teams (stored s) refers).grants; needs = needs }
-
-pub refers_for_each : (rs : List Request) (s : Shown) → HoldsReferences (stored s) → NeedsForEach rs (stored s) → HoldsSoundForEach rs s
-refers_for_each rs s refers needs = record { grants = (sound_teams (stored s) refers).grants; needs = needs }
 
 -- where a withdrawal's needs stay, those for the request do
 needs_stay : (what : Action) (c d : Contents) → (HoldsNeeds c → HoldsNeeds d) → NeedsFor what c → NeedsFor what d
@@ -109,13 +94,31 @@ answer_of T r (Err fault) P on answered = tt
 
 -- ---- all that holds of a request, and of a run
 
+-- what is said of histories follows from what was run
+module _ (old new : Shown) (rs : List Request) (os : List Outcome) (ran : RanTo old new rs os) where
+  has_headline : HasHeadline old new rs os
+  has_headline needs clean on empty = headline_from (registry_in old) rs os new.is_open (registry_in new) empty (ran needs clean) on
+
+  has_history : WritesHistory old new rs os
+  has_history needs clean on h legal is = run_says h (registry_in old) rs os new.is_open (registry_in new) (ran needs clean) on legal is
+
+  has_hidden : HidesUnreadRun old new rs os
+  has_hidden needs clean h legal is p = hide_along h p rs os legal (subst (λ (S : State). HaveOutcomes S rs os) is (ran needs clean).answers)
+
+none_ran : (s : Shown) → RanTo s s [] []
+none_ran s needs clean = ran_none (registry_in s) s.is_open
+
 pub has_run_none : (s : Shown) → HasRun s s [] []
 has_run_none s = record {
-  ran = λ sound clean. ran_none (registry_in s) s.is_open;
+  many = refl;
+  headline = has_headline s s [] [] (none_ran s);
+  history = has_history s s [] [] (none_ran s);
+  hidden = has_hidden s s [] [] (none_ran s);
+  ran = none_ran s;
   stored = λ sound clean on. refl;
   served = λ clean. refl;
   opened = λ clean on. on;
-  grants = λ sound clean on holds. holds;
+  grants = λ scoped. scoped;
   needs = λ sound clean on holds. holds;
   refers = λ sound clean on holds. holds;
   archives = λ sound clean on holds. holds;
@@ -127,42 +130,40 @@ has_run_none s = record {
 
 module _ (old mid : Shown) (rs : List Request) (os : List Outcome) (r : Request) (run : HasRun old mid rs os) where
   -- what decides the requests so far, and then the next one
-  sound_before : HoldsSoundForEach (rs ++ r ∷ []) old → HoldsSoundForEach rs old
-  sound_before sound = record { grants = sound.grants; needs = (needs_split rs r (stored old) sound.needs).0 }
+  needs_before : NeedsForEach (rs ++ r ∷ []) (stored old) → NeedsForEach rs (stored old)
+  needs_before needs = (needs_split rs r (stored old) needs).0
 
-  sound_still : HoldsSoundForEach (rs ++ r ∷ []) old → HasCleanDisk mid → IsTrue mid.is_open → HoldsSoundFor r mid
-  sound_still sound clean on =
-      let before = sound_before sound in
-      record {
-        grants = run.grants before clean on sound.grants;
-        needs = needs_stay r.what (stored old) (stored mid) (run.needs before clean on) (needs_split rs r (stored old) sound.needs).1;
-      }
+  needs_still : NeedsForEach (rs ++ r ∷ []) (stored old) → HasCleanDisk mid → IsTrue mid.is_open → NeedsFor r.what (stored mid)
+  needs_still needs clean on = needs_stay r.what (stored old) (stored mid) (run.needs (needs_before needs) clean on) (needs_split rs r (stored old) needs).1
 
 pub has_run_more : (old mid new : Shown) (rs : List Request) (os : List Outcome) (r : Request) (o : Outcome)
-    → HasRun old mid rs os → HasAnswered mid new r o → HasRun old new (rs ++ r ∷ []) (os ++ o ∷ [])
+    → HasRun old mid rs os → Applied mid new r o → HasRun old new (rs ++ r ∷ []) (os ++ o ∷ [])
 has_run_more old mid new rs os r o run made =
-    let Sound : Type 0 = HoldsSoundForEach (rs ++ r ∷ []) old in
+    let Sound : Type 0 = NeedsForEach (rs ++ r ∷ []) (stored old) in
     let before : HasCleanDisk new → HasCleanDisk mid = λ clean. omega (arith, made.survives.clean, clean) in
-    let first : Sound → HoldsSoundForEach rs old = sound_before old mid rs os r run in
-    let still : Sound → HasCleanDisk new → IsTrue mid.is_open → HoldsSoundFor r mid = λ sound clean on. sound_still old mid rs os r run sound (before clean) on in
+    let first : Sound → NeedsForEach rs (stored old) = needs_before old mid rs os r run in
+    let still : Sound → HasCleanDisk new → IsTrue mid.is_open → NeedsFor r.what (stored mid) = λ sound clean on. needs_still old mid rs os r run sound (before clean) on in
     let was_open : HasCleanDisk new → OnOk o (IsTrue mid.is_open) = λ clean. on_answer o (λ on. on.0) (made.served clean) in
     let same : Sound → HasCleanDisk new → IsTrue mid.is_open → stored mid ≡ end_stored rs os (stored old) = λ sound clean on. run.stored (first sound) (before clean) on in
     let opened : HasCleanDisk new → IsTrue mid.is_open → IsTrue old.is_open = λ clean on. run.opened (before clean) on in
+    let ran : RanTo old new (rs ++ r ∷ []) (os ++ o ∷ []) = λ sound clean. ran_push (registry_in old) (registry_in mid) (registry_in new) mid.is_open new.is_open rs os r o (run.ran (first sound) (before clean))
+    (answer_of (registry_in mid) r o (IsTrue mid.is_open) (was_open clean) (λ on. made.answer (still sound clean on) clean)) (was_open clean) (made.opened clean)
+    (λ on. made.moves (still sound clean (made.opened clean on)) clean on) in
     record {
-      ran = λ sound clean. ran_push (registry_in old) (registry_in mid) (registry_in new) mid.is_open new.is_open rs os r o (run.ran (first sound) (before clean))
-          (answer_of (registry_in mid) r o (IsTrue mid.is_open) (was_open clean) (λ on. made.answer (still sound clean on) clean)) (was_open clean) (made.opened clean)
-          (λ on. made.moves (still sound clean (made.opened clean on)) clean on);
+      many = omega (arith, run.many, length-append os (o ∷ []), length-append rs (r ∷ []));
+      headline = has_headline old new (rs ++ r ∷ []) (os ++ o ∷ []) ran;
+      history = has_history old new (rs ++ r ∷ []) (os ++ o ∷ []) ran;
+      hidden = has_hidden old new (rs ++ r ∷ []) (os ++ o ∷ []) ran;
+      ran = ran;
       stored = λ sound clean on. made.step (still sound clean (made.opened clean on)) clean on ∙ ap (next_stored r o) (same sound clean (made.opened clean on))
           ∙ sym (end_stored_push (registry_in old) (stored old) rs os r o (run.ran (first sound) (before clean)).answers);
       served = λ clean. served_push old.is_open mid.is_open new.is_open os o (run.served (before clean)) (served_one mid.is_open new.is_open o (made.served clean) (made.opened clean));
       opened = λ clean on. opened clean (made.opened clean on);
-      grants = λ sound clean on holds. made.grants (still sound clean (made.opened clean on)) clean on (run.grants (first sound) (before clean) (made.opened clean on) holds);
+      grants = λ scoped. made.grants;
       needs = λ sound clean on holds. made.needs (still sound clean (made.opened clean on)) clean on (run.needs (first sound) (before clean) (made.opened clean on) holds);
       refers = λ sound clean on holds. made.refers (still sound clean (made.opened clean on)) clean on (run.refers (first sound) (before clean) (made.opened clean on) holds);
       archives = λ sound clean on holds. made.archives (still sound clean (made.opened clean on)) clean on (run.archives (first sound) (before clean) (made.opened clean on) holds);
-      form = λ needs clean on kept.
-          let sound : Sound = refers_for_each (rs ++ r ∷ []) old kept.sound needs in
-          made.form (still sound clean (made.opened clean on)).needs clean on (run.form (first sound).needs (before clean) (made.opened clean on) kept);
+      form = λ sound clean on kept. made.form (still sound clean (made.opened clean on)) clean on (run.form (first sound) (before clean) (made.opened clean on) kept);
       survives = λ sound clean db left. left_by_push (IsTrue old.is_open) (registry_in old) old.may_leave rs os r o (stored old) db (run.ran (first sound) (before clean)).answers
           (left_by_one (IsTrue old.is_open) _ r o _ db
           (elim (made.survives.crash clean db left) [

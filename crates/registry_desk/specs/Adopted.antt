@@ -2,7 +2,7 @@
 use Rattle.std.specs.Prelude.{◌≡◌, IsTrue}
 use Rattle.std.specs.List.{AllByRecursion}
 use Rattle.sqlite.specs.Closing.{files_left}
-use Rattle.sqlite.specs.Files.{IsClosed}
+use Rattle.sqlite.specs.Files.{IsClosed, file_state}
 use Rattle.sqlite.specs.State.{State as Shown, HasCleanDisk, Survives}
 use Rattle.sqlite_disk.specs.declared.Disk as disk
 use Rattle.sqlite_disk.specs.declared.Files.{Files}
@@ -46,6 +46,12 @@ module _ (old new : Shown) where
   -- where it is open, it was, and it sees what it saw, inside a transaction or not as before
   abbrev pub IsHandedBack : Type 0
   IsHandedBack = (new.in_transaction ≡ old.in_transaction) × (HasCleanDisk new → IsTrue new.is_open → IsTrue old.is_open × (new.now ≡ old.now))
+
+-- a database that is left after an open that failed can be adopted
+module _ {D : Type 0} {g : disk.Ghosts D} where
+  abbrev pub CanBeAdoptedAgain : Unopened D g → Type 0
+  CanBeAdoptedAgain (unopened.Files rest) = Unit {0}
+  CanBeAdoptedAgain (unopened.Database conn) = CanBeAdopted (file_state conn)
 
 -- The files of what is left after an open that failed. Those of a database are its store's after a
 -- close, and a crash then leaves nothing that it couldn't have left before

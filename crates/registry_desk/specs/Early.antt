@@ -1,7 +1,7 @@
 -- What is refused before all that decides it is loaded. What is costly to load is the needs of all
 -- packages, and lists: the versions of a package, those that were withdrawn, its maintainers, the
 -- members of an organisation
-use Rattle.std.specs.Prelude.{◌≡◌, ℕ, false, Option, Some, None, Result, Ok, Err}
+use Rattle.std.specs.Prelude.{◌≡◌, ℕ, Option, Some, None, Result, Ok, Err}
 use Rattle.std.specs.Option.{option_or}
 use Rattle.registry_names.specs.Texts.{Text}
 use Rattle.registry_names.specs.Versions.{text_of_version}
@@ -21,9 +21,11 @@ use Rattle.registry_rules.specs.Facts.{AboutTells}
 use Rattle.registry_rules.specs.Permissions.{permission}
 use Rattle.registry_rules.specs.Refusals.{refusal_by, unless_allowed, withdraw_refusal}
 use Rattle.registry_rules.specs.State.{State}
-use Rattle.registry_rules.specs.Withdrawals.{published_at}
+use Rattle.registry_rules.specs.Withdrawals.{is_depended, published_at}
 use Rattle.registry_rules.specs.declared.request.Action.{Action}
 use Rattle.registry_rules.specs.declared.request.Action.TheVariants.{OrgSet, OrgRemove, OwnerRemove, Publish, Withdraw, Deprecate}
+use Rattle.registry_tables.specs.Contents.{Contents, registry_of}
+use Rattle.registry_desk.specs.Found.{NeedsFor}
 use Rattle.registry_desk.specs.declared.policy.Found.{Found}
 use Rattle.registry_desk.specs.declared.policy.Found.TheVariants as found
 
@@ -32,15 +34,14 @@ abbrev pub denial : Access → Caller → Action → Option Refusal
 denial A who what = unless_allowed (permission A who what)
 
 -- Why an action is refused before what is costly to load is loaded. The policy is asked first of
--- each that needs something costly; of a withdrawal then whether the version lives, and whether it
--- is too old, whoever needs it
+-- each that needs something costly; of a withdrawal then all that refuses it
 abbrev pub early_refusal : State → ℕ → Caller → Action → Option Refusal
 early_refusal S now who (OrgSet o u role) = denial S.access who (OrgSet o u role)
 early_refusal S now who (OrgRemove o u) = denial S.access who (OrgRemove o u)
 early_refusal S now who (OwnerRemove p u) = denial S.access who (OwnerRemove p u)
 early_refusal S now who (Publish f) = denial S.access who (Publish f)
 early_refusal S now who (Withdraw p v) =
-    option_or (denial S.access who (Withdraw p v)) (withdraw_refusal now (published_at S p (text_of_version v)) false)
+    option_or (denial S.access who (Withdraw p v)) (withdraw_refusal now (published_at S p (text_of_version v)) (is_depended S p v))
 early_refusal S now who (Deprecate p selector message) = denial S.access who (Deprecate p selector message)
 early_refusal S now who _ = None
 
@@ -48,6 +49,18 @@ early_refusal S now who _ = None
 abbrev pub FoundTells : Found → State → ℕ → Caller → Action → Type 0
 FoundTells (found.Refused why) S now who what = early_refusal S now who what ≡ Some why
 FoundTells (found.About about) S now who what = (early_refusal S now who what ≡ None) × AboutTells about S who what
+
+-- what was found of an action that isn't refused early decides it in some state in which everybody
+-- has the same rights
+abbrev pub TellsSome : Found → State → Caller → Action → Type 0
+TellsSome (found.Refused why) S who what = Unit {0}
+TellsSome (found.About about) S who what = (T : State) × (T.access ≡ S.access) × AboutTells about T who what
+
+-- What was found of an action, by what is stored: what decides it, where the needs for it are those
+-- of live versions. Where they aren't, it decides the action in some other state
+pub record IsFound (found : Found) (c : Contents) (now : ℕ) (who : Caller) (what : Action) : Type 0 where
+  pub tells : NeedsFor what c → FoundTells found (registry_of c) now who what
+  pub some : TellsSome found (registry_of c) who what
 
 -- an early refusal is that of the machine
 abbrev pub EarlyRefusalsStand : Type 0

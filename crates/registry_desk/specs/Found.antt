@@ -2,7 +2,7 @@
 use Rattle.std.specs.Prelude.{◌≡◌, true, Some, map, filter, option_map}
 use Rattle.registry_names.specs.Maps.{at, keys, of, pairs_of, parts, seen}
 use Rattle.registry_names.specs.Texts.{Text}
-use Rattle.registry_names.specs.Versions.{VersionParts, text_of_version}
+use Rattle.registry_names.specs.Versions.{text_of_version}
 use Rattle.registry_names.specs.Tags.{latest}
 use Rattle.registry_access.specs.Levels.{reads}
 use Rattle.registry_access.specs.Positions.{level_in}
@@ -14,7 +14,7 @@ use Rattle.registry_publish.specs.Form.{FormParts}
 use Rattle.registry_rules.specs.Actions.{is_command, version_of}
 use Rattle.registry_rules.specs.Callers.{caller_of}
 use Rattle.registry_rules.specs.State.{State, Release, has_grant, has_live, has_maintainer, has_other_maintainer, has_other_owner, has_team, has_user, is_in_team, is_live, is_member, is_published, is_spent, stands}
-use Rattle.registry_rules.specs.Withdrawals.{is_depended, last_withdrawal, live_versions, tags_of}
+use Rattle.registry_rules.specs.Withdrawals.{last_withdrawal, live_versions}
 use Rattle.registry_rules.specs.declared.request.Action.{Action}
 use Rattle.registry_rules.specs.declared.request.Action.TheVariants.{Deprecate, VersionDoc, Archive, Tags, Members, Teams, TeamMembers, TeamPackages, Withdraw}
 use Rattle.registry_rules.specs.declared.request.Request.{Request}
@@ -29,7 +29,6 @@ use Rattle.registry_desk.specs.declared.maintainers.Newcomer.{Newcomer}
 use Rattle.registry_desk.specs.declared.organisations.Candidate.{Candidate}
 use Rattle.registry_desk.specs.declared.packages.Taken.{Taken}
 use Rattle.registry_desk.specs.declared.teams.Place.{Place}
-use Rattle.registry_desk.specs.declared.withdrawals.Life.{Life}
 use Rattle.registry_desk.specs.declared.rows.Rows.{Rows}
 use Rattle.registry_desk.specs.declared.rows.Rows.TheVariants as rows
 
@@ -99,12 +98,6 @@ pub record AreTaken (taken : Taken) (S : State) (f : FormParts) : Type 0 where
   pub latest_stands : taken.latest_stands ≡ stands S f.name latest
   pub lives : taken.lives ≡ has_live S f.name
   pub last_withdrawal : taken.last_withdrawal ≡ last_withdrawal S f.name
-
--- it says whether another package needs the version, which tags name it, and which versions live
-pub record IsLife (life : Life) (S : State) (p : Text) (v : VersionParts) : Type 0 where
-  pub depended : life.depended ≡ is_depended S p v
-  pub tags : life.tags.items ≡ tags_of S p (text_of_version v)
-  pub live : map text_of_version life.live.items ≡ live_versions S p
 
 -- it says whether the user is there, and whether they are a maintainer already
 pub record IsNewcomer (newcomer : Newcomer) (S : State) (p u : Text) : Type 0 where

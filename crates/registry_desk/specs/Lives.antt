@@ -21,41 +21,10 @@ use Rattle.registry_laws_history.specs.Runs.{Outcome, Ran, history}
 use Rattle.registry_laws_history.specs.Says.{Says}
 use Rattle.registry_desk.specs.Adopted.{IsMade}
 use Rattle.registry_desk.specs.Opened.{HoldsEach}
-use Rattle.registry_desk.specs.Promises.{Answered, HoldsReferences, HoldsSoundFor, IsSure, Keeps, KeepsForm, KeepsFormRun, KeepsRun, KeepsSure, Moves, RanTo, Served, ServedRun, ShutByFaults, StaysSure, Stepped, Stored, SurvivesOne, SurvivesRun, WasOpen}
+use Rattle.registry_desk.specs.Found.{NeedsFor}
+use Rattle.registry_desk.specs.Promises.{Applied, HasRun, IsSure, RanTo, StaysSure, Stepped, Stored, SurvivesOne, SurvivesRun}
 use Rattle.registry_desk.specs.Resting.{Rests, end_stored, next_stored, settled_by}
 use Rattle.registry_desk.specs.Stops.{AreLeft}
-
--- ---- requests, one after another
-
--- what `apply` promises of a request
-pub record HasAnswered (old new : Shown) (r : Request) (o : Outcome) : Type 0 where
-  pub answer : Answered old new r o
-  pub served : Served old new o
-  pub opened : WasOpen old new
-  pub step : Stepped old new r o
-  pub moves : Moves old new r o
-  pub grants : Keeps old new r GrantsInScope
-  pub needs : Keeps old new r HoldsNeeds
-  pub refers : Keeps old new r HoldsReferences
-  pub archives : Keeps old new r HoldsArchives
-  pub form : KeepsForm old new r
-  pub survives : SurvivesOne old new r
-  pub durable : StaysSure new
-
--- what `run` promises of requests
-pub record HasRun (old new : Shown) (rs : List Request) (os : List Outcome) : Type 0 where
-  pub ran : RanTo old new rs os
-  pub stored : Stored old new rs os
-  pub served : ServedRun old new os
-  pub opened : WasOpen old new
-  pub grants : KeepsRun old new rs GrantsInScope
-  pub needs : KeepsRun old new rs HoldsNeeds
-  pub refers : KeepsRun old new rs HoldsReferences
-  pub archives : KeepsRun old new rs HoldsArchives
-  pub form : KeepsFormRun old new rs
-  pub survives : SurvivesRun old new rs os
-  pub durable : KeepsSure old new
-  pub closes : ShutByFaults old new
 
 -- ---- what a life does
 
@@ -135,7 +104,6 @@ Follows last next = IsOpenedAgain last next ⊎ (IsHandedOn last next ⊎ IsAske
 
 -- what a life supposes of all that is stored, and leaves so
 pub record IsInOrder (c : Contents) : Type 0 where
-  pub grants : GrantsInScope c
   pub needs : HoldsNeeds c
   pub archives : HoldsArchives c
 
@@ -164,6 +132,7 @@ pub record AreOneRun (lives : List Life) (first last : Contents) : Type 0 where
   pub ran : Ran (registry_of first) requests replies true (registry_of last)
   pub same : last ≡ end_stored requests replies first
   pub in_order : IsInOrder last
+  pub grants : GrantsInScope first → GrantsInScope last
   pub headline : registry_of first ≡ nothing → Headline requests replies (registry_of last)
   pub says : (h : List Entry) → Legal h → registry_of first ≡ after h → Says (history h (registry_of first) requests replies) (registry_of last)
 
@@ -179,7 +148,7 @@ module _ {C : Type 0} (show : C → Shown) where
   -- requests are asked by `apply`, one after another
   abbrev pub AskedInTurn : List Request → List Outcome → C → C → Type 0
   AskedInTurn [] [] first last = last ≡ first
-  AskedInTurn (r ∷ rs) (o ∷ os) first last = (next : C) × HasAnswered (show first) (show next) r o × AskedInTurn rs os next last
+  AskedInTurn (r ∷ rs) (o ∷ os) first last = (next : C) × Applied (show first) (show next) r o × AskedInTurn rs os next last
   AskedInTurn [] (o ∷ os) first last = ⊥
   AskedInTurn (r ∷ rs) [] first last = ⊥
 
@@ -194,14 +163,14 @@ module _ {C D : Type 0} (show : C → Shown) (show_next : D → Shown) where
   -- Wherever it is stopped, the registry that is opened from what a crash leaves holds what was
   -- held before the request, or what all of it makes. So nothing that was answered before is lost
   abbrev pub StopsLeaveAllOrNothing : Type 0
-  StopsLeaveAllOrNothing = (first last : C) (next : D) (r : Request) → HoldsSoundFor r (show first) → IsSure (show first) → SurvivesOne (show first) (show last) r
+  StopsLeaveAllOrNothing = (first last : C) (next : D) (r : Request) → NeedsFor r.what (stored (show first)) → IsSure (show first) → SurvivesOne (show first) (show last) r
       → IsOpenedAgain (show last) (show_next next) → HasCleanDisk (show_next next)
       → (stored (show_next next) ≡ stored (show first)) ⊎ (stored (show_next next) ≡ settled_by r (stored (show first)))
 
   -- where the request leaves the registry open, it holds what the outcome says: after a reply what
   -- the request makes, and after a fault what was held before it
   abbrev pub StopsKeepOutcomes : Type 0
-  StopsKeepOutcomes = (first last : C) (next : D) (r : Request) (o : Outcome) → HoldsSoundFor r (show first) → Stepped (show first) (show last) r o → StaysSure (show last)
+  StopsKeepOutcomes = (first last : C) (next : D) (r : Request) (o : Outcome) → NeedsFor r.what (stored (show first)) → Stepped (show first) (show last) r o → StaysSure (show last)
       → IsTrue (show last).is_open → IsOpenedAgain (show last) (show_next next) → HasCleanDisk (show_next next)
       → stored (show_next next) ≡ next_stored r o (stored (show first))
 

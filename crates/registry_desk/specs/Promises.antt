@@ -3,41 +3,38 @@
 --
 -- | Clause    | Of  | Says                                                            | Needs     |
 -- |-----------|-----|-----------------------------------------------------------------|-----------|
--- | answer    | a   | a reply is the machine's                                        | S         |
--- | ran       | r   | so is each, on what the earlier ones left                       | S         |
+-- | answer    | a   | a reply is the machine's                                        | N         |
+-- | ran       | r   | so is each, on what the earlier ones left                       | N         |
 -- | served    | a r | a reply comes from an open registry, and leaves it open         |           |
 -- | opened    | a r | it was open where it is open                                    |           |
 -- | unchanged | a   | a fault, a refusal and a query change nothing that is stored    | open      |
--- | step      | a   | what is stored is changed as the outcome says                   | S, open   |
--- | stored    | r   | and as all outcomes say                                         | S, open   |
--- | moves     | a   | so is the registry's state                                      | S, open   |
+-- | step      | a   | what is stored is changed as the outcome says                   | N, open   |
+-- | stored    | r   | and as all outcomes say                                         | N, open   |
+-- | moves     | a   | so is the registry's state                                      | N, open   |
 -- | history   | a r | a legal history of what was held goes on                        | N, open   |
 -- | hidden    | a r | who may not read a package is answered as if it weren't there,  | N         |
 -- |           |     | and leaves the rest as if it weren't                            | N, open   |
 -- | headline  | r   | the theorem, of a registry of which nothing was asked           | N, open   |
--- | grants    | a r | grants stay in scope                                            | S, open   |
--- | needs     | a r | the needs that are stored stay those of live versions           | S, open   |
--- | refers    | a r | references go on to hold                                        | S, open   |
--- | archives  | a r | the archives stay those of live versions                        | S, open   |
+-- | grants    | a r | each grant is on a package of its organisation's scope          | open      |
+-- | needs     | a r | the needs that are stored stay those of live versions           | N, open   |
+-- | refers    | a r | references go on to hold                                        | N, open   |
+-- | archives  | a r | the archives stay those of live versions                        | N, open   |
 -- | form      | a r | each text that is held stays in form                            | N, open   |
 -- | survives  | a   | what a crash leaves: tables in form, and of a query all as it was |         |
--- |           |     | and of a command what it makes                                  | S         |
--- | survives  | r   | what a crash leaves, by the outcomes; no reply is lost          | S         |
+-- |           |     | and of a command what it makes                                  | N         |
+-- | survives  | r   | what a crash leaves, by the outcomes; no reply is lost          | N         |
 -- | durable   | a   | a crash leaves what is stored, and nothing else                 | open      |
 -- | durable   | r   | it still does, where it did at the entry                        | open      |
 -- | closes    | r   | only a fault of the disk shuts it                               |           |
 --
 -- Of: a is `Registry::apply`, and r is `Registry::run`. Needs: each clause supposes a clean disk at
 -- the exit (`HasCleanDisk`), and also
---   S     at the entry each grant is on a package of its organisation's scope, and, where a
---         withdrawal is asked for, the needs that are stored are those of live versions
---         (`HoldsSoundFor`, `HoldsSoundForEach`): what decides a request is read from them;
---   N     the second alone (`NeedsFor`, `NeedsForEach`): a legal history led to the state, nothing
---         was asked, or it is in form, and in each of these grants are in scope;
+--   N     where a withdrawal is asked for, at the entry the needs that are stored are those of live
+--         versions (`NeedsFor`, `NeedsForEach`): it is decided by them;
 --   open  the registry is open at the exit: a fault of the disk may have shut it.
--- A new registry has S and N of every request (`HoldsSound`), and every request keeps that by
--- `grants` and `needs`.
-use Rattle.std.specs.Prelude.{◌≡◌, false, Bool, List, ◌∷◌, IfErr, IfOk, OnOk, Result, Ok, Err, IsTrue}
+-- A new registry has N of every request (`HoldsSound`), and every request keeps that by `needs`.
+-- That grants are in scope is read at an open, and is known of every registry (`Rests`).
+use Rattle.std.specs.Prelude.{◌≡◌, false, Bool, List, ◌∷◌, length, IfErr, IfOk, OnOk, Result, Ok, Err, IsTrue}
 use Rattle.std.specs.List.{AllByRecursion}
 use Rattle.sqlite_trees.specs.Tree.{Trees}
 use Rattle.sqlite.specs.State.{State as Shown, HasCleanDisk, Survives}
@@ -55,6 +52,7 @@ use Rattle.registry_rules.specs.declared.request.Request.{Request}
 use Rattle.registry_rows.specs.Faults.{as_fault}
 use Rattle.registry_tables.specs.Contents.{Contents, contents, registry_of}
 use Rattle.registry_tables.specs.Effects.{registry_in, stored}
+use Rattle.registry_tables.specs.Archives.{HoldsArchives}
 use Rattle.registry_tables.specs.Needs.{HoldsNeeds}
 use Rattle.registry_tables.specs.Teams.{GrantsInScope}
 use Rattle.registry_laws_history.specs.Headline.{Headline}
@@ -65,7 +63,7 @@ use Rattle.registry_laws_hidden.specs.Concerns.{is_shown}
 use Rattle.registry_laws_hidden.specs.Levels.{IsStranger}
 use Rattle.registry_laws_hidden.specs.Without.{state_without}
 use Rattle.registry_desk.specs.Found.{NeedsFor}
-use Rattle.registry_desk.specs.Resting.{HasTables, IsRegistryOf, Serves, end_stored, left_by, next_stored, settled_by}
+use Rattle.registry_desk.specs.Resting.{HasGrantsInScope, HasTables, IsRegistryOf, Serves, end_stored, left_by, next_stored, settled_by}
 
 -- an open after a crash finds what is stored now, and nothing else
 abbrev pub IsSure : Shown → Type 0
@@ -85,18 +83,8 @@ HoldsReferences c = IsSound (registry_of c).access
 abbrev pub NeedsForEach : List Request → Contents → Type 0
 NeedsForEach rs c = AllByRecursion (λ (r : Request). NeedsFor r.what c) rs
 
--- each grant is on a package of its organisation's scope, and for a withdrawal the needs that are
--- stored are those of live versions
-pub record HoldsSoundFor (r : Request) (s : Shown) : Type 0 where
-  pub grants : GrantsInScope (stored s)
-  pub needs : NeedsFor r.what (stored s)
-
--- this holds for each of the requests
-pub record HoldsSoundForEach (rs : List Request) (s : Shown) : Type 0 where
-  pub grants : GrantsInScope (stored s)
-  pub needs : NeedsForEach rs (stored s)
-
--- this holds for every request
+-- Each grant is on a package of its organisation's scope, and the needs that are stored are those of
+-- live versions
 pub record HoldsSound (s : Shown) : Type 0 where
   pub grants : GrantsInScope (stored s)
   pub needs : HoldsNeeds (stored s)
@@ -108,7 +96,7 @@ pub record LeavesOne (r : Request) (old : Shown) (db : Trees) : Type 0 where
   pub was_open : IsTrue old.is_open
   pub form : HasTables db
   pub query : is_command r.what ≡ false → contents db ≡ stored old
-  pub settled : HoldsSoundFor r old → contents db ≡ settled_by r (stored old)
+  pub settled : NeedsFor r.what (stored old) → contents db ≡ settled_by r (stored old)
 
 -- ---- a package that a caller doesn't read
 
@@ -138,7 +126,7 @@ module _ (old new : Shown) where
 
   -- a reply is the machine's
   abbrev pub Answered : Request → Outcome → Type 0
-  Answered r o = HoldsSoundFor r old → HasCleanDisk new → IsAnswer (registry_in old) r o
+  Answered r o = NeedsFor r.what (stored old) → HasCleanDisk new → IsAnswer (registry_in old) r o
 
   -- a reply comes only from an open registry, and leaves it open
   abbrev pub Served : Outcome → Type 0
@@ -150,11 +138,11 @@ module _ (old new : Shown) where
 
   -- what is stored is changed as the outcome says
   abbrev pub Stepped : Request → Outcome → Type 0
-  Stepped r o = HoldsSoundFor r old → HasCleanDisk new → IsTrue new.is_open → stored new ≡ next_stored r o (stored old)
+  Stepped r o = NeedsFor r.what (stored old) → HasCleanDisk new → IsTrue new.is_open → stored new ≡ next_stored r o (stored old)
 
   -- the registry's state goes on as the outcome says
   abbrev pub Moves : Request → Outcome → Type 0
-  Moves r o = HoldsSoundFor r old → HasCleanDisk new → IsTrue new.is_open → registry_in new ≡ next (registry_in old) r o
+  Moves r o = NeedsFor r.what (stored old) → HasCleanDisk new → IsTrue new.is_open → registry_in new ≡ next (registry_in old) r o
 
   -- a legal history of what is held goes on with the request where it was accepted
   abbrev pub GrowsHistory : Request → Outcome → Type 0
@@ -171,7 +159,7 @@ module _ (old new : Shown) where
 
   -- where this held of all that was stored, it still does
   abbrev pub Keeps : Request → (Contents → Type 0) → Type 0
-  Keeps r P = HoldsSoundFor r old → HasCleanDisk new → IsTrue new.is_open → P (stored old) → P (stored new)
+  Keeps r P = NeedsFor r.what (stored old) → HasCleanDisk new → IsTrue new.is_open → P (stored old) → P (stored new)
 
   -- what the registry holds stays in form
   abbrev pub KeepsForm : Request → Type 0
@@ -199,11 +187,11 @@ module _ (old new : Shown) where
 
   -- each outcome is the machine's answer on what the earlier ones left, or a fault
   abbrev pub RanTo : List Request → List Outcome → Type 0
-  RanTo rs os = HoldsSoundForEach rs old → HasCleanDisk new → Ran (registry_in old) rs os new.is_open (registry_in new)
+  RanTo rs os = NeedsForEach rs (stored old) → HasCleanDisk new → Ran (registry_in old) rs os new.is_open (registry_in new)
 
   -- what is stored is changed as the outcomes say
   abbrev pub Stored : List Request → List Outcome → Type 0
-  Stored rs os = HoldsSoundForEach rs old → HasCleanDisk new → IsTrue new.is_open → stored new ≡ end_stored rs os (stored old)
+  Stored rs os = NeedsForEach rs (stored old) → HasCleanDisk new → IsTrue new.is_open → stored new ≡ end_stored rs os (stored old)
 
   -- of a registry of which nothing was asked yet
   abbrev pub HasHeadline : List Request → List Outcome → Type 0
@@ -226,7 +214,7 @@ module _ (old new : Shown) where
 
   -- where this held of all that was stored, it still does
   abbrev pub KeepsRun : List Request → (Contents → Type 0) → Type 0
-  KeepsRun rs P = HoldsSoundForEach rs old → HasCleanDisk new → IsTrue new.is_open → P (stored old) → P (stored new)
+  KeepsRun rs P = NeedsForEach rs (stored old) → HasCleanDisk new → IsTrue new.is_open → P (stored old) → P (stored new)
 
   -- what the registry holds stays in form
   abbrev pub KeepsFormRun : List Request → Type 0
@@ -235,7 +223,7 @@ module _ (old new : Shown) where
   -- after each reply a crash leaves what is stored then and nothing else, and after a fault what it
   -- could have left before, or what an open registry makes of the request
   abbrev pub SurvivesRun : List Request → List Outcome → Type 0
-  SurvivesRun rs os = HoldsSoundForEach rs old → HasCleanDisk new → (db : Trees) → new.may_leave db → left_by (IsTrue old.is_open) old.may_leave rs os (stored old) db
+  SurvivesRun rs os = NeedsForEach rs (stored old) → HasCleanDisk new → (db : Trees) → new.may_leave db → left_by (IsTrue old.is_open) old.may_leave rs os (stored old) db
 
   -- where a crash left what was stored and nothing else, as long as it was open, it still does
   abbrev pub KeepsSure : Type 0
@@ -244,3 +232,49 @@ module _ (old new : Shown) where
   -- only a fault of the disk shuts it, and no fault is forgotten
   abbrev pub ShutByFaults : Type 0
   ShutByFaults = Survives old new (λ db. Unit {0})
+
+-- ---- all of this
+
+-- all that `apply` promises of a request
+pub record Applied (old new : Shown) (r : Request) (o : Outcome) : Type 0 where
+  pub answer : Answered old new r o
+  pub served : Served old new o
+  pub opened : WasOpen old new
+  pub unchanged : Unchanged old new r o
+  pub step : Stepped old new r o
+  pub moves : Moves old new r o
+  pub history : GrowsHistory old new r o
+  pub hidden : HidesUnread old new r o
+  pub grants : HasGrantsInScope new
+  pub needs : Keeps old new r HoldsNeeds
+  pub refers : Keeps old new r HoldsReferences
+  pub archives : Keeps old new r HoldsArchives
+  pub form : KeepsForm old new r
+  pub survives : SurvivesOne old new r
+  pub durable : StaysSure new
+
+-- All that `run` promises of requests. Where grants were in scope before it, they are after it
+pub record HasRun (old new : Shown) (rs : List Request) (os : List Outcome) : Type 0 where
+  pub many : length os ≡ length rs
+  pub headline : HasHeadline old new rs os
+  pub history : WritesHistory old new rs os
+  pub hidden : HidesUnreadRun old new rs os
+  pub ran : RanTo old new rs os
+  pub stored : Stored old new rs os
+  pub served : ServedRun old new os
+  pub opened : WasOpen old new
+  pub grants : HasGrantsInScope old → HasGrantsInScope new
+  pub needs : KeepsRun old new rs HoldsNeeds
+  pub refers : KeepsRun old new rs HoldsReferences
+  pub archives : KeepsRun old new rs HoldsArchives
+  pub form : KeepsFormRun old new rs
+  pub survives : SurvivesRun old new rs os
+  pub durable : KeepsSure old new
+  pub closes : ShutByFaults old new
+
+-- what was asked comes to one run
+pub record IsOneRun (old new : Shown) (Asked : List Request → List Outcome → Type 0) : Type 0 where
+  pub requests : List Request
+  pub outcomes : List Outcome
+  pub asked : Asked requests outcomes
+  pub run : HasRun old new requests outcomes

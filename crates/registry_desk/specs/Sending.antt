@@ -21,15 +21,12 @@ use Rattle.registry_rules.specs.declared.reply.Reply.TheVariants.{Doc}
 use Rattle.registry_rules.specs.declared.request.Action.{Action}
 use Rattle.registry_rules.specs.declared.request.Action.TheVariants.{Packument}
 use Rattle.registry_rules.specs.declared.request.Request.{Request}
-use Rattle.registry_tables.specs.Archives.{HoldsArchives}
 use Rattle.registry_tables.specs.Effects.{registry_in, stored}
-use Rattle.registry_tables.specs.Needs.{HoldsNeeds}
-use Rattle.registry_tables.specs.Teams.{GrantsInScope}
 use Rattle.registry_laws_history.specs.Answers.{answer, head_of, packument_in, version_row}
 use Rattle.registry_laws_history.specs.Runs.{Outcome}
 use Rattle.registry_desk.specs.Caches.{live_packument}
-use Rattle.registry_desk.specs.Lives.{HasAnswered}
-use Rattle.registry_desk.specs.Promises.{Answered, GrowsHistory, HidesUnread, HoldsReferences, HoldsSoundFor, Keeps, KeepsForm, KeepsStored, Moves, Served, StaysSure, Stepped, SurvivesOne, Unchanged, WasOpen}
+use Rattle.registry_desk.specs.Found.{NeedsFor}
+use Rattle.registry_desk.specs.Promises.{Applied, KeepsStored, WasOpen}
 use Rattle.registry_desk.specs.Resting.{IsRegistryOf, Rests}
 use Rattle.registry_desk.specs.declared.sending.Origin.{Origin}
 use Rattle.registry_desk.specs.declared.sending.Origin.TheVariants as origin
@@ -40,27 +37,9 @@ IsPackument what = (name : Text) × (what ≡ Packument name)
 
 -- ---- a packument that is sent is a request that is answered
 
--- all that `apply` promises of a request
-pub record AnswersAsApply (old new : Shown) (r : Request) (o : Outcome) : Type 0 where
-  pub answer : Answered old new r o
-  pub served : Served old new o
-  pub opened : WasOpen old new
-  pub unchanged : Unchanged old new r o
-  pub step : Stepped old new r o
-  pub moves : Moves old new r o
-  pub history : GrowsHistory old new r o
-  pub hidden : HidesUnread old new r o
-  pub grants : Keeps old new r GrantsInScope
-  pub needs : Keeps old new r HoldsNeeds
-  pub refers : Keeps old new r HoldsReferences
-  pub archives : Keeps old new r HoldsArchives
-  pub form : KeepsForm old new r
-  pub survives : SurvivesOne old new r
-  pub durable : StaysSure new
-
--- this holds of the connections at the entry and at the exit
+-- all that `apply` promises of a request, of the connections at the entry and at the exit
 abbrev pub answers_as_apply : {S : Type 0} → Ghosts S → Held S → Request → Outcome → Held S → Type 0
-answers_as_apply store M r o N = AnswersAsApply (state store M) (state store N) r o
+answers_as_apply store M r o N = Applied (state store M) (state store N) r o
 
 module _ {D : Type 0} (answers : D → Request → Outcome → D → Type 0) where
   -- a document that may be answered, and a fault after it, which leaves N
@@ -90,13 +69,13 @@ IsOutcomeOf (Broken fault has_started) o = o ≡ Err fault
 -- may stand anywhere among requests that are asked by `apply`, and they are a run (`TurnsAreRuns`)
 abbrev pub SentAreAsked : {S : Type 0} → Ghosts S → Type 0
 SentAreAsked {S} store = (opens : ℕ → List ℕ) (M N : Held S) (r : Request) (sent : Sent) (out out2 : Option (List ℕ)) (unknown : Bool)
-    → Sends (answers_as_apply store) opens M r sent N out out2 unknown → (o : Outcome) × IsOutcomeOf sent o × HasAnswered (state store M) (state store N) r o
+    → Sends (answers_as_apply store) opens M r sent N out out2 unknown → (o : Outcome) × IsOutcomeOf sent o × Applied (state store M) (state store N) r o
 
 -- Of a packument that the machine broke off after its first byte, over a disk that is clean, what
 -- was written is a part of what opens the answer to the query, and of the answer
 abbrev pub BrokenBeginTheAnswer : {S : Type 0} → Ghosts S → Type 0
 BrokenBeginTheAnswer {S} store = (opens : ℕ → List ℕ) (M N : Held S) (r : Request) (fault : Fault) (out out2 : Option (List ℕ)) (unknown : Bool)
-    → Sends (answers_as_apply store) opens M r (Broken fault true) N out out2 unknown → HoldsSoundFor r (state store M) → HasCleanDisk (state store N)
+    → Sends (answers_as_apply store) opens M r (Broken fault true) N out out2 unknown → NeedsFor r.what (stored (state store M)) → HasCleanDisk (state store N)
     → (text : Text) × (answer (registry_in (state store M)) r ≡ Doc text) × WritesSome out out2 unknown (opened opens text)
 
 -- ---- what a packument is sent from

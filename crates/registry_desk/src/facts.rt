@@ -1,11 +1,9 @@
 //! What decides an action, as the tables hold it. Nothing is changed.
 
 ghost use Rattle.registry_rows.specs.Frames.{Stays};
-ghost use Rattle.registry_tables.specs.Contents.{registry_of};
 ghost use Rattle.registry_tables.specs.Effects.{InForm, Loads};
 ghost use Rattle.registry_tables.specs.Teams.{AreTeamsSound};
-ghost use Rattle.registry_desk.specs.Early.{FoundTells};
-ghost use Rattle.registry_desk.specs.Found.{NeedsFor};
+ghost use Rattle.registry_desk.specs.Early.{IsFound};
 ghost use Rattle.registry_desk.specs.Sending.{IsPackument};
 
 use crate::grants::{facts_for_grant, facts_for_revoke};
@@ -42,8 +40,8 @@ pub(crate) fn load_facts<S: Alter>(
     requires other { ¬ IsPackument request.now.what }
     ensures stays { Stays S.Store tx.old tx.new }
     ensures loads { Loads S.Store tx.old tx.new result
-        (λ found c. AreTeamsSound c → NeedsFor request.now.what c
-        → FoundTells found (registry_of c) request.now.at caller.now request.now.what) }
+        (λ found c. AreTeamsSound c
+        → IsFound found c request.now.at caller.now request.now.what) }
 {
     let what = &request.what;
     match what {

@@ -31,5 +31,5 @@ mod texts;
 mod token_user;
 mod withdrawals;
 
-pub use crate::open::{SCHEMA, Unopened};
+pub use crate::open::{SCHEMA, Unopened, has_tables};
 pub use crate::registry::Registry;

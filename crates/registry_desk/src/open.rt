@@ -9,23 +9,25 @@ ghost use Rattle.sqlite_std_file.specs.File.{file_is_usable};
 ghost use Rattle.sqlite_store.specs.FileStore.{view};
 ghost use Rattle.sqlite_wal.specs.Files.{image_at};
 ghost use Rattle.registry_rows.specs.Frames.{Stays};
-ghost use Rattle.registry_rows.specs.Ready.{Reads, Ready};
+ghost use Rattle.registry_rows.specs.Ready.{Leaves, Reads, Ready};
 ghost use Rattle.registry_rows.specs.Tables.{no_tables};
-ghost use Rattle.registry_tables.specs.Effects.{GoesOn, InForm, OnlyWhere, shown, stored};
+ghost use Rattle.registry_tables.specs.Contents.{contents};
+ghost use Rattle.registry_tables.specs.Effects.{GoesOn, InForm, OnlyWhere, shown, stored, stored_in};
 ghost use Rattle.registry_tables.specs.Fresh.{CountsArchivesAlone};
 ghost use Rattle.registry_tables.specs.Schema as tables;
+ghost use Rattle.registry_tables.specs.Teams.{GrantsInScope};
 ghost use Rattle.registry_migration.specs.Older.{schema_of};
-ghost use Rattle.registry_desk.specs.Adopted.{AreFilesOf, CanBeAdopted, IsHandedBack, IsMade, IsSettled, IsUndone, LeavesCommitted, SurvivesAdoption};
+ghost use Rattle.registry_desk.specs.Adopted.{AreFilesOf, CanBeAdopted, CanBeAdoptedAgain, IsHandedBack, IsMade, IsSettled, IsUndone, LeavesCommitted, SurvivesAdoption};
 ghost use Rattle.registry_desk.specs.Opened.{AreFresh, FailsToConnect, FailsToOpen, FailsToOpenSome, HoldsEach, HoldsFound, IsFreshIfEmpty, IsGuarded, IsMadeOf, IsMigrated, IsNumbered, IsUnlimited, IsUri, LeavesAtMost, LeavesAtMostOf, LeavesMigrated};
 ghost use Rattle.registry_desk.specs.Promises.{IsSure};
-ghost use Rattle.registry_desk.specs.Resting.{Rests};
+ghost use Rattle.registry_desk.specs.Resting.{HasGrantsInScope, Rests};
 
 use crate::cache::Caches;
 use crate::registry::{Registry, create_tables};
 use registry_migration::{Older, is_same_schema, migrate, older_schema};
 use registry_names::Fault;
 use registry_rows::{commit, fault_of};
-use registry_tables::{counts_archives_alone, opened};
+use registry_tables::{are_grants_in_scope, counts_archives_alone, opened};
 use sqlite::{
     Alter, Connection, File, FileFrom, FileStore, Files, Leftover, Options, Start, Transaction,
     Unknown,
@@ -93,8 +95,9 @@ impl Registry<FileStore<File>> {
     /// empty becomes a fresh registry, whose pages end in sums, so that a byte changed later is
     /// refused. A registry of an older schema is migrated, with all that it holds. `Database` is
     /// answered where the file can't be opened, is another program's, has the tables of another
-    /// schema, counts in `sqlite_sequence` for more than the archives, is of an older schema and
-    /// has a manifest whose needs can't be read, or is held by another process; its bytes are kept.
+    /// schema, counts in `sqlite_sequence` for more than the archives, grants a team something on a
+    /// package of another scope, is of an older schema and has a manifest whose needs can't be read,
+    /// or is held by another process; its bytes are kept.
     ///
     /// What is said here holds as long as the disk returns what was written to it, and nobody
     /// else writes the file. A torn write is supposed to leave each byte old or new:
@@ -102,6 +105,7 @@ impl Registry<FileStore<File>> {
     /// empty, so of any other file these clauses say nothing by themselves: those of `open_from`
     /// say it, for every start.
     pub fn open(rt: &HostRuntime, path: &str) -> Result<Registry<FileStore<File>>, Fault>
+        ensures grants { IfOk result (λ r. HasGrantsInScope (file_state r)) }
         ensures served { IfOk result (λ r. HasCleanDisk (file_state r)
             → IsTrue (file_state r).is_open) }
         ensures durable { IfOk result (λ r. HasCleanDisk (file_state r) → IsSure (file_state r)) }
@@ -129,6 +133,7 @@ impl<S: Start> Registry<FileStore<FileFrom<S>>> {
         ensures found { IfOk result (λ r. HoldsFound (image_at S.Start) (file_state r)) }
         ensures each { IfOk result (λ r. HoldsEach (image_at S.Start) (file_state r)) }
         ensures empty { IfOk result (λ r. IsFreshIfEmpty (image_at S.Start) (file_state r)) }
+        ensures grants { IfOk result (λ r. HasGrantsInScope (file_state r)) }
         ensures served { IfOk result (λ r. HasCleanDisk (file_state r)
             → IsTrue (file_state r).is_open) }
         ensures durable { IfOk result (λ r. HasCleanDisk (file_state r) → IsSure (file_state r)) }
@@ -136,6 +141,7 @@ impl<S: Start> Registry<FileStore<FileFrom<S>>> {
         ensures unlimited { IfOk result (λ r. IsUnlimited (file_state r)) }
         ensures left { IfErr result (λ e. IfSome e.1 (LeavesAtMostOf AreFresh)) }
         ensures cause { IfErr result (λ e. IfSome e.1 (FailsToOpenSome AreFresh e.0)) }
+        ensures again { IfErr result (λ e. IfSome e.1 CanBeAdoptedAgain) }
         ensures memory { path.now ≡ codes ":memory:" → result ≡ Err (Fault.Database, None) }
         ensures uri { IsUri path.now → result ≡ Err (Fault.Database, None) }
     {
@@ -170,6 +176,7 @@ impl<D: Disk + Drop> Registry<FileStore<D>> {
         ensures found { IfOk result (λ r. HoldsFound (image_of D.Disk files) (file_state r)) }
         ensures each { IfOk result (λ r. HoldsEach (image_of D.Disk files) (file_state r)) }
         ensures empty { IfOk result (λ r. IsFreshIfEmpty (image_of D.Disk files) (file_state r)) }
+        ensures grants { IfOk result (λ r. HasGrantsInScope (file_state r)) }
         ensures served { IfOk result (λ r. HasCleanDisk (file_state r)
             → IsTrue (file_state r).is_open) }
         ensures durable { IfOk result (λ r. HasCleanDisk (file_state r) → IsSure (file_state r)) }
@@ -177,6 +184,7 @@ impl<D: Disk + Drop> Registry<FileStore<D>> {
         ensures unlimited { IfOk result (λ r. IsUnlimited (file_state r)) }
         ensures left { IfErr result (λ e. LeavesAtMost files e.1) }
         ensures cause { IfErr result (λ e. FailsToOpen files e.1 e.0) }
+        ensures again { IfErr result (λ e. CanBeAdoptedAgain e.1) }
     {
         match Registry::connect(alloc, files, options) {
             Ok(conn) => match Registry::adopt(alloc, conn) {
@@ -228,7 +236,7 @@ impl<S: Alter> Registry<S> {
     ///
     /// `Database` is answered where the connection is inside a transaction, where the database has
     /// the tables of another schema or another number of ours, counts in `sqlite_sequence` for more
-    /// than the archives, or fails; `Memory` where there is no room to read it. A connection that a
+    /// than the archives, grants a team something on a package of another scope, or fails; `Memory` where there is no room to read it. A connection that a
     /// fault of the disk has shut gives no registry, but one of the two. A fault hands the connection
     /// back. It shows what it showed, so that it can be adopted again, and a crash leaves what was
     /// committed before and nothing else, unless a fault of the disk has shut it. Then a crash leaves
@@ -239,6 +247,7 @@ impl<S: Alter> Registry<S> {
     pub fn adopt(alloc: Global, conn: Connection<S>) -> Result<Registry<S>, (Fault, Connection<S>)>
         requires rises { conn.in_transaction ≡ false → CanBeAdopted (state S.Store conn) }
         ensures made { IfOk result (λ r. IsMade (state S.Store conn) (state S.Store r)) }
+        ensures grants { IfOk result (λ r. HasGrantsInScope (state S.Store r)) }
         ensures served { IfOk result (λ r. HasCleanDisk (state S.Store r)
             → IsTrue (state S.Store r).is_open) }
         ensures durable { IfOk result (λ r. HasCleanDisk (state S.Store r) → IsSure (state S.Store r)) }
@@ -350,7 +359,7 @@ fn settle<S: Alter>(alloc: Global, conn: &mut Connection<S>) -> Result<(), Fault
         return create_tables(conn);
     }
     if has_our_tables(alloc, conn.schema())? {
-        return check_contents(conn);
+        return check_contents(alloc, conn);
     }
     match older_schema(alloc, conn.schema())? {
         Some(older) => migrate_tables(alloc, conn, older),
@@ -362,6 +371,18 @@ fn has_nothing(schema: &Schema) -> bool
     ensures { IsTrue result ↔ (schema.now ≡ no_tables) }
 {
     schema.tables.is_empty() && schema.indexes.is_empty() && schema.views.is_empty()
+}
+
+/// Whether the connection's database has the tables of a registry. What they hold isn't looked at, so
+/// it may open as none.
+pub fn has_tables<S: Alter>(alloc: Global, conn: &Connection<S>) -> Result<bool, Fault>
+    requires rises { CanBeAdopted (state S.Store conn.now) }
+    ensures exact { IfOk result (λ has. IsTrue has
+        ↔ ((state S.Store conn.now).now.schema ≡ tables.schema)) }
+    ensures ready { IfOk result (λ has. IsTrue has
+        → Ready tables.schema (state S.Store conn.now)) }
+{
+    has_our_tables(alloc, conn.schema())
 }
 
 // Whether the schema is that of a registry, as a fresh one in memory has it.
@@ -397,13 +418,32 @@ fn migrate_tables<S: Alter>(
         × LeavesMigrated older (state S.Store conn.old).now.trees db) }
 {
     let mut tx = conn.transaction();
-    migrate(alloc, &mut tx, older)?;
+    migrate_rows(alloc, &mut tx, older)?;
     commit(tx)
 }
 
-// `Database` is returned for another number of the schema, and for a counter besides that of the
-// archives.
-fn check_contents<S: Alter>(conn: &mut Connection<S>) -> Result<(), Fault>
+// The same inside a transaction. `Database` is also returned where the registry isn't sound.
+fn migrate_rows<S: Alter>(
+    alloc: Global,
+    tx: &mut Transaction<'_, S>,
+    older: Older,
+) -> Result<(), Fault>
+    requires older { Ready (schema_of older) (shown S.Store tx.old) }
+    ensures stays { Stays S.Store tx.old tx.new }
+    ensures made { HasCleanDisk (shown S.Store tx.new) → OnOk result
+        (Leaves tables.schema contents (stored_in S.Store tx.new) (shown S.Store tx.new)) }
+    ensures migrated { HasCleanDisk (shown S.Store tx.new) → OnOk result
+        (IsMigrated older (shown S.Store tx.old).now.trees (stored_in S.Store tx.new)) }
+    ensures served { HasCleanDisk (shown S.Store tx.new)
+        → OnOk result (IsTrue (shown S.Store tx.old).is_open) }
+{
+    migrate(alloc, tx, older)?;
+    check_sound(alloc, tx)
+}
+
+// `Database` is returned for another number of the schema, for a counter besides that of the
+// archives, and for a registry that isn't sound.
+fn check_contents<S: Alter>(alloc: Global, conn: &mut Connection<S>) -> Result<(), Fault>
     requires idle { conn.old.in_transaction ≡ false }
     requires ready { Ready tables.schema (state S.Store conn.old) }
     ensures rests { OnOk result (Rests (state S.Store conn.new)) }
@@ -411,6 +451,8 @@ fn check_contents<S: Alter>(conn: &mut Connection<S>) -> Result<(), Fault>
         → OnOk result (IsNumbered (stored (state S.Store conn.old))) }
     ensures counted { HasCleanDisk (state S.Store conn.new)
         → OnOk result (CountsArchivesAlone (stored (state S.Store conn.old))) }
+    ensures granted { HasCleanDisk (state S.Store conn.new)
+        → OnOk result (GrantsInScope (stored (state S.Store conn.old))) }
     ensures same { HasCleanDisk (state S.Store conn.new)
         → OnOk result ((state S.Store conn.new).now ≡ (state S.Store conn.old).now) }
     ensures served { HasCleanDisk (state S.Store conn.new)
@@ -424,12 +466,12 @@ fn check_contents<S: Alter>(conn: &mut Connection<S>) -> Result<(), Fault>
         × (db ≡ (state S.Store conn.old).now.trees)) }
 {
     let mut tx = conn.transaction();
-    check_rows(&mut tx)?;
+    check_rows(alloc, &mut tx)?;
     commit(tx)
 }
 
 // The same of the rows, inside a transaction.
-fn check_rows<S: Alter>(tx: &mut Transaction<'_, S>) -> Result<(), Fault>
+fn check_rows<S: Alter>(alloc: Global, tx: &mut Transaction<'_, S>) -> Result<(), Fault>
     requires in_form { InForm S.Store tx.old }
     requires going { HasCleanDisk (shown S.Store tx.old) → GoesOn S.Store tx.old }
     ensures stays { Stays S.Store tx.old tx.new }
@@ -437,12 +479,31 @@ fn check_rows<S: Alter>(tx: &mut Transaction<'_, S>) -> Result<(), Fault>
         → OnOk result (Reads tables.schema (shown S.Store tx.old) (shown S.Store tx.new)) }
     ensures numbered { OnlyWhere S.Store tx.old tx.new result IsNumbered }
     ensures counted { OnlyWhere S.Store tx.old tx.new result CountsArchivesAlone }
+    ensures granted { OnlyWhere S.Store tx.old tx.new result GrantsInScope }
 {
     check_number(opened(tx)?)?;
-    if !counts_archives_alone(tx)? {
-        return Err(Fault::Database);
-    }
-    Ok(())
+    check_so(counts_archives_alone(tx)?)?;
+    check_sound(alloc, tx)
+}
+
+// `Database` is returned where something is stored that no registry stores, and from which requests
+// would be decided.
+fn check_sound<S: Alter>(alloc: Global, tx: &mut Transaction<'_, S>) -> Result<(), Fault>
+    requires in_form { InForm S.Store tx.old }
+    ensures stays { Stays S.Store tx.old tx.new }
+    ensures reads { HasCleanDisk (shown S.Store tx.new)
+        → OnOk result (Reads tables.schema (shown S.Store tx.old) (shown S.Store tx.new)) }
+    ensures granted { OnlyWhere S.Store tx.old tx.new result GrantsInScope }
+{
+    check_so(are_grants_in_scope(alloc, tx)?)
+}
+
+// `Database` is returned for what isn't so.
+fn check_so(is_so: bool) -> Result<(), Fault>
+    ensures ok { IsOk result ↔ IsTrue is_so }
+    ensures err { IfErr result (λ fault. fault ≡ Fault.Database) }
+{
+    if is_so { Ok(()) } else { Err(Fault::Database) }
 }
 
 // `Database` is returned for another number of the schema than ours, and for none.

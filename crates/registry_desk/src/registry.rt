@@ -12,11 +12,10 @@ ghost use Rattle.registry_tables.specs.Archives.{HoldsArchives};
 ghost use Rattle.registry_tables.specs.Effects.{registry_in, stored};
 ghost use Rattle.registry_tables.specs.Fresh.{fresh};
 ghost use Rattle.registry_tables.specs.Needs.{HoldsNeeds};
-ghost use Rattle.registry_tables.specs.Teams.{GrantsInScope};
 ghost use Rattle.registry_laws_history.specs.Headline.{Headline};
 ghost use Rattle.registry_desk.specs.Promises.{Answered, GrowsHistory, HasHeadline, HidesUnread, HidesUnreadRun, HoldsReferences, HoldsSound, Keeps, KeepsForm, KeepsFormRun, KeepsRun, KeepsStored, KeepsSure, LooksOpen, Moves, RanTo, Served, ServedRun, ShutByFaults, StaysSure, Stepped, Stored, StoppedByDisk, SurvivesOne, SurvivesRun, Unchanged, WasOpen, WritesHistory};
 ghost use Rattle.registry_desk.specs.Promises as promises;
-ghost use Rattle.registry_desk.specs.Resting.{IsRegistryOf, Rests, end_stored};
+ghost use Rattle.registry_desk.specs.Resting.{HasGrantsInScope, IsRegistryOf, Rests, end_stored};
 ghost use Rattle.registry_desk.specs.Adopted.{CanBeAdopted, IsUndone};
 ghost use Rattle.registry_desk.specs.Caches.{HasAnswers, KeepNoMore, KeepsAnswer};
 ghost use Rattle.registry_desk.specs.Sending.{IsPackument, Sends, answers_as_apply};
@@ -42,8 +41,8 @@ const PROBE: &str = "COMMIT";
 
 /// A registry of packages, over any store that keeps its tables. Contracts see the connection.
 ///
-/// Between requests it has no transaction, its tables are in form, and all that it sees was
-/// committed. A fault of the disk may shut it for good: then every request is answered by a fault.
+/// Between requests it has no transaction, its tables are in form, each grant is on a package of its
+/// organisation's scope, and all that it sees was committed. A fault of the disk may shut it for good: then every request is answered by a fault.
 ///
 /// It keeps the texts of the packuments that were asked for last, and the archives. Between requests
 /// each is the packument of its package, of which a version lives, or the archive of its version, by
@@ -119,10 +118,9 @@ impl<S: Alter> Registry<S> {
     /// changed, as long as the registry is open.
     ///
     /// What is said here holds as long as the disk returns what was written to it, which memory
-    /// always does; and of a registry where each grant is on a package of its organisation's scope
-    /// and, for a withdrawal alone, the needs that are stored are those of live versions. So it is
-    /// in a new one, and every request keeps it. That a fault, a refusal and a query change nothing
-    /// doesn't suppose it.
+    /// always does; and, of a withdrawal alone, of a registry where the needs that are stored are
+    /// those of live versions. So it is in a new one, and every request keeps it. That a fault, a
+    /// refusal and a query change nothing doesn't suppose it.
     ///
     /// A crash leaves what is stored, as long as the registry is open, as it is after a reply. A
     /// fault of the disk may shut it: then a crash leaves what it could have left before or, if the
@@ -143,8 +141,7 @@ impl<S: Alter> Registry<S> {
             request.now result }
         ensures hidden { HidesUnread (state S.Store self.old) (state S.Store self.new)
             request.now result }
-        ensures grants { Keeps (state S.Store self.old) (state S.Store self.new)
-            request.now GrantsInScope }
+        ensures grants { HasGrantsInScope (state S.Store self.new) }
         ensures needs { Keeps (state S.Store self.old) (state S.Store self.new)
             request.now HoldsNeeds }
         ensures refers { Keeps (state S.Store self.old) (state S.Store self.new)
@@ -231,8 +228,7 @@ impl<S: Alter> Registry<S> {
         ensures served { IfOk result (λ outcomes. ServedRun (state S.Store self.old)
             (state S.Store self.new) outcomes.items) }
         ensures opened { WasOpen (state S.Store self.old) (state S.Store self.new) }
-        ensures grants { KeepsRun (state S.Store self.old) (state S.Store self.new)
-            requests.now GrantsInScope }
+        ensures grants { HasGrantsInScope (state S.Store self.new) }
         ensures needs { KeepsRun (state S.Store self.old) (state S.Store self.new)
             requests.now HoldsNeeds }
         ensures refers { KeepsRun (state S.Store self.old) (state S.Store self.new)
@@ -249,6 +245,7 @@ impl<S: Alter> Registry<S> {
         ensures not_run { OnErr result (self.new ≡ self.old) }
         ensures memory { IfErr result (λ fault. fault ≡ Fault.Memory) }
     {
+        self.has_grants_in_scope();
         let mut outcomes = Vec::with_capacity(alloc, requests.len())?;
         for request in requests {
             let outcome = self.apply(alloc, request);
@@ -258,6 +255,13 @@ impl<S: Alter> Registry<S> {
             }
         }
         Ok(outcomes)
+    }
+
+    // A law: so it is of each registry between requests.
+    fn has_grants_in_scope(&self)
+        ensures { HasGrantsInScope (state S.Store self.now) }
+    {
+        let _conn = &self.conn;
     }
 
     /// Whether it is open. If not, a fault of the disk has shut it for good. Nothing that is stored

@@ -21,7 +21,7 @@ ghost use Rattle.registry_tables.specs.Walking.{lent, rows_left, seen_by, stoppe
 ghost use Rattle.registry_tables.specs.Walks.{Begins, HasGoneOn, IsLeftAlone, reference, shown_by};
 ghost use Rattle.registry_desk.specs.Caches.{ArePackuments, HasAnswers, HasPackuments};
 ghost use Rattle.registry_desk.specs.Found.{AreTimesOf};
-ghost use Rattle.registry_desk.specs.Promises.{HoldsSoundFor, KeepsStored};
+ghost use Rattle.registry_desk.specs.Promises.{KeepsStored};
 ghost use Rattle.registry_desk.specs.Resting.{Rests};
 ghost use Rattle.registry_desk.specs.Sending.{IsFrom, IsOrigin, IsShownBy, LeavesAll, Sends, answers_as_apply, head_in, versions_in};
 
@@ -174,8 +174,7 @@ pub(crate) fn origin_of<S: Alter>(
     ensures left { LeavesAll (state S.Store conn.old) (state S.Store conn.new) }
     ensures served { HasCleanDisk (state S.Store conn.new)
         → OnOk result (IsTrue (state S.Store conn.new).is_open) }
-    ensures origin { HoldsSoundFor request.now (state S.Store conn.old)
-        → HasCleanDisk (state S.Store conn.new) → IfOk result
+    ensures origin { HasCleanDisk (state S.Store conn.new) → IfOk result
         (λ origin. IsOrigin origin (registry_in (state S.Store conn.old)) request.now name.now) }
     ensures shows { HasCleanDisk (state S.Store conn.new) → IfOk result
         (λ origin. IsFrom origin (registry_in (state S.Store conn.old)) name.now) }

@@ -12,7 +12,7 @@ ghost use Rattle.registry_laws_history.specs.Answers.{answer};
 ghost use Rattle.registry_tables.specs.Effects.{registry_in};
 ghost use Rattle.registry_tables.specs.Walks.{IsLeftAlone};
 ghost use Rattle.registry_desk.specs.Caches.{HasAnswers, HasPackuments, KeepNoMore, KeepsAnswer};
-ghost use Rattle.registry_desk.specs.Promises.{Answered, HoldsSoundFor, Served};
+ghost use Rattle.registry_desk.specs.Promises.{Answered, Served};
 ghost use Rattle.registry_desk.specs.Resting.{Rests};
 ghost use Rattle.registry_desk.specs.Sending.{IsMadeOf, LeavesAll, ShowsAlone, versions_in};
 
@@ -215,8 +215,7 @@ fn query_reply<S: Alter>(
     ensures left { LeavesAll (state S.Store conn.old) (state S.Store conn.new) }
     ensures served { HasCleanDisk (state S.Store conn.new)
         → OnOk result (IsTrue (state S.Store conn.new).is_open) }
-    ensures told { HoldsSoundFor request.now (state S.Store conn.old)
-        → HasCleanDisk (state S.Store conn.new) → IfOk result
+    ensures told { HasCleanDisk (state S.Store conn.new) → IfOk result
         (λ given. given ≡ answer (registry_in (state S.Store conn.old)) request.now) }
     ensures shows { HasCleanDisk (state S.Store conn.new) → IfOk result
         (ShowsAlone (registry_in (state S.Store conn.old)) name.now) }

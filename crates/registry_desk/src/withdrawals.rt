@@ -3,22 +3,22 @@
 ghost use Rattle.std.specs.Prelude.{◌≡◌, ℕ, List, None, false};
 ghost use Rattle.registry_access.specs.declared.caller.Caller.{Caller as Asker};
 ghost use Rattle.registry_names.specs.Texts.{Text as SpecText};
+ghost use Rattle.registry_names.specs.Versions.{text_of_version};
 ghost use Rattle.registry_ranges.specs.Selectors.{Condition};
 ghost use Rattle.registry_rows.specs.Frames.{Stays};
 ghost use Rattle.registry_access.specs.RowsFor.{StandingTells};
 ghost use Rattle.registry_rules.specs.Refusals.{withdraw_refusal};
 ghost use Rattle.registry_rules.specs.Withdrawals as withdrawals;
+ghost use Rattle.registry_rules.specs.Withdrawals.{published_at};
 ghost use Rattle.registry_rules.specs.declared.request.Action.TheVariants as asked;
 ghost use Rattle.registry_tables.specs.Contents.{access_of, registry_of};
 ghost use Rattle.registry_tables.specs.Effects.{InForm, Loads};
-ghost use Rattle.registry_tables.specs.Needs.{HoldsNeeds};
 ghost use Rattle.registry_tables.specs.Teams.{AreTeamsSound};
-ghost use Rattle.registry_desk.specs.Early.{FoundTells, LetsWrite, denial};
-ghost use Rattle.registry_desk.specs.Found.{IsLife};
+ghost use Rattle.registry_desk.specs.Early.{FoundTells, IsFound, LetsWrite, denial};
 
 use crate::policy::{Found, standing_if_allowed};
 use registry_access::{Ask, Caller, Standing};
-use registry_names::{Fault, Moment, Name, Refusal, Text, Ver};
+use registry_names::{Fault, Moment, Name, Refusal, Ver};
 use registry_rules::About;
 use registry_tables::{is_depended, load_live, load_published, load_version_tags};
 use sqlite::{Alter, Transaction};
@@ -39,9 +39,8 @@ pub(crate) fn facts_for_withdraw<S: Alter>(
 ) -> Result<Found, Fault>
     requires in_form { InForm S.Store tx.old }
     ensures stays { Stays S.Store tx.old tx.new }
-    ensures loads { Loads S.Store tx.old tx.new result (λ found c. AreTeamsSound c → HoldsNeeds c
-        → FoundTells found (registry_of c) now.now caller.now
-        (asked.Withdraw name.now version.now)) }
+    ensures loads { Loads S.Store tx.old tx.new result (λ found c. AreTeamsSound c
+        → IsFound found c now.now caller.now (asked.Withdraw name.now version.now)) }
 {
     match standing_if_allowed(alloc, tx, caller, name, &Ask::Write(name))? {
         Ok(standing) => facts_if_young(alloc, tx, standing, name, version, now),
@@ -62,22 +61,48 @@ fn facts_if_young<S: Alter>(
     requires in_form { InForm S.Store tx.old }
     requires allowed { LetsWrite standing }
     ensures stays { Stays S.Store tx.old tx.new }
-    ensures loads { Loads S.Store tx.old tx.new result (λ found c. (who : Asker) → HoldsNeeds c
+    ensures loads { Loads S.Store tx.old tx.new result (λ found c. (who : Asker)
         → denial (access_of c) who (asked.Withdraw name.now version.now) ≡ None
         → StandingTells standing (access_of c) who name.now
-        → FoundTells found (registry_of c) now.now who (asked.Withdraw name.now version.now)) }
+        → IsFound found c now.now who (asked.Withdraw name.now version.now)) }
 {
     let published = load_published(tx, name, version.text())?;
-    if let Some(refusal) = refusal_by_age(&published, now) {
-        return Ok(Found::Refused(refusal));
+    match refusal_by_age(&published, now) {
+        Some(refusal) => Ok(Found::Refused(refusal)),
+        None => facts_if_unneeded(alloc, tx, standing, published, name, version),
     }
-    let life = find_life(alloc, tx, name, version)?;
+}
+
+// The same where it is young enough. Which tags name it isn't asked for if another package needs it.
+fn facts_if_unneeded<S: Alter>(
+    alloc: Global,
+    tx: &mut Transaction<'_, S>,
+    standing: Standing,
+    published: Option<Moment>,
+    name: &Name,
+    version: &Ver,
+) -> Result<Found, Fault>
+    requires in_form { InForm S.Store tx.old }
+    requires allowed { LetsWrite standing }
+    ensures stays { Stays S.Store tx.old tx.new }
+    ensures loads { Loads S.Store tx.old tx.new result (λ found c. (who : Asker) (at : ℕ)
+        → denial (access_of c) who (asked.Withdraw name.now version.now) ≡ None
+        → withdraw_refusal at published false ≡ None
+        → published ≡ published_at (registry_of c) name.now (text_of_version version.now)
+        → StandingTells standing (access_of c) who name.now
+        → IsFound found c at who (asked.Withdraw name.now version.now)) }
+{
+    if is_depended(alloc, tx, name, version)? {
+        return Ok(Found::Refused(Refusal::Depended));
+    }
+    let tags = load_version_tags(alloc, tx, name, version.text())?;
+    let live = load_live(alloc, tx, name)?;
     Ok(Found::About(About::Withdraw {
         standing,
         published,
-        depended: life.depended,
-        tags: life.tags,
-        live: life.live,
+        depended: false,
+        tags,
+        live,
     }))
 }
 
@@ -97,35 +122,6 @@ fn is_too_old(now: &Moment, published: &Moment) -> bool
     ensures { result ≡ withdrawals.is_too_old now.now published.now }
 {
     published.seconds() + OLDEST <= now.seconds()
-}
-
-// What is known of a version that may go unless somebody needs it.
-#[derive(Drop)]
-struct Life {
-    depended: bool,
-    tags: Vec<Text>,
-    live: Vec<Ver>,
-}
-
-fn find_life<S: Alter>(
-    alloc: Global,
-    tx: &mut Transaction<'_, S>,
-    name: &Name,
-    version: &Ver,
-) -> Result<Life, Fault>
-    requires in_form { InForm S.Store tx.old }
-    ensures stays { Stays S.Store tx.old tx.new }
-    ensures loads { Loads S.Store tx.old tx.new result
-        (λ life c. HoldsNeeds c → IsLife life (registry_of c) name.now version.now) }
-{
-    let depended = is_depended(alloc, tx, name, version)?;
-    let tags = load_version_tags(alloc, tx, name, version.text())?;
-    let live = load_live(alloc, tx, name)?;
-    Ok(Life {
-        depended,
-        tags,
-        live,
-    })
 }
 
 /// Of versions that are to be deprecated, by a caller whom the policy allows it.

@@ -14,9 +14,9 @@ use Rattle.registry_tables.specs.Teams.{GrantsInScope}
 use Rattle.registry_laws_history.specs.Runs.{grown}
 use Rattle.registry_laws_history.specs.Says.{Says}
 use Rattle.registry_laws_hidden.specs.Without.{state_without}
-use Rattle.registry_desk.specs.Promises.{HoldsReferences, KeepsStored, WasOpen}
+use Rattle.registry_desk.specs.Promises.{Applied, HoldsReferences, KeepsStored, WasOpen}
 use Rattle.registry_desk.specs.Resting.{IsRegistryOf}
-use Rattle.registry_http.specs.Services.{Applies, EndsBy}
+use Rattle.registry_http.specs.Services.{EndsBy}
 
 -- more faults since a request's end are more since its begin
 pub ends-later : (old mid new : Shown) (was is_now : Bool) (f : Fault) → old.faults ≤ mid.faults → EndsBy mid new was is_now f → EndsBy old new was is_now f
@@ -35,7 +35,7 @@ left-before : (may : Trees → Type 0) (db : Trees) → may db ⊎ ⊥ → may d
 left-before may db (inl was) = was
 left-before may db (inr none) = absurd none
 
-pub looked-applies : (old mid new : Shown) (r : Request) (met told : Fault) → WasOpen mid new → KeepsStored mid new → Survives mid new (λ _. ⊥) → Applies old mid r (Err met) → Applies old new r (Err told)
+pub looked-applies : (old mid new : Shown) (r : Request) (met told : Fault) → WasOpen mid new → KeepsStored mid new → Survives mid new (λ _. ⊥) → Applied old mid r (Err met) → Applied old new r (Err told)
 looked-applies old mid new r met told opened keeps look a =
     let was : HasCleanDisk new → HasCleanDisk mid = λ clean. omega (arith, look.clean, clean) in
     record {
@@ -51,7 +51,7 @@ looked-applies old mid new r met told opened keeps look a =
       hidden = λ needs clean h legal is p stranger quiet.
           let before = a.hidden needs (was clean) h legal is p stranger quiet in
           (before.0, λ on. ap (λ (c : Contents). state_without (registry_of c) p) (keeps clean on) ∙ before.1 (opened clean on));
-      grants = λ sound clean on holds. subst GrantsInScope (sym (keeps clean on)) (a.grants sound (was clean) (opened clean on) holds);
+      grants = λ clean on. subst GrantsInScope (sym (keeps clean on)) (a.grants (was clean) (opened clean on));
       needs = λ sound clean on holds. subst HoldsNeeds (sym (keeps clean on)) (a.needs sound (was clean) (opened clean on) holds);
       refers = λ sound clean on holds. subst HoldsReferences (sym (keeps clean on)) (a.refers sound (was clean) (opened clean on) holds);
       archives = λ sound clean on holds. subst HoldsArchives (sym (keeps clean on)) (a.archives sound (was clean) (opened clean on) holds);

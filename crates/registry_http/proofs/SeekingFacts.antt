@@ -8,39 +8,34 @@ use Rattle.registry_tables.specs.Archives.{HoldsArchives}
 use Rattle.registry_tables.specs.Contents.{Contents, registry_of}
 use Rattle.registry_tables.specs.Effects.{registry_in, stored}
 use Rattle.registry_tables.specs.Needs.{HoldsNeeds}
-use Rattle.registry_tables.specs.Teams.{GrantsInScope}
 use Rattle.registry_laws_history.specs.Runs.{IsAnswer, Outcome, grown, next}
 use Rattle.registry_laws_history.specs.Says.{Says}
 use Rattle.registry_desk.specs.Found.{NeedsFor}
-use Rattle.registry_desk.specs.Promises.{Answered, HidesUnread, HoldsReferences, HoldsSoundFor, KeepsStored, Served, WasOpen}
+use Rattle.registry_desk.specs.Promises.{Answered, Applied, HidesUnread, HoldsReferences, KeepsStored, Served, WasOpen}
 use Rattle.registry_desk.specs.Resting.{next_stored, settled_by}
-use Rattle.registry_http.specs.Services.{Applies}
 
 -- what decides a request is read from what is stored alone
-sound_again : (old mid : Shown) (r : Request) → stored mid ≡ stored old → HoldsSoundFor r old → HoldsSoundFor r mid
-sound_again old mid r same sound = record {
-  grants = subst GrantsInScope (sym same) sound.grants;
-  needs = subst (λ (c : Contents). NeedsFor r.what c) (sym same) sound.needs;
-}
+needs_again : (old mid : Shown) (r : Request) → stored mid ≡ stored old → NeedsFor r.what (stored old) → NeedsFor r.what (stored mid)
+needs_again old mid r same needs = subst (λ (c : Contents). NeedsFor r.what c) (sym same) needs
 
 module _ (old mid new : Shown) (r : Request) (same : HasCleanDisk new → IsTrue mid.is_open → stored mid ≡ stored old) where
   -- a reply is the machine's on what was stored before the look-up
   answered_before : (o : Outcome) → Served mid new o → Answered mid new r o → Answered old new r o
-  answered_before (Ok reply) served answered sound clean =
+  answered_before (Ok reply) served answered needs clean =
       let was = same clean (served clean).0 in
-      subst (λ (c : Contents). IsAnswer (registry_of c) r (Ok reply)) was (answered (sound_again old mid r was sound) clean)
-  answered_before (Err fault) served answered sound clean = tt
+      subst (λ (c : Contents). IsAnswer (registry_of c) r (Ok reply)) was (answered (needs_again old mid r was needs) clean)
+  answered_before (Err fault) served answered needs clean = tt
 
   -- and a package that isn't read is as hidden as it was
   hidden_before : (o : Outcome) → Served mid new o → WasOpen mid new → HidesUnread mid new r o → HidesUnread old new r o
   hidden_before (Ok reply) served opened hidden needs clean h legal is p stranger quiet =
       let was = same clean (served clean).0 in
-      hidden (subst (λ (c : Contents). NeedsFor r.what c) (sym was) needs) clean h legal (ap registry_of was ∙ is) p stranger quiet
+      hidden (needs_again old mid r was needs) clean h legal (ap registry_of was ∙ is) p stranger quiet
   hidden_before (Err fault) served opened hidden needs clean h legal is p stranger quiet = (
     tt,
     λ on.
         let was = same clean (opened clean on) in
-        (hidden (subst (λ (c : Contents). NeedsFor r.what c) (sym was) needs) clean h legal (ap registry_of was ∙ is) p stranger quiet).1 on,
+        (hidden (needs_again old mid r was needs) clean h legal (ap registry_of was ∙ is) p stranger quiet).1 on,
   )
 
   -- a reply comes from a registry that was open before the look-up
@@ -48,7 +43,7 @@ module _ (old mid new : Shown) (r : Request) (same : HasCleanDisk new → IsTrue
   served_before (Ok reply) opened served clean = (opened clean (served clean).0, (served clean).1)
   served_before (Err fault) opened served clean = tt
 
-pub sought_applies : (old mid new : Shown) (r : Request) (o : Outcome) → WasOpen old mid → KeepsStored old mid → Survives old mid (λ _. ⊥) → Applies mid new r o → Applies old new r o
+pub sought_applies : (old mid new : Shown) (r : Request) (o : Outcome) → WasOpen old mid → KeepsStored old mid → Survives old mid (λ _. ⊥) → Applied mid new r o → Applied old new r o
 sought_applies old mid new r o opened keeps look a =
     let were : HasCleanDisk new → HasCleanDisk mid = λ clean. omega (arith, a.survives.clean, clean) in
     let same : HasCleanDisk new → IsTrue mid.is_open → stored mid ≡ stored old = λ clean on. keeps (were clean) on in
@@ -60,30 +55,28 @@ sought_applies old mid new r o opened keeps look a =
       unchanged = λ clean on none. a.unchanged clean on none ∙ last clean on;
       step = λ sound clean on.
           let was = last clean on in
-          a.step (sound_again old mid r was sound) clean on ∙ ap (next_stored r o) was;
+          a.step (needs_again old mid r was sound) clean on ∙ ap (next_stored r o) was;
       moves = λ sound clean on.
           let was = last clean on in
-          a.moves (sound_again old mid r was sound) clean on ∙ ap (λ (c : Contents). next (registry_of c) r o) was;
+          a.moves (needs_again old mid r was sound) clean on ∙ ap (λ (c : Contents). next (registry_of c) r o) was;
       history = λ needs clean on h legal is.
           let was = last clean on in
           subst (λ (c : Contents). Says (grown h (registry_of c) r o) (registry_in new)) was
-          (a.history (subst (λ (c : Contents). NeedsFor r.what c) (sym was) needs) clean on h legal (ap registry_of was ∙ is));
+          (a.history (needs_again old mid r was needs) clean on h legal (ap registry_of was ∙ is));
       hidden = hidden_before old mid new r same o a.served a.opened a.hidden;
-      grants = λ sound clean on holds.
-          let was = last clean on in
-          a.grants (sound_again old mid r was sound) clean on (subst GrantsInScope (sym was) holds);
+      grants = a.grants;
       needs = λ sound clean on holds.
           let was = last clean on in
-          a.needs (sound_again old mid r was sound) clean on (subst HoldsNeeds (sym was) holds);
+          a.needs (needs_again old mid r was sound) clean on (subst HoldsNeeds (sym was) holds);
       refers = λ sound clean on holds.
           let was = last clean on in
-          a.refers (sound_again old mid r was sound) clean on (subst HoldsReferences (sym was) holds);
+          a.refers (needs_again old mid r was sound) clean on (subst HoldsReferences (sym was) holds);
       archives = λ sound clean on holds.
           let was = last clean on in
-          a.archives (sound_again old mid r was sound) clean on (subst HoldsArchives (sym was) holds);
+          a.archives (needs_again old mid r was sound) clean on (subst HoldsArchives (sym was) holds);
       form = λ needs clean on kept.
           let was = last clean on in
-          a.form (subst (λ (c : Contents). NeedsFor r.what c) (sym was) needs) clean on (subst (λ (c : Contents). IsKept (registry_of c)) (sym was) kept);
+          a.form (needs_again old mid r was needs) clean on (subst (λ (c : Contents). IsKept (registry_of c)) (sym was) kept);
       survives = survives_then old mid new _ _ _ (λ _ db none. absurd none)
           (λ clean db made.
           let was = same clean made.was_open in
@@ -91,7 +84,7 @@ sought_applies old mid new r o opened keeps look a =
             was_open = opened (were clean) made.was_open;
             form = made.form;
             query = λ asks. made.query asks ∙ was;
-            settled = λ sound. made.settled (sound_again old mid r was sound) ∙ ap (settled_by r) was;
+            settled = λ sound. made.settled (needs_again old mid r was sound) ∙ ap (settled_by r) was;
           }) look a.survives;
       durable = a.durable;
     }

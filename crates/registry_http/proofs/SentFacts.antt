@@ -9,32 +9,11 @@ use Rattle.sqlite.specs.Held.{Held, state}
 use Rattle.sqlite.specs.State.{State as Shown, Survives}
 use Rattle.sqlite_trees.specs.declared.store.Store.{Ghosts}
 use Rattle.registry_laws_history.specs.Runs.{Outcome}
-use Rattle.registry_desk.specs.Promises.{KeepsStored, WasOpen}
+use Rattle.registry_desk.specs.Promises.{Applied, KeepsStored, WasOpen}
 use Rattle.registry_desk.specs.Sending as desk
-use Rattle.registry_desk.specs.Sending.{AnswersAsApply}
 use Rattle.registry_service.specs.Sendings.{MayAnswer, Sends}
-use Rattle.registry_http.specs.Services.{Applies, Serving, applied, applies_over, shown}
+use Rattle.registry_http.specs.Services.{Serving, applied, applies_over, shown}
 use Rattle.registry_http.proofs.LookFacts.{looked-applies}
-
--- what the registry promises of it is what the service asks for
-pub applies : (old new : Shown) (r : Request) (o : Outcome) → AnswersAsApply old new r o → Applies old new r o
-applies old new r o a = record {
-  answer = a.answer;
-  served = a.served;
-  opened = a.opened;
-  unchanged = a.unchanged;
-  step = a.step;
-  moves = a.moves;
-  history = a.history;
-  hidden = a.hidden;
-  grants = a.grants;
-  needs = a.needs;
-  refers = a.refers;
-  archives = a.archives;
-  form = a.form;
-  survives = a.survives;
-  durable = a.durable;
-}
 
 module _ {D E : Type 0} (A : D → Request → Outcome → D → Type 0) (B : E → Request → Outcome → E → Type 0) (opens : ℕ → List ℕ) (M : D) (K : E) (r : Request) (a b : Option (List ℕ)) (s : Bool) where
   -- what one asks for is led over to what the other asks for
@@ -69,6 +48,6 @@ module _ {S : Type 0} (store : Ghosts S) (opens : ℕ → List ℕ) (M : Serving
   serves_after mid met told false opened keeps look it =
       (looked-applies (shown store M) (state store mid) (shown store N) r met told opened keeps look it.0, it.1)
   serves_after mid met told true opened keeps look it =
-      let after = λ (old : Shown) (a : Applies old (state store mid) r (Err met)). looked-applies old (state store mid) (shown store N) r met told opened keeps look a in
+      let after = λ (old : Shown) (a : Applied old (state store mid) r (Err met)). looked-applies old (state store mid) (shown store N) r met told opened keeps look a in
       let (text, may, wrote) = it.1 in
       (after (shown store M) it.0, (text, (serving may.0 false, may.1, after (state store may.0) may.2), wrote))

@@ -172,7 +172,7 @@ module _ {D : Type 0} (show : D → Shown) where
   have-run M w h es rs os world =
       subst (λ x. HaveOutcomes (after h) x os) world.requests
       (subst (λ x. HaveOutcomes (after h) world.run.requests x) world.outcomes
-      (subst (λ U. HaveOutcomes U world.run.requests world.run.outcomes) world.left (world.run.ran world.sound world.clean).answers))
+      (subst (λ U. HaveOutcomes U world.run.requests world.run.outcomes) world.left (world.run.run.ran world.needs world.clean).answers))
 
   history : (M : D) (w : World D) (h : List Entry) (es : List LogEntry) (rs : List Request) (os : List Outcome) → IsWorldOf show M w h es rs os → IsOneHistory (applied show) M w
   history M w h es rs os world = one-history (applied show) M w world.reached

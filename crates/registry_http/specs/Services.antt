@@ -12,37 +12,16 @@ use Rattle.registry_packument.specs.declared.opener.Sent.{Sent}
 use Rattle.registry_packument.specs.declared.opener.Sent.TheVariants.{Broken}
 use Rattle.registry_rules.specs.declared.reply.Reply.TheVariants.{Refused}
 use Rattle.registry_rules.specs.declared.request.Request.{Request}
-use Rattle.registry_tables.specs.Archives.{HoldsArchives}
-use Rattle.registry_tables.specs.Needs.{HoldsNeeds}
-use Rattle.registry_tables.specs.Teams.{GrantsInScope}
 use Rattle.registry_laws_history.specs.Runs.{Outcome}
-use Rattle.registry_desk.specs.Promises.{Answered, GrowsHistory, HasHeadline, HidesUnread, HoldsReferences, Keeps, KeepsForm, KeepsFormRun, KeepsRun, KeepsSure, Moves, RanTo, Served, ServedRun, ShutByFaults, StaysSure, Stepped, Stored, SurvivesOne, SurvivesRun, Unchanged, WasOpen, WritesHistory}
+use Rattle.registry_desk.specs.Promises.{Applied, IsOneRun}
 use Rattle.registry_service.specs.Courses.{Follow}
 use Rattle.registry_service.specs.Histories.{LogEntry, FollowAll}
 use Rattle.registry_service.specs.Requests.{reads_request}
 use Rattle.registry_service.specs.Turns.{Answering, Cause, Turn, bad_input, no_memory, request, stopped}
 
--- all that is promised of a request to a registry
-pub record Applies (old new : Shown) (r : Request) (o : Outcome) : Type 0 where
-  pub answer : Answered old new r o
-  pub served : Served old new o
-  pub opened : WasOpen old new
-  pub unchanged : Unchanged old new r o
-  pub step : Stepped old new r o
-  pub moves : Moves old new r o
-  pub history : GrowsHistory old new r o
-  pub hidden : HidesUnread old new r o
-  pub grants : Keeps old new r GrantsInScope
-  pub needs : Keeps old new r HoldsNeeds
-  pub refers : Keeps old new r HoldsReferences
-  pub archives : Keeps old new r HoldsArchives
-  pub form : KeepsForm old new r
-  pub survives : SurvivesOne old new r
-  pub durable : StaysSure new
-
--- the same, of the connections at the entry and at the exit
+-- all that is promised of a request to a registry, of the connections at the entry and at the exit
 abbrev pub applies_over : {S : Type 0} → Ghosts S → Answering (Held S)
-applies_over store M r o N = Applies (state store M) (state store N) r o
+applies_over store M r o N = Applied (state store M) (state store N) r o
 
 -- ---- a registry that is served
 
@@ -109,35 +88,16 @@ abbrev pub AskAll : List Turn → List Request → List Outcome → Type 0
 AskAll [] rs os = (rs ≡ []) × (os ≡ [])
 AskAll (t ∷ ts) rs os = (qs : List Request) × (ps : List Outcome) × AskAll ts qs ps × AsksNext t qs ps rs os
 
--- the turns are one run of the registry, of which everything holds that `run` says
-pub record IsOneRun (old new : Shown) (ts : List Turn) : Type 0 where
-  pub requests : List Request
-  pub outcomes : List Outcome
-  pub asked : AskAll ts requests outcomes
-  pub ran : RanTo old new requests outcomes
-  pub stored : Stored old new requests outcomes
-  pub headline : HasHeadline old new requests outcomes
-  pub history : WritesHistory old new requests outcomes
-  pub served : ServedRun old new outcomes
-  pub opened : WasOpen old new
-  pub grants : KeepsRun old new requests GrantsInScope
-  pub needs : KeepsRun old new requests HoldsNeeds
-  pub refers : KeepsRun old new requests HoldsReferences
-  pub archives : KeepsRun old new requests HoldsArchives
-  pub form : KeepsFormRun old new requests
-  pub survives : SurvivesRun old new requests outcomes
-  pub durable : KeepsSure old new
-  pub closes : ShutByFaults old new
-
 module _ {D : Type 0} (show : D → Shown) where
   -- what a service answers, where it shows a registry
   abbrev pub applied : Answering D
-  applied M r o N = Applies (show M) (show N) r o
+  applied M r o N = Applied (show M) (show N) r o
 
-  -- of one connection
+  -- the turns of one connection are one run of the registry, of which everything holds that `run`
+  -- says
   abbrev pub TurnsRun : Type 0
-  TurnsRun = (M N : D) (ts : List Turn) → Follow applied M ts N → IsOneRun (show M) (show N) ts
+  TurnsRun = (M N : D) (ts : List Turn) → Follow applied M ts N → IsOneRun (show M) (show N) (AskAll ts)
 
   -- of all connections
   abbrev pub LogRuns : Type 0
-  LogRuns = (M N : D) (log : List LogEntry) → FollowAll applied M log N → IsOneRun (show M) (show N) (map (λ e. e.turn) log)
+  LogRuns = (M N : D) (log : List LogEntry) → FollowAll applied M log N → IsOneRun (show M) (show N) (AskAll (map (λ e. e.turn) log))

@@ -4,17 +4,17 @@ use Rattle.sqlite.specs.State.{State as Shown, HasCleanDisk}
 use Rattle.registry_names.specs.Texts.{Text}
 use Rattle.registry_rules.specs.State.{State}
 use Rattle.registry_rules.specs.declared.request.Request.{Request}
-use Rattle.registry_tables.specs.Effects.{registry_in}
+use Rattle.registry_tables.specs.Effects.{registry_in, stored}
 use Rattle.registry_laws_history.specs.History.{Entry, after}
 use Rattle.registry_laws_history.specs.Runs.{Outcome, end_of}
 use Rattle.registry_laws_hidden.specs.Arrivals.{StaysClose, leaves_the_rest}
 use Rattle.registry_laws_hidden.specs.Concerns.{is_shown}
 use Rattle.registry_laws_hidden.specs.Levels.{IsStranger}
 use Rattle.registry_laws_hidden.specs.Runs.{DifferInPackage}
-use Rattle.registry_desk.specs.Promises.{HoldsSoundForEach}
+use Rattle.registry_desk.specs.Promises.{IsOneRun, NeedsForEach}
 use Rattle.registry_service.specs.Histories.{LogEntry, Reached, World}
 use Rattle.registry_service.specs.Turns.{Turn}
-use Rattle.registry_http.specs.Services.{IsOneRun, applied}
+use Rattle.registry_http.specs.Services.{AskAll, applied}
 
 -- A turn of two worlds; lists of them have the newest first. It is taken in both, on this
 -- connection, or in only one of them. With it stand whether the server is to end then, and the
@@ -105,8 +105,8 @@ pub record IsWorldOf {D : Type 0} (show : D → Shown) (M : D) (w : World D) (h 
   pub log : w.log ≡ es
   pub left : registry_in (show M) ≡ after h
   pub clean : HasCleanDisk (show w.service)
-  pub run : IsOneRun (show M) (show w.service) (map (λ e. e.turn) w.log)
-  pub sound : HoldsSoundForEach run.requests (show M)
+  pub run : IsOneRun (show M) (show w.service) (AskAll (map (λ e. e.turn) w.log))
+  pub needs : NeedsForEach run.requests (stored (show M))
   pub requests : run.requests ≡ rs
   pub outcomes : run.outcomes ≡ os
 

@@ -3,9 +3,9 @@
 ghost use Rattle.std.specs.Prelude.{◌≡◌, ◌≢◌, false, true};
 ghost use Rattle.sqlite.specs.Held.{state};
 ghost use Rattle.sqlite.specs.State.{Survives};
-ghost use Rattle.registry_desk.specs.Promises.{KeepsStored, WasOpen};
+ghost use Rattle.registry_desk.specs.Promises.{Applied, KeepsStored, WasOpen};
 ghost use Rattle.registry_desk.specs.TokenUsers.{NamesUser};
-ghost use Rattle.registry_http.specs.Services.{Applies, EndsBy, EndsByFault, EndsIfShut, EndsShut, SendsByFault, SendsIfShut, applied, applies_over, shown};
+ghost use Rattle.registry_http.specs.Services.{EndsBy, EndsByFault, EndsIfShut, EndsShut, SendsByFault, SendsIfShut, applied, applies_over, shown};
 ghost use Rattle.registry_packument.specs.Sendings.{failures_after};
 ghost use Rattle.registry_packument.specs.declared.opener.Sent.TheVariants.{WriteFault};
 ghost use Rattle.registry_service.specs.Sendings.{IsPackument, Sends};
@@ -177,7 +177,7 @@ fn asked<S: Alter>(
     registry: &mut Registry<S>,
     request: &Request,
 ) -> Result<Reply, Fault>
-    ensures { Applies (state S.Store registry.old) (state S.Store registry.new)
+    ensures { Applied (state S.Store registry.old) (state S.Store registry.new)
         request.now result }
 {
     registry.apply(alloc, request)

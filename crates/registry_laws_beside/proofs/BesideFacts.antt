@@ -2,23 +2,19 @@
 use Rattle.std.proofs.Common.{◌≡◌, ◌++◌, ◌∷◌, ◌∙◌, [], List, map, Option, Bool, inl, inr, refl, sym, ap, subst}
 use Rattle.std.specs.Prelude.{unwrap_or}
 use Rattle.sqlite.specs.State.{State as Shown}
-use Rattle.registry_rules.proofs.SoundSteps.{nothing_sound}
-use Rattle.registry_rules.specs.Kept.{IsSound}
-use Rattle.registry_rules.specs.State.{State}
 use Rattle.registry_rules.specs.declared.request.Request.{Request}
 use Rattle.registry_laws_history.specs.Runs.{Outcome}
-use Rattle.registry_laws_history.proofs.RunFacts.{headline_from, history_says, run_says}
-use Rattle.registry_desk.specs.Lives.{HasAnswered, HasRun}
-use Rattle.registry_desk.proofs.StoredFacts.{has_run_more, has_run_none, refers_for_each}
+use Rattle.registry_desk.specs.Promises.{HasRun, IsOneRun}
+use Rattle.registry_desk.proofs.StoredFacts.{has_run_more, has_run_none}
 use Rattle.registry_service.specs.Histories.{FollowAll, LogEntry}
 use Rattle.registry_service.specs.Turns.{Answering, Cause, IsTurnFor, Turn, bad_input, no_memory, request}
 use Rattle.registry_service.specs.declared.turning.End.{End}
-use Rattle.registry_http.specs.Services.{Applies, applied}
+use Rattle.registry_http.specs.Services.{applied}
 use Rattle.registry_cli.specs.Lines.{line_of}
 use Rattle.registry_guests.specs.Beside.{Beside, GuestTurn, GuestsLead, GuestsTurn, beside, beside_guests}
 use Rattle.registry_guests.specs.GuestTurns.{IsGuestTurn}
 use Rattle.registry_guests.specs.Outputs.{prints}
-use Rattle.registry_laws_beside.specs.Beside.{AnyTurn, AskAll, AsksFor, AsksNothing, IsOneRun, LogRunsBeside, TakeTurns, TakesTurn, TurnsRunBeside, of_connection, of_connections, of_guest, of_guests}
+use Rattle.registry_laws_beside.specs.Beside.{AnyTurn, AskAll, AsksFor, AsksNothing, LogRunsBeside, TakeTurns, TakesTurn, TurnsRunBeside, of_connection, of_connections, of_guest, of_guests}
 
 -- ---- one list of turns
 
@@ -79,41 +75,18 @@ module _ {D : Type 0} (answers : Answering D) (M : D) where
 
 -- ---- one run
 
-answered-of : (old new : Shown) (r : Request) (o : Outcome) → Applies old new r o → HasAnswered old new r o
-answered-of old new r o a = record {
-  answer = a.answer;
-  served = a.served;
-  opened = a.opened;
-  step = a.step;
-  moves = a.moves;
-  grants = a.grants;
-  needs = a.needs;
-  refers = a.refers;
-  archives = a.archives;
-  form = a.form;
-  survives = a.survives;
-  durable = a.durable;
-}
-
--- what is said of the requests of some turns
-record RunsSo (old new : Shown) (ts : List AnyTurn) : Type 0 where
-  requests : List Request
-  outcomes : List Outcome
-  asked : AskAll ts requests outcomes
-  run : HasRun old new requests outcomes
-
 module _ {D : Type 0} (show : D → Shown) (M : D) where
   -- a turn in which this was asked
-  asked-more : (K N : D) (t : AnyTurn) (ts : List AnyTurn) (r : Request) (o : Outcome) → RunsSo (show M) (show K) ts → AsksFor t r o → applied show K r o N → RunsSo (show M) (show N) (t ∷ ts)
+  asked-more : (K N : D) (t : AnyTurn) (ts : List AnyTurn) (r : Request) (o : Outcome) → IsOneRun (show M) (show K) (AskAll ts) → AsksFor t r o → applied show K r o N → IsOneRun (show M) (show N) (AskAll (t ∷ ts))
   asked-more K N t ts r o runs asks applies = record {
     requests = runs.requests ++ r ∷ [];
     outcomes = runs.outcomes ++ o ∷ [];
     asked = (runs.requests, runs.outcomes, runs.asked, inl (r, o, asks, refl, refl));
-    run = has_run_more (show M) (show K) (show N) runs.requests runs.outcomes r o runs.run (answered-of (show K) (show N) r o applies);
+    run = has_run_more (show M) (show K) (show N) runs.requests runs.outcomes r o runs.run applies;
   }
 
   -- a turn in which nothing was asked
-  asked-none : (K N : D) (t : AnyTurn) (ts : List AnyTurn) → RunsSo (show M) (show K) ts → AsksNothing t → N ≡ K → RunsSo (show M) (show N) (t ∷ ts)
+  asked-none : (K N : D) (t : AnyTurn) (ts : List AnyTurn) → IsOneRun (show M) (show K) (AskAll ts) → AsksNothing t → N ≡ K → IsOneRun (show M) (show N) (AskAll (t ∷ ts))
   asked-none K N t ts runs nothing same = record {
     requests = runs.requests;
     outcomes = runs.outcomes;
@@ -121,8 +94,8 @@ module _ {D : Type 0} (show : D → Shown) (M : D) where
     run = subst (λ (N : D). HasRun (show M) (show N) runs.requests runs.outcomes) (sym same) runs.run;
   }
 
-  of-connection : (K N : D) (c : Cause) (last : Bool) (o : Outcome) (ended : Option End) (ts : List AnyTurn) → RunsSo (show M) (show K) ts → IsTurnFor (applied show) c K last o ended N
-      → RunsSo (show M) (show N) (of_connection (record { cause = c; outcome = o; ended = ended }) ∷ ts)
+  of-connection : (K N : D) (c : Cause) (last : Bool) (o : Outcome) (ended : Option End) (ts : List AnyTurn) → IsOneRun (show M) (show K) (AskAll ts) → IsTurnFor (applied show) c K last o ended N
+      → IsOneRun (show M) (show N) (AskAll (of_connection (record { cause = c; outcome = o; ended = ended }) ∷ ts))
   of-connection K N (request w at) last o ended ts runs turn =
       elim turn.answered [
         | inl (r, reads, applies) ↦ asked-more K N (of_connection (record { cause = request w at; outcome = o; ended = ended })) ts r o runs (reads, refl) applies
@@ -131,7 +104,7 @@ module _ {D : Type 0} (show : D → Shown) (M : D) where
   of-connection K N (bad_input r) last o ended ts runs turn = asked-none K N (of_connection (record { cause = bad_input r; outcome = o; ended = ended })) ts runs turn.0.0 turn.1
   of-connection K N no_memory last o ended ts runs turn = asked-none K N (of_connection (record { cause = no_memory; outcome = o; ended = ended })) ts runs turn.0.0 turn.1
 
-  of-guest : (K N : D) (t : GuestTurn) (ts : List AnyTurn) → RunsSo (show M) (show K) ts → IsGuestTurn (applied show) K t.arguments t.body t.at (prints t.output) N → RunsSo (show M) (show N) (of_guest t ∷ ts)
+  of-guest : (K N : D) (t : GuestTurn) (ts : List AnyTurn) → IsOneRun (show M) (show K) (AskAll ts) → IsGuestTurn (applied show) K t.arguments t.body t.at (prints t.output) N → IsOneRun (show M) (show N) (AskAll (of_guest t ∷ ts))
   of-guest K N t ts runs turn =
       elim turn [
         | inl (command, asks) ↦
@@ -144,11 +117,11 @@ module _ {D : Type 0} (show : D → Shown) (M : D) where
         | inr (unasked, rests) ↦ asked-none K N (of_guest t) ts runs (inr unasked) rests
       ]
 
-  of-any : (K N : D) (t : AnyTurn) (ts : List AnyTurn) → RunsSo (show M) (show K) ts → TakesTurn (applied show) K t N → RunsSo (show M) (show N) (t ∷ ts)
+  of-any : (K N : D) (t : AnyTurn) (ts : List AnyTurn) → IsOneRun (show M) (show K) (AskAll ts) → TakesTurn (applied show) K t N → IsOneRun (show M) (show N) (AskAll (t ∷ ts))
   of-any K N (of_connection t) ts runs turn = of-connection K N t.cause turn.0 t.outcome t.ended ts runs turn.1
   of-any K N (of_guest t) ts runs turn = of-guest K N t ts runs turn
 
-  of-all : (N : D) (ts : List AnyTurn) → TakeTurns (applied show) M ts N → RunsSo (show M) (show N) ts
+  of-all : (N : D) (ts : List AnyTurn) → TakeTurns (applied show) M ts N → IsOneRun (show M) (show N) (AskAll ts)
   of-all N [] same = record {
     requests = [];
     outcomes = [];
@@ -157,22 +130,8 @@ module _ {D : Type 0} (show : D → Shown) (M : D) where
   }
   of-all N (t ∷ ts) take = of-any take.0 N t ts (of-all take.0 ts take.1) take.2
 
-one-run : (old new : Shown) (ts : List AnyTurn) → RunsSo old new ts → IsOneRun old new ts
-one-run old new ts runs = record {
-  requests = runs.requests;
-  outcomes = runs.outcomes;
-  asked = runs.asked;
-  run = runs.run;
-  headline = λ needs clean on empty.
-      let sound = refers_for_each runs.requests old (subst (λ (S : State). IsSound S.access) (sym empty) nothing_sound) needs in
-      headline_from _ runs.requests runs.outcomes _ _ empty (runs.run.ran sound clean) on;
-  history = λ needs clean on h legal is.
-      let sound = refers_for_each runs.requests old (subst (λ (S : State). IsSound S.access) (sym is) (history_says h legal).sound) needs in
-      run_says h _ runs.requests runs.outcomes _ _ (runs.run.ran sound clean) on legal is;
-}
-
 pub turns-run : {D : Type 0} (show : D → Shown) → TurnsRunBeside show
-turns-run show M N ts take = one-run (show M) (show N) ts (of-all show M N ts take)
+turns-run show M = of-all show M
 
 pub log-run : {D : Type 0} (show : D → Shown) → LogRunsBeside show
 log-run show M K N log follow lead =

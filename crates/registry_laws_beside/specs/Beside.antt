@@ -4,8 +4,7 @@ use Rattle.sqlite.specs.State.{State as Shown}
 use Rattle.registry_names.specs.declared.stop.Stop.{Stop}
 use Rattle.registry_rules.specs.declared.request.Request.{Request}
 use Rattle.registry_laws_history.specs.Runs.{Outcome}
-use Rattle.registry_desk.specs.Lives.{HasRun}
-use Rattle.registry_desk.specs.Promises.{HasHeadline, WritesHistory}
+use Rattle.registry_desk.specs.Promises.{IsOneRun}
 use Rattle.registry_service.specs.Histories.{FollowAll, LogEntry}
 use Rattle.registry_service.specs.Turns.{Answering, IsTurn, Turn, stopped}
 use Rattle.registry_http.specs.Services as http
@@ -79,22 +78,13 @@ abbrev pub AskAll : List AnyTurn → List Request → List Outcome → Type 0
 AskAll [] rs os = (rs ≡ []) × (os ≡ [])
 AskAll (t ∷ ts) rs os = (qs : List Request) × (ps : List Outcome) × AskAll ts qs ps × AsksNext t qs ps rs os
 
--- The turns are one run of the registry, of which everything holds that `run` says.
-pub record IsOneRun (old new : Shown) (ts : List AnyTurn) : Type 0 where
-  pub requests : List Request
-  pub outcomes : List Outcome
-  pub asked : AskAll ts requests outcomes
-  pub run : HasRun old new requests outcomes
-  pub headline : HasHeadline old new requests outcomes
-  pub history : WritesHistory old new requests outcomes
-
 module _ {D : Type 0} (show : D → Shown) where
-  -- of all turns
+  -- all turns are one run of the registry, of which everything holds that `run` says
   abbrev pub TurnsRunBeside : Type 0
-  TurnsRunBeside = (M N : D) (ts : List AnyTurn) → TakeTurns (applied show) M ts N → IsOneRun (show M) (show N) ts
+  TurnsRunBeside = (M N : D) (ts : List AnyTurn) → TakeTurns (applied show) M ts N → IsOneRun (show M) (show N) (AskAll ts)
 
   -- The turns of connections beside commands, and of commands after them, are one run. It has all
   -- turns of the connections in their order, and all turns of the commands in theirs
   abbrev pub LogRunsBeside : Type 0
   LogRunsBeside = (M : D) (K N : Beside D) (log : List LogEntry) → FollowAll (beside_guests (applied show)) (beside M []) log K → GuestsLead (applied show) K N
-      → (ts : List AnyTurn) × (of_connections ts ≡ map (λ e. e.turn) log) × (of_guests ts ≡ N.turns) × TakeTurns (applied show) M ts N.service × IsOneRun (show M) (show N.service) ts
+      → (ts : List AnyTurn) × (of_connections ts ≡ map (λ e. e.turn) log) × (of_guests ts ≡ N.turns) × TakeTurns (applied show) M ts N.service × IsOneRun (show M) (show N.service) (AskAll ts)

@@ -4,18 +4,21 @@ ghost use Rattle.std.specs.Prelude.{IfOk};
 ghost use Rattle.sqlite.specs.Held.{state};
 ghost use Rattle.sqlite.specs.State.{HasCleanDisk};
 ghost use Rattle.registry_check.specs.Right.{TellsRight};
-ghost use Rattle.registry_desk.specs.Resting.{Rests};
+ghost use Rattle.sqlite.specs.Files.{file_state};
+ghost use Rattle.registry_rows.specs.Ready.{Ready};
+ghost use Rattle.registry_tables.specs.Schema as tables;
+ghost use Rattle.registry_desk.specs.Adopted.{CanBeAdopted};
 
 use crate::beside::{TRIES, busy, hold_server, is_busy, pause, require_no_other};
 use crate::checking_beside::problems_beside;
 use crate::ending::{Ending, Failure, Obstacle};
 use crate::errands::print_done;
-use crate::opening::{open, require_file};
+use crate::opening::{obstacle_left, require_file, unopened};
 use crate::run::{obstacle_text, print_line};
 use registry_check::{Problem, Thing, check};
-use registry_desk::Registry;
+use registry_desk::{Registry, Unopened, has_tables};
 use registry_names::{Blob, ByteOut, Fault, Text};
-use sqlite::{Alter, Connection, FileStore};
+use sqlite::{Alter, Connection, FileStore, Unknown};
 use sqlite_disk::Disk;
 use std::alloc::{AllocError, Global};
 
@@ -24,8 +27,8 @@ const WRONG: &str = "wrong: ";
 
 /// Checks the registry in the file at the path, lets go of the file, and gives the exit status: 0
 /// where nothing is wrong, and otherwise 1, with a line on the errors for each thing that is wrong.
-/// A file that holds no registry, or that something else changed so that it doesn't open, is wrong
-/// as a whole. Where a server has the file, a copy is checked, which is made in the server's
+/// A file whose tables are a registry's is checked even where what they hold keeps it from opening.
+/// Any other file that doesn't open is wrong as a whole. Where a server has the file, a copy is checked, which is made in the server's
 /// folder. A file that isn't there, that another process has, or that can't be read or copied is a
 /// fault.
 pub fn print_check<O: ByteOut, E: ByteOut>(
@@ -80,9 +83,43 @@ fn problems_at(rt: &HostRuntime, alloc: Global, path: &str) -> Result<Vec<Proble
 
 // What is wrong in a file that no other process has.
 fn problems_alone(rt: &HostRuntime, alloc: Global, path: &str) -> Result<Vec<Problem>, Ending> {
-    match open(rt, path) {
+    match Registry::open_from(rt, path, Unknown) {
         Ok(registry) => problems_in(alloc, registry),
-        Err(ending) => Err(ending),
+        Err((Fault::Memory, _)) => Err(Ending::from(Fault::Memory)),
+        Err((Fault::Database, Some(Unopened::Database(conn)))) => problems_left(alloc, conn),
+        Err((Fault::Database, left)) => {
+            drop(left);
+            Err(unopened(rt, path))
+        }
+    }
+}
+
+/// What is wrong in a database that didn't open as a registry, and is let go of.
+pub fn problems_left<D: Disk + Drop>(
+    alloc: Global,
+    conn: Connection<FileStore<D>>,
+) -> Result<Vec<Problem>, Ending>
+    requires rises { CanBeAdopted (file_state conn) }
+{
+    let mut conn = conn;
+    match problems_of_tables(alloc, &mut conn) {
+        Ok(problems) if !problems.is_empty() => Ok(problems),
+        Err(Fault::Memory) => Err(Ending::from(Fault::Memory)),
+        _ => Err(Ending::Fault(Failure::Opening(obstacle_left(alloc, Unopened::Database(conn))))),
+    }
+}
+
+// The same where its tables are a registry's. Of other tables nothing is said.
+fn problems_of_tables<S: Alter>(
+    alloc: Global,
+    conn: &mut Connection<S>,
+) -> Result<Vec<Problem>, Fault>
+    requires rises { CanBeAdopted (state S.Store conn.old) }
+{
+    if has_tables(alloc, conn)? {
+        problems_of(alloc, conn)
+    } else {
+        Ok(Vec::new(alloc))
     }
 }
 
@@ -108,7 +145,7 @@ fn problems_within<S: Alter + Drop>(
 // What is wrong in the tables of a connection that is between requests. Nothing is wrong exactly
 // where everything holds that the promises suppose.
 fn problems_of<S: Alter>(alloc: Global, conn: &mut Connection<S>) -> Result<Vec<Problem>, Fault>
-    requires rests { Rests (state S.Store conn.old) }
+    requires ready { Ready tables.schema (state S.Store conn.old) }
     ensures { HasCleanDisk (state S.Store conn.new)
         → IfOk result (λ found. TellsRight found.items (state S.Store conn.old).now.trees) }
 {

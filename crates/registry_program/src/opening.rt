@@ -23,8 +23,17 @@ pub fn open(rt: &HostRuntime, path: &str) -> Result<Registry<FileStore<File>>, E
     match Registry::open(rt, path) {
         Ok(registry) => Ok(registry),
         Err(Fault::Memory) => Err(Ending::from(Fault::Memory)),
-        Err(Fault::Database) => Err(Ending::Fault(Failure::Opening(obstacle(rt, path)))),
+        Err(Fault::Database) => Err(unopened(rt, path)),
     }
+}
+
+/// Why the file at the path wasn't opened: it is tried once more, as any database is.
+pub fn unopened(rt: &HostRuntime, path: &str) -> Ending {
+    let obstacle = match Connection::open_with_sums(rt, path) {
+        Ok(conn) => obstacle_left(rt.alloc(), Unopened::Database(conn)),
+        Err(error) => obstacle_of(error),
+    };
+    Ending::Fault(Failure::Opening(obstacle))
 }
 
 /// A file that isn't empty has to be at the path. Without this check, an open would make a registry
@@ -88,14 +97,6 @@ fn unclosed(error: Error) -> Ending {
     match error {
         Error::SqliteFailure(ErrorCode::OutOfMemory) => Ending::from(Fault::Memory),
         error => Ending::Fault(Failure::Opening(obstacle_of(error))),
-    }
-}
-
-// Why the file at the path wasn't opened: it is tried once more, as any database is.
-fn obstacle(rt: &HostRuntime, path: &str) -> Obstacle {
-    match Connection::open_with_sums(rt, path) {
-        Ok(conn) => obstacle_left(rt.alloc(), Unopened::Database(conn)),
-        Err(error) => obstacle_of(error),
     }
 }
 

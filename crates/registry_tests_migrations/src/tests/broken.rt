@@ -7,13 +7,13 @@
 //! open.
 
 ghost use Rattle.sqlite.specs.Held.{state};
-ghost use Rattle.registry_desk.specs.Resting.{Rests};
+ghost use Rattle.registry_desk.specs.Adopted.{CanBeAdopted};
 
 use super::rows::push_digits;
 use super::{connected, files_of, new_files, options, run_all};
 use registry_check::{Problem, Thing, check};
-use registry_desk::Registry;
-use registry_names::{Blob, Text};
+use registry_desk::{Registry, Unopened, has_tables};
+use registry_names::{Blob, Fault, Text};
 use registry_tables::TABLES;
 use registry_tests_support::same;
 use sqlite::{Alter, Connection, Constraint, Error, ErrorCode, FileStore, Files};
@@ -290,21 +290,25 @@ fn told_of(alloc: Global, files: Files<Memory>) -> Result<String, Fail> {
     if !files.may_be_used() {
         return Err(Fail::new(format_args!("the files can't be used")));
     }
-    match Registry::open_files(alloc, files, options()) {
-        Ok(registry) => {
-            let mut conn = registry.release();
-            let told = told_by(alloc, &mut conn)?;
-            files_of(conn)?;
-            Ok(told)
+    let mut conn = match Registry::open_files(alloc, files, options()) {
+        Ok(registry) => registry.release(),
+        Err((Fault::Database, Unopened::Database(conn))) => conn,
+        Err((fault, _)) => {
+            return Err(Fail::new(format_args!("no database opens: {fault:?}")));
         }
-        Err((fault, _)) => Err(Fail::new(format_args!("no registry opens: {fault:?}"))),
-    }
+    };
+    let told = told_by(alloc, &mut conn)?;
+    files_of(conn)?;
+    Ok(told)
 }
 
-// What the check says of the tables.
+// What the check says of the tables, which are a registry's, also where none opens.
 fn told_by<S: Alter>(alloc: Global, conn: &mut Connection<S>) -> Result<String, Fail>
-    requires rests { Rests (state S.Store conn.old) }
+    requires rises { CanBeAdopted (state S.Store conn.old) }
 {
+    if !has_tables(alloc, conn)? {
+        return Err(Fail::new(format_args!("the tables aren't a registry's")));
+    }
     let mut tx = conn.transaction();
     let problems = check(alloc, &mut tx)?;
     problems_text(alloc, &problems)

@@ -16,7 +16,9 @@ use rights::RightCall::{
     OtherMaintainer, Packages, Standing,
 };
 use std::test::Fail;
-use teams::TeamCall::{Grant, Grants, Member, Organisation, Team, TeamMember, User, Users};
+use teams::TeamCall::{
+    Grant, Grants, InScope, Member, Organisation, Team, TeamMember, User, Users,
+};
 use text::Body;
 use walks::{Walk, all_give};
 
@@ -368,6 +370,7 @@ static TEAMS: [Case; 3] = [
                 "done",
             ),
             ("@lab/kit", Call::Teams(Grants("lab", "ann")), ""),
+            ("@lab/kit", Call::Teams(InScope), "true"),
             ("@lab/kit", Call::Teams(Grant("lab", "devs", 2)), "done"),
             ("@lab/kit", Call::Teams(Grants("lab", "ann")), " write"),
             ("@lab/kit", Call::Teams(Grants("lab", "bob")), ""),
@@ -378,6 +381,9 @@ static TEAMS: [Case; 3] = [
             ("@lab/kit", Call::Teams(Grants("lab", "bob")), " read"),
             ("@lab/kit", Call::Teams(Grant("lab", "all", 2)), "done"),
             ("@lab/kit", Call::Teams(Grants("lab", "bob")), " read"),
+            ("@lab/kit", Call::Teams(InScope), "true"),
+            ("@lab/pad", Call::Teams(Grant("labs", "devs", 1)), "done"),
+            ("@lab/kit", Call::Teams(InScope), "false"),
         ],
         end: End::Nothing,
     },

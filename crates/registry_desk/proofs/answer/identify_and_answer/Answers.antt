@@ -9,7 +9,7 @@ use Rattle.registry_rules.specs.Callers.{caller_of}
 use Rattle.registry_tables.specs.Contents.{Contents, contents, registry_of}
 use Rattle.registry_tables.specs.Effects.{shown, stored_in}
 use Rattle.registry_tables.specs.Schema.{schema}
-use Rattle.registry_tables.specs.Teams.{AreTeamsSound}
+use Rattle.registry_tables.specs.Teams.{AreTeamsSound, GrantsInScope}
 use Rattle.registry_laws_history.specs.Answers.{answer}
 use Rattle.registry_desk.specs.Found.{IsCallerIn, NeedsFor}
 use Rattle.registry_desk.specs.Resting.{settled_by}
@@ -54,6 +54,18 @@ returns-in-None-clause-settles g c sound needs clean =
       ready = reads.ready;
       mode = reads.mode ∙ c.requires.begun;
     }
+
+pub returns-in-Some-clause-granted : goal.returns-in-Some-clause-granted
+returns-in-Some-clause-granted g c sound clean =
+    let r = c.args.request.now in
+    let were : HasCleanDisk (shown g.S.Store c.load_caller.new.tx) = omega (arith, c.load_facts_and_answer.ensures.stays.survives.clean, clean) in
+    let it = c.in_ok-caller.ensures.knows were in
+    let same : stored_in g.S.Store c.load_caller.new.tx ≡ stored_in g.S.Store c.args.tx.now = ap (λ (d : Database). contents d.trees) it.0.same in
+    let known : IsCallerIn (stored_in g.S.Store c.load_caller.new.tx) r c.in-Some.caller = sym c.in-Some.is ∙ it.1 ∙ ap (λ (d : Contents). caller_of (registry_of d) r.who) (sym same) in
+    c.load_facts_and_answer.ensures.granted known (subst AreTeamsSound (sym same) sound) clean
+
+pub returns-in-None-clause-granted : goal.returns-in-None-clause-granted
+returns-in-None-clause-granted g c sound clean = subst GrantsInScope (sym (ap (λ (d : Database). contents d.trees) (c.in_ok-caller.ensures.knows clean).0.same)) sound.grants
 
 pub returns-in-None-clause-goes_on : goal.returns-in-None-clause-goes_on
 returns-in-None-clause-goes_on g c clean =

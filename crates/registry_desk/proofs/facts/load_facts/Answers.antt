@@ -3,7 +3,7 @@ use Rattle.registry_rows.specs.Ready.{Reads}
 use Rattle.registry_rules.specs.declared.request.Action.TheVariants as asked
 use Rattle.registry_tables.specs.Effects.{shown, stored_in}
 use Rattle.registry_tables.specs.Schema.{schema}
-use Rattle.registry_desk.proofs.EarlyFacts.{found_about, found_either, found_so}
+use Rattle.registry_desk.proofs.EarlyFacts.{found_about, found_either, found_so, found_some}
 use Rattle.registry_desk.proofs.facts.load_facts.Goals as goal
 
 pub returns-in-UserAdd-clause-loads : goal.returns-in-UserAdd-clause-loads
@@ -20,11 +20,11 @@ returns-in-OrgCreate-clause-loads g c clean =
 
 pub returns-in-OrgSet-clause-loads : goal.returns-in-OrgSet-clause-loads
 returns-in-OrgSet-clause-loads g c clean =
-    found_so (Reads schema (shown g.S.Store c.args.tx.now) (shown g.S.Store c.facts_for_org_set.new.tx)) (stored_in g.S.Store c.args.tx.now) c.args.request.now.at c.args.caller.now c.args.request.now.what (asked.OrgSet c.in-OrgSet.organisation c.in-OrgSet.user c.in-OrgSet.role) c.facts_for_org_set.result c.in-OrgSet.is (λ y told sound needs. told c.in-OrgSet.role c.args.request.now.at) (c.facts_for_org_set.ensures.loads clean)
+    found_so (Reads schema (shown g.S.Store c.args.tx.now) (shown g.S.Store c.facts_for_org_set.new.tx)) (stored_in g.S.Store c.args.tx.now) c.args.request.now.at c.args.caller.now c.args.request.now.what (asked.OrgSet c.in-OrgSet.organisation c.in-OrgSet.user c.in-OrgSet.role) c.facts_for_org_set.result c.in-OrgSet.is (λ y told sound. told c.in-OrgSet.role c.args.request.now.at) (c.facts_for_org_set.ensures.loads clean)
 
 pub returns-in-OrgRemove-clause-loads : goal.returns-in-OrgRemove-clause-loads
 returns-in-OrgRemove-clause-loads g c clean =
-    found_so (Reads schema (shown g.S.Store c.args.tx.now) (shown g.S.Store c.facts_for_org_remove.new.tx)) (stored_in g.S.Store c.args.tx.now) c.args.request.now.at c.args.caller.now c.args.request.now.what (asked.OrgRemove c.in-OrgRemove.organisation c.in-OrgRemove.user) c.facts_for_org_remove.result c.in-OrgRemove.is (λ y told sound needs. told c.args.request.now.at) (c.facts_for_org_remove.ensures.loads clean)
+    found_so (Reads schema (shown g.S.Store c.args.tx.now) (shown g.S.Store c.facts_for_org_remove.new.tx)) (stored_in g.S.Store c.args.tx.now) c.args.request.now.at c.args.caller.now c.args.request.now.what (asked.OrgRemove c.in-OrgRemove.organisation c.in-OrgRemove.user) c.facts_for_org_remove.result c.in-OrgRemove.is (λ y told sound. told c.args.request.now.at) (c.facts_for_org_remove.ensures.loads clean)
 
 pub returns-in-TeamCreate-clause-loads : goal.returns-in-TeamCreate-clause-loads
 returns-in-TeamCreate-clause-loads g c clean =
@@ -60,11 +60,11 @@ returns-in-OwnerAdd-clause-loads g c clean =
 
 pub returns-in-OwnerRemove-clause-loads : goal.returns-in-OwnerRemove-clause-loads
 returns-in-OwnerRemove-clause-loads g c clean =
-    found_so (Reads schema (shown g.S.Store c.args.tx.now) (shown g.S.Store c.facts_for_owner_remove.new.tx)) (stored_in g.S.Store c.args.tx.now) c.args.request.now.at c.args.caller.now c.args.request.now.what (asked.OwnerRemove c.in-OwnerRemove.package c.in-OwnerRemove.user) c.facts_for_owner_remove.result c.in-OwnerRemove.is (λ y told sound needs. told c.args.request.now.at sound) (c.facts_for_owner_remove.ensures.loads clean)
+    found_so (Reads schema (shown g.S.Store c.args.tx.now) (shown g.S.Store c.facts_for_owner_remove.new.tx)) (stored_in g.S.Store c.args.tx.now) c.args.request.now.at c.args.caller.now c.args.request.now.what (asked.OwnerRemove c.in-OwnerRemove.package c.in-OwnerRemove.user) c.facts_for_owner_remove.result c.in-OwnerRemove.is (λ y told sound. told c.args.request.now.at sound) (c.facts_for_owner_remove.ensures.loads clean)
 
 pub returns-in-Publish-clause-loads : goal.returns-in-Publish-clause-loads
 returns-in-Publish-clause-loads g c clean =
-    found_so (Reads schema (shown g.S.Store c.args.tx.now) (shown g.S.Store c.facts_for_publish.new.tx)) (stored_in g.S.Store c.args.tx.now) c.args.request.now.at c.args.caller.now c.args.request.now.what (asked.Publish c.in-Publish.form) c.facts_for_publish.result c.in-Publish.is (λ y told sound needs. told c.args.request.now.at sound) (c.facts_for_publish.ensures.loads clean)
+    found_so (Reads schema (shown g.S.Store c.args.tx.now) (shown g.S.Store c.facts_for_publish.new.tx)) (stored_in g.S.Store c.args.tx.now) c.args.request.now.at c.args.caller.now c.args.request.now.what (asked.Publish c.in-Publish.form) c.facts_for_publish.result c.in-Publish.is (λ y told sound. told c.args.request.now.at sound) (c.facts_for_publish.ensures.loads clean)
 
 pub returns-in-TagSet-clause-loads : goal.returns-in-TagSet-clause-loads
 returns-in-TagSet-clause-loads g c clean =
@@ -76,11 +76,11 @@ returns-in-TagRemove-clause-loads g c clean =
 
 pub returns-in-Withdraw-clause-loads : goal.returns-in-Withdraw-clause-loads
 returns-in-Withdraw-clause-loads g c clean =
-    found_so (Reads schema (shown g.S.Store c.args.tx.now) (shown g.S.Store c.facts_for_withdraw.new.tx)) (stored_in g.S.Store c.args.tx.now) c.args.request.now.at c.args.caller.now c.args.request.now.what (asked.Withdraw c.in-Withdraw.package c.in-Withdraw.version) c.facts_for_withdraw.result c.in-Withdraw.is (λ y told. told) (c.facts_for_withdraw.ensures.loads clean)
+    found_some (Reads schema (shown g.S.Store c.args.tx.now) (shown g.S.Store c.facts_for_withdraw.new.tx)) (stored_in g.S.Store c.args.tx.now) c.args.request.now.at c.args.caller.now c.args.request.now.what (asked.Withdraw c.in-Withdraw.package c.in-Withdraw.version) c.facts_for_withdraw.result c.in-Withdraw.is (c.facts_for_withdraw.ensures.loads clean)
 
 pub returns-in-Deprecate-clause-loads : goal.returns-in-Deprecate-clause-loads
 returns-in-Deprecate-clause-loads g c clean =
-    found_so (Reads schema (shown g.S.Store c.args.tx.now) (shown g.S.Store c.facts_for_deprecate.new.tx)) (stored_in g.S.Store c.args.tx.now) c.args.request.now.at c.args.caller.now c.args.request.now.what (asked.Deprecate c.in-Deprecate.package c.in-Deprecate.selector c.in-Deprecate.message) c.facts_for_deprecate.result c.in-Deprecate.is (λ y told sound needs. told c.in-Deprecate.selector c.in-Deprecate.message c.args.request.now.at sound) (c.facts_for_deprecate.ensures.loads clean)
+    found_so (Reads schema (shown g.S.Store c.args.tx.now) (shown g.S.Store c.facts_for_deprecate.new.tx)) (stored_in g.S.Store c.args.tx.now) c.args.request.now.at c.args.caller.now c.args.request.now.what (asked.Deprecate c.in-Deprecate.package c.in-Deprecate.selector c.in-Deprecate.message) c.facts_for_deprecate.result c.in-Deprecate.is (λ y told sound. told c.in-Deprecate.selector c.in-Deprecate.message c.args.request.now.at sound) (c.facts_for_deprecate.ensures.loads clean)
 
 pub returns-in-Tags-clause-loads : goal.returns-in-Tags-clause-loads
 returns-in-Tags-clause-loads g c clean =

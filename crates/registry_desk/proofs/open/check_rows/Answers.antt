@@ -1,33 +1,56 @@
-use Rattle.std.proofs.Common.{◌∙◌, ap, arith, sym}
+use Rattle.std.proofs.Common.{◌∙◌, ap, arith, refl, subst, sym}
 use Rattle.sqlite.specs.Effect.{Database}
 use Rattle.sqlite.specs.State.{HasCleanDisk}
-use Rattle.registry_rows.proofs.QuietFacts.{reads_then, stays_then}
+use Rattle.registry_rows.proofs.QuietFacts.{on_answer, reads_then, stays_then}
 use Rattle.registry_tables.specs.Contents.{contents}
 use Rattle.registry_tables.specs.Effects.{shown, stored_in}
 use Rattle.registry_tables.specs.Schema.{schema}
+use Rattle.registry_tables.specs.Teams.{GrantsInScope}
+use Rattle.registry_tables.proofs.EffectFacts.{on_any}
 use Rattle.registry_migration.proofs.StayFacts.{no_more, stays_going}
 use Rattle.registry_desk.proofs.open.check_rows.Goals as goal
 
 pub counts_archives_alone-requires : goal.counts_archives_alone-requires
 counts_archives_alone-requires g c = record { in_form = λ clean _. (c.in_ok-opened.ensures.ours c.requires.in_form clean).0.ready }
 
+pub check_sound-requires : goal.check_sound-requires
+check_sound-requires g c = record { in_form = λ clean _. (c.in_ok-counts_archives_alone.ensures.loads clean).0.ready }
+
 pub returns-in_err-opened-clause-stays : goal.returns-in_err-opened-clause-stays
 returns-in_err-opened-clause-stays g c = stays_going g.S.Store c.args.tx.now c.opened.new.tx c.opened.ensures.same_reference c.requires.going c.opened.ensures.committed c.opened.ensures.survives
 
 pub returns-clause-stays : goal.returns-clause-stays
-returns-clause-stays g c = stays_then g.S.Store c.args.tx.now c.opened.new.tx c.counts_archives_alone.new.tx
+returns-clause-stays g c = stays_then g.S.Store c.args.tx.now c.counts_archives_alone.new.tx c.check_sound.new.tx
+    (stays_then g.S.Store c.args.tx.now c.opened.new.tx c.counts_archives_alone.new.tx
     (stays_going g.S.Store c.args.tx.now c.opened.new.tx c.opened.ensures.same_reference c.requires.going c.opened.ensures.committed c.opened.ensures.survives)
-    c.counts_archives_alone.ensures.stays
+    c.counts_archives_alone.ensures.stays) c.check_sound.ensures.stays
 
 pub returns-clause-reads : goal.returns-clause-reads
 returns-clause-reads g c clean =
-    let after : HasCleanDisk (shown g.S.Store c.opened.new.tx) = omega (arith, c.counts_archives_alone.ensures.stays.survives.clean, clean) in
-    reads_then schema (shown g.S.Store c.args.tx.now) (shown g.S.Store c.opened.new.tx) (shown g.S.Store c.counts_archives_alone.new.tx)
-    (c.in_ok-opened.ensures.ours c.requires.in_form after).0 (c.in_ok-counts_archives_alone.ensures.loads clean).0
+    let was = shown g.S.Store c.args.tx.now in
+    let one = shown g.S.Store c.opened.new.tx in
+    let two = shown g.S.Store c.counts_archives_alone.new.tx in
+    let clean_two : HasCleanDisk two = omega (arith, c.check_sound.ensures.stays.survives.clean, clean) in
+    let clean_one : HasCleanDisk one = omega (arith, c.counts_archives_alone.ensures.stays.survives.clean, clean_two) in
+    let to_two = reads_then schema was one two (c.in_ok-opened.ensures.ours c.requires.in_form clean_one).0 (c.in_ok-counts_archives_alone.ensures.loads clean_two).0 in
+    on_answer c.check_sound.result (λ more. reads_then schema was two (shown g.S.Store c.check_sound.new.tx) to_two more) (c.check_sound.ensures.reads clean)
 
 pub returns-clause-counted : goal.returns-clause-counted
 returns-clause-counted g c clean =
-    let after : HasCleanDisk (shown g.S.Store c.opened.new.tx) = omega (arith, c.counts_archives_alone.ensures.stays.survives.clean, clean) in
-    let opens = (c.in_ok-opened.ensures.ours c.requires.in_form after).0 in
-    ap (λ (d : Database). (contents d.trees).counters) (sym opens.same)
-    ∙ no_more (stored_in g.S.Store c.opened.new.tx).counters (sym (c.in_ok-counts_archives_alone.ensures.loads clean).1 ∙ c.if-not-branch.false)
+    let one = shown g.S.Store c.opened.new.tx in
+    let two = shown g.S.Store c.counts_archives_alone.new.tx in
+    let clean_two : HasCleanDisk two = omega (arith, c.check_sound.ensures.stays.survives.clean, clean) in
+    let clean_one : HasCleanDisk one = omega (arith, c.counts_archives_alone.ensures.stays.survives.clean, clean_two) in
+    let opens = (c.in_ok-opened.ensures.ours c.requires.in_form clean_one).0 in
+    on_any c.check_sound.result
+    (ap (λ (d : Database). (contents d.trees).counters) (sym opens.same)
+    ∙ no_more (stored_in g.S.Store c.opened.new.tx).counters (sym (c.in_ok-counts_archives_alone.ensures.loads clean_two).1 ∙ c.in_ok-check_so.ensures.ok.0 refl))
+
+pub returns-clause-granted : goal.returns-clause-granted
+returns-clause-granted g c clean =
+    let one = shown g.S.Store c.opened.new.tx in
+    let two = shown g.S.Store c.counts_archives_alone.new.tx in
+    let clean_two : HasCleanDisk two = omega (arith, c.check_sound.ensures.stays.survives.clean, clean) in
+    let clean_one : HasCleanDisk one = omega (arith, c.counts_archives_alone.ensures.stays.survives.clean, clean_two) in
+    let same = (c.in_ok-counts_archives_alone.ensures.loads clean_two).0.same ∙ (c.in_ok-opened.ensures.ours c.requires.in_form clean_one).0.same in
+    on_answer c.check_sound.result (λ granted. subst (λ (d : Database). GrantsInScope (contents d.trees)) same granted) (c.check_sound.ensures.granted clean)

@@ -1,19 +1,25 @@
-use Rattle.std.proofs.Common.{◌≡◌, ◌∙◌, ap, inl, inr, sym}
+use Rattle.std.proofs.Common.{◌≡◌, ◌∙◌, ap, inl, inr, sym, OnOk}
 use Rattle.sqlite.specs.Effect.{Database}
 use Rattle.sqlite.specs.Held.{state}
 use Rattle.registry_rows.proofs.QuietFacts.{on_answer}
 use Rattle.registry_tables.specs.Contents.{contents}
+use Rattle.registry_tables.specs.Effects.{stored}
+use Rattle.registry_tables.specs.Fresh.{CountsArchivesAlone}
 use Rattle.registry_tables.specs.Schema.{schema}
+use Rattle.registry_tables.specs.Teams.{GrantsInScope}
 use Rattle.registry_migration.specs.Older.{schema_of}
+use Rattle.registry_desk.specs.Opened.{IsOurs}
 use Rattle.registry_desk.proofs.OpenedFacts.{both_ok, migrated_left, older_ready}
 use Rattle.registry_desk.proofs.open.settle.Goals as goal
 
 pub returns-then-branch-clause-made : goal.returns-then-branch-clause-made
 returns-then-branch-clause-made g c clean =
+    let was = stored (state g.S.Store c.args.conn.now) in
     let ours : (state g.S.Store c.args.conn.now).now.schema ≡ schema = sym c.schema-2.ensures.value ∙ c.in_ok-has_our_tables.ensures.0 c.if-branch.true in
-    both_ok c.check_contents.result (λ found same. inl (ours, found, ap (λ (d : Database). contents d.trees) same))
-    (both_ok c.check_contents.result (λ number counts. (number, counts)) (c.check_contents.ensures.numbered clean) (c.check_contents.ensures.counted clean))
-    (c.check_contents.ensures.same clean)
+    let more : OnOk c.check_contents.result (CountsArchivesAlone was × GrantsInScope was) = both_ok c.check_contents.result (λ counts grants. (counts, grants)) (c.check_contents.ensures.counted clean) (c.check_contents.ensures.granted clean) in
+    let found : OnOk c.check_contents.result (IsOurs was) =
+    both_ok c.check_contents.result (λ number (others : CountsArchivesAlone was × GrantsInScope was). record { numbered = number; counted = others.0; granted = others.1 }) (c.check_contents.ensures.numbered clean) more in
+    both_ok c.check_contents.result (λ is same. inl (ours, is, ap (λ (d : Database). contents d.trees) same)) found (c.check_contents.ensures.same clean)
 
 pub migrate_tables-requires : goal.migrate_tables-requires
 migrate_tables-requires g c = record {

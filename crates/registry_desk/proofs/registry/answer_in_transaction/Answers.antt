@@ -8,12 +8,12 @@ use Rattle.sqlite.specs.State.{HasCleanDisk, KeepsCommit, Survives}
 use Rattle.sqlite_trees.specs.Tree.{Trees}
 use Rattle.registry_tables.specs.Contents.{Contents, contents, registry_of}
 use Rattle.registry_tables.specs.Effects.{stored}
-use Rattle.registry_tables.specs.Teams.{AreTeamsSound}
+use Rattle.registry_tables.specs.Teams.{AreTeamsSound, GrantsInScope}
 use Rattle.registry_tables.proofs.TeamReferenceFacts.{teams_sound}
 use Rattle.registry_laws_history.specs.Answers.{answer}
 use Rattle.registry_laws_history.specs.Runs.{Outcome, enters}
 use Rattle.registry_desk.specs.Found.{NeedsFor}
-use Rattle.registry_desk.specs.Promises.{HoldsSoundFor, LeavesOne}
+use Rattle.registry_desk.specs.Promises.{LeavesOne}
 use Rattle.registry_desk.specs.Resting.{Rests, next_stored, settled_by}
 use Rattle.registry_desk.proofs.CommitFacts.{commit_rests, failed_undone, registry_left, undone_open, undone_rests, undone_stored}
 use Rattle.registry_desk.specs.Caches.{AreAnswers, HasAnswers}
@@ -26,7 +26,14 @@ pub returns-in-Ok-clause-rests : goal.returns-in-Ok-clause-rests
 returns-in-Ok-clause-rests g c =
     let mid = state g.S.Store c.identify_and_answer.new.tx.conn.now in
     let new = state g.S.Store c.commit.new.tx.0 in
-    let rests : Rests new = commit_rests (stored mid) mid new c.commit.ensures.ended (λ clean. c.in_ok-reply.ensures.goes_on (omega (arith, c.commit.ensures.survives.clean, clean))) (λ clean. (c.in-Ok.ensures.ok clean).1) in
+    let old = state g.S.Store c.args.conn.now in
+    let seen : stored (state g.S.Store c.transaction-tx.result.conn.now) ≡ stored old = rw c.transaction-tx.ensures.begun refl in
+    let granted : HasCleanDisk new → GrantsInScope (stored mid) = λ clean.
+    let were : HasCleanDisk mid = omega (arith, c.commit.ensures.survives.clean, clean) in
+    let first : HasCleanDisk old = omega (arith, (rw c.transaction-tx.ensures.begun at c.identify_and_answer.ensures.stays.survives).clean, were) in
+    let was_open : IsTrue old.is_open = rw c.transaction-tx.ensures.begun at c.in_ok-reply.ensures.served were in
+    c.in_ok-reply.ensures.granted (subst AreTeamsSound (sym seen) (teams_sound old (c.requires.rests.in_form first was_open) (c.requires.rests.grants first was_open))) were in
+    let rests : Rests new = commit_rests (stored mid) mid new c.commit.ensures.ended (λ clean. c.in_ok-reply.ensures.goes_on (omega (arith, c.commit.ensures.survives.clean, clean))) granted (λ clean. (c.in-Ok.ensures.ok clean).1) in
     let same : c.commit.new.tx.0 ≡ c.conn-2-1.given.0 = search rules in
     subst (λ h. Rests (state g.S.Store h)) same rests
 
@@ -37,18 +44,18 @@ returns-in-Ok-clause-step g c =
     let mid = state g.S.Store c.identify_and_answer.new.tx.conn.now in
     let new = state g.S.Store c.commit.new.tx.0 in
     let seen : stored begun ≡ stored old = rw c.transaction-tx.ensures.begun refl in
-    let steps : HoldsSoundFor c.args.request.now old → HasCleanDisk new → IsTrue new.is_open → stored new ≡ next_stored c.args.request.now (Ok c.in_ok-reply.reply) (stored old) = λ sound clean _.
-    let needs = subst (λ (d : Contents). NeedsFor c.args.request.now.what d) (sym seen) sound.needs in
+    let steps : NeedsFor c.args.request.now.what (stored old) → HasCleanDisk new → IsTrue new.is_open → stored new ≡ next_stored c.args.request.now (Ok c.in_ok-reply.reply) (stored old) = λ needed clean _.
+    let needs = subst (λ (d : Contents). NeedsFor c.args.request.now.what d) (sym seen) needed in
     let were : HasCleanDisk mid = omega (arith, c.commit.ensures.survives.clean, clean) in
     let first : HasCleanDisk old = omega (arith, (rw c.transaction-tx.ensures.begun at c.identify_and_answer.ensures.stays.survives).clean, were) in
     let was_open : IsTrue old.is_open = rw c.transaction-tx.ensures.begun at c.in_ok-reply.ensures.served were in
-    let teams = subst AreTeamsSound (sym seen) (teams_sound old (c.requires.rests.in_form first was_open) sound.grants) in
+    let teams = subst AreTeamsSound (sym seen) (teams_sound old (c.requires.rests.in_form first was_open) (c.requires.rests.grants first was_open)) in
     let are = subst (λ (d : Contents). AreAnswers d c.args.caches.now) (sym seen) (c.requires.right first was_open) in
     ap (λ (d : Database). contents d.trees) (c.in-Ok.ensures.ok clean).1.now_is ∙ (c.in_ok-reply.ensures.settles teams needs were).holds
     ∙ settled_next (stored begun) c.args.request.now c.in_ok-reply.reply (c.in_ok-reply.ensures.answers teams needs are were)
     ∙ ap (next_stored c.args.request.now (Ok c.in_ok-reply.reply)) seen in
     let same : c.commit.new.tx.0 ≡ c.conn-2-1.given.0 = search rules in
-    subst (λ h. HoldsSoundFor c.args.request.now old → HasCleanDisk (state g.S.Store h) → IsTrue (state g.S.Store h).is_open → stored (state g.S.Store h) ≡ next_stored c.args.request.now (Ok c.in_ok-reply.reply) (stored old)) same steps
+    subst (λ h. NeedsFor c.args.request.now.what (stored old) → HasCleanDisk (state g.S.Store h) → IsTrue (state g.S.Store h).is_open → stored (state g.S.Store h) ≡ next_stored c.args.request.now (Ok c.in_ok-reply.reply) (stored old)) same steps
 
 pub returns-in-Err-clause-rests : goal.returns-in-Err-clause-rests
 returns-in-Err-clause-rests g c =
@@ -79,14 +86,14 @@ returns-in-Err-clause-step g c =
     let old = state g.S.Store c.args.conn.now in
     let mid = state g.S.Store c.identify_and_answer.new.tx.conn.now in
     let new = state g.S.Store c.commit.new.tx.0 in
-    let step : HoldsSoundFor c.args.request.now old → HasCleanDisk new → IsTrue new.is_open → stored new ≡ next_stored c.args.request.now (Err c.in-Err.fault) (stored old) = λ sound clean on.
+    let step : NeedsFor c.args.request.now.what (stored old) → HasCleanDisk new → IsTrue new.is_open → stored new ≡ next_stored c.args.request.now (Err c.in-Err.fault) (stored old) = λ needed clean on.
     let were : HasCleanDisk mid = omega (arith, c.commit.ensures.survives.clean, clean) in
     let kept = rw c.transaction-tx.ensures.begun at c.identify_and_answer.ensures.stays.committed were in
     let keeps : KeepsCommit old mid = record { was_open = kept.was_open; committed = kept.committed } in
     undone_stored old mid new c.requires.rests (omega (arith, (rw c.transaction-tx.ensures.begun at c.identify_and_answer.ensures.stays.survives).clean, were)) keeps
     (failed_undone mid new _ (c.in_ok-reply.ensures.goes_on were).mode (c.in-Err.ensures.err clean).1) on ∙ faulted_next (stored old) c.args.request.now c.in-Err.fault in
     let same : c.commit.new.tx.0 ≡ c.conn-2-1.given.0 = search rules in
-    subst (λ h. HoldsSoundFor c.args.request.now old → HasCleanDisk (state g.S.Store h) → IsTrue (state g.S.Store h).is_open → stored (state g.S.Store h) ≡ next_stored c.args.request.now (Err c.in-Err.fault) (stored old)) same step
+    subst (λ h. NeedsFor c.args.request.now.what (stored old) → HasCleanDisk (state g.S.Store h) → IsTrue (state g.S.Store h).is_open → stored (state g.S.Store h) ≡ next_stored c.args.request.now (Err c.in-Err.fault) (stored old)) same step
 
 pub returns-in_err-reply-clause-survives : goal.returns-in_err-reply-clause-survives
 returns-in_err-reply-clause-survives g c =
@@ -117,8 +124,8 @@ returns-in-Ok-clause-survives g c =
       was_open = was_open;
       form = (whole_left (stored mid) refl).0;
       query = λ asks. (whole_left (stored old) (c.in_ok-reply.ensures.unchanged were (never_enters c.args.request.now asks (Ok c.in_ok-reply.reply)) ∙ seen)).1;
-      settled = λ sound. (whole_left (settled_by c.args.request.now (stored old))
-          ((c.in_ok-reply.ensures.settles (subst AreTeamsSound (sym seen) (teams_sound old (c.requires.rests.in_form first was_open) sound.grants)) (subst (λ (d : Contents). NeedsFor c.args.request.now.what d) (sym seen) sound.needs) were).holds ∙ ap (settled_by c.args.request.now) seen)).1;
+      settled = λ needed. (whole_left (settled_by c.args.request.now (stored old))
+          ((c.in_ok-reply.ensures.settles (subst AreTeamsSound (sym seen) (teams_sound old (c.requires.rests.in_form first was_open) (c.requires.rests.grants first was_open))) (subst (λ (d : Contents). NeedsFor c.args.request.now.what d) (sym seen) needed) were).holds ∙ ap (settled_by c.args.request.now) seen)).1;
     }) before c.commit.ensures.survives in
     let same : c.commit.new.tx.0 ≡ c.conn-2-1.given.0 = search rules in
     subst (λ h. Survives old (state g.S.Store h) P) same whole
@@ -141,8 +148,8 @@ returns-in-Err-clause-survives g c =
       was_open = was_open;
       form = (whole_left (stored mid) refl).0;
       query = λ asks. (whole_left (stored old) (c.in_ok-reply.ensures.unchanged were (never_enters c.args.request.now asks (Ok c.in_ok-reply.reply)) ∙ seen)).1;
-      settled = λ sound. (whole_left (settled_by c.args.request.now (stored old))
-          ((c.in_ok-reply.ensures.settles (subst AreTeamsSound (sym seen) (teams_sound old (c.requires.rests.in_form first was_open) sound.grants)) (subst (λ (d : Contents). NeedsFor c.args.request.now.what d) (sym seen) sound.needs) were).holds ∙ ap (settled_by c.args.request.now) seen)).1;
+      settled = λ needed. (whole_left (settled_by c.args.request.now (stored old))
+          ((c.in_ok-reply.ensures.settles (subst AreTeamsSound (sym seen) (teams_sound old (c.requires.rests.in_form first was_open) (c.requires.rests.grants first was_open))) (subst (λ (d : Contents). NeedsFor c.args.request.now.what d) (sym seen) needed) were).holds ∙ ap (settled_by c.args.request.now) seen)).1;
     }) before c.commit.ensures.survives in
     let same : c.commit.new.tx.0 ≡ c.conn-2-1.given.0 = search rules in
     subst (λ h. Survives old (state g.S.Store h) P) same whole
@@ -195,14 +202,14 @@ returns-in_err-reply-clause-step g c =
     let mid = state g.S.Store c.identify_and_answer.new.tx.conn.now in
     let new = state g.S.Store c.drop-tx.new.self.0 in
     let fault = err_from_is_err_and c.from_residual.result c.from_residual.ensures.1 in
-    let step : HoldsSoundFor c.args.request.now old → HasCleanDisk new → IsTrue new.is_open → stored new ≡ next_stored c.args.request.now c.from_residual.result (stored old) = λ sound clean on.
+    let step : NeedsFor c.args.request.now.what (stored old) → HasCleanDisk new → IsTrue new.is_open → stored new ≡ next_stored c.args.request.now c.from_residual.result (stored old) = λ needed clean on.
     let were : HasCleanDisk mid = omega (arith, c.drop-tx.ensures.survives.clean, clean) in
     let kept = rw c.transaction-tx.ensures.begun at c.identify_and_answer.ensures.stays.committed were in
     let keeps : KeepsCommit old mid = record { was_open = kept.was_open; committed = kept.committed } in
     undone_stored old mid new c.requires.rests (omega (arith, (rw c.transaction-tx.ensures.begun at c.identify_and_answer.ensures.stays.survives).clean, were)) keeps (c.drop-tx.ensures.undone clean) on
     ∙ faulted_next (stored old) c.args.request.now fault.0 ∙ ap (λ (o : Outcome). next_stored c.args.request.now o (stored old)) (sym fault.1) in
     let same : c.drop-tx.new.self.0 ≡ c.conn-1.given.0 = search rules in
-    subst (λ h. HoldsSoundFor c.args.request.now old → HasCleanDisk (state g.S.Store h) → IsTrue (state g.S.Store h).is_open → stored (state g.S.Store h) ≡ next_stored c.args.request.now c.from_residual.result (stored old)) same step
+    subst (λ h. NeedsFor c.args.request.now.what (stored old) → HasCleanDisk (state g.S.Store h) → IsTrue (state g.S.Store h).is_open → stored (state g.S.Store h) ≡ next_stored c.args.request.now c.from_residual.result (stored old)) same step
 
 pub returns-in-Ok-clause-answer : goal.returns-in-Ok-clause-answer
 returns-in-Ok-clause-answer g c =
@@ -211,16 +218,16 @@ returns-in-Ok-clause-answer g c =
     let mid = state g.S.Store c.identify_and_answer.new.tx.conn.now in
     let new = state g.S.Store c.commit.new.tx.0 in
     let seen : stored begun ≡ stored old = rw c.transaction-tx.ensures.begun refl in
-    let told : HoldsSoundFor c.args.request.now old → HasCleanDisk new → c.in_ok-reply.reply ≡ answer (registry_of (stored old)) c.args.request.now = λ sound clean.
-    let needs = subst (λ (d : Contents). NeedsFor c.args.request.now.what d) (sym seen) sound.needs in
+    let told : NeedsFor c.args.request.now.what (stored old) → HasCleanDisk new → c.in_ok-reply.reply ≡ answer (registry_of (stored old)) c.args.request.now = λ needed clean.
+    let needs = subst (λ (d : Contents). NeedsFor c.args.request.now.what d) (sym seen) needed in
     let were : HasCleanDisk mid = omega (arith, c.commit.ensures.survives.clean, clean) in
     let first : HasCleanDisk old = omega (arith, (rw c.transaction-tx.ensures.begun at c.identify_and_answer.ensures.stays.survives).clean, were) in
     let was_open : IsTrue old.is_open = rw c.transaction-tx.ensures.begun at c.in_ok-reply.ensures.served were in
-    let teams = subst AreTeamsSound (sym seen) (teams_sound old (c.requires.rests.in_form first was_open) sound.grants) in
+    let teams = subst AreTeamsSound (sym seen) (teams_sound old (c.requires.rests.in_form first was_open) (c.requires.rests.grants first was_open)) in
     let are = subst (λ (d : Contents). AreAnswers d c.args.caches.now) (sym seen) (c.requires.right first was_open) in
     c.in_ok-reply.ensures.answers teams needs are were ∙ ap (λ (d : Contents). answer (registry_of d) c.args.request.now) seen in
     let same : c.commit.new.tx.0 ≡ c.conn-2-1.given.0 = search rules in
-    subst (λ h. HoldsSoundFor c.args.request.now old → HasCleanDisk (state g.S.Store h) → c.in_ok-reply.reply ≡ answer (registry_of (stored old)) c.args.request.now) same told
+    subst (λ h. NeedsFor c.args.request.now.what (stored old) → HasCleanDisk (state g.S.Store h) → c.in_ok-reply.reply ≡ answer (registry_of (stored old)) c.args.request.now) same told
 
 -- ---- what is kept
 

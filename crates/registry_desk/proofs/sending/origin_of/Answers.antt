@@ -6,7 +6,6 @@ use Rattle.registry_tables.specs.Effects.{registry_in, stored}
 use Rattle.registry_tables.specs.Teams.{AreTeamsSound}
 use Rattle.registry_tables.proofs.TeamReferenceFacts.{teams_sound}
 use Rattle.registry_desk.specs.Caches.{ArePackuments}
-use Rattle.registry_desk.specs.Promises.{HoldsSoundFor}
 use Rattle.registry_desk.specs.Sending.{IsFrom, IsOrigin, LeavesAll}
 use Rattle.registry_desk.proofs.CommitFacts.{failed_undone}
 use Rattle.registry_desk.proofs.SendingFacts.{committed_all, dropped_all, uncommitted_all}
@@ -64,16 +63,16 @@ returns-in-Ok-clause-origin g c =
     let r = c.args.request.now in
     let p = c.args.name.now in
     let seen : stored begun ≡ stored old = rw c.transaction-tx.ensures.begun refl in
-    let told : HoldsSoundFor r old → HasCleanDisk new → IsOrigin c.in_ok-origin.origin (registry_in old) r p = λ sound clean.
+    let told : HasCleanDisk new → IsOrigin c.in_ok-origin.origin (registry_in old) r p = λ clean.
     let were : HasCleanDisk mid = omega (arith, c.commit.ensures.survives.clean, clean) in
     let first : HasCleanDisk old = omega (arith, (rw c.transaction-tx.ensures.begun at c.find_origin.ensures.stays.survives).clean, were) in
     let loads = c.in_ok-origin.ensures.loads were in
     let was_open : IsTrue old.is_open = rw c.transaction-tx.ensures.begun at loads.0.was_open in
-    let teams = subst AreTeamsSound (sym seen) (teams_sound old (c.requires.rests.in_form first was_open) sound.grants) in
+    let teams = subst AreTeamsSound (sym seen) (teams_sound old (c.requires.rests.in_form first was_open) (c.requires.rests.grants first was_open)) in
     let are = subst (λ (d : Contents). ArePackuments d c.args.cache.now) (sym seen) (c.requires.right first was_open) in
     subst (λ (d : Contents). IsOrigin c.in_ok-origin.origin (registry_of d) r p) seen (loads.1 teams are) in
     let same : c.commit.new.tx.0 ≡ c.conn-2-1.given.0 = search rules in
-    subst (λ h. HoldsSoundFor r old → HasCleanDisk (state g.S.Store h) → IsOrigin c.in_ok-origin.origin (registry_in old) r p) same told
+    subst (λ h. HasCleanDisk (state g.S.Store h) → IsOrigin c.in_ok-origin.origin (registry_in old) r p) same told
 
 pub returns-in-Ok-clause-shows : goal.returns-in-Ok-clause-shows
 returns-in-Ok-clause-shows g c =

@@ -52,18 +52,18 @@ pub returns-in-Ok-Refused-clause-sends : goal.returns-in-Ok-Refused-clause-sends
 returns-in-Ok-Refused-clause-sends g c =
     refused_sends g.S.Store (λ h db on. g.met.S.Store.settled h.store db on) c.unread_packages_are_unheard_of.ensures.replies (g.O.Opener.opens c.args.opener.now) c.args.conn.now c.origin_of.new.conn c.args.request.now c.args.name.now
     c.requires.asks c.origin_of.ensures.left (λ clean. rw c.in-Ok-Refused.is at (c.origin_of.ensures.served clean)) c.in-Ok-Refused.refusal
-    (λ sound clean. rw (c.in-Ok-Refused.is, c.in-Ok-Refused.field-0-is) at (c.origin_of.ensures.origin sound clean)) _ _
+    (λ clean. rw (c.in-Ok-Refused.is, c.in-Ok-Refused.field-0-is) at (c.origin_of.ensures.origin clean)) _ _
 
 pub returns-in-Ok-Kept-clause-sends : goal.returns-in-Ok-Kept-clause-sends
 returns-in-Ok-Kept-clause-sends g c =
     kept_sends g.S.Store (λ h db on. g.met.S.Store.settled h.store db on) c.unread_packages_are_unheard_of.ensures.replies (g.O.Opener.opens c.args.opener.now) c.args.conn.now c.origin_of.new.conn c.args.request.now c.args.name.now
     c.requires.asks c.origin_of.ensures.left (λ clean. rw c.in-Ok-Kept.is at (c.origin_of.ensures.served clean)) c.in-Ok-Kept.text
-    (λ sound clean. rw (c.in-Ok-Kept.is, c.in-Ok-Kept.field-0-is) at (c.origin_of.ensures.origin sound clean)) _ _ _ c.send_text.result
+    (λ clean. rw (c.in-Ok-Kept.is, c.in-Ok-Kept.field-0-is) at (c.origin_of.ensures.origin clean)) _ _ _ c.send_text.result
     (rw c.as_str.ensures.text at c.send_text.ensures.takes)
 
 pub returns-in-Ok-Stored-clause-sends : goal.returns-in-Ok-Stored-clause-sends
 returns-in-Ok-Stored-clause-sends g c =
     stored_sends g.S.Store (λ h db on. g.met.S.Store.settled h.store db on) c.unread_packages_are_unheard_of.ensures.replies (g.O.Opener.opens c.args.opener.now) c.args.conn.now c.origin_of.new.conn c.args.request.now c.args.name.now
     c.requires.asks c.origin_of.ensures.left (λ clean. rw c.in-Ok-Stored.is at (c.origin_of.ensures.served clean)) c.in-Ok-Stored.head
-    (λ sound clean. rw (c.in-Ok-Stored.is, c.in-Ok-Stored.field-0-is) at (c.origin_of.ensures.origin sound clean)) c.send_stored.new.conn c.send_stored.ensures.left _ _ _ c.send_stored.result
+    (λ clean. rw (c.in-Ok-Stored.is, c.in-Ok-Stored.field-0-is) at (c.origin_of.ensures.origin clean)) c.send_stored.new.conn c.send_stored.ensures.left _ _ _ c.send_stored.result
     c.send_stored.ensures.unshut c.send_stored.ensures.takes

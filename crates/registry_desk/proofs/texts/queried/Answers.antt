@@ -11,7 +11,7 @@ pub query_reply-requires : goal.query_reply-requires
 query_reply-requires g c = record { rests = c.requires.rests; right = λ clean on. (c.requires.right clean on).packuments; asks = c.requires.asks }
 
 pub returns-clause-answer : goal.returns-clause-answer
-returns-clause-answer g c = c.in_ok-reply.ensures.told
+returns-clause-answer g c needs = c.in_ok-reply.ensures.told
 
 pub returns-clause-served : goal.returns-clause-served
 returns-clause-served g c clean =

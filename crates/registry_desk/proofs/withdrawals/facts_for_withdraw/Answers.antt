@@ -6,11 +6,10 @@ use Rattle.registry_access.specs.RowsFor.{StandingTells}
 use Rattle.registry_access.specs.declared.caller.Caller.{Caller}
 use Rattle.registry_rows.proofs.QuietFacts.{reads_then, stays_then}
 use Rattle.registry_rules.specs.declared.request.Action.TheVariants as asked
-use Rattle.registry_tables.specs.Contents.{access_of, contents, registry_of}
+use Rattle.registry_tables.specs.Contents.{access_of, contents}
 use Rattle.registry_tables.specs.Effects.{shown}
-use Rattle.registry_tables.specs.Needs.{HoldsNeeds}
 use Rattle.registry_tables.specs.Schema.{schema}
-use Rattle.registry_desk.specs.Early.{FoundTells, denial}
+use Rattle.registry_desk.specs.Early.{IsFound, denial}
 use Rattle.registry_desk.proofs.EarlyFacts.{or_first}
 use Rattle.registry_desk.proofs.withdrawals.facts_for_withdraw.Goals as goal
 
@@ -33,14 +32,14 @@ returns-in-Ok-clause-loads g c clean =
     IfOk-weaker c.facts_if_young.result _ _
     (λ found told. (
       reads_then schema (shown g.S.Store c.args.tx.now) one (shown g.S.Store c.facts_if_young.new.tx) placed.0 told.0,
-      λ sound needs.
+      λ sound.
           let allowed = rw c.in-Ok.is at (placed.1 sound) in
-          subst (λ (d : Database). (who : Caller) → HoldsNeeds (contents d.trees) → denial (access_of (contents d.trees)) who action ≡ None → StandingTells c.in-Ok.standing (access_of (contents d.trees)) who p → FoundTells found (registry_of (contents d.trees)) c.args.now.now who action)
-          placed.0.same told.1 c.args.caller.now needs allowed.0 allowed.1,
+          subst (λ (d : Database). (who : Caller) → denial (access_of (contents d.trees)) who action ≡ None → StandingTells c.in-Ok.standing (access_of (contents d.trees)) who p → IsFound found (contents d.trees) c.args.now.now who action)
+          placed.0.same told.1 c.args.caller.now allowed.0 allowed.1,
     ))
     (c.facts_if_young.ensures.loads clean)
 
 pub returns-in-Err-clause-loads : goal.returns-in-Err-clause-loads
 returns-in-Err-clause-loads g c clean =
     let placed = c.in_ok-standing.ensures.loads clean in
-    (placed.0, λ sound needs. or_first _ _ _ (rw c.in-Err.is at (placed.1 sound)))
+    (placed.0, λ sound. record { tells = λ needs. or_first _ _ _ (rw c.in-Err.is at (placed.1 sound)); some = tt })

@@ -10,7 +10,7 @@ use Rattle.registry_program.proofs.checking.problems_of.Goals as goal
 
 pub check-problems-requires : goal.check-problems-requires
 check-problems-requires g c =
-    let begun : InForm g.S.Store c.transaction-tx.result = rw c.transaction-tx.ensures.begun (begun_in_form g.S.Store c.args.conn.now c.requires.rests.in_form) in
+    let begun : InForm g.S.Store c.transaction-tx.result = rw c.transaction-tx.ensures.begun (begun_in_form g.S.Store c.args.conn.now c.requires.ready) in
     record { in_form = begun }
 
 pub returns : goal.returns

@@ -7,6 +7,14 @@ use std::test::Fail;
 /// An organisation that nobody owns, and that has no team.
 const CHANGE: &str = "INSERT INTO orgs (name) VALUES ('lab')";
 
+/// The team `developers` of lab is granted reading on a package without a scope, so that the file
+/// doesn't open any more.
+const GRANTED: [&str; 3] = [
+    "INSERT INTO teams (org, team) VALUES ('lab', 'developers')",
+    "INSERT INTO packages (name, status) VALUES ('kit', 1)",
+    "INSERT INTO grants (org, team, package, level) VALUES ('lab', 'developers', 'kit', 1)",
+];
+
 const MADE: Case = Case {
     shows: "a registry is made",
     arguments: &["--operator", "user-add", "ann"],
@@ -37,6 +45,26 @@ const BROKEN: Case = Case {
     errors: "wrong: organisation lab has no owner\nwrong: organisation lab has no team developers\n",
 };
 
+const CLOSED: Case = Case {
+    shows: "with a grant out of scope it isn't opened",
+    arguments: &["--operator", "user-add", "bob"],
+    text: "",
+    failing: Failing::None,
+    status: 3,
+    output: "",
+    errors: "fault: Database\nthe file holds no registry, or was changed by another hand\n",
+};
+
+const EXPLAINED: Case = Case {
+    shows: "but its grant has a line",
+    arguments: &["check"],
+    text: "",
+    failing: Failing::None,
+    status: 1,
+    output: "",
+    errors: "wrong: organisation lab has no owner\nwrong: package kit has no scope and no maintainer\nwrong: grant of kit to team developers of lab is on a package of another scope\n",
+};
+
 #[test]
 fn what_is_wrong_has_a_line(rt: HostRuntime) -> Result<(), Fail> {
     let db = path(&rt, "-checks.db")?;
@@ -44,6 +72,11 @@ fn what_is_wrong_has_a_line(rt: HostRuntime) -> Result<(), Fail> {
     leaves_at(&rt, db.as_str(), &SOUND)?;
     let _one = number_at(&rt, db.as_str(), CHANGE, "SELECT 1")?;
     leaves_at(&rt, db.as_str(), &BROKEN)?;
+    for change in GRANTED {
+        let _one = number_at(&rt, db.as_str(), change, "SELECT 1")?;
+    }
+    leaves_at(&rt, db.as_str(), &CLOSED)?;
+    leaves_at(&rt, db.as_str(), &EXPLAINED)?;
     forget(&rt, db.as_str())
 }
 

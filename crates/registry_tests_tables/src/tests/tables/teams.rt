@@ -3,10 +3,10 @@
 ghost use Rattle.std.specs.Prelude.{◌≡◌, OnOk};
 ghost use Rattle.registry_tables.specs.Effects.{InForm};
 
-use super::text::{done, grants_text, names_text};
+use super::text::{done, grants_text, names_text, word_text};
 use registry_names::{Fault, Name, Stop};
 use registry_rows::write;
-use registry_tables::{load_grants, load_team_users};
+use registry_tables::{are_grants_in_scope, load_grants, load_team_users};
 use sqlite::{Alter, Transaction, params};
 use std::alloc::Global;
 
@@ -29,6 +29,8 @@ pub enum TeamCall {
     Users(&'static str, &'static str),
     /// What their teams are granted on the package.
     Grants(&'static str, &'static str),
+    /// Whether each grant is on a package of its organisation's scope.
+    InScope,
 }
 
 /// What a call answers.
@@ -45,6 +47,7 @@ pub fn told<S: Alter>(
     match call {
         TeamCall::Users(organisation, team) => users(alloc, tx, organisation, team),
         TeamCall::Grants(organisation, user) => grants(alloc, tx, organisation, user, name),
+        TeamCall::InScope => word_text(alloc, are_grants_in_scope(alloc, tx)?),
         _ => {
             put(tx, name, call)?;
             done(alloc)

@@ -18,6 +18,9 @@ pub returns-in-Err-adopt-clause-left : goal.returns-in-Err-adopt-clause-left
 returns-in-Err-adopt-clause-left g c = leaves_at_most (image_of g.D.Disk c.args.files) (file_state c.in-Ok.conn) (file_state c.in-Err-adopt.conn) c.in-Ok.ensures.opened (finds_in c.args.files c.in-Ok.conn c.in-Ok.ensures.found)
     (settled_at c.in-Ok.conn.store g.met.D.Disk.seen_may_stay) c.in-Err-adopt.ensures.left c.in-Err-adopt.ensures.alone
 
+pub returns-in-Err-adopt-clause-again : goal.returns-in-Err-adopt-clause-again
+returns-in-Err-adopt-clause-again g c = c.in-Err-adopt.ensures.again (c.in-Err-adopt.ensures.back.0 ∙ c.in-Ok.ensures.idle)
+
 pub returns-in-Ok-adopt-clause-guarded : goal.returns-in-Ok-adopt-clause-guarded
 returns-in-Ok-adopt-clause-guarded g c clean =
     let were : HasCleanDisk (file_state c.in-Ok.conn) = omega (arith, c.in-Ok-adopt.ensures.carried.clean, clean) in

@@ -34,6 +34,9 @@ returns-in-Err-open_files-clause-left g c = rw c.handed_back.ensures (c.in-Ok-fi
 pub returns-in-Err-open_files-clause-cause : goal.returns-in-Err-open_files-clause-cause
 returns-in-Err-open_files-clause-cause g c = rw c.handed_back.ensures (c.in-Ok-files_at.files, c.in-Ok-files_at.ensures.fresh, c.in-Err-open_files.ensures.cause)
 
+pub returns-in-Err-open_files-clause-again : goal.returns-in-Err-open_files-clause-again
+returns-in-Err-open_files-clause-again g c = rw c.handed_back.ensures c.in-Err-open_files.ensures.again
+
 -- ---- what the registry holds
 
 pub returns-in-Ok-open_files-clause-found : goal.returns-in-Ok-open_files-clause-found

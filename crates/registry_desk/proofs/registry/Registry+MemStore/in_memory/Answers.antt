@@ -4,7 +4,6 @@ use Rattle.registry_cache.specs.Caches.{AreRight, Cache}
 use Rattle.registry_cache.proofs.RightFacts.{new_right}
 use Rattle.registry_tables.specs.Archives.{HoldsArchives}
 use Rattle.registry_tables.specs.Contents.{registry_of}
-use Rattle.registry_tables.specs.Fresh.{fresh}
 use Rattle.registry_tables.specs.Needs.{HoldsNeeds}
 use Rattle.registry_tables.specs.Teams.{GrantsInScope}
 use Rattle.registry_rules.specs.Kept.{IsKept, IsSound}
@@ -14,7 +13,7 @@ use Rattle.registry_rules.proofs.SoundSteps.{nothing_sound}
 use Rattle.registry_tables.proofs.LiveFacts.{fresh_is_nothing}
 use Rattle.registry_tables.proofs.HeldNeedFacts.{fresh_holds}
 use Rattle.registry_tables.proofs.KeptArchiveFacts.{fresh_archives}
-use Rattle.registry_tables.proofs.TeamFacts.{sound_teams}
+use Rattle.registry_desk.proofs.CommitFacts.{fresh_in_scope}
 use Rattle.registry_desk.proofs.registry.Registry+MemStore.in_memory.Goals as goal
 
 pub invariant_of-result : goal.invariant_of-result
@@ -36,7 +35,7 @@ pub returns-clause-sound : goal.returns-clause-sound
 returns-clause-sound c =
     let made = c.in_ok-create_tables.ensures.made (memory_is_clean c.create_tables.new.conn) in
     record {
-      grants = subst GrantsInScope (sym made) (sound_teams fresh (subst (λ (S : State). IsSound S.access) (sym fresh_is_nothing) nothing_sound)).grants;
+      grants = subst GrantsInScope (sym made) fresh_in_scope;
       needs = subst HoldsNeeds (sym made) fresh_holds;
     }
 

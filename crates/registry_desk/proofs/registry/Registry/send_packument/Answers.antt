@@ -1,4 +1,4 @@
-use Rattle.std.proofs.Common.{◌≡◌, ◌∙◌, subst}
+use Rattle.std.proofs.Common.{◌∙◌, subst}
 use Rattle.sqlite.specs.Held.{state}
 use Rattle.registry_desk.specs.Promises.{KeepsStored}
 use Rattle.registry_desk.specs.Sending.{Sends, answers_as_apply}

@@ -1,13 +1,14 @@
 use Rattle.std.proofs.Common.{Err, subst}
 use Rattle.sqlite.specs.Held.{state}
-use Rattle.registry_http.specs.Services.{Applies, EndsBy, shown}
+use Rattle.registry_desk.specs.Promises.{Applied}
+use Rattle.registry_http.specs.Services.{EndsBy, shown}
 use Rattle.registry_http.proofs.LookFacts.{ends-later, looked-applies}
 use Rattle.registry_http.proofs.service.RegistryServiceService.answer.Goals as goal
 
 pub returns-in-Err-Database-clause-answers : goal.returns-in-Err-Database-clause-answers
 returns-in-Err-Database-clause-answers g c =
     let new = state g.S.Store c.look.new.registry in
-    subst (λ was. Applies (shown g.S.Store was) new c.args.request.now (Err c.look.result)) c.self.view_is
+    subst (λ was. Applied (shown g.S.Store was) new c.args.request.now (Err c.look.result)) c.self.view_is
     (looked-applies _ (state g.S.Store c.asked.new.registry) new c.args.request.now _ c.look.result c.look.ensures.opened c.look.ensures.stored c.look.ensures.survives c.in-Err-Database.ensures)
 
 pub returns-in-Err-Database-clause-ends : goal.returns-in-Err-Database-clause-ends

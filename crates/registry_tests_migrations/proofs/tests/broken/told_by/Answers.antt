@@ -9,6 +9,6 @@ pub check-requires : goal.check-requires
 check-requires g c =
     let old = c.args.conn.now in
     let ready : Ready schema (state g.S.Store (record old { in_transaction = true })) =
-    λ clean on. let is = c.requires.rests.in_form clean on in record { schema_is = is.schema_is; sound = is.sound; rowids = is.rowids } in
+    λ clean on. let is = c.in_ok-has_tables.ensures.ready c.if-not-branch.false clean on in record { schema_is = is.schema_is; sound = is.sound; rowids = is.rowids } in
     let begun : InForm g.S.Store c.transaction-tx.result = rw c.transaction-tx.ensures.begun ready in
     record { in_form = begun }
