@@ -12,6 +12,7 @@ use Rattle.registry_laws_history.proofs.RunFacts.{end_push}
 use Rattle.registry_laws_hidden.proofs.ArrivalFacts.{AreNear, answered_alike, near_both, near_first, near_second, near_start}
 use Rattle.registry_service.specs.Courses.{written}
 use Rattle.registry_service.specs.Histories.{FollowAll, IsOneHistory, LogEntry, World, is_last, turns_of}
+use Rattle.registry_desk.specs.Promises.{IsOneRun}
 use Rattle.registry_service.specs.HttpAnswers.{response_to}
 use Rattle.registry_service.specs.Turns.{Answering, Cause, IsTurn, IsTurnFor, Turn, bad_input, no_memory, request, request_limit, response_of, end_of as turn_end}
 use Rattle.registry_service.specs.declared.turning.End.{End}
@@ -21,7 +22,7 @@ use Rattle.registry_http.specs.Unseen.{IsUnseen, LeavesRest, and_outcome, and_re
 use Rattle.registry_http.proofs.UnseenFacts.{have-split, older}
 use Rattle.registry_guests.specs.Beside.{Beside, GuestTurn, GuestsLead, beside, beside_guests}
 use Rattle.registry_guests.specs.Outputs.{printed_of, prints}
-use Rattle.registry_laws_beside.specs.Beside.{AnyTurn, AskAll, AsksNext, AsksNothing, IsOneRun, TakeTurns, of_connection, of_connections, of_guest, of_guests}
+use Rattle.registry_laws_beside.specs.Beside.{AnyTurn, AskAll, AsksNext, AsksNothing, TakeTurns, of_connection, of_connections, of_guest, of_guests}
 use Rattle.registry_laws_beside.specs.Unseen.{AskSo, Asked, AsksSo, CommandsPrintTheSame, ConnectionsAreAnsweredTheSame, DifferIn, IsSameTurn, IsStrangers, IsWorldOf, Meeting, PrintTheSame, StrangersPrintTheSame, WorldTurn, WorldsAreSuch, asked, by_command, by_connection, entries_in, first, in_both, in_first, in_second, is_of, left_by, outcome_of, outcomes_in, requests_in, second, turns_in}
 use Rattle.registry_laws_beside.proofs.BesideFacts.{log-run}
 
@@ -301,12 +302,12 @@ stand-all (of_guest t ∷ ts) log rs os same ask = one-command t ts log ask.0 rs
 
 -- a run of turns that have these requests and outcomes
 record RunsAs (old new : Shown) (ts : List AnyTurn) (rs : List Request) (os : List Outcome) : Type 0 where
-  run : IsOneRun old new ts
+  run : IsOneRun old new (AskAll ts)
   requests : run.requests ≡ rs
   outcomes : run.outcomes ≡ os
 
 pub worlds-are-such : {D : Type 0} (show : D → Shown) → WorldsAreSuch show
-worlds-are-such show M w N h reached lead left clean sound =
+worlds-are-such show M w N h reached lead left clean needs =
     let (ts, same, guests, take, run) = log-run show M w.service N w.log (one-history (beside_guests (applied show)) (beside M []) w reached).service lead in
     let all = stand-all ts w.log run.requests run.outcomes same run.asked in
     let mine : of_guests (turns_in all.all) ≡ N.turns = ap of_guests all.turns ∙ guests in
@@ -324,7 +325,7 @@ worlds-are-such show M w N h reached lead left clean sound =
         left = left;
         clean = clean;
         run = runs.run;
-        sound = sound runs.run.requests;
+        needs = needs runs.run.requests;
         requests = runs.requests;
         outcomes = runs.outcomes;
       },
@@ -338,7 +339,7 @@ module _ {D : Type 0} (show : D → Shown) where
   have-run M w K h xs world =
       subst (λ x. HaveOutcomes (after h) x (outcomes_in xs)) world.requests
       (subst (λ x. HaveOutcomes (after h) world.run.requests x) world.outcomes
-      (subst (λ U. HaveOutcomes U world.run.requests world.run.outcomes) world.left (world.run.run.ran world.sound world.clean).answers))
+      (subst (λ U. HaveOutcomes U world.run.requests world.run.outcomes) world.left (world.run.run.ran world.needs world.clean).answers))
 
   history : (M : D) (w : World (Beside D)) (K : D) (h : List Entry) (xs : List Asked) → IsWorldOf show M w K h xs → IsOneHistory (beside_guests (applied show)) (beside M []) w
   history M w K h xs world = one-history (beside_guests (applied show)) (beside M []) w world.reached

@@ -5,18 +5,18 @@ use Rattle.sqlite.specs.State.{State as Shown, HasCleanDisk}
 use Rattle.registry_names.specs.Texts.{Text}
 use Rattle.registry_rules.specs.State.{State}
 use Rattle.registry_rules.specs.declared.request.Request.{Request}
-use Rattle.registry_tables.specs.Effects.{registry_in}
+use Rattle.registry_tables.specs.Effects.{registry_in, stored}
 use Rattle.registry_laws_history.specs.History.{Entry, after}
 use Rattle.registry_laws_history.specs.Runs.{Outcome, end_of}
 use Rattle.registry_laws_hidden.specs.Arrivals.{StaysClose}
 use Rattle.registry_laws_hidden.specs.Runs.{DifferInPackage}
-use Rattle.registry_desk.specs.Promises.{HoldsSoundForEach}
+use Rattle.registry_desk.specs.Promises.{IsOneRun, NeedsForEach}
 use Rattle.registry_service.specs.Histories.{LogEntry, Reached, World}
 use Rattle.registry_http.specs.Services.{applied}
 use Rattle.registry_http.specs.Unseen.{IsUnseen, LeavesRest, and_outcome, and_request}
 use Rattle.registry_guests.specs.Beside.{Beside, GuestTurn, GuestsLead, beside, beside_guests}
 use Rattle.registry_guests.specs.Outputs.{prints}
-use Rattle.registry_laws_beside.specs.Beside.{AnyTurn, AsksFor, AsksNothing, IsOneRun, TakeTurns, of_connection, of_guest, of_guests}
+use Rattle.registry_laws_beside.specs.Beside.{AnyTurn, AskAll, AsksFor, AsksNothing, TakeTurns, of_connection, of_guest, of_guests}
 
 -- ---- the turns of a world
 
@@ -93,8 +93,8 @@ pub record IsWorldOf {D : Type 0} (show : D → Shown) (M : D) (w : World (Besid
   pub ask : AskSo xs
   pub left : registry_in (show M) ≡ after h
   pub clean : HasCleanDisk (show K)
-  pub run : IsOneRun (show M) (show K) (turns_in xs)
-  pub sound : HoldsSoundForEach run.requests (show M)
+  pub run : IsOneRun (show M) (show K) (AskAll (turns_in xs))
+  pub needs : NeedsForEach run.requests (stored (show M))
   pub requests : run.requests ≡ requests_in xs
   pub outcomes : run.outcomes ≡ outcomes_in xs
 
@@ -103,7 +103,7 @@ module _ {D : Type 0} (show : D → Shown) where
   -- registry is in order.
   abbrev pub WorldsAreSuch : Type 0
   WorldsAreSuch = (M : D) (w : World (Beside D)) (N : Beside D) (h : List Entry) → Reached (beside_guests (applied show)) (beside M []) w → GuestsLead (applied show) w.service N
-      → registry_in (show M) ≡ after h → HasCleanDisk (show N.service) → ((rs : List Request) → HoldsSoundForEach rs (show M))
+      → registry_in (show M) ≡ after h → HasCleanDisk (show N.service) → ((rs : List Request) → NeedsForEach rs (stored (show M)))
       → (xs : List Asked) × (of_guests (turns_in xs) ≡ N.turns) × IsWorldOf show M w N.service h xs
 
 -- ---- two worlds

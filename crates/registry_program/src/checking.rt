@@ -4,10 +4,9 @@ ghost use Rattle.std.specs.Prelude.{IfOk};
 ghost use Rattle.sqlite.specs.Held.{state};
 ghost use Rattle.sqlite.specs.State.{HasCleanDisk};
 ghost use Rattle.registry_check.specs.Right.{TellsRight};
-ghost use Rattle.sqlite.specs.Files.{file_state};
 ghost use Rattle.registry_rows.specs.Ready.{Ready};
 ghost use Rattle.registry_tables.specs.Schema as tables;
-ghost use Rattle.registry_desk.specs.Adopted.{CanBeAdopted};
+ghost use Rattle.registry_desk.specs.Adopted.{CanBeAdopted, CanBeAdoptedAgain};
 
 use crate::beside::{TRIES, busy, hold_server, is_busy, pause, require_no_other};
 use crate::checking_beside::problems_beside;
@@ -28,9 +27,9 @@ const WRONG: &str = "wrong: ";
 /// Checks the registry in the file at the path, lets go of the file, and gives the exit status: 0
 /// where nothing is wrong, and otherwise 1, with a line on the errors for each thing that is wrong.
 /// A file whose tables are a registry's is checked even where what they hold keeps it from opening.
-/// Any other file that doesn't open is wrong as a whole. Where a server has the file, a copy is checked, which is made in the server's
-/// folder. A file that isn't there, that another process has, or that can't be read or copied is a
-/// fault.
+/// Any other file that doesn't open is wrong as a whole. Where a server has the file, a copy is
+/// checked, which is made in the server's folder. A file that isn't there, that another process has,
+/// or that can't be read or copied is a fault.
 pub fn print_check<O: ByteOut, E: ByteOut>(
     rt: &HostRuntime,
     alloc: Global,
@@ -86,26 +85,36 @@ fn problems_alone(rt: &HostRuntime, alloc: Global, path: &str) -> Result<Vec<Pro
     match Registry::open_from(rt, path, Unknown) {
         Ok(registry) => problems_in(alloc, registry),
         Err((Fault::Memory, _)) => Err(Ending::from(Fault::Memory)),
-        Err((Fault::Database, Some(Unopened::Database(conn)))) => problems_left(alloc, conn),
-        Err((Fault::Database, left)) => {
-            drop(left);
-            Err(unopened(rt, path))
-        }
+        Err((Fault::Database, Some(left))) => problems_left(alloc, left),
+        Err((Fault::Database, None)) => Err(unopened(rt, path)),
     }
 }
 
-/// What is wrong in a database that didn't open as a registry, and is let go of.
+/// What is wrong in files that didn't open as a registry, and are let go of.
 pub fn problems_left<D: Disk + Drop>(
     alloc: Global,
-    conn: Connection<FileStore<D>>,
+    left: Unopened<D>,
 ) -> Result<Vec<Problem>, Ending>
-    requires rises { CanBeAdopted (file_state conn) }
+    requires again { CanBeAdoptedAgain left }
 {
-    let mut conn = conn;
-    match problems_of_tables(alloc, &mut conn) {
+    let mut left = left;
+    match problems_inside(alloc, &mut left) {
         Ok(problems) if !problems.is_empty() => Ok(problems),
         Err(Fault::Memory) => Err(Ending::from(Fault::Memory)),
-        _ => Err(Ending::Fault(Failure::Opening(obstacle_left(alloc, Unopened::Database(conn))))),
+        _ => Err(Ending::Fault(Failure::Opening(obstacle_left(alloc, left)))),
+    }
+}
+
+// What is wrong in the database that they hold, if one was opened.
+fn problems_inside<D: Disk + Drop>(
+    alloc: Global,
+    left: &mut Unopened<D>,
+) -> Result<Vec<Problem>, Fault>
+    requires again { CanBeAdoptedAgain left.old }
+{
+    match left {
+        Unopened::Database(conn) => problems_of_tables(alloc, conn),
+        Unopened::Files(_) => Ok(Vec::new(alloc)),
     }
 }
 

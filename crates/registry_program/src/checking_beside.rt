@@ -2,11 +2,11 @@
 
 use crate::beside::require_held;
 use crate::checking::{problems_in, problems_left};
-use crate::ending::{Ending, Failure, Obstacle, Snag};
+use crate::ending::{Ending, Snag};
 use crate::held::{copy_files, new_file, snag};
-use crate::opening::{obstacle_left, open_obstacle};
+use crate::opening::open_obstacle;
 use registry_check::Problem;
-use registry_desk::{Registry, Unopened};
+use registry_desk::Registry;
 use registry_guests::{Hold, folder_of};
 use registry_names::Fault;
 use sqlite::{File, Files, Options, Unknown};
@@ -93,9 +93,6 @@ fn problems_in_files<D: Disk + Drop>(
     match Registry::open_files(alloc, files, Options::new(SEED)) {
         Ok(registry) => problems_in(alloc, registry),
         Err((Fault::Memory, _)) => Err(Ending::from(Fault::Memory)),
-        Err((Fault::Database, Unopened::Database(conn))) => problems_left(alloc, conn),
-        Err((Fault::Database, left)) => Err(Ending::Fault(Failure::Opening(obstacle_left(
-            alloc, left,
-        )))),
+        Err((Fault::Database, left)) => problems_left(alloc, left),
     }
 }

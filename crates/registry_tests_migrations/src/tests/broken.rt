@@ -7,7 +7,7 @@
 //! open.
 
 ghost use Rattle.sqlite.specs.Held.{state};
-ghost use Rattle.registry_desk.specs.Adopted.{CanBeAdopted};
+ghost use Rattle.registry_desk.specs.Adopted.{CanBeAdopted, CanBeAdoptedAgain};
 
 use super::rows::push_digits;
 use super::{connected, files_of, new_files, options, run_all};
@@ -290,16 +290,29 @@ fn told_of(alloc: Global, files: Files<Memory>) -> Result<String, Fail> {
     if !files.may_be_used() {
         return Err(Fail::new(format_args!("the files can't be used")));
     }
-    let mut conn = match Registry::open_files(alloc, files, options()) {
-        Ok(registry) => registry.release(),
-        Err((Fault::Database, Unopened::Database(conn))) => conn,
-        Err((fault, _)) => {
-            return Err(Fail::new(format_args!("no database opens: {fault:?}")));
+    match Registry::open_files(alloc, files, options()) {
+        Ok(registry) => {
+            let mut conn = registry.release();
+            let told = told_by(alloc, &mut conn)?;
+            files_of(conn)?;
+            Ok(told)
         }
-    };
-    let told = told_by(alloc, &mut conn)?;
-    files_of(conn)?;
-    Ok(told)
+        Err((Fault::Database, left)) => {
+            let mut left = left;
+            told_inside(alloc, &mut left)
+        }
+        Err((fault, _)) => Err(Fail::new(format_args!("no database opens: {fault:?}"))),
+    }
+}
+
+// What the check says of the database in files that don't open as a registry.
+fn told_inside(alloc: Global, left: &mut Unopened<Memory>) -> Result<String, Fail>
+    requires again { CanBeAdoptedAgain left.old }
+{
+    match left {
+        Unopened::Database(conn) => told_by(alloc, conn),
+        Unopened::Files(_) => Err(Fail::new(format_args!("no database opens"))),
+    }
 }
 
 // What the check says of the tables, which are a registry's, also where none opens.

@@ -245,7 +245,11 @@ static NUMBERS: [Case; 3] = [
             ("kit", Call::InRange, "true"),
             ("kit", Call::NewStatus(Status::Public), "done"),
             ("pad", Call::NewStatus(Status::Restricted), "done"),
-            ("kit", Call::Add(Body::Plain("1.0.0"), 253_402_300_799), "done"),
+            (
+                "kit",
+                Call::Add(Body::Plain("1.0.0"), 253_402_300_799),
+                "done",
+            ),
             ("kit", Call::Add(Body::Plain("1.1.0"), 1), "done"),
             ("kit", Call::Retire("1.1.0"), "done"),
             ("kit", Call::Teams(User("ann")), "done"),
