@@ -46,7 +46,10 @@ static TOLD: [(&[&str], &str); 8] = [
         &["--as", "npm_ann_000000001", "tags", "kit"],
         " tags kit done\n",
     ),
-    (&["--operator", "user-add", "Ann"], "operator user-add Ann not done\n"),
+    (
+        &["--operator", "user-add", "Ann"],
+        "operator user-add Ann not done\n",
+    ),
     (&["what", "npm_ann_000000001"], " not done\n"),
 ];
 

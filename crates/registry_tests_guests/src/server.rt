@@ -58,7 +58,11 @@ fn write_down(told: &mut String, command: &AnsweredCommand<'_>) -> Result<(), Al
         told.push(' ')?;
         told.push_str(word.as_str())?;
     }
-    told.push_str(if command.status == 0 { " done\n" } else { " not done\n" })
+    told.push_str(if command.status == 0 {
+        " done\n"
+    } else {
+        " not done\n"
+    })
 }
 
 /// A clock that stands still.
