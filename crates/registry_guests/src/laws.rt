@@ -4,6 +4,7 @@ ghost use Rattle.std.specs.Prelude.{ℕ};
 ghost use Rattle.registry_guests.specs.Beside.{AnswersOnce, GuestsFollow, GuestsGoOn, MakeOneHistory, VisitsFollow, beside_guests};
 ghost use Rattle.registry_guests.specs.Controls.{HoldersAskFirst, HoldersHaveAsked, StopsStay};
 ghost use Rattle.registry_guests.specs.GuestPools.{IsWithinAt, StayWithin, new_at};
+ghost use Rattle.registry_guests.specs.Notes.{FirstTokensAreUnseen, LastTokensAreUnseen};
 ghost use Rattle.registry_server.specs.Worlds.{VisitsLead};
 
 use registry_server::Socket;
@@ -48,4 +49,11 @@ pub fn holders_have_asked<S: Socket>()
     ensures first { HoldersAskFirst S.received S.sent S.has_none S.is_ended S.is_broken }
     ensures asked { HoldersHaveAsked S.received S.sent S.has_none S.is_ended S.is_broken }
     ensures stay { StopsStay S.received S.sent S.has_none S.is_ended S.is_broken }
+{}
+
+/// What a service is told of a command about tokens, such as `token-add`, is the same for every token,
+/// whether it stands behind a user or in a user's place.
+pub fn tokens_of_commands_are_unseen()
+    ensures last { LastTokensAreUnseen }
+    ensures first { FirstTokensAreUnseen }
 {}

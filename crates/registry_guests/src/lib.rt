@@ -24,6 +24,7 @@ mod held;
 mod holding;
 mod identity;
 pub mod laws;
+mod noting;
 mod reading;
 mod socket_listener;
 mod turning;

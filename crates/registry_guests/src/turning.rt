@@ -8,6 +8,7 @@ ghost use Rattle.registry_guests.specs.Outputs.{prints};
 ghost use Rattle.registry_guests.specs.Spelling.{view, words as words_in};
 
 use crate::command_output::CommandOutput;
+use crate::noting::{caller_of, noted, seen_words};
 use crate::reading::CommandMessage;
 use registry_cli::{Line, Usage, action_of, line};
 use registry_names::{Fault, Moment, Stop, Text};
@@ -23,7 +24,7 @@ const SERVING: &str = "error: a server can't be asked to serve";
 
 /// Takes the turn of a message at this moment, which is that of the request where its words name no
 /// other: at most one request is asked of the service. The output is what the program prints for
-/// the same words and the same file where it has the registry itself.
+/// the same words and the same file where it has the registry itself. The service is told of it.
 pub fn turn<D: Service>(
     alloc: Global,
     service: &mut D,
@@ -35,12 +36,28 @@ pub fn turn<D: Service>(
 {
     match line_of(alloc, &message.arguments) {
         Ok(line) => ask(alloc, service, &line, message.body, now),
-        Err(output) => output,
+        Err(output) => noted(service, "", &[], output),
     }
 }
 
-// Asks what a line asks for.
+// Asks what a line asks for, and tells the service what is answered.
 fn ask<D: Service>(
+    alloc: Global,
+    service: &mut D,
+    line: &Line,
+    body: &[u8],
+    now: Moment,
+) -> CommandOutput
+    requires whole { IsWhole line.now.what }
+    requires asks { asks_to_serve line.now.what ≡ false }
+    ensures { AsksOnce D.answers service.old line.now body.now now (prints result) service.new }
+{
+    let output = answered(alloc, service, line, body, now);
+    noted(service, caller_of(line), seen_words(line), output)
+}
+
+// The output for what a line asks for.
+fn answered<D: Service>(
     alloc: Global,
     service: &mut D,
     line: &Line,

@@ -23,6 +23,47 @@ fn a_command_beside_a_server_is_answered(rt: HostRuntime) -> Result<(), Fail> {
     forget(&rt, file)
 }
 
+/// Commands, and what the service is told of each. Words that the program doesn't take name nobody.
+static TOLD: [(&[&str], &str); 8] = [
+    (
+        &["--operator", "user-add", "ann"],
+        "operator user-add ann done\n",
+    ),
+    (
+        &["--as", "ann", "org-create", "lab", "ann"],
+        "ann org-create lab ann done\n",
+    ),
+    (&["tags", "kit"], "operator tags kit done\n"),
+    (
+        &["--operator", "token-add", "ann", "npm_ann_000000001"],
+        "operator token-add ann done\n",
+    ),
+    (
+        &["--operator", "token-add", "npm_ann_000000001", "ann"],
+        "operator token-add not done\n",
+    ),
+    (
+        &["--as", "npm_ann_000000001", "tags", "kit"],
+        " tags kit done\n",
+    ),
+    (&["--operator", "user-add", "Ann"], "operator user-add Ann not done\n"),
+    (&["what", "npm_ann_000000001"], " not done\n"),
+];
+
+#[test]
+fn a_service_is_told_of_commands_without_tokens(rt: HostRuntime) -> Result<(), Fail> {
+    let file = "told.db";
+    lay(&rt, file)?;
+    for (words, told) in &TOLD {
+        let mut server = ServerSide::open(&rt, file)?;
+        let client = connect(&rt, file, "command")?;
+        send(&client, &message(&rt, words)?)?;
+        server.go_on(&rt, 0)?;
+        same(*told, server.service.told.as_str(), *told)?;
+    }
+    forget(&rt, file)
+}
+
 // What a client was told since it was seen to be ready.
 fn is_done_since(rt: &HostRuntime, case: &str, client: &UnixStream) -> Result<(), Fail> {
     let mut came = received(rt, client)?;

@@ -7,18 +7,29 @@ use registry_guests::CommandListener;
 use registry_names::{Fault, Moment};
 use registry_rules::{Reply, Request};
 use registry_server::{FIRST_GUEST, GUEST_TOKENS, Guests};
-use registry_service::{Clock, Service};
-use std::alloc::Global;
+use registry_service::{AnsweredCommand, Clock, Service};
+use std::alloc::{AllocError, Global};
+use std::marker::Model;
 use std::test::Fail;
 use std::time::Duration;
 
 /// How many rounds a server makes in one go: enough for a message and its answer.
 const ROUNDS: u32 = 6;
 
-/// A service that does whatever it is asked, and counts that.
+/// A service that does whatever it is asked, and counts that. It writes down what it is told of
+/// commands, which contracts don't see.
 #[derive(Drop)]
 pub struct Counting {
     pub asked: u64,
+    pub told: String,
+}
+
+impl Model for Counting {
+    ghost use Rattle.std.specs.Prelude.{ℕ};
+
+    ghost Value = { ℕ };
+
+    ghost view = { λ s. s.asked };
 }
 
 impl Service for Counting {
@@ -34,6 +45,20 @@ impl Service for Counting {
     fn is_over(&self) -> bool {
         false
     }
+
+    fn note_command(&mut self, command: &AnsweredCommand<'_>) {
+        let _ = write_down(&mut self.told, command);
+    }
+}
+
+// Who asked, the words that may be seen, and whether the command was done.
+fn write_down(told: &mut String, command: &AnsweredCommand<'_>) -> Result<(), AllocError> {
+    told.push_str(command.caller)?;
+    for word in command.words {
+        told.push(' ')?;
+        told.push_str(word.as_str())?;
+    }
+    told.push_str(if command.status == 0 { " done\n" } else { " not done\n" })
 }
 
 /// A clock that stands still.
@@ -72,7 +97,10 @@ impl ServerSide {
         }
         Ok(ServerSide {
             listener,
-            service: Counting { asked: 0 },
+            service: Counting {
+                asked: 0,
+                told: String::new(alloc),
+            },
             poll,
             events: Events::with_capacity(alloc, GUEST_TOKENS)?,
             buffer,
