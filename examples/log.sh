@@ -67,6 +67,8 @@ serve() {
 end() { kill -9 "$server" 2>/dev/null || true; wait "$server" 2>/dev/null || true; server=; }
 # Asks for a path with a token.
 get() { curl -s -o "$work/answer" -H "authorization: Bearer $2" "http://127.0.0.1:$port$1"; }
+# Sends a body that is no publication.
+put() { curl -s -o "$work/answer" -X PUT -d x -H "authorization: Bearer $2" "http://127.0.0.1:$port$1"; }
 # Sends what is no request.
 send_none() { python3 -c 'import socket, sys; one = socket.create_connection(("127.0.0.1", int(sys.argv[1]))); one.sendall(b"what\r\n\r\n"); one.recv(1000)' "$port"; }
 is_answered() { grep -q NotFound "$work/answer"; }
@@ -96,7 +98,7 @@ try 'the first line says that it is begun' soon last_is "$log" '# begun'
 get /-/package/kit/dist-tags npm_ann_000000001
 try 'a request has a line' soon last_is "$log" 'ann GET /-/package/kit/dist-tags 404 20'
 get /-/user/token/npm_ann_000000001 npm_ann_000000001
-try 'a token in a path is not seen' soon last_is "$log" '- GET /-/*** 404 20'
+try 'a token in a path is not seen' soon last_is "$log" 'ann GET /-/*** 404 20'
 get '/kit?token=npm_ann_000000001' npm_ann_000000001
 try 'nor one in a query' soon last_is "$log" 'ann GET /kit?token=*** 404 20'
 get '/kit?token=npm_ann_000000001&at=1' npm_ann_000000001
@@ -123,9 +125,40 @@ get /-/package/kit/dist-tags npm_nobody_0000001
 try 'a token of nobody has no user' soon last_is "$log" '- GET /-/package/kit/dist-tags 401 20'
 send_none
 try 'what is no request has a line' soon last_is "$log" '- - - 400 19'
+
+# ---- who asked, also where the registry was not
+
+get /-/nothing npm_ann_000000001
+try 'a path without a route names the user' soon last_is "$log" 'ann GET /-/nothing 404 20'
+get /-/nothing npm_nobody_0000001
+try 'and nobody by an unknown token' soon last_is "$log" '- GET /-/nothing 404 20'
+get /-/nothing short
+try 'nor by what is no token' soon last_is "$log" '- GET /-/nothing 404 20'
+put /kit npm_ann_000000001
+try 'a body out of form names the user' soon last_is "$log" 'ann PUT /kit 400 19'
+put /@LAB%2fkit npm_ann_000000001
+try 'a bad name too' soon last_is "$log" 'ann PUT /@LAB%2fkit 400 19'
+
+# ---- commands beside the server
+
 registry --operator user-add bob > "$work/out"
-try 'a command beside the server has none' last_is "$log" '- - - 400 19'
-try 'the log holds no token' sh -c "! grep -q -e npm_ann -e '$digits' '$log'"
+try 'a command beside the server has a line' soon last_is "$log" 'operator command /user-add/bob 0 12'
+registry --operator user-add bob > "$work/out" 2>&1 || true
+try 'so has one that is refused, with its status' soon last_is "$log" 'operator command /user-add/bob 1 16'
+registry --as ann org-create lab ann > "$work/out" 2>&1 || true
+try 'it names the user of --as' soon last_is "$log" 'ann command /org-create/lab/ann 1 19'
+registry tags kit > "$work/out" 2>&1 || true
+try 'without a user it is the operator' soon last_is "$log" 'operator command /tags/kit 1 18'
+registry --operator token-add bob npm_bob_000000001 > "$work/out"
+try 'the token that is added is not seen' soon last_is "$log" 'operator command /token-add/bob 0 12'
+registry --operator token-add npm_bob_000000002 npm_bob_000000003 > "$work/out" 2>&1 || true
+try 'nor one in the place of the user' soon last_is "$log" 'operator command /token-add 1 18'
+new=$(registry --operator token-new bob)
+try 'nor one that is made' soon last_is "$log" 'operator command /token-add/bob 0 12'
+get /-/nothing "$new"
+try 'which names its user at once' soon last_is "$log" 'bob GET /-/nothing 404 20'
+try 'the log holds no token' sh -c "! grep -q -e npm_ann -e npm_bob -e '$digits' -e '${new#npm_}' '$log'"
+try 'each line of it has seven columns' sh -c "! grep -v ' # ' '$log' | grep -qvE '^([^ ]+ ){6}[^ ]+\$'"
 try 'its owner alone reads it' [ "$(stat -c %a "$log")" = 600 ]
 
 # ---- a log that is moved away, ends and begins
@@ -133,7 +166,7 @@ try 'its owner alone reads it' [ "$(stat -c %a "$log")" = 600 ]
 mv "$log" "$log.1"
 get /-/package/kit/dist-tags npm_ann_000000001
 try 'a log that was moved away is begun anew' soon has_lines "$log" 1
-try 'and nothing more comes to the old one' last_is "$log.1" '- - - 400 19'
+try 'and nothing more comes to the old one' last_is "$log.1" 'bob GET /-/nothing 404 20'
 end
 printf 'half a line' >> "$log"
 serve "$log"

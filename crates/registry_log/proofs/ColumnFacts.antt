@@ -5,7 +5,7 @@ use Rattle.std.specs.Char.{is_ascii_graphic}
 use Rattle.std.specs.Prelude.{cond}
 use Rattle.registry_packument.specs.Calendar.{utc_text}
 use Rattle.registry_log.specs.Laws.{beginning, columns_in, columns_of, ends_column}
-use Rattle.registry_log.specs.Lines.{cell, column, last_cell, line_of, method_text, seen_byte, time_text}
+use Rattle.registry_log.specs.Lines.{cell, column, kind_text, last_cell, line_of, seen_byte, time_text}
 use Rattle.registry_log.specs.Targets.{shown}
 use Rattle.registry_log.specs.Waitings.{lines_in}
 use Rattle.registry_log.specs.declared.entry.Entry.{Entry}
@@ -59,8 +59,8 @@ cells-read a b c d f g =
 
 pub line-columns : (e : Entry) → columns_in (line_of e) ≡ columns_of e ++ [] ∷ []
 line-columns e =
-    cells-read (utc_text e.at) e.user.now (method_text e.method) (shown e.target.now) (decimal e.status) (decimal e.length) (last_cell (time_text e.micros))
-    ∙ ap (λ (ds : List (List ℕ)). (column (utc_text e.at) ∷ column e.user.now ∷ column (method_text e.method) ∷ column (shown e.target.now) ∷ column (decimal e.status) ∷ column (decimal e.length) ∷ []) ++ ds)
+    cells-read (utc_text e.at) e.user.now (kind_text e.kind) (shown e.target.now) (decimal e.status) (decimal e.length) (last_cell (time_text e.micros))
+    ∙ ap (λ (ds : List (List ℕ)). (column (utc_text e.at) ∷ column e.user.now ∷ column (kind_text e.kind) ∷ column (shown e.target.now) ∷ column (decimal e.status) ∷ column (decimal e.length) ∷ []) ++ ds)
     (last-read (time_text e.micros))
 
 -- ---- newlines
@@ -111,5 +111,5 @@ last-lines front text none =
 
 pub line-single : (e : Entry) → lines_in (line_of e) ≡ 1
 line-single e =
-    last-lines (cell (utc_text e.at) ++ cell e.user.now ++ cell (method_text e.method) ++ cell (shown e.target.now) ++ cell (decimal e.status) ++ cell (decimal e.length)) (time_text e.micros)
-    (cells-lines (utc_text e.at) e.user.now (method_text e.method) (shown e.target.now) (decimal e.status) (decimal e.length))
+    last-lines (cell (utc_text e.at) ++ cell e.user.now ++ cell (kind_text e.kind) ++ cell (shown e.target.now) ++ cell (decimal e.status) ++ cell (decimal e.length)) (time_text e.micros)
+    (cells-lines (utc_text e.at) e.user.now (kind_text e.kind) (shown e.target.now) (decimal e.status) (decimal e.length))

@@ -1,7 +1,7 @@
 -- What lines are, whatever a client sent.
 use Rattle.std.specs.Prelude.{◌≡◌, ℕ, ◌||◌, nat_eq, Bool, List, [], ◌∷◌, ◌++◌, codes, decimal, if◌then◌else◌}
 use Rattle.registry_packument.specs.Calendar.{utc_text}
-use Rattle.registry_log.specs.Lines.{column, line_of, method_text, time_text}
+use Rattle.registry_log.specs.Lines.{column, kind_text, line_of, time_text}
 use Rattle.registry_log.specs.Targets.{shown}
 use Rattle.registry_log.specs.Waitings.{lines_in}
 use Rattle.registry_log.specs.declared.entry.Entry.{Entry}
@@ -23,7 +23,7 @@ columns_in [] = [] ∷ []
 columns_in (b ∷ bs) = if ends_column b then [] ∷ columns_in bs else beginning b (columns_in bs)
 
 abbrev pub columns_of : Entry → List (List ℕ)
-columns_of e = column (utc_text e.at) ∷ column e.user.now ∷ column (method_text e.method) ∷ column (shown e.target.now) ∷ column (decimal e.status) ∷ column (decimal e.length) ∷ column (time_text e.micros) ∷ []
+columns_of e = column (utc_text e.at) ∷ column e.user.now ∷ column (kind_text e.kind) ∷ column (shown e.target.now) ∷ column (decimal e.status) ∷ column (decimal e.length) ∷ column (time_text e.micros) ∷ []
 
 -- a reader finds the seven columns of a line, and nothing after its newline
 abbrev pub LinesHaveColumns : Type 0

@@ -1,11 +1,12 @@
 -- The lines of a log.
 use Rattle.std.specs.Prelude.{ℕ, ◌/◌, ◌%◌, List, [], ◌∷◌, ◌++◌, map, codes, decimal, Option, Some, None, if◌then◌else◌}
 use Rattle.std.specs.Char.{is_ascii_graphic}
-use Rattle.registry_names.specs.declared.method.Method.{Method}
 use Rattle.registry_names.specs.declared.method.Method.TheVariants.{Get, Put, Post, Delete, Other}
 use Rattle.registry_packument.specs.Calendar.{utc_text}
 use Rattle.registry_log.specs.Targets.{shown}
 use Rattle.registry_log.specs.declared.entry.Entry.{Entry}
+use Rattle.registry_log.specs.declared.entry.Kind.{Kind}
+use Rattle.registry_log.specs.declared.entry.Kind.TheVariants.{Request, Command, Unread}
 
 -- ---- columns
 
@@ -27,14 +28,15 @@ last_cell text = column text ++ codes "\n"
 
 -- ---- lines
 
--- the name of a method, where it is known
-abbrev pub method_text : Option Method → List ℕ
-method_text (Some Get) = codes "GET"
-method_text (Some Put) = codes "PUT"
-method_text (Some Post) = codes "POST"
-method_text (Some Delete) = codes "DELETE"
-method_text (Some Other) = []
-method_text None = []
+-- the name of a method, where it is known, or that it was a command
+abbrev pub kind_text : Kind → List ℕ
+kind_text (Request Get) = codes "GET"
+kind_text (Request Put) = codes "PUT"
+kind_text (Request Post) = codes "POST"
+kind_text (Request Delete) = codes "DELETE"
+kind_text (Request Other) = []
+kind_text Command = codes "command"
+kind_text Unread = []
 
 -- microseconds in milliseconds, with one decimal
 abbrev pub time_text : Option ℕ → List ℕ
@@ -43,10 +45,15 @@ time_text (Some n) = decimal (n / 1000) ++ codes "." ++ decimal (n / 100 % 10)
 
 -- a line of seven columns: the moment, the user, the method, the target, the status, the length of the
 -- answer, and for how long the registry was asked
-abbrev pub line_with : ℕ → List ℕ → Option Method → List ℕ → ℕ → ℕ → Option ℕ → List ℕ
-line_with at user method target status length micros =
-    cell (utc_text at) ++ cell user ++ cell (method_text method) ++ cell (shown target) ++ cell (decimal status) ++ cell (decimal length) ++ last_cell (time_text micros)
+abbrev pub line_with : ℕ → List ℕ → Kind → List ℕ → ℕ → ℕ → Option ℕ → List ℕ
+line_with at user kind target status length micros =
+    cell (utc_text at) ++ cell user ++ cell (kind_text kind) ++ cell (shown target) ++ cell (decimal status) ++ cell (decimal length) ++ last_cell (time_text micros)
 
--- the line of a request
+-- the words of a command, with a `/` before each
+abbrev pub joined : List (List ℕ) → List ℕ
+joined [] = []
+joined (w ∷ ws) = 47 ∷ (w ++ joined ws)
+
+-- the line of a request, or of a command
 abbrev pub line_of : Entry → List ℕ
-line_of e = line_with e.at e.user.now e.method e.target.now e.status e.length e.micros
+line_of e = line_with e.at e.user.now e.kind e.target.now e.status e.length e.micros

@@ -1,23 +1,37 @@
--- A log: the line that is put for a turn, and what happens to it.
-use Rattle.std.specs.Prelude.{◌≡◌, ◌≤◌, ◌⊎◌, ◌-◌, ℕ, Bool, true, false, List, [], ◌++◌, Option, Some, None, IfSome, codes, decimal, length, if◌then◌else◌}
+-- A log: the line that is put for a turn or a command, and what happens to it.
+use Rattle.std.specs.Prelude.{◌≡◌, ◌≤◌, ◌⊎◌, ◌-◌, ℕ, Bool, true, false, List, [], ◌∷◌, ◌++◌, Option, Some, None, IfSome, Result, Ok, codes, decimal, length, if◌then◌else◌}
 use Rattle.std.specs.Borrow.{Bor}
 use Rattle.registry_names.specs.Texts.{Text}
-use Rattle.registry_names.specs.declared.method.Method.{Method}
+use Rattle.registry_names.specs.declared.stop.Stop.{Stop}
 use Rattle.registry_packument.specs.Calendar.{utc_text}
+use Rattle.registry_rules.specs.declared.request.Credential.{Credential}
+use Rattle.registry_rules.specs.declared.request.Credential.TheVariants.{Token}
+use Rattle.registry_wire.specs.declared.wanted.Authorization.{Authorization}
 use Rattle.registry_wire.specs.declared.wanted.Wanted.{Wanted}
+use Rattle.registry_service.specs.Callers.{reads_caller}
 use Rattle.registry_service.specs.HttpAnswers.{body_bytes}
+use Rattle.registry_service.specs.declared.turning.AnsweredCommand.{AnsweredCommand}
 use Rattle.registry_service.specs.declared.turning.Turned.{Turned}
-use Rattle.registry_log.specs.Lines.{line_with}
+use Rattle.registry_log.specs.Lines.{joined, line_with}
 use Rattle.registry_log.specs.Waitings.{Queue, adding, has_room, losing, queue, settling}
+use Rattle.registry_log.specs.declared.entry.Kind.{Kind}
+use Rattle.registry_log.specs.declared.entry.Kind.TheVariants.{Request, Command, Unread}
 use Rattle.registry_log.specs.declared.log.Answered.{Answered}
+use Rattle.registry_log.specs.declared.unnamed.Unnamed.{Unnamed}
 
--- what waits to be written, and what the registry answered that wasn't noted yet
+-- what waits to be written, what the registry answered that wasn't noted yet, and what was noted whose
+-- user isn't looked up yet
 pub record Logging : Type 0 where
   pub waiting : Queue
   pub answered : Option Answered
+  pub unnamed : List Unnamed
 
-abbrev pub logging : Queue → Option Answered → Logging
-logging waiting answered = record { waiting = waiting; answered = answered }
+abbrev pub logging : Queue → Option Answered → List Unnamed → Logging
+logging waiting answered unnamed = record { waiting = waiting; answered = answered; unnamed = unnamed }
+
+-- nothing is changed but what waits
+abbrev pub KeepsOthers : Logging → Logging → Type 0
+KeepsOthers old new = (new.answered ≡ old.answered) × (new.unnamed ≡ old.unnamed)
 
 -- ---- the line of a turn
 
@@ -36,10 +50,10 @@ abbrev pub micros_in : Option Answered → Option ℕ
 micros_in None = None
 micros_in (Some a) = Some a.micros
 
--- the method of the request, if one was read
-abbrev pub method_in : Option (Bor Wanted) → Option Method
-method_in None = None
-method_in (Some w) = Some w.now.method
+-- a request with its method, if one was read
+abbrev pub kind_in : Option (Bor Wanted) → Kind
+kind_in None = Unread
+kind_in (Some w) = Request w.now.method
 
 abbrev pub target_in : Option (Bor Wanted) → List ℕ
 target_in None = []
@@ -48,7 +62,39 @@ target_in (Some w) = w.now.target
 -- The line of a turn at this moment: who asked, what was asked for, and what was answered.
 abbrev pub turn_line : ℕ → Option Answered → Option (Bor Wanted) → Turned → List ℕ
 turn_line at answered wanted turned =
-    line_with at (user_in answered) (method_in wanted) (target_in wanted) turned.answer.status (length (body_bytes turned.answer.body)) (micros_in answered)
+    line_with at (user_in answered) (kind_in wanted) (target_in wanted) turned.answer.status (length (body_bytes turned.answer.body)) (micros_in answered)
+
+-- ---- a request that the registry wasn't asked
+
+-- the token by which a caller is known
+abbrev pub token_in : Result Credential Stop → Option (List ℕ)
+token_in (Ok (Token digest)) = Some digest
+token_in _ = None
+
+abbrev pub BearsToken : Authorization → Option (List ℕ) → Type 0
+BearsToken a found = (who : Result Credential Stop) × reads_caller a who × (found ≡ token_in who)
+
+-- The token of a request whose user isn't known, as the registry wasn't asked.
+abbrev pub LacksUser : Option Answered → Option (Bor Wanted) → Option (List ℕ) → Type 0
+LacksUser (Some a) wanted found = found ≡ None
+LacksUser None None found = found ≡ None
+LacksUser None (Some w) found = BearsToken w.now.authorization found
+
+-- what is known of it
+abbrev pub unnamed_turn : ℕ → List ℕ → Option (Bor Wanted) → Turned → Unnamed
+unnamed_turn at token wanted turned =
+    record { at = at; token = token; kind = kind_in wanted; target = target_in wanted; status = turned.answer.status; length = length (body_bytes turned.answer.body) }
+
+-- its line, once its user was looked up
+abbrev pub line_as : Unnamed → Text → List ℕ
+line_as u user = line_with u.at user u.kind u.target u.status u.length None
+
+-- ---- the line of a command
+
+-- The line of a command at this moment: who asked, the words of it that may be seen, and what its
+-- program ends with.
+abbrev pub command_line : ℕ → Option Answered → AnsweredCommand → List ℕ
+command_line at answered c = line_with at c.caller.now Command (joined c.words.now) c.status c.length (micros_in answered)
 
 -- ---- lines that aren't a request's
 
@@ -83,13 +129,36 @@ IsPut line old new = PutsIf (has_room (length line) old) line old new
 abbrev pub IsNoted : List ℕ → Queue → Queue → Type 0
 IsNoted line old new = IsPut line old new ⊎ (new ≡ losing 1 old)
 
--- A turn was noted: exactly its line waits, or is lost. Where the registry was asked, the line has
--- the moment at which it was.
+-- its user is to be looked up, or there was no memory for it, and its line is lost
+abbrev pub IsKept : Unnamed → Logging → Logging → Type 0
+IsKept u old new = ((new.waiting ≡ old.waiting) × (new.unnamed ≡ old.unnamed ++ u ∷ [])) ⊎ ((new.waiting ≡ losing 1 old.waiting) × (new.unnamed ≡ old.unnamed))
+
+-- Where its user is to be looked up by a token, it is kept for that; otherwise its line is noted.
+abbrev pub NotesFor : Option (List ℕ) → ℕ → Option (Bor Wanted) → Turned → Logging → Logging → Type 0
+NotesFor (Some token) at wanted turned old new = IsKept (unnamed_turn at token wanted turned) old new
+NotesFor None at wanted turned old new = IsNoted (turn_line at old.answered wanted turned) old.waiting new.waiting × (new.unnamed ≡ old.unnamed)
+
+-- A turn was noted: exactly its line waits, now or once its user was looked up, or is lost. Where the
+-- registry was asked, the line has the moment at which it was.
 pub record NotesTurn (wanted : Option (Bor Wanted)) (turned : Turned) (old new : Logging) : Type 0 where
   pub at : ℕ
   pub asked : IfSome old.answered (λ a. at ≡ a.at)
-  pub noted : IsNoted (turn_line at old.answered wanted turned) old.waiting new.waiting
+  pub token : Option (List ℕ)
+  pub lacks : LacksUser old.answered wanted token
+  pub noted : NotesFor token at wanted turned old new
   pub taken : new.answered ≡ None
+
+-- what lacked a user has one, or nobody is known by its token: exactly its line waits, or is lost
+pub record NamesTurn (u : Unnamed) (user : Option Text) (old new : Logging) : Type 0 where
+  pub noted : IsNoted (line_as u (name_in user)) old.waiting new.waiting
+  pub keeps : KeepsOthers old new
+
+-- a command was noted: exactly its line waits, or is lost
+pub record NotesCommand (c : AnsweredCommand) (old new : Logging) : Type 0 where
+  pub at : ℕ
+  pub noted : IsNoted (command_line at old.answered c) old.waiting new.waiting
+  pub taken : new.answered ≡ None
+  pub unnamed : new.unnamed ≡ old.unnamed
 
 -- a line that isn't a request's was noted, and what waits was written
 pub record SaysLine (text : Text) (old new : Logging) : Type 0 where
@@ -97,13 +166,13 @@ pub record SaysLine (text : Text) (old new : Logging) : Type 0 where
   pub between : Queue
   pub noted : IsNoted (said_line at text) old.waiting between
   pub written : IsWritten between new.waiting
-  pub answered : new.answered ≡ old.answered
+  pub keeps : KeepsOthers old new
 
 -- what the registry answered is known, until it is noted
 abbrev pub Remembers : ℕ → Option Text → ℕ → Logging → Logging → Type 0
 Remembers at user begun old new =
-    (now : ℕ) × (new ≡ logging old.waiting (Some (record { at = at; user = user; micros = now - begun })))
+    (now : ℕ) × (new ≡ logging old.waiting (Some (record { at = at; user = user; micros = now - begun })) old.unnamed)
 
 -- what waits was written, and no answer is to be noted any more
 abbrev pub Rests : Logging → Logging → Type 0
-Rests old new = IsWritten old.waiting new.waiting × (new.answered ≡ None)
+Rests old new = IsWritten old.waiting new.waiting × (new.answered ≡ None) × (new.unnamed ≡ old.unnamed)

@@ -1,20 +1,24 @@
 //! A log of what was answered.
 
 ghost use Rattle.std.specs.Prelude.{◌≡◌, ◌≤◌, [], length, string_bytes, None, IfErr, IfOk, IfSome, if◌then◌else◌};
+ghost use Rattle.registry_log.specs.Lines as lines;
 ghost use Rattle.registry_log.specs.Logs as spec;
-ghost use Rattle.registry_log.specs.Logs.{IsPut, IsWritten, NotesTurn, Remembers, Rests, SaysLine, logging, turn_line};
+ghost use Rattle.registry_log.specs.Logs.{IsKept, IsNoted, IsPut, IsWritten, KeepsOthers, LacksUser, NamesTurn, NotesCommand, NotesTurn, Remembers, Rests, SaysLine, logging, turn_line};
 ghost use Rattle.registry_log.specs.Waitings.{queue};
 
-use crate::entry::Entry;
+use crate::entry::{Entry, Kind};
 use crate::log_clock::LogClock;
 use crate::sink::LineSink;
+use crate::unnamed::{Unnamed, token_in};
 use crate::waiting::Waiting;
-use registry_names::{Fault, Ident, Method, Moment};
+use registry_names::{Blob, Fault, Ident, Moment, Text};
 use registry_packument::moment_text;
-use registry_service::Turned;
+use registry_publish::TokenDigest;
+use registry_service::{AnsweredCommand, Turned};
 use registry_wire::Wanted;
 use std::alloc::{AllocError, Global};
 use std::marker::Model;
+use std::mem;
 
 /// What the registry answered, and wasn't noted yet.
 #[derive(Drop)]
@@ -26,7 +30,8 @@ struct Answered {
 
 /// A log: lines that wait, and where they are written. No call of it fails: where there is no
 /// memory for a line, or it can't be written, it is lost, and the log says how many were lost once
-/// it can be written. Contracts see what waits, and what was answered and wasn't noted yet.
+/// it can be written. Contracts see what waits, what was answered and wasn't noted yet, and what was
+/// noted whose user isn't looked up yet.
 #[derive(Drop)]
 pub struct Log<K: LogClock, W: LineSink> {
     alloc: Global,
@@ -34,6 +39,7 @@ pub struct Log<K: LogClock, W: LineSink> {
     sink: W,
     waiting: Waiting,
     answered: Option<Answered>,
+    unnamed: Vec<Unnamed>,
     // Whether what was written last ended within a line.
     is_cut: bool,
 }
@@ -43,13 +49,13 @@ impl<K: LogClock, W: LineSink> Model for Log<K, W> {
 
     ghost Value = { Logging };
 
-    ghost view = { λ l. logging l.waiting l.answered };
+    ghost view = { λ l. logging l.waiting l.answered l.unnamed.items };
 }
 
 impl<K: LogClock + Drop, W: LineSink + Drop> Log<K, W> {
     /// A log in which nothing was written. An error is returned where no memory is left.
     pub fn new(alloc: Global, clock: K, sink: W) -> Result<Log<K, W>, AllocError>
-        ensures { IfOk result (λ log. log ≡ logging (queue [] 0) None) }
+        ensures { IfOk result (λ log. log ≡ logging (queue [] 0) None []) }
     {
         Ok(Log {
             alloc,
@@ -57,6 +63,7 @@ impl<K: LogClock + Drop, W: LineSink + Drop> Log<K, W> {
             sink,
             waiting: Waiting::new(alloc)?,
             answered: None,
+            unnamed: Vec::new(alloc),
             is_cut: false,
         })
     }
@@ -94,13 +101,46 @@ impl<K: LogClock, W: LineSink> Log<K, W> {
 
     /// A turn was taken for this request, or for input that isn't one. Its line waits. Where the
     /// registry was asked, the line has the moment of that, the user and the time; otherwise it has
-    /// the present moment. A line is lost where there is no memory or no room for it.
+    /// the present moment. A request that has a token, and that the registry wasn't asked, is kept
+    /// until its user is looked up. A line is lost where there is no memory or no room for it.
     pub fn note(&mut self, wanted: Option<&Wanted>, turned: &Turned)
         ensures { NotesTurn wanted.entry turned.now self.old self.new }
     {
         let answered = self.answered.take();
         let at = self.moment(&answered);
-        match line(self.alloc, at, &answered, wanted, turned) {
+        match lacking(&answered, wanted) {
+            Some(token) => self.keep(at, token, wanted, turned),
+            None => self.put_turn(at, &answered, wanted, turned),
+        }
+    }
+
+    /// A command beside the server was answered. Its line, at the present moment, waits. It is lost
+    /// where there is no memory or no room for it.
+    pub fn note_command(&mut self, command: &AnsweredCommand<'_>)
+        ensures { NotesCommand command.now self.old self.new }
+    {
+        let answered = self.answered.take();
+        let at = self.clock.moment();
+        match command_line(self.alloc, at, &answered, command) {
+            Ok(line) => self.add(line.as_slice()),
+            Err(_) => self.waiting.lose(1),
+        }
+    }
+
+    /// The requests whose users are to be looked up, in their order. They aren't kept any more.
+    pub(crate) fn take_unnamed(&mut self) -> Vec<Unnamed>
+        ensures taken { result.items ≡ self.old.unnamed }
+        ensures left { self.new ≡ logging self.old.waiting self.old.answered [] }
+    {
+        mem::replace(&mut self.unnamed, Vec::new(self.alloc))
+    }
+
+    /// The user of a request was looked up, and its line waits. It is lost where there is no memory or
+    /// no room for it.
+    pub(crate) fn name(&mut self, unnamed: &Unnamed, user: &Option<Ident>)
+        ensures { NamesTurn unnamed.now user.now self.old self.new }
+    {
+        match unnamed.line(self.alloc, user_text(user)) {
             Ok(line) => self.add(line.as_slice()),
             Err(_) => self.waiting.lose(1),
         }
@@ -110,9 +150,42 @@ impl<K: LogClock, W: LineSink> Log<K, W> {
     pub fn rest(&mut self)
         ensures { Rests self.old self.new }
     {
-        // A command beside the server is answered, too, and has no line.
+        // What was answered and isn't noted by now has no line.
         self.answered = None;
         self.write();
+    }
+
+    // The line of a turn waits, or is lost.
+    fn put_turn(
+        &mut self,
+        at: Moment,
+        answered: &Option<Answered>,
+        wanted: Option<&Wanted>,
+        turned: &Turned,
+    )
+        ensures noted { IsNoted (turn_line at answered.now wanted.entry turned.now)
+            self.old.waiting self.new.waiting }
+        ensures keeps { KeepsOthers self.old self.new }
+    {
+        match line(self.alloc, at, answered, wanted, turned) {
+            Ok(line) => self.add(line.as_slice()),
+            Err(_) => self.waiting.lose(1),
+        }
+    }
+
+    // A turn is kept until its user is looked up, or its line is lost.
+    fn keep(&mut self, at: Moment, token: TokenDigest, wanted: Option<&Wanted>, turned: &Turned)
+        ensures kept { IsKept (spec.unnamed_turn at token wanted.entry turned.now)
+            self.old self.new }
+        ensures answered { self.new.answered ≡ self.old.answered }
+    {
+        let Ok(unnamed) = unnamed(self.alloc, at, token, wanted, turned) else {
+            self.waiting.lose(1);
+            return;
+        };
+        if self.unnamed.push(unnamed).is_err() {
+            self.waiting.lose(1);
+        }
     }
 
     // The moment at which the registry was asked, or the present one where it wasn't.
@@ -129,7 +202,7 @@ impl<K: LogClock, W: LineSink> Log<K, W> {
     // A line waits. Where there is no room for it, what waits is written first.
     fn add(&mut self, line: &[u8])
         ensures put { IsPut line.now self.old.waiting self.new.waiting }
-        ensures keeps { self.new.answered ≡ self.old.answered }
+        ensures keeps { KeepsOthers self.old self.new }
     {
         if !self.waiting.has_room(line.len()) {
             self.write();
@@ -141,7 +214,7 @@ impl<K: LogClock, W: LineSink> Log<K, W> {
     // said, what waits is lost, too.
     fn write(&mut self)
         ensures written { IsWritten self.old.waiting self.new.waiting }
-        ensures keeps { self.new.answered ≡ self.old.answered }
+        ensures keeps { KeepsOthers self.old self.new }
     {
         let written = if self.tell_lost() {
             put(&mut self.sink, &mut self.is_cut, self.waiting.as_slice())
@@ -155,7 +228,7 @@ impl<K: LogClock, W: LineSink> Log<K, W> {
     fn tell_lost(&mut self) -> bool
         ensures told { self.new.waiting
             ≡ (if result then queue self.old.waiting.bytes 0 else self.old.waiting) }
-        ensures keeps { self.new.answered ≡ self.old.answered }
+        ensures keeps { KeepsOthers self.old self.new }
     {
         let lost = self.waiting.lost();
         if lost == 0 {
@@ -203,13 +276,77 @@ fn line(
     let entry = Entry {
         at,
         user: user_in(answered),
-        method: method_in(wanted),
+        kind: kind_in(wanted),
         target: target_in(wanted),
         status: turned.answer.status.as_u16(),
         length: turned.answer.body.as_slice().len() as u64,
         micros: micros_in(answered),
     };
     entry.line(alloc)
+}
+
+// The token of a request whose user isn't known, as the registry wasn't asked.
+fn lacking(answered: &Option<Answered>, wanted: Option<&Wanted>) -> Option<TokenDigest>
+    ensures { LacksUser answered.now wanted.entry result }
+{
+    match (answered, wanted) {
+        (None, Some(wanted)) => token_in(&wanted.authorization),
+        _ => None,
+    }
+}
+
+// A turn whose user is to be looked up.
+fn unnamed(
+    alloc: Global,
+    at: Moment,
+    token: TokenDigest,
+    wanted: Option<&Wanted>,
+    turned: &Turned,
+) -> Result<Unnamed, AllocError>
+    ensures { IfOk result (λ u. u ≡ spec.unnamed_turn at token wanted.entry turned.now) }
+{
+    Ok(Unnamed {
+        at,
+        token,
+        kind: kind_in(wanted),
+        target: Blob::from_slice(alloc, target_in(wanted))?,
+        status: turned.answer.status.as_u16(),
+        length: turned.answer.body.as_slice().len() as u64,
+    })
+}
+
+// The line of a command at this moment.
+fn command_line(
+    alloc: Global,
+    at: Moment,
+    answered: &Option<Answered>,
+    command: &AnsweredCommand<'_>,
+) -> Result<Vec<u8>, Fault>
+    ensures { IfOk result (λ line. line.items ≡ spec.command_line at answered.now command.now) }
+{
+    let words = joined(alloc, command.words)?;
+    let entry = Entry {
+        at,
+        user: command.caller,
+        kind: Kind::Command,
+        target: words.as_slice(),
+        status: u16::from(command.status),
+        length: command.length,
+        micros: micros_in(answered),
+    };
+    entry.line(alloc)
+}
+
+// Words, with a `/` before each.
+fn joined(alloc: Global, words: &[Text]) -> Result<Vec<u8>, AllocError>
+    ensures { IfOk result (λ text. text.items ≡ lines.joined words.now) }
+{
+    let mut text = Vec::new(alloc);
+    for word in words {
+        text.push(b'/')?;
+        text.extend_from_slice(word.as_str().as_bytes())?;
+    }
+    Ok(text)
 }
 
 // The user who asked. Empty where the registry wasn't asked, or not by a user.
@@ -242,13 +379,13 @@ fn micros_in(answered: &Option<Answered>) -> Option<u64>
     }
 }
 
-// The method of a request, if one was read.
-fn method_in(wanted: Option<&Wanted>) -> Option<Method>
-    ensures { result ≡ spec.method_in wanted.entry }
+// A request with its method, if one was read.
+fn kind_in(wanted: Option<&Wanted>) -> Kind
+    ensures { result ≡ spec.kind_in wanted.entry }
 {
     match wanted {
-        Some(wanted) => Some(wanted.method),
-        None => None,
+        Some(wanted) => Kind::Request(wanted.method),
+        None => Kind::Unread,
     }
 }
 

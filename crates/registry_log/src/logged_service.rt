@@ -4,14 +4,16 @@ ghost use Rattle.std.specs.Prelude.{◌≡◌, true};
 ghost use Rattle.sqlite.specs.State.{Survives};
 ghost use Rattle.registry_desk.specs.Promises.{KeepsStored, WasOpen};
 ghost use Rattle.registry_http.specs.Services.{EndsByFault, EndsIfShut, applied, shown};
+ghost use Rattle.registry_service.specs.Turns.{AnswersAsBefore};
 
 use crate::log::Log;
 use crate::log_clock::LogClock;
 use crate::sink::LineSink;
 use registry_http::RegistryService;
 use registry_names::{Fault, Ident};
+use registry_publish::TokenDigest;
 use registry_rules::{Credential, Reply, Request};
-use registry_service::{Service, Turned};
+use registry_service::{AnsweredCommand, Service, Turned};
 use registry_wire::Wanted;
 use sqlite::Alter;
 use std::alloc::Global;
@@ -103,6 +105,21 @@ impl<S: Alter, K: LogClock, W: LineSink> Service for LoggedService<S, K, W> {
         }
     }
 
+    fn note_command(&mut self, command: &AnsweredCommand<'_>) {
+        match &mut self.log {
+            Some(log) => log.note_command(command),
+            None => {}
+        }
+    }
+
+    /// Looks up whose tokens the requests had that the registry wasn't asked, where a log is kept.
+    fn look_up(&mut self, alloc: Global) {
+        match &mut self.log {
+            Some(log) => name_all(alloc, &mut self.inner, log),
+            None => {}
+        }
+    }
+
     fn rest(&mut self) {
         match &mut self.log {
             Some(log) => log.rest(),
@@ -130,6 +147,22 @@ fn asked<S: Alter, K: LogClock, W: LineSink>(
     outcome
 }
 
+// Looks up the users of the requests that lack one, and puts their lines.
+fn name_all<S: Alter, K: LogClock, W: LineSink>(
+    alloc: Global,
+    inner: &mut RegistryService<S>,
+    log: &mut Log<K, W>,
+)
+    ensures before { AnswersAsBefore (applied (shown S.Store)) inner.old inner.new }
+    ensures over { inner.new.is_over ≡ inner.old.is_over }
+{
+    let unnamed = log.take_unnamed();
+    for request in &unnamed {
+        let user = found_user(alloc, inner, &request.token);
+        log.name(request, &user);
+    }
+}
+
 // The user whose token is shown. `None` where it isn't a user's, or that can't be looked up.
 fn user_of<S: Alter>(
     alloc: Global,
@@ -142,10 +175,24 @@ fn user_of<S: Alter>(
     ensures over { inner.new.is_over ≡ inner.old.is_over }
 {
     match who {
-        Credential::Token(digest) => match inner.user_of(alloc, digest) {
-            Ok(user) => user,
-            Err(_) => None,
-        },
+        Credential::Token(digest) => found_user(alloc, inner, digest),
         Credential::Operator | Credential::User(_) | Credential::Anonymous => None,
     }
+}
+
+// The user of a token. `None` where it isn't a user's, or that can't be looked up. What may be answered
+// afterwards might have been answered before.
+fn found_user<S: Alter>(
+    alloc: Global,
+    inner: &mut RegistryService<S>,
+    token: &TokenDigest,
+) -> Option<Ident>
+    ensures opened { WasOpen (shown S.Store inner.old) (shown S.Store inner.new) }
+    ensures stored { KeepsStored (shown S.Store inner.old) (shown S.Store inner.new) }
+    ensures survives { Survives (shown S.Store inner.old) (shown S.Store inner.new) (λ _. ⊥) }
+    ensures over { inner.new.is_over ≡ inner.old.is_over }
+    ensures before { AnswersAsBefore (applied (shown S.Store)) inner.old inner.new }
+{
+    let found = inner.user_of(alloc, token);
+    found.unwrap_or(None)
 }

@@ -5,12 +5,13 @@ ghost use Rattle.std.specs.Prelude.{None, ◌≤◌, length};
 use crate::tests::lists::LAB_KIT;
 use registry_desk::Registry;
 use registry_http::RegistryService;
-use registry_log::{Entry, LineSink, Log, LogClock, LoggedService};
+use registry_log::{Entry, Kind, LineSink, Log, LogClock, LoggedService};
 use registry_names::{Method, Moment, Text};
 use registry_server::{ConnectionState, Progress};
-use registry_service::{Clock, Service};
-use registry_tests_requests::{outcomes_of, requests_of};
+use registry_service::{AnsweredCommand, Clock, Service};
+use registry_tests_requests::{outcomes_of, request_of, requests_of};
 use registry_tests_support::same;
+use sqlite::MemStore;
 use std::alloc::Global;
 use std::fs::OpenOptions;
 use std::io::Write;
@@ -82,7 +83,7 @@ fn line_of(alloc: Global, target: &[u8]) -> Result<Vec<u8>, Fail> {
     let entry = Entry {
         at: Moment::clamped(TEN),
         user: "",
-        method: Some(Method::Get),
+        kind: Kind::Request(Method::Get),
         target,
         status: 404,
         length: 20,
@@ -129,7 +130,7 @@ fn a_line_has_what_is_known(rt: HostRuntime) -> Result<(), Fail> {
     let whole = Entry {
         at: Moment::clamped(TEN),
         user: "ann",
-        method: Some(Method::Put),
+        kind: Kind::Request(Method::Put),
         target: b"/kit",
         status: 201,
         length: 11,
@@ -144,7 +145,7 @@ fn a_line_has_what_is_known(rt: HostRuntime) -> Result<(), Fail> {
     let none = Entry {
         at: Moment::clamped(0),
         user: "",
-        method: None,
+        kind: Kind::Unread,
         target: b"",
         status: 400,
         length: 22,
@@ -189,6 +190,20 @@ const ASKS: &[u8] =
 /// turn, and returns the log. Its file is at this path, and takes this many bytes of each text.
 fn logged(rt: &HostRuntime, path: &str, asks: &[u8], takes: &[usize]) -> Result<String, Fail> {
     let alloc = rt.alloc();
+    let mut service = lab_kit_logged(rt, path, takes)?;
+    service.say("begun");
+    serve(alloc, &mut service, asks)?;
+    service.say("ended");
+    written(rt, path)
+}
+
+// A registry in which `@lab/kit` 1.0.0 is published, and its log at this path.
+fn lab_kit_logged(
+    rt: &HostRuntime,
+    path: &str,
+    takes: &[usize],
+) -> Result<LoggedService<MemStore, Still, Paper>, Fail> {
+    let alloc = rt.alloc();
     let mut registry = Registry::in_memory(alloc)?;
     let requests = requests_of(alloc, LAB_KIT)?;
     let _outcomes = outcomes_of(alloc, &mut registry, &requests)?;
@@ -199,10 +214,11 @@ fn logged(rt: &HostRuntime, path: &str, asks: &[u8], takes: &[usize]) -> Result<
         calls: 0,
     };
     let log = Log::new(alloc, Still { micros: 0 }, paper)?;
-    let mut service = LoggedService::new(RegistryService::new(registry), Some(log));
-    service.say("begun");
-    serve(alloc, &mut service, asks)?;
-    service.say("ended");
+    Ok(LoggedService::new(RegistryService::new(registry), Some(log)))
+}
+
+// What was written at this path, which is removed.
+fn written(rt: &HostRuntime, path: &str) -> Result<String, Fail> {
     let text = fs::read_to_string(rt, path)?;
     fs::remove_file(rt, path)?;
     Ok(text)
@@ -221,6 +237,7 @@ fn serve<D: Service>(alloc: Global, service: &mut D, asks: &[u8]) -> Result<(), 
             Progress::Answered => send(&mut state),
             Progress::Waits | Progress::Closed => return Ok(()),
         }
+        service.look_up(alloc);
         service.rest();
     }
     Ok(())
@@ -258,5 +275,52 @@ fn lost_lines_are_told(rt: HostRuntime) -> Result<(), Fail> {
         "the log",
         text.as_str(),
         "2026-11-26T10:00:00.000Z # begun\n2026-11-26T10:00:00.000Z bob G\n2026-11-26T10:00:00.000Z # lost lines: 2\n2026-11-26T10:00:00.000Z - GET /-/ping 404 20 -\n2026-11-26T10:00:00.000Z - GET /-/package/kit/dist-tags 401 20 1.2\n2026-11-26T10:00:00.000Z - - - 400 19 -\n2026-11-26T10:00:00.000Z # ended\n",
+    )
+}
+
+/// Requests that the registry isn't asked: with bob's token, with a token of nobody, with a body that
+/// is no publication, and the same without a token.
+const OUT_OF_FORM: &[u8] =
+    b"GET /-/ping HTTP/1.1\r\nauthorization: Bearer npm_bob_000000001\r\n\r\nGET /-/ping HTTP/1.1\r\nauthorization: Bearer npm_zed_000000001\r\n\r\nPUT /kit HTTP/1.1\r\nauthorization: Bearer npm_bob_000000001\r\ncontent-length: 1\r\n\r\nxPUT /kit HTTP/1.1\r\ncontent-length: 1\r\n\r\nx";
+
+#[test]
+fn requests_out_of_form_name_their_user(rt: HostRuntime) -> Result<(), Fail> {
+    let text = logged(&rt, "named-requests.log", OUT_OF_FORM, &[])?;
+    same(
+        "the log",
+        text.as_str(),
+        "2026-11-26T10:00:00.000Z # begun\n2026-11-26T10:00:00.000Z bob GET /-/ping 404 20 -\n2026-11-26T10:00:00.000Z - GET /-/ping 404 20 -\n2026-11-26T10:00:00.000Z bob PUT /kit 400 19 -\n2026-11-26T10:00:00.000Z - PUT /kit 400 19 -\n2026-11-26T10:00:00.000Z # ended\n",
+    )
+}
+
+/// A command that the registry is asked, and one whose words are no line.
+#[test]
+fn commands_have_lines(rt: HostRuntime) -> Result<(), Fail> {
+    let alloc = rt.alloc();
+    let mut service = lab_kit_logged(&rt, "commands.log", &[])?;
+    let words = [
+        Text::from_str(alloc, "user-add")?,
+        Text::from_str(alloc, "cat")?,
+    ];
+    let _done = service.answer(alloc, &request_of(alloc, "--operator user-add cat")?)?;
+    service.note_command(&AnsweredCommand {
+        caller: "operator",
+        words: &words,
+        status: 0,
+        length: 12,
+    });
+    service.note_command(&AnsweredCommand {
+        caller: "",
+        words: &[],
+        status: 2,
+        length: 40,
+    });
+    service.look_up(alloc);
+    service.rest();
+    let text = written(&rt, "commands.log")?;
+    same(
+        "the log",
+        text.as_str(),
+        "2026-11-26T10:00:00.000Z operator command /user-add/cat 0 12 1.2\n2026-11-26T10:00:00.000Z - command - 2 40 -\n",
     )
 }
