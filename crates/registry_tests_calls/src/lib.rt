@@ -11,8 +11,6 @@ mod access;
 #[cfg(test)]
 mod arguments;
 #[cfg(test)]
-mod caller;
-#[cfg(test)]
 mod crowd;
 #[cfg(test)]
 mod ends;
