@@ -2,6 +2,7 @@ mod EachFacts
 mod FormFacts
 mod LoadFacts
 mod NumberFacts
+mod OrderFacts
 mod PremiseFacts
 mod QueryFacts
 mod RightFacts
