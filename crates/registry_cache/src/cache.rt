@@ -220,6 +220,7 @@ impl<V: Shared> SharedCache<V> {
     {
         let alloc = *self.entries.allocator();
         let name = String::from_str(alloc, name)?;
+        // Reading the length tells the prover that one entry more can be counted.
         let _few = self.entries.len();
         self.entries.put(name, value)?;
         self.size += cost;

@@ -19,6 +19,7 @@ mod need;
 mod token;
 
 pub use crate::dependencies::needs_of;
+pub use crate::floats::has_float;
 pub use crate::form::PublishForm;
 pub use crate::integrity::integrity_of;
 pub use crate::need::Need;
