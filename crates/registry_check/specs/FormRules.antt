@@ -11,7 +11,6 @@ use Rattle.registry_names.specs.Tags.{is_tag, latest}
 use Rattle.registry_names.specs.Texts.{Text, is}
 use Rattle.registry_names.specs.declared.status.Status.{Status}
 use Rattle.registry_rules.specs.State.{Release}
-use Rattle.registry_tables.specs.Contents.{Archive}
 use Rattle.registry_check.specs.Forms.{is_level, is_manifest_text, is_moment, is_name, is_role, is_status, is_version, states}
 use Rattle.registry_check.specs.Rows.{Rows}
 use Rattle.registry_check.specs.Rules.{has, test}
@@ -72,7 +71,7 @@ held_number R k = option_map (λ (e : Pair × ℤ). e.1) (find (λ (e : Pair × 
 
 -- the integrity stored with the archive of this number
 abbrev pub integrity_under : Rows → ℤ → Option Text
-integrity_under R n = option_map (λ (e : ℤ × Archive). e.1.integrity) (find (λ (e : ℤ × Archive). int_eq e.0 n) R.archives)
+integrity_under R n = option_map (λ (e : ℤ × Text). e.1) (find (λ (e : ℤ × Text). int_eq e.0 n) R.archives)
 
 -- the integrity stored with the archive that the version has
 abbrev pub held_integrity : Rows → Pair → Option Text
