@@ -72,8 +72,8 @@ fn ask(rt: &HostRuntime, server: &Server) -> Result<TcpStream, Fail> {
 // have gone. These take no descriptor here: a process may often have 1,024, so it can't have both ends
 // of each connection.
 fn newcomers_come(rt: &HostRuntime, left: usize) -> Result<(), Fail> {
-    let gone = CONNECTION_COUNT - 2 - left;
-    let count = CONNECTION_COUNT + left + 1;
+    let gone = (CONNECTION_COUNT - 2).saturating_sub(left);
+    let count = CONNECTION_COUNT.saturating_add(left).saturating_add(1);
     let server = Server::bind(rt, rt.alloc(), 0, count as u64)?;
     let asks = client(rt, &server)?;
     let idle = client(rt, &server)?;
@@ -84,7 +84,7 @@ fn newcomers_come(rt: &HostRuntime, left: usize) -> Result<(), Fail> {
         drop(ask(rt, &server)?);
     }
     let mut newcomers = Vec::new(rt.alloc());
-    for _ in 0..left + 1 {
+    for _ in 0..=left {
         newcomers.push(ask(rt, &server)?)?;
     }
     wait(rt);
