@@ -84,7 +84,7 @@ fn newcomers_come(rt: &HostRuntime, left: usize) -> Result<(), Fail> {
         drop(ask(rt, &server)?);
     }
     let mut newcomers = Vec::new(rt.alloc());
-    for _ in 0..=left {
+    for _ in 0..left.saturating_add(1) {
         newcomers.push(ask(rt, &server)?)?;
     }
     wait(rt);
