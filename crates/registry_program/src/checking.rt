@@ -1,6 +1,6 @@
 //! Checking everything that a registry's file holds.
 
-ghost use Rattle.std.specs.Prelude.{IfOk};
+ghost use Rattle.std.specs.Prelude.{◌≡◌, false, IfOk};
 ghost use Rattle.sqlite.specs.Held.{state};
 ghost use Rattle.sqlite.specs.State.{HasCleanDisk};
 ghost use Rattle.registry_check.specs.Right.{TellsRight};
@@ -125,6 +125,9 @@ fn problems_of_tables<S: Alter>(
 ) -> Result<Vec<Problem>, Fault>
     requires rises { CanBeAdopted (state S.Store conn.old) }
 {
+    if !conn.is_autocommit() {
+        return Ok(Vec::new(alloc));
+    }
     if has_tables(alloc, conn)? {
         problems_of(alloc, conn)
     } else {
@@ -154,6 +157,7 @@ fn problems_within<S: Alter + Drop>(
 // What is wrong in the tables of a connection that is between requests. Nothing is wrong exactly
 // where everything holds that the promises suppose.
 fn problems_of<S: Alter>(alloc: Global, conn: &mut Connection<S>) -> Result<Vec<Problem>, Fault>
+    requires idle { conn.old.in_transaction ≡ false }
     requires ready { Ready tables.schema (state S.Store conn.old) }
     ensures { HasCleanDisk (state S.Store conn.new)
         → IfOk result (λ found. TellsRight found.items (state S.Store conn.old).now.trees) }

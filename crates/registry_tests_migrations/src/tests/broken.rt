@@ -6,6 +6,7 @@
 //! Foreign keys are always on, so no statement breaks one, and a file in which one is broken doesn't
 //! open.
 
+ghost use Rattle.std.specs.Prelude.{◌≡◌, false};
 ghost use Rattle.sqlite.specs.Held.{state};
 ghost use Rattle.registry_desk.specs.Adopted.{CanBeAdopted, CanBeAdoptedAgain};
 
@@ -310,13 +311,19 @@ fn told_inside(alloc: Global, left: &mut Unopened<Memory>) -> Result<String, Fai
     requires again { CanBeAdoptedAgain left.old }
 {
     match left {
-        Unopened::Database(conn) => told_by(alloc, conn),
+        Unopened::Database(conn) => {
+            if !conn.is_autocommit() {
+                return Err(Fail::new(format_args!("a transaction is open")));
+            }
+            told_by(alloc, conn)
+        }
         Unopened::Files(_) => Err(Fail::new(format_args!("no database opens"))),
     }
 }
 
 // What the check says of the tables, which are a registry's, also where none opens.
 fn told_by<S: Alter>(alloc: Global, conn: &mut Connection<S>) -> Result<String, Fail>
+    requires idle { conn.old.in_transaction ≡ false }
     requires rises { CanBeAdopted (state S.Store conn.old) }
 {
     if !has_tables(alloc, conn)? {
