@@ -22,12 +22,13 @@ use Rattle.registry_rows.specs.Tables.{no_tables}
 use Rattle.registry_tables.specs.Effects.{stored}
 use Rattle.registry_tables.specs.Fresh.{fresh}
 use Rattle.registry_tables.specs.Schema.{schema}
-use Rattle.registry_tables.specs.Teams.{GrantsInScope}
 use Rattle.registry_tables.proofs.LiveFacts.{fresh_is_nothing}
 use Rattle.registry_tables.proofs.TeamFacts.{sound_teams}
 use Rattle.registry_desk.specs.Adopted.{CanBeAdopted, IsHandedBack, IsSettled, IsUndone, LeavesCommitted}
 use Rattle.registry_desk.specs.Promises.{IsSure}
-use Rattle.registry_desk.specs.Resting.{IsRegistryOf, Rests}
+use Rattle.registry_tables.specs.Teams.{GrantsInScope}
+use Rattle.registry_tables.proofs.RangeFacts.{fresh_in_range}
+use Rattle.registry_desk.specs.Resting.{IsAsWritten, IsRegistryOf, Rests}
 
 -- an empty database has no tables
 pub empty_ready : (s : Shown) → IsEmpty s → Ready no_tables s
@@ -62,18 +63,22 @@ begun_in_form store h ready clean on = ready_again (state store h) (state store 
 pub fresh_in_scope : GrantsInScope fresh
 fresh_in_scope = (sound_teams fresh (subst (λ (S : State). IsSound S.access) (sym fresh_is_nothing) nothing_sound)).grants
 
+-- and holds no number
+pub fresh_as_written : IsAsWritten fresh
+fresh_as_written = record { grants = fresh_in_scope; numbers = fresh_in_range }
+
 -- what a commit leaves, however the disk is
-pub commit_rests : (left : Contents) (mid new : Shown) → new.in_transaction ≡ false → (HasCleanDisk new → Leaves schema contents left mid) → (HasCleanDisk new → GrantsInScope left) → (HasCleanDisk new → Shows mid new mid.now mid.now false) → Rests new
+pub commit_rests : (left : Contents) (mid new : Shown) → new.in_transaction ≡ false → (HasCleanDisk new → Leaves schema contents left mid) → (HasCleanDisk new → IsAsWritten left) → (HasCleanDisk new → Shows mid new mid.now mid.now false) → Rests new
 commit_rests left mid new ended leaves scoped shows = record {
   idle = ended;
-  grants = λ clean _. subst GrantsInScope (sym (ap (λ (d : Database). contents d.trees) (shows clean).now_is ∙ (leaves clean).holds)) (scoped clean);
+  written = λ clean _. subst IsAsWritten (sym (ap (λ (d : Database). contents d.trees) (shows clean).now_is ∙ (leaves clean).holds)) (scoped clean);
   in_form = λ clean _. ready_again mid new (shows clean).now_is (leaves clean).ready;
   settled = λ clean _. (shows clean).now_is ∙ sym (shows clean).committed_is;
 }
 
 -- the same of what the commit answers
 pub commit_rests_on : {A E : Type 0} (result : Result A E) (left : Contents) (mid new : Shown) → new.in_transaction ≡ false
-    → (HasCleanDisk new → Leaves schema contents left mid) → (HasCleanDisk new → GrantsInScope left) → (HasCleanDisk new → OnOk result (IsCommitted mid new)) → OnOk result (Rests new)
+    → (HasCleanDisk new → Leaves schema contents left mid) → (HasCleanDisk new → IsAsWritten left) → (HasCleanDisk new → OnOk result (IsCommitted mid new)) → OnOk result (Rests new)
 commit_rests_on (Ok done) left mid new ended leaves scoped commits = commit_rests left mid new ended leaves scoped (λ clean. (commits clean).1)
 commit_rests_on (Err e) left mid new ended leaves scoped commits = tt
 
@@ -106,8 +111,8 @@ module _ (old mid new : Shown) where
   pub undone_rests : Rests old → new.in_transaction ≡ false → (HasCleanDisk new → HasCleanDisk old × KeepsCommit old mid × IsRolledBack mid new) → Rests new
   undone_rests rests ended back = record {
     idle = ended;
-    grants = λ clean on. let b = back clean in
-        subst GrantsInScope (sym (undone_stored rests b.0 b.1 b.2 on)) (rests.grants b.0 (undone b.1 b.2 on).0);
+    written = λ clean on. let b = back clean in
+        subst IsAsWritten (sym (undone_stored rests b.0 b.1 b.2 on)) (rests.written b.0 (undone b.1 b.2 on).0);
     in_form = λ clean on. let b = back clean in
         ready_again old new (undone_now rests b.0 b.1 b.2 on) (rests.in_form b.0 (undone b.1 b.2 on).0);
     settled = λ clean on. let b = back clean in let left = undone b.1 b.2 on in left.1 ∙ sym left.2;

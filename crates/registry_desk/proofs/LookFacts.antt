@@ -14,10 +14,9 @@ use Rattle.registry_names.specs.declared.stop.Fault.{Fault}
 use Rattle.registry_names.specs.declared.stop.Fault.TheVariants as fault
 use Rattle.registry_tables.specs.Contents.{contents}
 use Rattle.registry_tables.specs.Effects.{stored}
-use Rattle.registry_tables.specs.Teams.{GrantsInScope}
 use Rattle.registry_tables.specs.Schema.{schema}
 use Rattle.registry_desk.specs.Promises.{seen_by}
-use Rattle.registry_desk.specs.Resting.{Rests}
+use Rattle.registry_desk.specs.Resting.{IsAsWritten, Rests}
 use Rattle.registry_desk.proofs.CommitFacts.{ready_again}
 
 -- ---- the text is a statement, so that only the store can fail
@@ -98,8 +97,8 @@ module _ (old new : Shown) (rests : Rests old) (clean : HasCleanDisk old) where
 pub seen_rests : (old new : Shown) → Rests old → new.in_transaction ≡ false → (HasCleanDisk new → HasCleanDisk old × (IsUnchanged old new ⊎ IsRolledBack old new)) → Rests new
 seen_rests old new rests ended look = record {
   idle = ended;
-  grants = λ clean on. let was = look clean in
-      subst GrantsInScope (sym (seen_stored old new rests was.0 was.1 on)) (rests.grants was.0 (seen_open old new rests was.0 was.1 on));
+  written = λ clean on. let was = look clean in
+      subst IsAsWritten (sym (seen_stored old new rests was.0 was.1 on)) (rests.written was.0 (seen_open old new rests was.0 was.1 on));
   in_form = λ clean on. let was = look clean in let left = seen_now old new rests was.0 was.1 on in
       ready_again old new left.1 (rests.in_form was.0 left.0);
   settled = λ clean on. let was = look clean in let left = seen_now old new rests was.0 was.1 on in

@@ -43,7 +43,6 @@ use Rattle.registry_tables.specs.Effects.{IsAsBefore, registry_in, stored}
 use Rattle.registry_tables.specs.Needs.{HoldsNeeds}
 use Rattle.registry_tables.specs.Schema.{schema}
 use Rattle.registry_tables.specs.Spelled.{document, row_entry}
-use Rattle.registry_tables.specs.Teams.{GrantsInScope}
 use Rattle.registry_tables.specs.Walks.{IsLeftAlone}
 use Rattle.registry_laws_history.specs.Answers as answers
 use Rattle.registry_laws_history.specs.Answers.{answer, packument_in, reply_to}
@@ -55,7 +54,7 @@ use Rattle.registry_laws_hidden.specs.Laws.{RepliesAreAlike}
 use Rattle.registry_laws_hidden.specs.Without.{state_without}
 use Rattle.registry_desk.specs.Caches.{HasAnswers, KeepNoMore, KeepsNoMore}
 use Rattle.registry_desk.specs.Promises.{Answered, Applied, HoldsReferences, LeavesOne, Served}
-use Rattle.registry_desk.specs.Resting.{IsRegistryOf, Rests, next_stored, settled_by, stepped}
+use Rattle.registry_desk.specs.Resting.{IsAsWritten, IsRegistryOf, Rests, next_stored, settled_by, stepped}
 use Rattle.registry_desk.specs.Sending.{BrokenBeginTheAnswer, IsOrigin, IsShownBy, LeavesAll, MayAnswer, Sends, SentAreAsked, answers_as_apply, head_in, versions_in}
 use Rattle.registry_desk.specs.declared.cache.Caches.{Caches}
 use Rattle.registry_desk.specs.declared.sending.Origin.{Origin}
@@ -166,7 +165,7 @@ module _ {S : Type 0} (store : Ghosts S) (old : Shown) (h : Held S) (settled : (
               same_answer _ _ r o (replies g p r legal stranger quiet) answered,
               λ on. ap (λ (T : State). state_without T p) (state_stays clean on ∙ is ∙ sym (query_next r query (after g) o)) ∙ leaves_the_rest g p r o legal stranger quiet answered,
             );
-        grants = left.rests.grants;
+        written = left.rests.written;
         needs = λ needed clean on holds. subst HoldsNeeds (sym (left.same clean on)) holds;
         refers = λ needed clean on holds. subst HoldsReferences (sym (left.same clean on)) holds;
         archives = λ needed clean on holds. subst HoldsArchives (sym (left.same clean on)) holds;
@@ -206,7 +205,7 @@ module _ (mid new : Shown) (rests : Rests mid) (left : IsLeftAlone mid new) wher
   pub walk_rests : Rests new
   walk_rests = record {
     idle = left.idle rests.idle;
-    grants = λ clean on. subst GrantsInScope (sym (walk_stored clean on)) (rests.grants (clean_before clean) (left.opened clean on));
+    written = λ clean on. subst IsAsWritten (sym (walk_stored clean on)) (rests.written (clean_before clean) (left.opened clean on));
     in_form = λ clean on. ready_again mid new (seen_again clean on) (rests.in_form (clean_before clean) (left.opened clean on));
     settled = λ clean on. seen_again clean on ∙ rests.settled (clean_before clean) (left.opened clean on) ∙ sym (left.committed clean on);
   }
@@ -319,7 +318,7 @@ module _ {S : Type 0} (store : Ghosts S) (old : Held S) (mid new : Shown) (rests
     committed_all ok = record {
       rests = commit_rests (stored mid) mid new ended (λ clean. let it = reads (were clean) in record { holds = refl; ready = it.ready; mode = it.mode }) (λ clean.
           let it = reads (were clean) in
-          subst GrantsInScope (sym (ap (λ (d : Database). contents d.trees) it.same)) (rests.grants (before clean) it.was_open)) (λ clean. (ok clean).1);
+          subst IsAsWritten (sym (ap (λ (d : Database). contents d.trees) it.same)) (rests.written (before clean) it.was_open)) (λ clean. (ok clean).1);
       opened = λ clean on. (reads (were clean)).was_open;
       same = λ clean on. ap (λ (d : Database). contents d.trees) ((ok clean).1.now_is ∙ (reads (were clean)).same);
       survives = read_survives;

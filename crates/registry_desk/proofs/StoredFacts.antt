@@ -118,7 +118,7 @@ has_run_none s = record {
   stored = λ sound clean on. refl;
   served = λ clean. refl;
   opened = λ clean on. on;
-  grants = λ scoped. scoped;
+  written = λ scoped. scoped;
   needs = λ sound clean on holds. holds;
   refers = λ sound clean on holds. holds;
   archives = λ sound clean on holds. holds;
@@ -159,7 +159,7 @@ has_run_more old mid new rs os r o run made =
           ∙ sym (end_stored_push (registry_in old) (stored old) rs os r o (run.ran (first sound) (before clean)).answers);
       served = λ clean. served_push old.is_open mid.is_open new.is_open os o (run.served (before clean)) (served_one mid.is_open new.is_open o (made.served clean) (made.opened clean));
       opened = λ clean on. opened clean (made.opened clean on);
-      grants = λ scoped. made.grants;
+      written = λ _. made.written;
       needs = λ sound clean on holds. made.needs (still sound clean (made.opened clean on)) clean on (run.needs (first sound) (before clean) (made.opened clean on) holds);
       refers = λ sound clean on holds. made.refers (still sound clean (made.opened clean on)) clean on (run.refers (first sound) (before clean) (made.opened clean on) holds);
       archives = λ sound clean on holds. made.archives (still sound clean (made.opened clean on)) clean on (run.archives (first sound) (before clean) (made.opened clean on) holds);

@@ -24,11 +24,10 @@ use Rattle.registry_tables.specs.Contents.{Contents, contents}
 use Rattle.registry_tables.specs.Effects.{stored}
 use Rattle.registry_tables.specs.Fresh.{CountsArchivesAlone, fresh, schema_key, schema_number}
 use Rattle.registry_tables.specs.Schema.{schema}
-use Rattle.registry_tables.specs.Teams.{GrantsInScope}
 use Rattle.registry_migration.specs.Migration.{MayMigrate, Migrates}
 use Rattle.registry_migration.specs.Older.{contents_of, schema_of}
 use Rattle.registry_migration.specs.declared.older.Older.{Older}
-use Rattle.registry_desk.specs.Resting.{IsRegistryOf}
+use Rattle.registry_desk.specs.Resting.{IsAsWritten, IsRegistryOf}
 use Rattle.registry_desk.specs.declared.open.Unopened.{Unopened}
 use Rattle.registry_desk.specs.declared.open.Unopened.TheVariants as unopened
 
@@ -36,17 +35,17 @@ use Rattle.registry_desk.specs.declared.open.Unopened.TheVariants as unopened
 abbrev pub IsNumbered : Contents → Type 0
 IsNumbered c = at c.meta schema_key ≡ Some (pos schema_number)
 
--- SQLite counts for the archives alone, and each grant is on a package of its organisation's scope
+-- SQLite counts for the archives alone, and what is stored is as requests write it
 pub record IsOurs (c : Contents) : Type 0 where
   pub numbered : IsNumbered c
   pub counted : CountsArchivesAlone c
-  pub granted : GrantsInScope c
+  pub written : IsAsWritten c
 
--- c is what a migration makes of a registry of the older schema, with each grant in scope
+-- c is what a migration makes of a registry of the older schema, and as requests write it
 pub record IsMigrated (older : Older) (db : Trees) (c : Contents) : Type 0 where
   pub asked : MayMigrate older (contents_of older db)
   pub made : Migrates older (contents_of older db) c
-  pub granted : GrantsInScope c
+  pub written : IsAsWritten c
 
 -- the database has the tables of a registry, and they hold such a c
 pub record LeavesMigrated (older : Older) (db left : Trees) : Type 0 where

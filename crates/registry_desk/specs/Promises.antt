@@ -63,7 +63,7 @@ use Rattle.registry_laws_hidden.specs.Concerns.{is_shown}
 use Rattle.registry_laws_hidden.specs.Levels.{IsStranger}
 use Rattle.registry_laws_hidden.specs.Without.{state_without}
 use Rattle.registry_desk.specs.Found.{NeedsFor}
-use Rattle.registry_desk.specs.Resting.{HasGrantsInScope, HasTables, IsRegistryOf, Serves, end_stored, left_by, next_stored, settled_by}
+use Rattle.registry_desk.specs.Resting.{HasTables, HoldsAsWritten, IsRegistryOf, Serves, end_stored, left_by, next_stored, settled_by}
 
 -- an open after a crash finds what is stored now, and nothing else
 abbrev pub IsSure : Shown → Type 0
@@ -245,7 +245,7 @@ pub record Applied (old new : Shown) (r : Request) (o : Outcome) : Type 0 where
   pub moves : Moves old new r o
   pub history : GrowsHistory old new r o
   pub hidden : HidesUnread old new r o
-  pub grants : HasGrantsInScope new
+  pub written : HoldsAsWritten new
   pub needs : Keeps old new r HoldsNeeds
   pub refers : Keeps old new r HoldsReferences
   pub archives : Keeps old new r HoldsArchives
@@ -253,7 +253,8 @@ pub record Applied (old new : Shown) (r : Request) (o : Outcome) : Type 0 where
   pub survives : SurvivesOne old new r
   pub durable : StaysSure new
 
--- All that `run` promises of requests. Where grants were in scope before it, they are after it
+-- All that `run` promises of requests. Where what is stored was as requests write it before it, it is
+-- after it
 pub record HasRun (old new : Shown) (rs : List Request) (os : List Outcome) : Type 0 where
   pub many : length os ≡ length rs
   pub headline : HasHeadline old new rs os
@@ -263,7 +264,7 @@ pub record HasRun (old new : Shown) (rs : List Request) (os : List Outcome) : Ty
   pub stored : Stored old new rs os
   pub served : ServedRun old new os
   pub opened : WasOpen old new
-  pub grants : HasGrantsInScope old → HasGrantsInScope new
+  pub written : HoldsAsWritten old → HoldsAsWritten new
   pub needs : KeepsRun old new rs HoldsNeeds
   pub refers : KeepsRun old new rs HoldsReferences
   pub archives : KeepsRun old new rs HoldsArchives

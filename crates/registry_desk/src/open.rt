@@ -15,19 +15,18 @@ ghost use Rattle.registry_tables.specs.Contents.{contents};
 ghost use Rattle.registry_tables.specs.Effects.{GoesOn, InForm, OnlyWhere, shown, stored, stored_in};
 ghost use Rattle.registry_tables.specs.Fresh.{CountsArchivesAlone};
 ghost use Rattle.registry_tables.specs.Schema as tables;
-ghost use Rattle.registry_tables.specs.Teams.{GrantsInScope};
 ghost use Rattle.registry_migration.specs.Older.{schema_of};
 ghost use Rattle.registry_desk.specs.Adopted.{AreFilesOf, CanBeAdopted, CanBeAdoptedAgain, IsHandedBack, IsMade, IsSettled, IsUndone, LeavesCommitted, SurvivesAdoption};
 ghost use Rattle.registry_desk.specs.Opened.{AreFresh, FailsToConnect, FailsToOpen, FailsToOpenSome, HoldsEach, HoldsFound, IsFreshIfEmpty, IsGuarded, IsMadeOf, IsMigrated, IsNumbered, IsUnlimited, IsUri, LeavesAtMost, LeavesAtMostOf, LeavesMigrated};
 ghost use Rattle.registry_desk.specs.Promises.{IsSure};
-ghost use Rattle.registry_desk.specs.Resting.{HasGrantsInScope, Rests};
+ghost use Rattle.registry_desk.specs.Resting.{HoldsAsWritten, IsAsWritten, Rests};
 
 use crate::cache::Caches;
 use crate::registry::{Registry, create_tables};
 use registry_migration::{Older, is_same_schema, migrate, older_schema};
 use registry_names::Fault;
 use registry_rows::{commit, fault_of};
-use registry_tables::{are_grants_in_scope, counts_archives_alone, opened};
+use registry_tables::{are_grants_in_scope, counts_archives_alone, numbers_are_in_range, opened};
 use sqlite::{
     Alter, Connection, File, FileFrom, FileStore, Files, Leftover, Options, Start, Transaction,
     Unknown,
@@ -96,8 +95,9 @@ impl Registry<FileStore<File>> {
     /// refused. A registry of an older schema is migrated, with all that it holds. `Database` is
     /// answered where the file can't be opened, is another program's, has the tables of another
     /// schema, counts in `sqlite_sequence` for more than the archives, grants a team something on a
-    /// package of another scope, is of an older schema and has a manifest whose needs can't be read,
-    /// or is held by another process; its bytes are kept.
+    /// package of another scope, has a number out of range for a role, a status, a grant or a
+    /// moment, is of an older schema and has a manifest whose needs can't be read, or is held by
+    /// another process; its bytes are kept.
     ///
     /// What is said here holds as long as the disk returns what was written to it, and nobody
     /// else writes the file. A torn write is supposed to leave each byte old or new:
@@ -105,7 +105,7 @@ impl Registry<FileStore<File>> {
     /// empty, so of any other file these clauses say nothing by themselves: those of `open_from`
     /// say it, for every start.
     pub fn open(rt: &HostRuntime, path: &str) -> Result<Registry<FileStore<File>>, Fault>
-        ensures grants { IfOk result (λ r. HasGrantsInScope (file_state r)) }
+        ensures written { IfOk result (λ r. HoldsAsWritten (file_state r)) }
         ensures served { IfOk result (λ r. HasCleanDisk (file_state r)
             → IsTrue (file_state r).is_open) }
         ensures durable { IfOk result (λ r. HasCleanDisk (file_state r) → IsSure (file_state r)) }
@@ -133,7 +133,7 @@ impl<S: Start> Registry<FileStore<FileFrom<S>>> {
         ensures found { IfOk result (λ r. HoldsFound (image_at S.Start) (file_state r)) }
         ensures each { IfOk result (λ r. HoldsEach (image_at S.Start) (file_state r)) }
         ensures empty { IfOk result (λ r. IsFreshIfEmpty (image_at S.Start) (file_state r)) }
-        ensures grants { IfOk result (λ r. HasGrantsInScope (file_state r)) }
+        ensures written { IfOk result (λ r. HoldsAsWritten (file_state r)) }
         ensures served { IfOk result (λ r. HasCleanDisk (file_state r)
             → IsTrue (file_state r).is_open) }
         ensures durable { IfOk result (λ r. HasCleanDisk (file_state r) → IsSure (file_state r)) }
@@ -176,7 +176,7 @@ impl<D: Disk + Drop> Registry<FileStore<D>> {
         ensures found { IfOk result (λ r. HoldsFound (image_of D.Disk files) (file_state r)) }
         ensures each { IfOk result (λ r. HoldsEach (image_of D.Disk files) (file_state r)) }
         ensures empty { IfOk result (λ r. IsFreshIfEmpty (image_of D.Disk files) (file_state r)) }
-        ensures grants { IfOk result (λ r. HasGrantsInScope (file_state r)) }
+        ensures written { IfOk result (λ r. HoldsAsWritten (file_state r)) }
         ensures served { IfOk result (λ r. HasCleanDisk (file_state r)
             → IsTrue (file_state r).is_open) }
         ensures durable { IfOk result (λ r. HasCleanDisk (file_state r) → IsSure (file_state r)) }
@@ -236,9 +236,10 @@ impl<S: Alter> Registry<S> {
     ///
     /// `Database` is answered where the connection is inside a transaction, where the database has
     /// the tables of another schema or another number of ours, counts in `sqlite_sequence` for more
-    /// than the archives, grants a team something on a package of another scope, or fails; `Memory` where there is no room to read it. A connection that a
-    /// fault of the disk has shut gives no registry, but one of the two. A fault hands the connection
-    /// back. It shows what it showed, so that it can be adopted again, and a crash leaves what was
+    /// than the archives, grants a team something on a package of another scope, has a number out of
+    /// range for a role, a status, a grant or a moment, or fails; `Memory` where there is no room to
+    /// read it. A connection that a fault of the disk has shut gives no registry, but one of the two.
+    /// A fault hands the connection back. It shows what it showed, so that it can be adopted again, and a crash leaves what was
     /// committed before and nothing else, unless a fault of the disk has shut it. Then a crash leaves
     /// that or all that was made of it: a fresh registry, or the migrated one.
     ///
@@ -247,7 +248,7 @@ impl<S: Alter> Registry<S> {
     pub fn adopt(alloc: Global, conn: Connection<S>) -> Result<Registry<S>, (Fault, Connection<S>)>
         requires rises { conn.in_transaction ≡ false → CanBeAdopted (state S.Store conn) }
         ensures made { IfOk result (λ r. IsMade (state S.Store conn) (state S.Store r)) }
-        ensures grants { IfOk result (λ r. HasGrantsInScope (state S.Store r)) }
+        ensures written { IfOk result (λ r. HoldsAsWritten (state S.Store r)) }
         ensures served { IfOk result (λ r. HasCleanDisk (state S.Store r)
             → IsTrue (state S.Store r).is_open) }
         ensures durable { IfOk result (λ r. HasCleanDisk (state S.Store r) → IsSure (state S.Store r)) }
@@ -451,8 +452,8 @@ fn check_contents<S: Alter>(alloc: Global, conn: &mut Connection<S>) -> Result<(
         → OnOk result (IsNumbered (stored (state S.Store conn.old))) }
     ensures counted { HasCleanDisk (state S.Store conn.new)
         → OnOk result (CountsArchivesAlone (stored (state S.Store conn.old))) }
-    ensures granted { HasCleanDisk (state S.Store conn.new)
-        → OnOk result (GrantsInScope (stored (state S.Store conn.old))) }
+    ensures written { HasCleanDisk (state S.Store conn.new)
+        → OnOk result (IsAsWritten (stored (state S.Store conn.old))) }
     ensures same { HasCleanDisk (state S.Store conn.new)
         → OnOk result ((state S.Store conn.new).now ≡ (state S.Store conn.old).now) }
     ensures served { HasCleanDisk (state S.Store conn.new)
@@ -479,7 +480,7 @@ fn check_rows<S: Alter>(alloc: Global, tx: &mut Transaction<'_, S>) -> Result<()
         → OnOk result (Reads tables.schema (shown S.Store tx.old) (shown S.Store tx.new)) }
     ensures numbered { OnlyWhere S.Store tx.old tx.new result IsNumbered }
     ensures counted { OnlyWhere S.Store tx.old tx.new result CountsArchivesAlone }
-    ensures granted { OnlyWhere S.Store tx.old tx.new result GrantsInScope }
+    ensures written { OnlyWhere S.Store tx.old tx.new result IsAsWritten }
 {
     check_number(opened(tx)?)?;
     check_so(counts_archives_alone(tx)?)?;
@@ -493,9 +494,10 @@ fn check_sound<S: Alter>(alloc: Global, tx: &mut Transaction<'_, S>) -> Result<(
     ensures stays { Stays S.Store tx.old tx.new }
     ensures reads { HasCleanDisk (shown S.Store tx.new)
         → OnOk result (Reads tables.schema (shown S.Store tx.old) (shown S.Store tx.new)) }
-    ensures granted { OnlyWhere S.Store tx.old tx.new result GrantsInScope }
+    ensures written { OnlyWhere S.Store tx.old tx.new result IsAsWritten }
 {
-    check_so(are_grants_in_scope(alloc, tx)?)
+    check_so(are_grants_in_scope(alloc, tx)?)?;
+    check_so(numbers_are_in_range(alloc, tx)?)
 }
 
 // `Database` is returned for what isn't so.

@@ -15,7 +15,7 @@ ghost use Rattle.registry_tables.specs.Needs.{HoldsNeeds};
 ghost use Rattle.registry_laws_history.specs.Headline.{Headline};
 ghost use Rattle.registry_desk.specs.Promises.{Answered, GrowsHistory, HasHeadline, HidesUnread, HidesUnreadRun, HoldsReferences, HoldsSound, Keeps, KeepsForm, KeepsFormRun, KeepsRun, KeepsStored, KeepsSure, LooksOpen, Moves, RanTo, Served, ServedRun, ShutByFaults, StaysSure, Stepped, Stored, StoppedByDisk, SurvivesOne, SurvivesRun, Unchanged, WasOpen, WritesHistory};
 ghost use Rattle.registry_desk.specs.Promises as promises;
-ghost use Rattle.registry_desk.specs.Resting.{HasGrantsInScope, IsRegistryOf, Rests, end_stored};
+ghost use Rattle.registry_desk.specs.Resting.{HoldsAsWritten, IsRegistryOf, Rests, end_stored};
 ghost use Rattle.registry_desk.specs.Adopted.{CanBeAdopted, IsUndone};
 ghost use Rattle.registry_desk.specs.Caches.{HasAnswers, KeepNoMore, KeepsAnswer};
 ghost use Rattle.registry_desk.specs.Sending.{IsPackument, Sends, answers_as_apply};
@@ -141,7 +141,7 @@ impl<S: Alter> Registry<S> {
             request.now result }
         ensures hidden { HidesUnread (state S.Store self.old) (state S.Store self.new)
             request.now result }
-        ensures grants { HasGrantsInScope (state S.Store self.new) }
+        ensures written { HoldsAsWritten (state S.Store self.new) }
         ensures needs { Keeps (state S.Store self.old) (state S.Store self.new)
             request.now HoldsNeeds }
         ensures refers { Keeps (state S.Store self.old) (state S.Store self.new)
@@ -228,7 +228,7 @@ impl<S: Alter> Registry<S> {
         ensures served { IfOk result (λ outcomes. ServedRun (state S.Store self.old)
             (state S.Store self.new) outcomes.items) }
         ensures opened { WasOpen (state S.Store self.old) (state S.Store self.new) }
-        ensures grants { HasGrantsInScope (state S.Store self.new) }
+        ensures written { HoldsAsWritten (state S.Store self.new) }
         ensures needs { KeepsRun (state S.Store self.old) (state S.Store self.new)
             requests.now HoldsNeeds }
         ensures refers { KeepsRun (state S.Store self.old) (state S.Store self.new)
@@ -245,7 +245,7 @@ impl<S: Alter> Registry<S> {
         ensures not_run { OnErr result (self.new ≡ self.old) }
         ensures memory { IfErr result (λ fault. fault ≡ Fault.Memory) }
     {
-        self.has_grants_in_scope();
+        self.holds_as_written();
         let mut outcomes = Vec::with_capacity(alloc, requests.len())?;
         for request in requests {
             let outcome = self.apply(alloc, request);
@@ -258,8 +258,8 @@ impl<S: Alter> Registry<S> {
     }
 
     // A law: so it is of each registry between requests.
-    fn has_grants_in_scope(&self)
-        ensures { HasGrantsInScope (state S.Store self.now) }
+    fn holds_as_written(&self)
+        ensures { HoldsAsWritten (state S.Store self.now) }
     {
         let _conn = &self.conn;
     }

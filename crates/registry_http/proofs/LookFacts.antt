@@ -10,7 +10,7 @@ use Rattle.registry_tables.specs.Archives.{HoldsArchives}
 use Rattle.registry_tables.specs.Contents.{Contents, registry_of}
 use Rattle.registry_tables.specs.Effects.{registry_in}
 use Rattle.registry_tables.specs.Needs.{HoldsNeeds}
-use Rattle.registry_tables.specs.Teams.{GrantsInScope}
+use Rattle.registry_desk.specs.Resting.{IsAsWritten}
 use Rattle.registry_laws_history.specs.Runs.{grown}
 use Rattle.registry_laws_history.specs.Says.{Says}
 use Rattle.registry_laws_hidden.specs.Without.{state_without}
@@ -51,7 +51,7 @@ looked-applies old mid new r met told opened keeps look a =
       hidden = λ needs clean h legal is p stranger quiet.
           let before = a.hidden needs (was clean) h legal is p stranger quiet in
           (before.0, λ on. ap (λ (c : Contents). state_without (registry_of c) p) (keeps clean on) ∙ before.1 (opened clean on));
-      grants = λ clean on. subst GrantsInScope (sym (keeps clean on)) (a.grants (was clean) (opened clean on));
+      written = λ clean on. subst IsAsWritten (sym (keeps clean on)) (a.written (was clean) (opened clean on));
       needs = λ sound clean on holds. subst HoldsNeeds (sym (keeps clean on)) (a.needs sound (was clean) (opened clean on) holds);
       refers = λ sound clean on holds. subst HoldsReferences (sym (keeps clean on)) (a.refers sound (was clean) (opened clean on) holds);
       archives = λ sound clean on holds. subst HoldsArchives (sym (keeps clean on)) (a.archives sound (was clean) (opened clean on) holds);

@@ -64,7 +64,7 @@ sought_applies old mid new r o opened keeps look a =
           subst (λ (c : Contents). Says (grown h (registry_of c) r o) (registry_in new)) was
           (a.history (needs_again old mid r was needs) clean on h legal (ap registry_of was ∙ is));
       hidden = hidden_before old mid new r same o a.served a.opened a.hidden;
-      grants = a.grants;
+      written = a.written;
       needs = λ sound clean on holds.
           let was = last clean on in
           a.needs (needs_again old mid r was sound) clean on (subst HoldsNeeds (sym was) holds);

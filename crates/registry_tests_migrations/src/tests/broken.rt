@@ -31,7 +31,7 @@ struct Case {
     /// Its statements.
     change: &'static str,
     /// What the check then says: each thing that breaks a rule, and the rule in words, with `; `
-    /// between two of them.
+    /// between two of them. `closed: ` before it says that the files don't open as a registry.
     told: &'static str,
 }
 
@@ -86,7 +86,7 @@ static CASES: [Case; 42] = [
     },
     Case {
         change: "INSERT INTO grants VALUES ('lab', 'developers', 'tool', 1)",
-        told: "grant lab developers tool is on a package of another scope",
+        told: "closed: grant lab developers tool is on a package of another scope",
     },
     Case {
         change: "DELETE FROM need_ranges",
@@ -154,31 +154,31 @@ static CASES: [Case; 42] = [
     },
     Case {
         change: "UPDATE members SET role = 3 WHERE user = 'bob'",
-        told: "member lab bob has a role out of range",
+        told: "closed: member lab bob has a role out of range",
     },
     Case {
         change: "UPDATE members SET role = -1 WHERE user = 'bob'",
-        told: "member lab bob has a role out of range",
+        told: "closed: member lab bob has a role out of range",
     },
     Case {
         change: "UPDATE packages SET status = 2 WHERE name = '@lab/kit'",
-        told: "package @lab/kit has a status out of range",
+        told: "closed: package @lab/kit has a status out of range",
     },
     Case {
         change: "UPDATE grants SET level = 3",
-        told: "grant lab developers @lab/kit has a level out of range",
+        told: "closed: grant lab developers @lab/kit has a level out of range",
     },
     Case {
         change: "UPDATE grants SET level = 0",
-        told: "grant lab developers @lab/kit has a level out of range",
+        told: "closed: grant lab developers @lab/kit has a level out of range",
     },
     Case {
         change: "UPDATE versions SET published = 253402300800 WHERE package = 'tool'",
-        told: "version tool 1.0.0 has a moment out of range",
+        told: "closed: version tool 1.0.0 has a moment out of range",
     },
     Case {
         change: "UPDATE versions SET published = -1 WHERE package = 'tool'",
-        told: "version tool 1.0.0 has a moment out of range",
+        told: "closed: version tool 1.0.0 has a moment out of range",
     },
     Case {
         change: r#"INSERT INTO versions VALUES ('tool', 'x', 1, '{"name":"tool","version":"x"}', '', x''); INSERT INTO held VALUES ('tool', 'x', 2)"#,
@@ -218,11 +218,11 @@ static CASES: [Case; 42] = [
     },
     Case {
         change: "UPDATE spent SET published = 253402300800",
-        told: "withdrawn @lab/kit 0.9.0 has a moment out of range",
+        told: "closed: withdrawn @lab/kit 0.9.0 has a moment out of range",
     },
     Case {
         change: "UPDATE spent SET withdrawn = -1",
-        told: "withdrawn @lab/kit 0.9.0 has a moment out of range",
+        told: "closed: withdrawn @lab/kit 0.9.0 has a moment out of range",
     },
     Case {
         change: "INSERT INTO tags VALUES ('tool', 'a b', '1.0.0')",
@@ -300,7 +300,8 @@ fn told_of(alloc: Global, files: Files<Memory>) -> Result<String, Fail> {
         }
         Err((Fault::Database, left)) => {
             let mut left = left;
-            told_inside(alloc, &mut left)
+            let told = told_inside(alloc, &mut left)?;
+            Ok(format!(in alloc; "closed: {}", told.as_str())?)
         }
         Err((fault, _)) => Err(Fail::new(format_args!("no database opens: {fault:?}"))),
     }

@@ -9,11 +9,12 @@ use Rattle.registry_rules.specs.declared.reply.Reply.TheVariants.{Refused}
 use Rattle.registry_tables.specs.Changes.{all_stored}
 use Rattle.registry_tables.specs.Contents.{registry_of}
 use Rattle.registry_tables.specs.Effects.{stored_in}
-use Rattle.registry_tables.proofs.ReferenceFacts.{held_stored}
 use Rattle.registry_tables.specs.Teams.{GrantsInScope}
+use Rattle.registry_tables.proofs.ReferenceFacts.{held_stored}
 use Rattle.registry_laws_history.specs.Answers.{reply_to}
 use Rattle.registry_desk.specs.Caches.{LeavesCacheRight}
 use Rattle.registry_desk.proofs.AnswerFacts.{refused, unrefused}
+use Rattle.registry_desk.proofs.OpenedFacts.{both_ok}
 use Rattle.registry_desk.proofs.GrantFacts.{made_in_scope}
 use Rattle.registry_desk.proofs.SettlingFacts.{accepted_settles, query_changes_nothing, refused_settles}
 use Rattle.registry_desk.proofs.KeptFacts.{leaves_accepted, leaves_refused}
@@ -40,15 +41,18 @@ returns-in-Ok-clause-settles g c stands clean =
     (c.reply_and_apply.ensures.makes clean)
 
 -- what is decided in any state grants in scope alone
-pub returns-in-Ok-clause-granted : goal.returns-in-Ok-clause-granted
-returns-in-Ok-clause-granted g c T stands scoped clean =
+pub returns-in-Ok-clause-written : goal.returns-in-Ok-clause-written
+returns-in-Ok-clause-written g c T stands written clean =
     let decided = c.in-Ok.ensures.makes T stands in
-    on_answer c.reply_and_apply.result
-    (λ left. subst GrantsInScope (sym left.holds) (made_in_scope T c.args.request.now (map change_of c.deref.result.now) (stored_in g.S.Store c.args.tx.now) decided.0 (ap (map change_of) c.deref.ensures.value ∙ decided.1) scoped))
-    (c.reply_and_apply.ensures.makes clean)
+    both_ok c.reply_and_apply.result
+    (λ left numbers. record {
+      grants = subst GrantsInScope (sym left.holds) (made_in_scope T c.args.request.now (map change_of c.deref.result.now) (stored_in g.S.Store c.args.tx.now) decided.0 (ap (map change_of) c.deref.ensures.value ∙ decided.1) written.grants);
+      numbers = numbers;
+    })
+    (c.reply_and_apply.ensures.makes clean) (c.reply_and_apply.ensures.in_range written.numbers clean)
 
-pub returns-in-Err-Refused-clause-granted : goal.returns-in-Err-Refused-clause-granted
-returns-in-Err-Refused-clause-granted g c T stands scoped clean = scoped
+pub returns-in-Err-Refused-clause-written : goal.returns-in-Err-Refused-clause-written
+returns-in-Err-Refused-clause-written g c T stands written clean = written
 
 pub returns-in-Ok-clause-goes_on : goal.returns-in-Ok-clause-goes_on
 returns-in-Ok-clause-goes_on g c clean = on_answer c.reply_and_apply.result (λ left. record { holds = refl; ready = left.ready; mode = left.mode }) (c.reply_and_apply.ensures.makes clean)

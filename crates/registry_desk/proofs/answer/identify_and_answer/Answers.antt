@@ -8,11 +8,12 @@ use Rattle.registry_rows.proofs.QuietFacts.{on_answer, stays_then}
 use Rattle.registry_rules.specs.Callers.{caller_of}
 use Rattle.registry_tables.specs.Contents.{Contents, contents, registry_of}
 use Rattle.registry_tables.specs.Effects.{shown, stored_in}
+use Rattle.registry_tables.specs.Ranges.{HasNumbersInRange}
 use Rattle.registry_tables.specs.Schema.{schema}
-use Rattle.registry_tables.specs.Teams.{AreTeamsSound, GrantsInScope}
+use Rattle.registry_tables.specs.Teams.{AreTeamsSound}
 use Rattle.registry_laws_history.specs.Answers.{answer}
 use Rattle.registry_desk.specs.Found.{IsCallerIn, NeedsFor}
-use Rattle.registry_desk.specs.Resting.{settled_by}
+use Rattle.registry_desk.specs.Resting.{IsAsWritten, settled_by}
 use Rattle.registry_desk.specs.Caches.{AreAnswers, LeavesCacheRight}
 use Rattle.registry_desk.proofs.AnswerFacts.{nobody_is_refused}
 use Rattle.registry_desk.proofs.SettlingFacts.{refused_settles}
@@ -55,17 +56,17 @@ returns-in-None-clause-settles g c sound needs clean =
       mode = reads.mode ∙ c.requires.begun;
     }
 
-pub returns-in-Some-clause-granted : goal.returns-in-Some-clause-granted
-returns-in-Some-clause-granted g c sound clean =
+pub returns-in-Some-clause-written : goal.returns-in-Some-clause-written
+returns-in-Some-clause-written g c sound ranged clean =
     let r = c.args.request.now in
     let were : HasCleanDisk (shown g.S.Store c.load_caller.new.tx) = omega (arith, c.load_facts_and_answer.ensures.stays.survives.clean, clean) in
     let it = c.in_ok-caller.ensures.knows were in
     let same : stored_in g.S.Store c.load_caller.new.tx ≡ stored_in g.S.Store c.args.tx.now = ap (λ (d : Database). contents d.trees) it.0.same in
     let known : IsCallerIn (stored_in g.S.Store c.load_caller.new.tx) r c.in-Some.caller = sym c.in-Some.is ∙ it.1 ∙ ap (λ (d : Contents). caller_of (registry_of d) r.who) (sym same) in
-    c.load_facts_and_answer.ensures.granted known (subst AreTeamsSound (sym same) sound) clean
+    c.load_facts_and_answer.ensures.written known (subst AreTeamsSound (sym same) sound) (subst HasNumbersInRange (sym same) ranged) clean
 
-pub returns-in-None-clause-granted : goal.returns-in-None-clause-granted
-returns-in-None-clause-granted g c sound clean = subst GrantsInScope (sym (ap (λ (d : Database). contents d.trees) (c.in_ok-caller.ensures.knows clean).0.same)) sound.grants
+pub returns-in-None-clause-written : goal.returns-in-None-clause-written
+returns-in-None-clause-written g c sound ranged clean = subst IsAsWritten (sym (ap (λ (d : Database). contents d.trees) (c.in_ok-caller.ensures.knows clean).0.same)) (record { grants = sound.grants; numbers = ranged })
 
 pub returns-in-None-clause-goes_on : goal.returns-in-None-clause-goes_on
 returns-in-None-clause-goes_on g c clean =

@@ -8,10 +8,9 @@ use Rattle.registry_rules.specs.Facts.{FactsTell}
 use Rattle.registry_tables.specs.Contents.{Contents, contents, registry_of}
 use Rattle.registry_tables.specs.Effects.{shown, stored_in}
 use Rattle.registry_tables.specs.Schema.{schema}
-use Rattle.registry_tables.specs.Teams.{GrantsInScope}
 use Rattle.registry_laws_history.specs.Answers.{answer}
 use Rattle.registry_desk.specs.Early.{TellsSome}
-use Rattle.registry_desk.specs.Resting.{settled_by}
+use Rattle.registry_desk.specs.Resting.{IsAsWritten, settled_by}
 use Rattle.registry_desk.specs.declared.policy.Found.TheVariants as found
 use Rattle.registry_desk.specs.Caches.{IsSoundFor, LeavesCacheRight}
 use Rattle.registry_desk.proofs.AnswerFacts.{known_stands, refused, same_caller}
@@ -54,8 +53,8 @@ returns-in-Refused-clause-settles g c known sound needs clean =
       mode = told.0.mode ∙ c.requires.begun (omega (arith, c.load_facts.ensures.stays.survives.clean, clean));
     }
 
-pub returns-in-Refused-clause-granted : goal.returns-in-Refused-clause-granted
-returns-in-Refused-clause-granted g c known sound clean = subst GrantsInScope (sym (ap (λ (d : Database). contents d.trees) (c.in_ok-refusal.ensures.loads clean).0.same)) sound.grants
+pub returns-in-Refused-clause-written : goal.returns-in-Refused-clause-written
+returns-in-Refused-clause-written g c known sound ranged clean = subst IsAsWritten (sym (ap (λ (d : Database). contents d.trees) (c.in_ok-refusal.ensures.loads clean).0.same)) (record { grants = sound.grants; numbers = ranged })
 
 pub returns-in-Refused-clause-unchanged : goal.returns-in-Refused-clause-unchanged
 returns-in-Refused-clause-unchanged g c clean none = ap (λ (d : Database). contents d.trees) (c.in_ok-refusal.ensures.loads clean).0.same
@@ -97,8 +96,8 @@ returns-in-About-clause-settles g c known sound needs clean =
     on_answer c.decide_and_apply.result (λ left. subst (λ (d : Contents). Leaves schema contents (settled_by r d) (shown g.S.Store c.decide_and_apply.new.tx)) same left)
     (c.decide_and_apply.ensures.settles (subst (λ (d : Contents). FactsTell (record { caller = Some c.args.caller; about = c.in-About.about }) (registry_of d) r) (sym same) stands) clean)
 
-pub returns-in-About-clause-granted : goal.returns-in-About-clause-granted
-returns-in-About-clause-granted g c known sound clean =
+pub returns-in-About-clause-written : goal.returns-in-About-clause-written
+returns-in-About-clause-written g c known sound ranged clean =
     let was = stored_in g.S.Store c.args.tx.now in
     let r = c.args.request.now in
     let were : HasCleanDisk (shown g.S.Store c.load_facts.new.tx) = omega (arith, c.decide_and_apply.ensures.stays.survives.clean, clean) in
@@ -106,7 +105,7 @@ returns-in-About-clause-granted g c known sound clean =
     let same : stored_in g.S.Store c.load_facts.new.tx ≡ was = ap (λ (d : Database). contents d.trees) told.0.same in
     let some : TellsSome (found.About c.in-About.about) (registry_of was) c.args.caller r.what = rw c.in-About.is at (told.1 sound).some in
     let stands = known_stands some.0 c.args.caller c.in-About.about r (known ∙ sym (same_caller (registry_of was) some.0 some.1 r.who)) some.2 in
-    c.decide_and_apply.ensures.granted some.0 stands (subst GrantsInScope (sym same) sound.grants) clean
+    c.decide_and_apply.ensures.written some.0 stands (subst IsAsWritten (sym same) (record { grants = sound.grants; numbers = ranged })) clean
 
 pub returns-in-About-clause-served : goal.returns-in-About-clause-served
 returns-in-About-clause-served g c clean =

@@ -1,8 +1,10 @@
-use Rattle.std.proofs.Common.{◌∙◌, ap, arith, map, take_all}
+use Rattle.std.proofs.Common.{◌∙◌, ap, arith, map, subst, sym, take_all}
 use Rattle.registry_rows.proofs.QuietFacts.{stays_then}
 use Rattle.registry_rules.specs.Changes.{change_of}
 use Rattle.registry_tables.specs.Changes.{all_stored}
 use Rattle.registry_tables.specs.Effects.{stored_in}
+use Rattle.registry_tables.specs.Ranges.{HasNumbersInRange}
+use Rattle.registry_tables.proofs.RangeFacts.{change_in_range}
 use Rattle.registry_desk.proofs.MakingFacts.{changes_next}
 use Rattle.registry_desk.proofs.answer.make_all.Goals as goal
 
@@ -21,6 +23,10 @@ loop-change-preserved g c = record {
         ready = it.ready;
         mode = it.mode;
       };
+  ranged = λ were clean.
+      subst HasNumbersInRange (sym (c.in_ok-make.ensures.makes clean).holds)
+      (change_in_range (change_of c.change-item.result) (stored_in g.S.Store c.loop-change.tx) c.in_ok-make.ensures.in_time
+      (c.loop-change.invariant.ranged were (omega (arith, c.make.ensures.stays.survives.clean, clean))));
 }
 
 pub returns-clause-makes : goal.returns-clause-makes

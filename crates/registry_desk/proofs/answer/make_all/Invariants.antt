@@ -6,6 +6,7 @@ use Rattle.registry_rules.specs.Changes.{change_of}
 use Rattle.registry_tables.specs.Changes.{all_stored}
 use Rattle.registry_tables.specs.Contents.{contents}
 use Rattle.registry_tables.specs.Effects.{shown, stored_in}
+use Rattle.registry_tables.specs.Ranges.{HasNumbersInRange}
 use Rattle.registry_tables.specs.Schema.{schema}
 use Rattle.registry_desk.proofs.answer.make_all.Given as goal
 
@@ -14,4 +15,5 @@ abbrev pub invariant-loop-change : goal.invariant-loop-change
 invariant-loop-change g l = record {
   stays : Stays g.S.Store l.fn.tx l.tx;
   made : HasCleanDisk (shown g.S.Store l.tx) → Leaves schema contents (all_stored (map change_of (take l.change-index l.changes)) (stored_in g.S.Store l.fn.tx)) (shown g.S.Store l.tx);
+  ranged : HasNumbersInRange (stored_in g.S.Store l.fn.tx) → HasCleanDisk (shown g.S.Store l.tx) → HasNumbersInRange (stored_in g.S.Store l.tx);
 }

@@ -11,11 +11,10 @@ use Rattle.registry_tables.specs.Contents.{contents}
 use Rattle.registry_tables.specs.Effects.{stored}
 use Rattle.registry_tables.specs.Fresh.{CountsArchivesAlone}
 use Rattle.registry_tables.specs.Schema.{schema}
-use Rattle.registry_tables.specs.Teams.{GrantsInScope}
 use Rattle.registry_tables.proofs.EffectFacts.{on_any}
 use Rattle.registry_desk.specs.Adopted.{IsUndone}
 use Rattle.registry_desk.specs.Opened.{IsNumbered}
-use Rattle.registry_desk.specs.Resting.{Rests}
+use Rattle.registry_desk.specs.Resting.{IsAsWritten, Rests}
 use Rattle.registry_desk.proofs.CommitFacts.{begun_in_form, commit_rests_on, commit_undone, on_fault, undone_is}
 use Rattle.registry_desk.proofs.open.check_contents.Goals as goal
 
@@ -33,10 +32,10 @@ returns-clause-rests g c =
     let leaves : HasCleanDisk new → Leaves schema contents (stored mid) mid = λ clean.
     let reads = c.in_ok-check_rows.ensures.reads (omega (arith, c.commit.ensures.survives.clean, clean)) in
     record { holds = refl; ready = reads.ready; mode = reads.mode ∙ mode } in
-    let granted : HasCleanDisk new → GrantsInScope (stored mid) = λ clean.
+    let written : HasCleanDisk new → IsAsWritten (stored mid) = λ clean.
     let were : HasCleanDisk mid = omega (arith, c.commit.ensures.survives.clean, clean) in
-    subst GrantsInScope (sym (ap (λ (d : Database). contents d.trees) (c.in_ok-check_rows.ensures.reads were).same)) (c.in_ok-check_rows.ensures.granted were) in
-    let rests = commit_rests_on c.commit.result (stored mid) mid new c.commit.ensures.ended leaves granted c.commit.ensures.ok in
+    subst IsAsWritten (sym (ap (λ (d : Database). contents d.trees) (c.in_ok-check_rows.ensures.reads were).same)) (c.in_ok-check_rows.ensures.written were) in
+    let rests = commit_rests_on c.commit.result (stored mid) mid new c.commit.ensures.ended leaves written c.commit.ensures.ok in
     let same : c.commit.new.tx.0 ≡ c.conn-2-1.given.0 = search rules in
     subst (λ h. OnOk c.commit.result (Rests (state g.S.Store h))) same rests
 
@@ -56,12 +55,12 @@ returns-clause-counted g c clean =
     let is : CountsArchivesAlone (stored (state g.S.Store c.args.conn.now)) = rw c.transaction-tx.ensures.begun at c.in_ok-check_rows.ensures.counted were in
     on_any c.commit.result is
 
-pub returns-clause-granted : goal.returns-clause-granted
-returns-clause-granted g c clean =
+pub returns-clause-written : goal.returns-clause-written
+returns-clause-written g c clean =
     let same : c.commit.new.tx.0 ≡ c.conn-2-1.given.0 = search rules in
     let last : HasCleanDisk (state g.S.Store c.commit.new.tx.0) = subst (λ h. HasCleanDisk (state g.S.Store h)) (sym same) clean in
     let were : HasCleanDisk (state g.S.Store c.check_rows.new.tx.conn.now) = omega (arith, c.commit.ensures.survives.clean, last) in
-    let is : GrantsInScope (stored (state g.S.Store c.args.conn.now)) = rw c.transaction-tx.ensures.begun at c.in_ok-check_rows.ensures.granted were in
+    let is : IsAsWritten (stored (state g.S.Store c.args.conn.now)) = rw c.transaction-tx.ensures.begun at c.in_ok-check_rows.ensures.written were in
     on_any c.commit.result is
 
 pub returns-clause-same : goal.returns-clause-same

@@ -5,9 +5,9 @@ use Rattle.registry_rows.proofs.QuietFacts.{on_answer, reads_then, stays_then}
 use Rattle.registry_tables.specs.Contents.{contents}
 use Rattle.registry_tables.specs.Effects.{shown, stored_in}
 use Rattle.registry_tables.specs.Schema.{schema}
-use Rattle.registry_tables.specs.Teams.{GrantsInScope}
 use Rattle.registry_tables.proofs.EffectFacts.{on_any}
 use Rattle.registry_migration.proofs.StayFacts.{no_more, stays_going}
+use Rattle.registry_desk.specs.Resting.{IsAsWritten}
 use Rattle.registry_desk.proofs.open.check_rows.Goals as goal
 
 pub counts_archives_alone-requires : goal.counts_archives_alone-requires
@@ -46,11 +46,11 @@ returns-clause-counted g c clean =
     (ap (λ (d : Database). (contents d.trees).counters) (sym opens.same)
     ∙ no_more (stored_in g.S.Store c.opened.new.tx).counters (sym (c.in_ok-counts_archives_alone.ensures.loads clean_two).1 ∙ c.in_ok-check_so.ensures.ok.0 refl))
 
-pub returns-clause-granted : goal.returns-clause-granted
-returns-clause-granted g c clean =
+pub returns-clause-written : goal.returns-clause-written
+returns-clause-written g c clean =
     let one = shown g.S.Store c.opened.new.tx in
     let two = shown g.S.Store c.counts_archives_alone.new.tx in
     let clean_two : HasCleanDisk two = omega (arith, c.check_sound.ensures.stays.survives.clean, clean) in
     let clean_one : HasCleanDisk one = omega (arith, c.counts_archives_alone.ensures.stays.survives.clean, clean_two) in
     let same = (c.in_ok-counts_archives_alone.ensures.loads clean_two).0.same ∙ (c.in_ok-opened.ensures.ours c.requires.in_form clean_one).0.same in
-    on_answer c.check_sound.result (λ granted. subst (λ (d : Database). GrantsInScope (contents d.trees)) same granted) (c.check_sound.ensures.granted clean)
+    on_answer c.check_sound.result (λ written. subst (λ (d : Database). IsAsWritten (contents d.trees)) same written) (c.check_sound.ensures.written clean)

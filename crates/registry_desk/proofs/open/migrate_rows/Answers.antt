@@ -4,10 +4,10 @@ use Rattle.sqlite.specs.State.{HasCleanDisk}
 use Rattle.registry_rows.proofs.QuietFacts.{on_answer, stays_then}
 use Rattle.registry_tables.specs.Contents.{contents}
 use Rattle.registry_tables.specs.Effects.{shown}
-use Rattle.registry_tables.specs.Teams.{GrantsInScope}
 use Rattle.registry_tables.proofs.EffectFacts.{on_any}
 use Rattle.registry_migration.specs.Migration.{Migrates}
 use Rattle.registry_migration.specs.Older.{contents_of}
+use Rattle.registry_desk.specs.Resting.{IsAsWritten}
 use Rattle.registry_desk.proofs.OpenedFacts.{both_ok}
 use Rattle.registry_desk.proofs.open.migrate_rows.Goals as goal
 
@@ -27,14 +27,14 @@ returns-clause-migrated g c clean =
     let were : HasCleanDisk (shown g.S.Store c.migrate.new.tx) = omega (arith, c.check_sound.ensures.stays.survives.clean, clean) in
     let held = contents_of c.args.older (shown g.S.Store c.args.tx.now).now.trees in
     both_ok c.check_sound.result
-    (λ reads granted.
+    (λ reads written.
     let same = sym (ap (λ (d : Database). contents d.trees) reads.same) in
     record {
       asked = c.in_ok-migrate.ensures.asks were;
       made = subst (Migrates c.args.older held) same (c.in_ok-migrate.ensures.migrates were);
-      granted = subst GrantsInScope same granted;
+      written = subst IsAsWritten same written;
     })
-    (c.check_sound.ensures.reads clean) (c.check_sound.ensures.granted clean)
+    (c.check_sound.ensures.reads clean) (c.check_sound.ensures.written clean)
 
 pub returns-clause-served : goal.returns-clause-served
 returns-clause-served g c clean =

@@ -24,7 +24,7 @@ pub returns-clause-rests : goal.returns-clause-rests
 returns-clause-rests g c =
     let mid = state g.S.Store c.migrate_rows.new.tx.conn.now in
     let new = state g.S.Store c.commit.new.tx.0 in
-    let rests = commit_rests_on c.commit.result (stored mid) mid new c.commit.ensures.ended (λ clean. c.in_ok-migrate_rows.ensures.made (omega (arith, c.commit.ensures.survives.clean, clean))) (λ clean. (c.in_ok-migrate_rows.ensures.migrated (omega (arith, c.commit.ensures.survives.clean, clean))).granted) c.commit.ensures.ok in
+    let rests = commit_rests_on c.commit.result (stored mid) mid new c.commit.ensures.ended (λ clean. c.in_ok-migrate_rows.ensures.made (omega (arith, c.commit.ensures.survives.clean, clean))) (λ clean. (c.in_ok-migrate_rows.ensures.migrated (omega (arith, c.commit.ensures.survives.clean, clean))).written) c.commit.ensures.ok in
     let same : c.commit.new.tx.0 ≡ c.conn-2-1.given.0 = search rules in
     subst (λ h. OnOk c.commit.result (Rests (state g.S.Store h))) same rests
 

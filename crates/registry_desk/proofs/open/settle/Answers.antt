@@ -6,9 +6,9 @@ use Rattle.registry_tables.specs.Contents.{contents}
 use Rattle.registry_tables.specs.Effects.{stored}
 use Rattle.registry_tables.specs.Fresh.{CountsArchivesAlone}
 use Rattle.registry_tables.specs.Schema.{schema}
-use Rattle.registry_tables.specs.Teams.{GrantsInScope}
 use Rattle.registry_migration.specs.Older.{schema_of}
 use Rattle.registry_desk.specs.Opened.{IsOurs}
+use Rattle.registry_desk.specs.Resting.{IsAsWritten}
 use Rattle.registry_desk.proofs.OpenedFacts.{both_ok, migrated_left, older_ready}
 use Rattle.registry_desk.proofs.open.settle.Goals as goal
 
@@ -16,9 +16,9 @@ pub returns-then-branch-clause-made : goal.returns-then-branch-clause-made
 returns-then-branch-clause-made g c clean =
     let was = stored (state g.S.Store c.args.conn.now) in
     let ours : (state g.S.Store c.args.conn.now).now.schema ≡ schema = sym c.schema-2.ensures.value ∙ c.in_ok-has_our_tables.ensures.0 c.if-branch.true in
-    let more : OnOk c.check_contents.result (CountsArchivesAlone was × GrantsInScope was) = both_ok c.check_contents.result (λ counts grants. (counts, grants)) (c.check_contents.ensures.counted clean) (c.check_contents.ensures.granted clean) in
+    let more : OnOk c.check_contents.result (CountsArchivesAlone was × IsAsWritten was) = both_ok c.check_contents.result (λ counts written. (counts, written)) (c.check_contents.ensures.counted clean) (c.check_contents.ensures.written clean) in
     let found : OnOk c.check_contents.result (IsOurs was) =
-    both_ok c.check_contents.result (λ number (others : CountsArchivesAlone was × GrantsInScope was). record { numbered = number; counted = others.0; granted = others.1 }) (c.check_contents.ensures.numbered clean) more in
+    both_ok c.check_contents.result (λ number (others : CountsArchivesAlone was × IsAsWritten was). record { numbered = number; counted = others.0; written = others.1 }) (c.check_contents.ensures.numbered clean) more in
     both_ok c.check_contents.result (λ is same. inl (ours, is, ap (λ (d : Database). contents d.trees) same)) found (c.check_contents.ensures.same clean)
 
 pub migrate_tables-requires : goal.migrate_tables-requires

@@ -8,13 +8,14 @@ use Rattle.sqlite.specs.State.{HasCleanDisk, KeepsCommit, Survives}
 use Rattle.sqlite_trees.specs.Tree.{Trees}
 use Rattle.registry_tables.specs.Contents.{Contents, contents, registry_of}
 use Rattle.registry_tables.specs.Effects.{stored}
-use Rattle.registry_tables.specs.Teams.{AreTeamsSound, GrantsInScope}
+use Rattle.registry_tables.specs.Ranges.{HasNumbersInRange}
+use Rattle.registry_tables.specs.Teams.{AreTeamsSound}
 use Rattle.registry_tables.proofs.TeamReferenceFacts.{teams_sound}
 use Rattle.registry_laws_history.specs.Answers.{answer}
 use Rattle.registry_laws_history.specs.Runs.{Outcome, enters}
 use Rattle.registry_desk.specs.Found.{NeedsFor}
 use Rattle.registry_desk.specs.Promises.{LeavesOne}
-use Rattle.registry_desk.specs.Resting.{Rests, next_stored, settled_by}
+use Rattle.registry_desk.specs.Resting.{IsAsWritten, Rests, next_stored, settled_by}
 use Rattle.registry_desk.proofs.CommitFacts.{commit_rests, failed_undone, registry_left, undone_open, undone_rests, undone_stored}
 use Rattle.registry_desk.specs.Caches.{AreAnswers, HasAnswers}
 use Rattle.registry_desk.proofs.SendingFacts.{never_enters}
@@ -28,12 +29,13 @@ returns-in-Ok-clause-rests g c =
     let new = state g.S.Store c.commit.new.tx.0 in
     let old = state g.S.Store c.args.conn.now in
     let seen : stored (state g.S.Store c.transaction-tx.result.conn.now) ≡ stored old = rw c.transaction-tx.ensures.begun refl in
-    let granted : HasCleanDisk new → GrantsInScope (stored mid) = λ clean.
+    let written : HasCleanDisk new → IsAsWritten (stored mid) = λ clean.
     let were : HasCleanDisk mid = omega (arith, c.commit.ensures.survives.clean, clean) in
     let first : HasCleanDisk old = omega (arith, (rw c.transaction-tx.ensures.begun at c.identify_and_answer.ensures.stays.survives).clean, were) in
     let was_open : IsTrue old.is_open = rw c.transaction-tx.ensures.begun at c.in_ok-reply.ensures.served were in
-    c.in_ok-reply.ensures.granted (subst AreTeamsSound (sym seen) (teams_sound old (c.requires.rests.in_form first was_open) (c.requires.rests.grants first was_open))) were in
-    let rests : Rests new = commit_rests (stored mid) mid new c.commit.ensures.ended (λ clean. c.in_ok-reply.ensures.goes_on (omega (arith, c.commit.ensures.survives.clean, clean))) granted (λ clean. (c.in-Ok.ensures.ok clean).1) in
+    let rested = c.requires.rests.written first was_open in
+    c.in_ok-reply.ensures.written (subst AreTeamsSound (sym seen) (teams_sound old (c.requires.rests.in_form first was_open) rested.grants)) (subst HasNumbersInRange (sym seen) rested.numbers) were in
+    let rests : Rests new = commit_rests (stored mid) mid new c.commit.ensures.ended (λ clean. c.in_ok-reply.ensures.goes_on (omega (arith, c.commit.ensures.survives.clean, clean))) written (λ clean. (c.in-Ok.ensures.ok clean).1) in
     let same : c.commit.new.tx.0 ≡ c.conn-2-1.given.0 = search rules in
     subst (λ h. Rests (state g.S.Store h)) same rests
 
@@ -49,7 +51,7 @@ returns-in-Ok-clause-step g c =
     let were : HasCleanDisk mid = omega (arith, c.commit.ensures.survives.clean, clean) in
     let first : HasCleanDisk old = omega (arith, (rw c.transaction-tx.ensures.begun at c.identify_and_answer.ensures.stays.survives).clean, were) in
     let was_open : IsTrue old.is_open = rw c.transaction-tx.ensures.begun at c.in_ok-reply.ensures.served were in
-    let teams = subst AreTeamsSound (sym seen) (teams_sound old (c.requires.rests.in_form first was_open) (c.requires.rests.grants first was_open)) in
+    let teams = subst AreTeamsSound (sym seen) (teams_sound old (c.requires.rests.in_form first was_open) (c.requires.rests.written first was_open).grants) in
     let are = subst (λ (d : Contents). AreAnswers d c.args.caches.now) (sym seen) (c.requires.right first was_open) in
     ap (λ (d : Database). contents d.trees) (c.in-Ok.ensures.ok clean).1.now_is ∙ (c.in_ok-reply.ensures.settles teams needs were).holds
     ∙ settled_next (stored begun) c.args.request.now c.in_ok-reply.reply (c.in_ok-reply.ensures.answers teams needs are were)
@@ -125,7 +127,7 @@ returns-in-Ok-clause-survives g c =
       form = (whole_left (stored mid) refl).0;
       query = λ asks. (whole_left (stored old) (c.in_ok-reply.ensures.unchanged were (never_enters c.args.request.now asks (Ok c.in_ok-reply.reply)) ∙ seen)).1;
       settled = λ needed. (whole_left (settled_by c.args.request.now (stored old))
-          ((c.in_ok-reply.ensures.settles (subst AreTeamsSound (sym seen) (teams_sound old (c.requires.rests.in_form first was_open) (c.requires.rests.grants first was_open))) (subst (λ (d : Contents). NeedsFor c.args.request.now.what d) (sym seen) needed) were).holds ∙ ap (settled_by c.args.request.now) seen)).1;
+          ((c.in_ok-reply.ensures.settles (subst AreTeamsSound (sym seen) (teams_sound old (c.requires.rests.in_form first was_open) (c.requires.rests.written first was_open).grants)) (subst (λ (d : Contents). NeedsFor c.args.request.now.what d) (sym seen) needed) were).holds ∙ ap (settled_by c.args.request.now) seen)).1;
     }) before c.commit.ensures.survives in
     let same : c.commit.new.tx.0 ≡ c.conn-2-1.given.0 = search rules in
     subst (λ h. Survives old (state g.S.Store h) P) same whole
@@ -149,7 +151,7 @@ returns-in-Err-clause-survives g c =
       form = (whole_left (stored mid) refl).0;
       query = λ asks. (whole_left (stored old) (c.in_ok-reply.ensures.unchanged were (never_enters c.args.request.now asks (Ok c.in_ok-reply.reply)) ∙ seen)).1;
       settled = λ needed. (whole_left (settled_by c.args.request.now (stored old))
-          ((c.in_ok-reply.ensures.settles (subst AreTeamsSound (sym seen) (teams_sound old (c.requires.rests.in_form first was_open) (c.requires.rests.grants first was_open))) (subst (λ (d : Contents). NeedsFor c.args.request.now.what d) (sym seen) needed) were).holds ∙ ap (settled_by c.args.request.now) seen)).1;
+          ((c.in_ok-reply.ensures.settles (subst AreTeamsSound (sym seen) (teams_sound old (c.requires.rests.in_form first was_open) (c.requires.rests.written first was_open).grants)) (subst (λ (d : Contents). NeedsFor c.args.request.now.what d) (sym seen) needed) were).holds ∙ ap (settled_by c.args.request.now) seen)).1;
     }) before c.commit.ensures.survives in
     let same : c.commit.new.tx.0 ≡ c.conn-2-1.given.0 = search rules in
     subst (λ h. Survives old (state g.S.Store h) P) same whole
@@ -223,7 +225,7 @@ returns-in-Ok-clause-answer g c =
     let were : HasCleanDisk mid = omega (arith, c.commit.ensures.survives.clean, clean) in
     let first : HasCleanDisk old = omega (arith, (rw c.transaction-tx.ensures.begun at c.identify_and_answer.ensures.stays.survives).clean, were) in
     let was_open : IsTrue old.is_open = rw c.transaction-tx.ensures.begun at c.in_ok-reply.ensures.served were in
-    let teams = subst AreTeamsSound (sym seen) (teams_sound old (c.requires.rests.in_form first was_open) (c.requires.rests.grants first was_open)) in
+    let teams = subst AreTeamsSound (sym seen) (teams_sound old (c.requires.rests.in_form first was_open) (c.requires.rests.written first was_open).grants) in
     let are = subst (λ (d : Contents). AreAnswers d c.args.caches.now) (sym seen) (c.requires.right first was_open) in
     c.in_ok-reply.ensures.answers teams needs are were ∙ ap (λ (d : Contents). answer (registry_of d) c.args.request.now) seen in
     let same : c.commit.new.tx.0 ≡ c.conn-2-1.given.0 = search rules in

@@ -10,7 +10,7 @@ use Rattle.registry_tables.proofs.EffectFacts.{on_any}
 use Rattle.registry_desk.specs.Adopted.{IsUndone}
 use Rattle.registry_desk.specs.Resting.{IsRegistryOf, Rests}
 use Rattle.registry_desk.proofs.AdoptedFacts.{created_open}
-use Rattle.registry_desk.proofs.CommitFacts.{begun_empty, fresh_in_scope, commit_rests_on, commit_undone, on_fault, registry_left, undone_is}
+use Rattle.registry_desk.proofs.CommitFacts.{begun_empty, fresh_as_written, commit_rests_on, commit_undone, on_fault, registry_left, undone_is}
 use Rattle.registry_desk.proofs.registry.create_tables.Goals as goal
 
 pub returns-clause-rests : goal.returns-clause-rests
@@ -19,7 +19,7 @@ returns-clause-rests g c =
     let mid = state g.S.Store c.create.new.tx.conn.now in
     let begun : HasNoTables g.S.Store c.transaction-tx.result = rw c.transaction-tx.ensures.begun (begun_empty g.S.Store old c.requires.empty) in
     let new = state g.S.Store c.commit.new.tx.0 in
-    let rests = commit_rests_on c.commit.result fresh mid new c.commit.ensures.ended (λ clean. c.in_ok-create.ensures.made begun (omega (arith, c.commit.ensures.survives.clean, clean))) (λ clean. fresh_in_scope) c.commit.ensures.ok in
+    let rests = commit_rests_on c.commit.result fresh mid new c.commit.ensures.ended (λ clean. c.in_ok-create.ensures.made begun (omega (arith, c.commit.ensures.survives.clean, clean))) (λ clean. fresh_as_written) c.commit.ensures.ok in
     let same : c.commit.new.tx.0 ≡ c.conn-2-1.given.0 = search rules in
     subst (λ h. OnOk c.commit.result (Rests (state g.S.Store h))) same rests
 

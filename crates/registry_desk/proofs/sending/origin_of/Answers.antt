@@ -68,7 +68,7 @@ returns-in-Ok-clause-origin g c =
     let first : HasCleanDisk old = omega (arith, (rw c.transaction-tx.ensures.begun at c.find_origin.ensures.stays.survives).clean, were) in
     let loads = c.in_ok-origin.ensures.loads were in
     let was_open : IsTrue old.is_open = rw c.transaction-tx.ensures.begun at loads.0.was_open in
-    let teams = subst AreTeamsSound (sym seen) (teams_sound old (c.requires.rests.in_form first was_open) (c.requires.rests.grants first was_open)) in
+    let teams = subst AreTeamsSound (sym seen) (teams_sound old (c.requires.rests.in_form first was_open) (c.requires.rests.written first was_open).grants) in
     let are = subst (λ (d : Contents). ArePackuments d c.args.cache.now) (sym seen) (c.requires.right first was_open) in
     subst (λ (d : Contents). IsOrigin c.in_ok-origin.origin (registry_of d) r p) seen (loads.1 teams are) in
     let same : c.commit.new.tx.0 ≡ c.conn-2-1.given.0 = search rules in

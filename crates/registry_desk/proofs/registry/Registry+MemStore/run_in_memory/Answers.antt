@@ -15,7 +15,7 @@ returns c =
     record {
       headline = ran.headline needs clean on made.empty;
       stored = ran.stored needs clean on ∙ ap (end_stored c.args.requests.now c.in_ok-outcomes.outcomes.items) made.fresh;
-      sound = record { grants = ran.grants clean on; needs = ran.needs needs clean on made.sound.needs };
+      sound = record { grants = (ran.written clean on).grants; needs = ran.needs needs clean on made.sound.needs };
       archives = ran.archives needs clean on made.archives;
       form = ran.form needs clean on made.form;
       served = on;

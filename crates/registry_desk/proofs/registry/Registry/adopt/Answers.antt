@@ -5,8 +5,8 @@ use Rattle.registry_desk.specs.Adopted.{IsSettled}
 use Rattle.registry_desk.proofs.CommitFacts.{committed_left, handed_back, rests_sure, rises_again}
 use Rattle.registry_desk.proofs.registry.Registry.adopt.Goals as goal
 
-pub returns-in-Ok-settle-clause-grants : goal.returns-in-Ok-settle-clause-grants
-returns-in-Ok-settle-clause-grants g c = c.in-Ok-settle.ensures.rests.grants
+pub returns-in-Ok-settle-clause-written : goal.returns-in-Ok-settle-clause-written
+returns-in-Ok-settle-clause-written g c = c.in-Ok-settle.ensures.rests.written
 
 pub returns-in-Ok-settle-clause-durable : goal.returns-in-Ok-settle-clause-durable
 returns-in-Ok-settle-clause-durable g c clean =
