@@ -997,7 +997,7 @@ try 'the front asks the next server without a reload' comes_back
 waits_a_minute() {
     wait "$waits" || true
     cp "$work/waits" "$work/out"
-    has '^504 6[0-2]\.'
+    has '^504 6[0-9]\.'
 }
 try 'what is not answered within 60 s is 504' waits_a_minute
 
