@@ -853,7 +853,8 @@ stops_a_start() {
     for _ in $(seq 1 100); do
         run one "$db" stop
         if is_done one; then break; fi
-        is one 3 "no server has the registry's file" || return 1
+        # It has the file before it answers commands, on a busy machine for more than five seconds.
+        is one 3 "no server has the registry's file" || is one 3 "another process has the registry's file" || return 1
     done
     is_done one || return 1
     wait "$server" || return 1
