@@ -31,7 +31,7 @@ help:
 	@echo
 	@echo 'Try the built program out/registry:'
 	@echo '  make npm      publishes and installs with the stock npm client: a minute'
-	@echo '  make front    the same through nginx with TLS, hostile clients, public packages: 2 minutes; it needs nginx'
+	@echo '  make front    the same through nginx with TLS, hostile clients, public packages: 3 minutes; it needs nginx'
 	@echo '  make beside   runs commands beside a server, and kills, halts and stops it meanwhile: 4 minutes'
 	@echo '  make socket   serves at a Unix socket: who may connect, takeovers, stops: ten seconds'
 	@echo '  make log      keeps a log of requests: moves it away, and fills its disk: half a minute'

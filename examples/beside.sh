@@ -853,7 +853,8 @@ stops_a_start() {
     for _ in $(seq 1 100); do
         run one "$db" stop
         if is_done one; then break; fi
-        is one 3 "no server has the registry's file" || return 1
+        # It has the file before it answers commands, on a busy machine for more than five seconds.
+        is one 3 "no server has the registry's file" || is one 3 "another process has the registry's file" || return 1
     done
     is_done one || return 1
     wait "$server" || return 1
@@ -878,6 +879,31 @@ stops_a_held_server() {
     is_done one
 }
 try 'a stop waits for who holds the server' stops_a_held_server
+
+# As process 1 of a container: the kernel gives it no signal for which it has no handler.
+is_ended_by_a_command_alone() {
+    place=$(free_port)
+    : > "$work/server"
+    unshare --pid --fork --kill-child --map-root-user "$program" --db "$db" serve --port "$place" > "$work/server" 2> "$work/server.errors" &
+    server=$!
+    for _ in $(seq 1 500); do
+        if grep -q listening "$work/server"; then break; fi
+        sleep 0.01
+    done
+    read -r first < "/proc/$server/task/$server/children"
+    for signal in TERM HUP INT QUIT; do kill -s $signal "$first"; done
+    sleep 0.5
+    kill -0 "$first" && [ "$(asked -o /dev/null -w '%{http_code}' "http://127.0.0.1:$place/-/nothing")" = 404 ] || return 1
+    run one "$db" stop
+    wait "$server" 2> /dev/null || true
+    server=
+    is_done one && ! kill -0 "$first" 2> /dev/null && grep -qx 'ended: a command told it to stop' "$work/server.errors"
+}
+if unshare --pid --fork --kill-child --map-root-user true 2> /dev/null; then
+    try 'as process 1 of a container no signal ends it, and stop does' is_ended_by_a_command_alone
+else
+    say 'skipped: process 1 of a container, for which unshare must be allowed'
+fi
 
 is_barred() {
     mkdir -m 755 "$db-server" 2>/dev/null || chmod 755 "$db-server"

@@ -100,7 +100,7 @@ wait_for() {
 # ---- the registry, which may accept 150 connections in all
 
 ports=$(node -e '
-const servers = [...Array(8)].map(() => require("net").createServer().listen(0, "127.0.0.1"));
+const servers = [...Array(10)].map(() => require("net").createServer().listen(0, "127.0.0.1"));
 setTimeout(() => { console.log(servers.map((one) => one.address().port).join(" ")); servers.forEach((one) => one.close()); }, 100)')
 nth_port() { echo "$ports" | cut -d ' ' -f "$1"; }
 port=$(nth_port 1)
@@ -224,6 +224,13 @@ keeps_texts() {
 }
 try 'addresses in other texts of a manifest stay as they are' keeps_texts
 
+other_members() {
+    package @lab/extra 1.0.0 ',"extra":{"tarball":"http://old.example/x","other":"http://old.example/y"}'
+    as bob "$work/@lab/extra" npm publish && with_token "$address/@lab%2fextra/1.0.0" > "$work/out" &&
+        [ "$(value_of extra.tarball < "$work/out")" = "$address/-/from/old.example/x" ] && [ "$(value_of extra.other < "$work/out")" = http://old.example/y ]
+}
+try 'another member that is called tarball is changed, and no other one' other_members
+
 # Publishes 400 versions, whose archives are at four addresses, over one connection.
 publish_many() {
     node - "$port" "$secure" << 'TEXT'
@@ -303,6 +310,17 @@ moves() { publishes_moved "$1" "$2" && installs moved "$1" 1.0.0; }
 try 'so is what was published at an old front, under a path, by https' moves @lab/older https://old.example/npm/@lab/older/-/older-1.0.0.tgz
 try 'and a package without a scope, of an address with a port' moves older http://old.example:4873/older/-/older-1.0.0.tgz
 try 'and one whose address has an escaped slash' moves @lab/escaped http://old.example/@lab%2fescaped/-/escaped-1.0.0.tgz
+
+# A lockfile from before the front had its name.
+replaces() {
+    project lock
+    as ann "$work/projects/lock" npm install @lab/kit || return 1
+    rm -rf "$work/projects/lock/node_modules" "$work/ann/npm"
+    sed -i "s|$address/|https://old.example/|" "$work/projects/lock/package-lock.json"
+    grep -q 'https://old.example/@lab/kit/-/' "$work/projects/lock/package-lock.json" &&
+        as ann "$work/projects/lock" npm ci --replace-registry-host=always && [ "$(required "$work/projects/lock" @lab/kit)" = '@lab/kit 1.1.0' ]
+}
+try 'a lockfile with an earlier address of the front installs with replace-registry-host=always' replaces
 
 no_archive() { [ "$(status_of "$address/-/from/old.example/-/org/lab")" = 404 ] && [ "$(status_of -X PUT "$address/-/from/a/kit/-/kit-1.0.0.tgz")" = 404 ]; }
 try 'after /-/from/ there are archives alone' no_archive
@@ -431,6 +449,49 @@ also_beside_another() {
 }
 try 'so it is beside another one' also_beside_another
 
+# Lines of the list while the front runs: whether a reload is taken, and what a client gets meanwhile.
+reload() { nginx -q -t -e "$work/nginx/error.log" -p "$work/nginx" -c "$work/nginx/nginx.conf" 2> "$work/out" && kill -HUP "$front" && sleep 1; }
+twice_is_none() {
+    printf '%s 1;\n' npm_bob_leaked.+000001 npm_ann_000000001 npm_ann_000000001 > "$work/nginx/refused"
+    if reload; then return 1; fi
+    kill -HUP "$front"
+    sleep 1
+    [ "$(ask -o "$work/out" -w '%{http_code}' -H 'authorization: Bearer npm_ann_000000001' "$address/@lab%2fkit")" = 200 ]
+}
+try 'a token that stands on the list twice is told by nginx -t, and nothing is in force' twice_is_none
+cat > "$work/kept.js" << 'TEXT'
+const [port, work] = process.argv.slice(2);
+const fs = require("fs");
+const https = require("https");
+const agent = new https.Agent({ keepAlive: true, maxSockets: 1, rejectUnauthorized: false });
+const ask = () => new Promise((done, failed) => {
+    const headers = { authorization: "Bearer npm_ann_000000001" };
+    https.get({ host: "127.0.0.1", port, agent, path: "/@lab%2fkit", headers }, (it) => it.resume().on("end", () => done(it.statusCode))).on("error", failed);
+});
+(async () => {
+    const before = await ask();
+    fs.writeFileSync(`${work}/asked-once`, "");
+    while (!fs.existsSync(`${work}/reloaded`)) await new Promise((done) => setTimeout(done, 50));
+    console.log(before, await ask());
+    agent.destroy();
+})().catch((error) => { console.error(error.message); process.exit(1); });
+TEXT
+refuses_from_then_on() {
+    node "$work/kept.js" "$secure" "$work" > "$work/kept" 2>&1 &
+    kept=$!
+    stand_ins="$stand_ins $kept"
+    wait_for test -e "$work/asked-once" || return 1
+    printf '%s 1;\n' npm_bob_leaked.+000001 npm_ann_000000001 > "$work/nginx/refused"
+    reload || return 1
+    touch "$work/reloaded"
+    wait "$kept"
+    printf '%s 1;\n' npm_bob_leaked.+000001 > "$work/nginx/refused"
+    reload
+    cp "$work/kept" "$work/out"
+    [ "$(cat "$work/kept")" = '200 401' ]
+}
+try 'from a line and a reload on a token is refused, also to a client that was there before' refuses_from_then_on
+
 # What the registry gets is the token alone, so front and registry read one token.
 same_headers() {
     for field in 'x: y' 'authorization: Bearer npm_bob_000000001' 'authorization: \t bEARER   npm_bob_000000001 \t' 'authorization: Bearer npm_nobody_0000001' \
@@ -489,6 +550,18 @@ nobody_publishes() {
 }
 try 'nobody can publish the name that the health check asks for' nobody_publishes
 
+# The line of docs/OPERATIONS.md that refuses an archive which can not be withdrawn any more.
+gone_archive() {
+    sed -i 's#^    location @pong .*#    location ~ /extra-1\\.0\\.0\\.tgz$ { return 410; }\n&#' "$work/nginx/registry.conf"
+    grep -q 'return 410' "$work/nginx/registry.conf" && reload || return 1
+    for target in /@lab/extra/-/@lab/extra-1.0.0.tgz /@lab%2fextra/-/extra-1.0.0.tgz /@lab/extra/-/extra-1%2e0.0.tgz '/@lab/extra/-/@lab/extra-1.0.0.tgz?x' \
+        /-/from/127.0.0.1:8080/@lab/extra/-/@lab/extra-1.0.0.tgz; do
+        [ "$(status_of "$address$target")" = 410 ] || { say "$target" >> "$work/out"; return 1; }
+    done
+    [ "$(status_of "$address/@lab/kit/-/@lab/kit-1.0.0.tgz")" = 200 ] && [ "$(status_of "$address/@lab%2fextra/1.0.0")" = 200 ]
+}
+try 'a location refuses one archive, however it is asked for' gone_archive
+
 keeps_connections() {
     for _ in $(seq 1 10); do
         # shellcheck disable=SC2046
@@ -518,27 +591,35 @@ fi
 
 # ---- hostile clients
 
-# Sends half a head on each of so many connections, and says how many are open, and when all are closed.
+# Sends half a head on each of so many connections, one after the other, and says how many are open, and
+# when all are closed.
 cat > "$work/halves.js" << 'TEXT'
-const [port, count] = process.argv.slice(2).map(Number);
+const [port, count, kind] = process.argv.slice(2);
 const began = Date.now();
-let sent = 0;
+const options = { port, host: "127.0.0.1", rejectUnauthorized: false };
+let open = 0;
 let closed = 0;
-for (let number = 0; number < count; number += 1) {
-    const socket = require("net").connect(port, "127.0.0.1", () => {
+const next = (number) => {
+    if (number === Number(count)) { console.log(`open ${open}`); return; }
+    let is_open = false;
+    const socket = require(kind).connect(options, () => {
         socket.write("GET / HTTP/1.1\r\nhost: localhost\r\n");
-        sent += 1;
-        if (sent === count) console.log(`open ${sent - closed}`);
+        is_open = true;
+        open += 1;
+        next(number + 1);
     });
     socket.on("error", () => {});
     socket.on("close", () => {
+        if (is_open) open -= 1;
+        else next(number + 1);
         closed += 1;
-        if (closed === count) { console.log(`closed after ${Math.round((Date.now() - began) / 1000)}`); process.exit(0); }
+        if (closed === Number(count)) { console.log(`closed after ${Math.round((Date.now() - began) / 1000)}`); process.exit(0); }
     });
-}
+};
+next(0);
 TEXT
 costs_nobody() {
-    node "$work/halves.js" "$plain" 1000 > "$work/halves" 2>&1 &
+    node "$work/halves.js" "$1" 1000 "$2" > "$work/halves" 2>&1 &
     halves=$!
     stand_ins="$stand_ins $halves"
     wait_for grep -q '^open' "$work/halves" || return 1
@@ -552,7 +633,52 @@ costs_nobody() {
     seconds=$(sed -n 's/^closed after //p' "$work/halves")
     [ "$seconds" -ge 9 ] && [ "$seconds" -le 30 ]
 }
-try 'a thousand half heads of one address cost nobody an answer, and are closed after 10 s' costs_nobody
+try 'a thousand half heads of one address cost nobody an answer, and are closed after 10 s' costs_nobody "$plain" net
+try 'nor do a thousand of them behind TLS' costs_nobody "$secure" tls
+
+# A front that has as few connections as Debian gives it.
+configure "$work/few" "unix:$work/http.sock" "$(nth_port 9)" "$(nth_port 10)"
+sed -i 's/worker_connections 16384/worker_connections 768/' "$work/few/nginx.conf"
+begin_front "$work/few"
+few_address=https://localhost:$(nth_port 10)
+wait_for with_token --fail "$few_address/large" || give_up "the front with few connections does not answer: $(cat "$work/few/error.log" "$work/out")"
+costs_all() {
+    node "$work/halves.js" "$(nth_port 10)" 800 tls > "$work/halves" 2>&1 &
+    halves=$!
+    stand_ins="$stand_ins $halves"
+    wait_for grep -q '^open' "$work/halves" || return 1
+    if ask --max-time 2 --interface 127.0.0.2 -o /dev/null "$few_address/large" 2> "$work/out"; then return 1; fi
+    kill "$halves"
+    wait_for with_token --fail "$few_address/large"
+}
+try 'with 768 connections as many half heads block a front, so docs/OPERATIONS.md gives it more' costs_all
+
+# The firewall's rules in a network of their own: 300 connections of one address, and one of another.
+cat > "$work/firewall.js" << 'TEXT'
+const net = require("net");
+const server = net.createServer(() => {}).listen(443, "0.0.0.0", () => {
+    let open = 0;
+    let reset = 0;
+    const next = (number) => {
+        if (number === 300) {
+            net.connect({ port: 443, host: "127.0.0.1", localAddress: "127.0.0.2" }, () => { console.log(open, reset, "another one is let in"); process.exit(0); });
+            return;
+        }
+        net.connect({ port: 443, host: "127.0.0.1", localAddress: "127.0.0.3" }, () => { open += 1; next(number + 1); }).on("error", () => { reset += 1; next(number + 1); });
+    };
+    next(0);
+});
+setTimeout(() => process.exit(1), 20000);
+TEXT
+counts_connections() {
+    unshare --net --map-root-user sh -c 'ip link set lo up && nft -f "$0" && exec node "$1"' "$top/examples/front/registry.nft" "$work/firewall.js" > "$work/out" 2>&1
+    [ "$(cat "$work/out")" = '200 100 another one is let in' ]
+}
+if command -v nft > /dev/null && command -v ip > /dev/null && unshare --net --map-root-user sh -c 'ip link set lo up && nft list tables' > "$work/out" 2>&1; then
+    try 'the firewall lets an address have 200 connections, and others theirs' counts_connections
+else
+    say 'skipped: the firewall, which needs nft, ip and a network namespace (Debian: apt-get install nftables iproute2)'
+fi
 
 waits_for_changes() {
     began=$(date +%s%N)
@@ -573,26 +699,33 @@ try 'of one address ten changes a second reach the registry, and reading does no
 
 # ---- a registry that ends connections
 
-# Answers the first request of a connection, and ends the connection at the next one. /hang is answered never.
+# Answers the first request of a connection, and ends the connection at the next one. /hang and /waits are
+# answered never, what the health check asks for with 500, and /whole with 30 MB. Of each request it writes
+# down when it begins to come and when it is there, and when an answer of 30 MB was taken.
 cat > "$work/ending.js" << 'TEXT'
 const [port, log] = process.argv.slice(2);
 require("net").createServer((socket) => {
     let seen = 0;
     let text = "";
     socket.on("error", () => {});
+    const say = (line) => require("fs").appendFileSync(log, `${line}\n`);
+    const answer = (status, body, done) => socket.write(`HTTP/1.1 ${status} OK\r\ncontent-type: application/json\r\ncontent-length: ${body.length}\r\n\r\n${body}`, done);
     socket.on("data", (bytes) => {
+        if (text === "") say(`begins ${bytes.toString("latin1").split("\r\n")[0]}`);
         text += bytes.toString("latin1");
         const end = text.indexOf("\r\n\r\n");
         if (end < 0) return;
         const length = Number((/^content-length: *(\d+)/im.exec(text.slice(0, end)) ?? [0, 0])[1]);
         if (text.length < end + 4 + length) return;
         const line = text.slice(0, text.indexOf("\r\n"));
-        require("fs").appendFileSync(log, `${line}\n`);
+        say(line);
         text = "";
         seen += 1;
-        if (line.includes("/hang")) return;
-        if (seen > 1) socket.destroy();
-        else socket.write("HTTP/1.1 200 OK\r\ncontent-type: application/json\r\ncontent-length: 2\r\n\r\n{}");
+        if (/\/hang|\/waits/.test(line)) return;
+        if (line.includes("/whole")) answer(200, "x".repeat(30000000), () => say("taken"));
+        else if (line.includes("/dist-tags")) answer(500, "{}");
+        else if (seen > 1) socket.destroy();
+        else answer(200, "{}");
     });
 }).listen(Number(port), "127.0.0.1");
 TEXT
@@ -604,6 +737,11 @@ stand_ins="$stand_ins $!"
 configure "$work/ending" "127.0.0.1:$ending" "$(nth_port 7)" "$(nth_port 8)"
 begin_front "$work/ending"
 wait_for with_token --fail "$ending_address/first" || give_up "the second front does not answer: $(cat "$work/ending/error.log" "$work/out")"
+
+# It is looked at a minute later.
+ask --interface 127.0.0.3 --max-time 90 -o /dev/null -w '%{http_code} %{time_total}' "$ending_address/waits" > "$work/waits" 2>&1 &
+waits=$!
+stand_ins="$stand_ins $waits"
 
 sends_once() {
     for method in PUT DELETE POST GET; do
@@ -623,6 +761,47 @@ errors_have_targets() {
     has 'request: "DELETE /-/user/token/npm_bob_000000001 '
 }
 try 'the error log of nginx has targets as they came' errors_have_targets
+
+no_health() { [ "$(status_of "$ending_address/-/ping")" = 500 ] && [ "$(status_of "$address/-/ping")" = 200 ]; }
+try 'where the tables fail the health check is 500' no_health
+
+# A client that sends half a body, and one that takes nothing of an answer.
+cat > "$work/slow.js" << 'TEXT'
+const [port, kind, log] = process.argv.slice(2);
+const fs = require("fs");
+setInterval(() => {}, 1000);
+const socket = require("tls").connect({ port, host: "127.0.0.1", rejectUnauthorized: false }, () => {
+    const head = "host: localhost\r\nauthorization: Bearer npm_bob_000000001\r\n";
+    if (kind === "takes-nothing") {
+        socket.write(`GET /whole HTTP/1.1\r\n${head}\r\n`);
+        socket.pause();
+        return;
+    }
+    socket.write(`PUT /half HTTP/1.1\r\n${head}content-length: 300000\r\n\r\n${" ".repeat(150000)}`);
+    if (kind === "stays") { console.log("half is sent"); return; }
+    setTimeout(() => {
+        console.log(fs.readFileSync(log, "utf8").includes("/half") ? "it was sent on" : "nothing was sent on");
+        socket.write(" ".repeat(150000));
+    }, 1500);
+    socket.once("data", () => { console.log(fs.readFileSync(log, "utf8").includes("begins PUT /half") ? "then it was" : "nor was it then"); process.exit(0); });
+});
+socket.on("error", (error) => { console.error(error.message); process.exit(1); });
+TEXT
+takes_bodies() {
+    node "$work/slow.js" "$(nth_port 8)" half "$work/ending.log" > "$work/out" 2>&1
+    [ "$(cat "$work/out")" = "$(printf 'nothing was sent on\nthen it was')" ]
+}
+try 'of a body nothing is sent on before all has come' takes_bodies
+takes_answers() {
+    node "$work/slow.js" "$(nth_port 8)" takes-nothing > "$work/out" 2>&1 &
+    taker=$!
+    stand_ins="$stand_ins $taker"
+    wait_for grep -q '^taken$' "$work/ending.log"
+    taken=$?
+    kill "$taker" || return 1
+    return $taken
+}
+try 'an answer of 30 MB is taken from the registry, though the client takes nothing' takes_answers
 
 # Hundred requests that are not answered, then one more of the same address and one of another.
 limits_requests() {
@@ -775,6 +954,14 @@ try 'a name that is not on the list can not be published' refuses_others
 publishes_listed() { package older 2.0.0; as bob "$work/older" npm publish && package @lab/kit 3.0.0 && as bob "$work/@lab/kit" npm publish && as bob "$work" npm dist-tag add @lab/kit@3.0.0 new; }
 try 'names of the list can be, and tags set' publishes_listed
 
+lists_later() {
+    printf '@new 1;\n' >> "$work/nginx/house"
+    reload || return 1
+    package @new/tool 1.0.0
+    as ann "$work/@new/tool" npm publish && [ "$(status_of -H 'authorization: Bearer npm_ann_000000001' "$address/@new%2ftool")" != 502 ]
+}
+try 'with a line for its scope, and a reload, it can be' lists_later
+
 not_public() { [ "$(status_of "$address/nowhere")" = 404 ] && has '^{"error":"NotFound"}$'; }
 try 'a name that nobody has is NotFound' not_public
 outside_ends() {
@@ -783,6 +970,36 @@ outside_ends() {
     [ "$(status_of --max-time 20 "$address/left-pad")" = 502 ] && [ "$(status_of "$address/@lab%2fkit")" = 200 ] && [ "$(ask "$address/-/ping")" = '{}' ]
 }
 try 'where the public registry is down its names are 502, and the house goes on' outside_ends
+
+# ---- the registry ends, and comes back
+
+stops_soon() {
+    node "$work/slow.js" "$secure" stays > "$work/half" 2>&1 &
+    stays=$!
+    stand_ins="$stand_ins $stays"
+    wait_for grep -q 'half is sent' "$work/half" || return 1
+    began=$(date +%s%N)
+    registry stop
+    taken=$((($(date +%s%N) - began) / 1000000))
+    kill "$stays"
+    echo "a stop took $taken ms" > "$work/out"
+    [ $taken -le 3000 ] && wait "$server" && grep -q 'a command told it to stop' "$work/server"
+}
+try 'a stop takes seconds, whatever connections the front keeps and however slow its clients are' stops_soon
+is_down() { [ "$(status_of "$address/-/ping")" = 502 ] && [ "$(status_of "$address/@lab%2fkit")" = 502 ] && [ "$(status_of -X PUT -d '{}' "$address/@lab%2fkit")" = 502 ]; }
+try 'then the health check and all else are 502' is_down
+comes_back() {
+    "$program" --db "$work/registry.db" serve --socket "$work/http.sock" > "$work/server" 2>&1 &
+    server=$!
+    wait_for grep -q listening "$work/server" && [ "$(status_of "$address/-/ping")" = 200 ] && [ "$(status_of "$address/@lab%2fkit")" = 200 ]
+}
+try 'the front asks the next server without a reload' comes_back
+waits_a_minute() {
+    wait "$waits" || true
+    cp "$work/waits" "$work/out"
+    has '^504 6[0-9]\.'
+}
+try 'what is not answered within 60 s is 504' waits_a_minute
 
 say "$passed passed, $failed failed"
 [ "$failed" -eq 0 ]

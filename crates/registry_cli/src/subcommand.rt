@@ -56,7 +56,7 @@ pub(crate) struct Subcommand {
     pub(crate) parameters: &'static [Parameter],
     /// What it does, in one line.
     pub(crate) about: &'static str,
-    /// An example of how it is called.
+    /// An example of how it is called, or what is better.
     pub(crate) example: &'static str,
 }
 
@@ -187,7 +187,7 @@ static ORGANISATIONS: [Subcommand; 7] = [
         name: "token-add",
         parameters: &[USER, TOKEN],
         about: "Add a token, by which npm shows that it is the user (the operator)",
-        example: "Example: registry --operator token-add ann npm_ann_000000001",
+        example: "Better: registry --operator token-new ann\n\nA list of processes shows the token of token-add. token-new makes one, and prints it once.",
     },
     Subcommand {
         name: "token-rm",
