@@ -83,8 +83,9 @@ impl<K: LogClock, W: LineSink> Log<K, W> {
         self.write();
     }
 
-    /// When the registry begins to answer a request, for [`answered`](Log::answered).
-    pub fn begin(&mut self) -> u64
+    /// The microseconds that the clock shows as the registry begins to answer a request, for
+    /// [`answered`](Log::answered).
+    pub fn start_micros(&mut self) -> u64
         ensures { self.new ≡ self.old }
     {
         self.clock.micros()

@@ -141,7 +141,7 @@ fn asked<S: Alter, K: LogClock, W: LineSink>(
     ensures latched { inner.old.is_over ≡ true → inner.new.is_over ≡ true }
 {
     let user = user_of(alloc, inner, &request.who);
-    let begun = log.begin();
+    let begun = log.start_micros();
     let outcome = inner.answer(alloc, request);
     log.answered(request.at, user, begun);
     outcome
