@@ -33,7 +33,7 @@ pub(crate) fn says_input(arguments: &[Text]) -> bool
     is_same(argument_at(arguments, 1), "-")
 }
 
-/// The arguments after a subcommand's name.
+/// The argument after a subcommand's name.
 pub(crate) fn one<A: FromArgument>(alloc: Global, arguments: &[Text]) -> Result<A, Stop>
     ensures { spec.one A.reads arguments.now result }
 {

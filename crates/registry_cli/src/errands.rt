@@ -1,4 +1,4 @@
-//! What whoever runs the registry asks for beside requests.
+//! What the people who run the registry ask for besides requests.
 
 ghost use Rattle.std.specs.Prelude.{◌≡◌, ◌≢◌, ◌≤◌, ◌++◌, ◌∷◌, [], codes, false, map, true, IfErr, IfOk, IfSome, IsErrAnd, MatchResult, None, OnOk};
 ghost use Rattle.clap.specs.Faults.{fault_of};
@@ -26,7 +26,7 @@ use clap::{ArgMatches, Error};
 use registry_names::{Moment, Text};
 use std::alloc::{AllocError, Global};
 
-/// What whoever runs the registry asks for beside requests.
+/// What the people who run the registry ask for besides requests.
 #[derive(Debug, Drop)]
 pub enum Errand {
     /// A token that is made for a user.

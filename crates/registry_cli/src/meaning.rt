@@ -7,14 +7,14 @@ use crate::argument_values::{argument_at, is_same, says_input};
 use crate::arguments::Arguments;
 use registry_names::{Moment, Text};
 
-/// Who a line is asked by.
+/// Who asks by a line.
 #[derive(Debug, Drop)]
 pub enum Who {
-    /// Who runs the registry.
+    /// The operator, who runs the registry.
     Operator,
     /// The user of this name, if there is one.
     User(Text),
-    /// Nobody that is known.
+    /// Somebody without a credential.
     Anonymous,
 }
 

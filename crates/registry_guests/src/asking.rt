@@ -16,11 +16,11 @@ use std::net::{Net, Shutdown};
 use std::os::unix::net::UnixStream;
 use std::time::Duration;
 
-/// So many seconds a command waits at most until a server is ready, or is held.
+/// A command waits at most this many seconds for a server to be ready, or to be held.
 pub(crate) const PATIENCE: u64 = 10;
 
-/// So many seconds a command waits at most until a server that was ready takes or gives something. It
-/// is more than a hold may last.
+/// A command waits at most this many seconds for a server that was ready to take or give something.
+/// That is longer than a hold may last.
 const ANSWER_PATIENCE: u64 = 75;
 
 /// The most bytes of one read.
@@ -58,7 +58,7 @@ fn is_ready(stream: &UnixStream) -> io::Result<bool> {
     }
 }
 
-/// A read or write of the stream waits for so many seconds at most.
+/// Lets each read and write of the stream wait for at most this many seconds.
 pub(crate) fn set_patience(stream: &UnixStream, seconds: u64) -> io::Result<()> {
     let patience = Some(Duration::from_secs(seconds));
     stream.set_read_timeout(patience)?;

@@ -243,8 +243,8 @@ impl Guests for CommandListener {
         self.control.stops()
     }
 
-    /// The connection that is there to hold or stop the server is visited; one that is late ends; and
-    /// the next is accepted. Once the server is to end, no command is.
+    /// Visits the connection that holds or stops the server, ends one that is late, and accepts the
+    /// next. Once the server is to end, it accepts no command.
     fn attend(&mut self, registry: &Registry, now: u64) {
         self.control.visit(now);
         self.control.end_late(now);
@@ -274,7 +274,7 @@ impl Guests for CommandListener {
         self.pool.is_empty()
     }
 
-    /// Each guest that is to be visited is, once; one that is late ends; and new ones are accepted.
+    /// Visits once each guest that is to be visited, ends those that are late, and accepts new ones.
     fn visit<D: Service, C: Clock>(
         &mut self,
         alloc: Global,

@@ -52,7 +52,7 @@ pub fn holders_have_asked<S: Socket>()
 {}
 
 /// What a service is told of a command about tokens, such as `token-add`, is the same for every token,
-/// whether it stands behind a user or in a user's place.
+/// whether it comes after a user or in a user's place.
 pub fn tokens_of_commands_are_unseen()
     ensures last { LastTokensAreUnseen }
     ensures first { FirstTokensAreUnseen }

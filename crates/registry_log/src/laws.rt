@@ -23,8 +23,8 @@ pub fn tokens_are_hidden()
     ensures revoked { RevokedTokensAreHidden }
 {}
 
-/// A target in which no token stands there is shown as it came, up to where it is cut: so are names,
-/// also those that begin with `npm_` and are shorter than a token.
+/// A target without a token in these places is shown as it came, up to where it is cut. So names are
+/// shown, even those that begin with `npm_` and are shorter than a token.
 pub fn others_are_shown()
     ensures { OthersAreShown }
 {}

@@ -4,9 +4,9 @@
 //! A [`LoggedService`] is a registry as a service, with or without a log. Contracts see the
 //! registry alone, so everything that is promised of it is promised with a log, too. What a turn
 //! answered is an [`Entry`], whose line has seven columns whatever a client sent ([`laws`]). Lines
-//! wait in a buffer of fixed size, and are written once in each round of turns. Before that the users
-//! of the requests are looked up that the registry wasn't asked. Lines that can't be written are lost,
-//! and the log says so once it can be written again.
+//! wait in a buffer of fixed size, and are written once in each round of turns. Before that, the users
+//! of requests that the registry wasn't asked are looked up. Lines that can't be written are lost, and
+//! the log says so once it can be written again.
 #![tactic(auto)]
 
 mod column;

@@ -79,8 +79,8 @@ impl<S: Alter, K: LogClock, W: LineSink> Service for LoggedService<S, K, W> {
 
     ghost over = { λ s. s.is_over };
 
-    /// Answers one request as a [`RegistryService`] does. Where a log is kept, it is looked up
-    /// first who asks. The service is over exactly as a [`RegistryService`] is: where the registry
+    /// Answers one request as a [`RegistryService`] does. Where a log is kept, the caller is
+    /// looked up first. The service is over exactly as a [`RegistryService`] is: where the registry
     /// was seen to be shut, only by that fault, and then for good.
     fn answer(&mut self, alloc: Global, request: &Request) -> Result<Reply, Fault>
         ensures answers { applied (shown S.Store) self.old request.now result self.new }
@@ -112,7 +112,7 @@ impl<S: Alter, K: LogClock, W: LineSink> Service for LoggedService<S, K, W> {
         }
     }
 
-    /// Looks up whose tokens the requests had that the registry wasn't asked, where a log is kept.
+    /// Where a log is kept, looks up the users of requests that the registry wasn't asked.
     fn look_up(&mut self, alloc: Global) {
         match &mut self.log {
             Some(log) => name_all(alloc, &mut self.inner, log),

@@ -1,4 +1,4 @@
-//! What the program does for whoever runs the registry, beside requests.
+//! What the program does for the people who run the registry, besides requests.
 
 use crate::asking::Answer;
 use crate::beside::print_sent_token;

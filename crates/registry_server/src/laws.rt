@@ -8,7 +8,7 @@ use crate::socket::Socket;
 use registry_service::Service;
 
 /// Connections that take turns with one service make one history. Each state shows a connection,
-/// also where its next request is the last because the server is to end (`lasts`): what calls make
+/// even where its next request is the last because the server is to end (`lasts`): what calls make
 /// of it, on any connection and in any order, happens among the connections that `one_history` of
 /// `registry_service` speaks of. So there is one list of turns, and the service is what they leave.
 /// A turn that is taken is added to it (`turns`), and its request is asked at the moment that the

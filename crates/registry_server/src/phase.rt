@@ -14,8 +14,8 @@ pub const REQUEST_TIME_LIMIT: u64 = 10_000;
 /// The time of a request whose body waits for others begins anew until the request is this many
 /// milliseconds old. At most 511 other bodies began before it. Each of them is chosen at most once,
 /// 16 are read side by side, and each has at most 10 s once it was chosen: that makes 320 s,
-/// whether or not the crowd lasts. The time for which a body is held that was answered unfinished
-/// isn't counted in it.
+/// whether or not the crowd lasts. It doesn't include the time for which a body that was answered
+/// unfinished is held.
 pub const WAIT_LIMIT: u64 = 360_000;
 
 /// All responses of a connection together have to be taken after this many milliseconds, or it
