@@ -886,14 +886,14 @@ is_ended_by_a_command_alone() {
     : > "$work/server"
     unshare --pid --fork --kill-child --map-root-user "$program" --db "$db" serve --port "$place" > "$work/server" 2> "$work/server.errors" &
     server=$!
-    for _ in $(seq 1 500); do
+    for _ in $(seq 1 3000); do
         if grep -q listening "$work/server"; then break; fi
         sleep 0.01
     done
     read -r first < "/proc/$server/task/$server/children"
     for signal in TERM HUP INT QUIT; do kill -s $signal "$first"; done
     sleep 0.5
-    kill -0 "$first" && [ "$(asked -o /dev/null -w '%{http_code}' "http://127.0.0.1:$place/-/nothing")" = 404 ] || return 1
+    kill -0 "$first" && [ "$(curl -s -m 10 -o /dev/null -w '%{http_code}' "http://127.0.0.1:$place/-/nothing")" = 404 ] || return 1
     run one "$db" stop
     wait "$server" 2> /dev/null || true
     server=
