@@ -14,4 +14,6 @@ mod full;
 #[cfg(test)]
 mod late;
 #[cfg(test)]
+mod rounds;
+#[cfg(test)]
 mod service;
