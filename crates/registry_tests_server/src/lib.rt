@@ -8,6 +8,8 @@
 #[cfg(test)]
 mod beside;
 #[cfg(test)]
+mod both;
+#[cfg(test)]
 mod client;
 #[cfg(test)]
 mod full;
