@@ -51,17 +51,17 @@ impl Service for Counting {
     }
 }
 
-// Who asked, the words that may be seen, and whether the command was done.
+// Who asked, the words that may be seen, and whether the command was done. One that is prints 12 bytes.
 fn write_down(told: &mut String, command: &AnsweredCommand<'_>) -> Result<(), AllocError> {
     told.push_str(command.caller)?;
     for word in command.words {
         told.push(' ')?;
         told.push_str(word.as_str())?;
     }
-    told.push_str(if command.status == 0 {
-        " done\n"
-    } else {
-        " not done\n"
+    told.push_str(match (command.status, command.length) {
+        (0, 12) => " done\n",
+        (0, _) => " done otherwise\n",
+        _ => " not done\n",
     })
 }
 

@@ -4,9 +4,10 @@ use crate::client::{
     ANSWER, LAST_ANSWER, client, command, connect, forget, heard, is_done, lay, send, wait,
 };
 use crate::service::{Counting, one_more};
-use registry_guests::CommandListener;
+use mio::{Token, Waker};
+use registry_guests::{CommandListener, GUEST_COUNT};
 use registry_names::Moment;
-use registry_server::{Ended, Server};
+use registry_server::{Ended, FIRST_GUEST, Server};
 use registry_tests_support::same;
 use std::cell::Cell;
 use std::io;
@@ -92,6 +93,81 @@ fn nobody_is_answered_during_a_hold(rt: HostRuntime) -> Result<(), Fail> {
         same("a client", heard(&rt, client)?.as_str(), ANSWER)?;
     }
     is_done(&rt, &user)?;
+    forget(&rt, file)
+}
+
+/// Between two readings this many milliseconds pass, of which a round counts 275 at most.
+const STEP: u64 = 200;
+
+/// The reading after 58 s.
+const AFTER_58: u32 = 422;
+
+/// The reading after 66 s.
+const AFTER_66: u32 = 480;
+
+/// A clock by which time passes fast, as it lets no round wait. It ends a hold that lasts for 66 s.
+#[derive(Drop)]
+struct Lapsing<'a> {
+    readings: Cell<u32>,
+    waker: Waker,
+    holder: &'a UnixStream,
+    asked: &'a Cell<u32>,
+    // How often the service was asked in 58 s, and whether the hold lasted for 66 s.
+    asked_in_58: Cell<u32>,
+    lasted_for_66: Cell<bool>,
+}
+
+impl Clock for Lapsing<'_> {
+    fn monotonic(&self) -> io::Result<Duration> {
+        let reading = one_more(&self.readings);
+        self.waker.wake()?;
+        if reading == AFTER_58 {
+            self.asked_in_58.set(self.asked.get());
+        }
+        if reading == AFTER_66 && self.asked.get() == 0 {
+            self.lasted_for_66.set(true);
+            self.holder.shutdown(Shutdown::Write)?;
+        }
+        Ok(Duration::from_millis(STEP * u64::from(reading)))
+    }
+
+    fn since_1970(&self) -> io::Result<Duration> {
+        Ok(Duration::from_millis(0))
+    }
+}
+
+#[test]
+fn a_hold_of_a_server_lapses_after_a_minute(rt: HostRuntime) -> Result<(), Fail> {
+    let file = "lapse.db";
+    let (server, mut listener) = server(&rt, file)?;
+    let mut holder = connect(&rt, file, "control")?;
+    holder.write_all(b"h")?;
+    let clients = [client(&rt, &server)?, client(&rt, &server)?];
+    for client in &clients {
+        send(client)?;
+        client.shutdown(Shutdown::Write)?;
+    }
+    wait(&rt);
+    let asked = Cell::new(0);
+    // No guest has this token: those of commands come first, and then that of who holds the server.
+    let clock = Lapsing {
+        readings: Cell::new(0),
+        waker: Waker::new(server.registry(), Token(FIRST_GUEST + GUEST_COUNT + 7))?,
+        holder: &holder,
+        asked: &asked,
+        asked_in_58: Cell::new(u32::MAX),
+        lasted_for_66: Cell::new(false),
+    };
+    let mut service = Counting {
+        asked: &asked,
+        command: 0,
+    };
+    let at = Moment::clamped(0);
+    let ended = server.run_beside(&clock, rt.alloc(), at, &mut service, &mut listener)?;
+    same("it ended", ended, Ended::Enough)?;
+    same("asked in 58 s", clock.asked_in_58.get(), 0)?;
+    same("it lasted for 66 s", clock.lasted_for_66.get(), false)?;
+    same("asked in all", asked.get(), 2)?;
     forget(&rt, file)
 }
 

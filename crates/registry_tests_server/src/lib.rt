@@ -8,10 +8,14 @@
 #[cfg(test)]
 mod beside;
 #[cfg(test)]
+mod both;
+#[cfg(test)]
 mod client;
 #[cfg(test)]
 mod full;
 #[cfg(test)]
 mod late;
+#[cfg(test)]
+mod rounds;
 #[cfg(test)]
 mod service;

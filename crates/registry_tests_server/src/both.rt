@@ -1,0 +1,79 @@
+//! A server that listens at a port and at a Unix socket.
+
+ghost use Rattle.std.specs.Prelude.{false};
+
+use crate::client::{ANSWER, client, heard, send, wait};
+use registry_names::{Fault, Moment};
+use registry_rules::{Action, Reply, Request};
+use registry_server::{Ended, ListenAt, LocalSocket, Server};
+use registry_service::Service;
+use registry_tests_support::same;
+use std::alloc::Global;
+use std::io::Write;
+use std::net::Shutdown;
+use std::os::unix::net::UnixStream;
+use std::test::Fail;
+
+/// The request of the client at the socket, which is for another package than that of the others.
+const TOOL: &str = "GET /-/package/tool/dist-tags HTTP/1.1\r\n\r\n";
+
+/// A service that does whatever it is asked, and counts that.
+#[derive(Drop)]
+struct Ordering {
+    asked: u32,
+    /// How often it was asked up to the request for the tags of `tool`.
+    tool: u32,
+}
+
+impl Service for Ordering {
+    ghost answers = { λ M r o N. Unit {0} };
+
+    ghost over = { λ _. false };
+
+    fn answer(&mut self, _alloc: Global, request: &Request) -> Result<Reply, Fault> {
+        self.asked = self.asked.saturating_add(1);
+        if let Action::Tags { package } = &request.what {
+            if package.text() == "tool" {
+                self.tool = self.asked;
+            }
+        }
+        Ok(Reply::Done)
+    }
+
+    fn is_over(&self) -> bool {
+        false
+    }
+}
+
+// Three clients wait at the port, and one at the socket, when the server lets in the first.
+#[test]
+fn who_waits_at_a_socket_is_let_in_beside_those_at_the_port(rt: HostRuntime) -> Result<(), Fail> {
+    let (socket, file) = LocalSocket::bind(&rt, rt.alloc(), "both.sock")?;
+    let server = Server::bind_at(&rt, rt.alloc(), ListenAt::Both(0, socket), 4)?;
+    let clients = [
+        client(&rt, &server)?,
+        client(&rt, &server)?,
+        client(&rt, &server)?,
+    ];
+    for client in &clients {
+        send(client)?;
+        client.shutdown(Shutdown::Write)?;
+    }
+    let mut beside = UnixStream::connect(&rt, "both.sock")?;
+    beside.write_all(TOOL.as_bytes())?;
+    beside.shutdown(Shutdown::Write)?;
+    wait(&rt);
+    let mut service = Ordering { asked: 0, tool: 0 };
+    let ended = server.run(&rt, rt.alloc(), Moment::clamped(0), &mut service)?;
+    same("it ended", ended, Ended::Enough)?;
+    same("asked", service.asked, 4)?;
+    same(
+        "among the first two",
+        service.tool > 0 && service.tool < 3,
+        true,
+    )?;
+    for client in &clients {
+        same("a client", heard(&rt, client)?.as_str(), ANSWER)?;
+    }
+    Ok(file.remove(&rt)?)
+}

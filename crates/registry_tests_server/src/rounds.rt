@@ -1,0 +1,63 @@
+//! What a server tells its service beside requests.
+
+ghost use Rattle.std.specs.Prelude.{false};
+
+use crate::client::{ANSWER, client, heard, send};
+use crate::service::one_more;
+use registry_names::{Fault, Moment};
+use registry_rules::{Reply, Request};
+use registry_server::{Ended, Server};
+use registry_service::Service;
+use registry_tests_support::same;
+use std::alloc::Global;
+use std::cell::Cell;
+use std::net::Shutdown;
+use std::test::Fail;
+
+/// A service that does whatever it is asked, and counts the rounds that it is told of.
+#[derive(Drop)]
+struct Rounds<'a> {
+    looks: &'a Cell<u32>,
+    rests: &'a Cell<u32>,
+}
+
+impl Service for Rounds<'_> {
+    ghost answers = { λ M r o N. Unit {0} };
+
+    ghost over = { λ _. false };
+
+    fn answer(&mut self, _alloc: Global, _request: &Request) -> Result<Reply, Fault> {
+        Ok(Reply::Done)
+    }
+
+    fn is_over(&self) -> bool {
+        false
+    }
+
+    fn look_up(&mut self, _alloc: Global) {
+        let _looks = one_more(self.looks);
+    }
+
+    fn rest(&mut self) {
+        let _rests = one_more(self.rests);
+    }
+}
+
+#[test]
+fn a_service_is_told_of_each_round(rt: HostRuntime) -> Result<(), Fail> {
+    let server = Server::bind(&rt, rt.alloc(), 0, 1)?;
+    let asks = client(&rt, &server)?;
+    send(&asks)?;
+    asks.shutdown(Shutdown::Write)?;
+    let looks = Cell::new(0);
+    let rests = Cell::new(0);
+    let mut service = Rounds {
+        looks: &looks,
+        rests: &rests,
+    };
+    let ended = server.run(&rt, rt.alloc(), Moment::clamped(0), &mut service)?;
+    same("it ended", ended, Ended::Enough)?;
+    same("rounds were told", rests.get() > 0, true)?;
+    same("with a look each", looks.get(), rests.get())?;
+    same("the client", heard(&rt, &asks)?.as_str(), ANSWER)
+}
