@@ -665,6 +665,10 @@ copies_while_it_publishes() {
     python3 "$work/publish.py" "$(port)" "$token" big 0 12 2500000 > "$work/published" 2>> "$work/said" || return 1
     python3 "$work/publish.py" "$(port)" "$token" kit 0 100000 20000 > "$work/published" 2>> "$work/said" &
     others=$!
+    for _ in $(seq 1 1000); do
+        if [ -s "$work/published" ]; then break; fi
+        sleep 0.01
+    done
     for time in 1 2 3 4 5; do
         sleep 0.5
         cp "$work/published" "$work/before"
