@@ -11,8 +11,8 @@ ghost use Rattle.registry_publish.specs.Integrity as integrities;
 ghost use Rattle.registry_publish.specs.Members as members;
 ghost use Rattle.registry_check.specs.Forms as spec;
 
-use registry_publish::has_float;
 use registry_names::Fault;
+use registry_publish::has_float;
 use serde_json::Value;
 use std::alloc::Global;
 
