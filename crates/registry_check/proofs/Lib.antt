@@ -1,6 +1,7 @@
 mod EachFacts
 mod FormFacts
 mod LoadFacts
+mod OrderFacts
 mod PremiseFacts
 mod QueryFacts
 mod RightFacts

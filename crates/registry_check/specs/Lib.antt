@@ -7,5 +7,6 @@ pub mod Problems
 pub mod Right
 pub mod Rows
 pub mod Rules
+pub mod Searched
 pub mod Spelled
 pub mod Words

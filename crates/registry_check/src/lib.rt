@@ -9,12 +9,14 @@
 mod archives;
 mod checked;
 mod forms;
+mod keys;
 mod kinds;
 pub mod laws;
 mod loads;
 mod manifest;
 mod names;
 mod numbers;
+mod order;
 mod packages;
 mod people;
 mod problem;

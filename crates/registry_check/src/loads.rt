@@ -55,11 +55,7 @@ fn load_accounts<S: Alter>(alloc: Global, tx: &mut Transaction<'_, S>) -> Result
     let users = load::<Users, S>(alloc, tx, "SELECT name FROM users ORDER BY name")?;
     let tokens = load::<Tokens, S>(alloc, tx, "SELECT digest, user FROM tokens ORDER BY digest")?;
     let organisations = load::<Organisations, S>(alloc, tx, "SELECT name FROM orgs ORDER BY name")?;
-    Ok(Accounts {
-        users,
-        tokens,
-        organisations,
-    })
+    Accounts::new(users, tokens, organisations)
 }
 
 fn load_groups<S: Alter>(alloc: Global, tx: &mut Transaction<'_, S>) -> Result<Groups, Fault>
@@ -74,11 +70,7 @@ fn load_groups<S: Alter>(alloc: Global, tx: &mut Transaction<'_, S>) -> Result<G
         tx,
         "SELECT org, team, user FROM team_members ORDER BY org, team, user",
     )?;
-    Ok(Groups {
-        members,
-        teams,
-        team_members,
-    })
+    Groups::new(members, teams, team_members)
 }
 
 fn load_packages<S: Alter>(alloc: Global, tx: &mut Transaction<'_, S>) -> Result<Packages, Fault>
@@ -101,11 +93,7 @@ fn load_packages<S: Alter>(alloc: Global, tx: &mut Transaction<'_, S>) -> Result
         tx,
         "SELECT package, user FROM owners ORDER BY package, user",
     )?;
-    Ok(Packages {
-        published,
-        grants,
-        maintainers,
-    })
+    Packages::new(published, grants, maintainers)
 }
 
 fn load_versions<S: Alter>(alloc: Global, tx: &mut Transaction<'_, S>) -> Result<Versions, Fault>
@@ -133,12 +121,7 @@ fn load_versions<S: Alter>(alloc: Global, tx: &mut Transaction<'_, S>) -> Result
         tx,
         "SELECT id, integrity, bytes FROM archives ORDER BY id",
     )?;
-    Ok(Versions {
-        live,
-        needs,
-        held,
-        archives,
-    })
+    Versions::new(alloc, live, needs, held, archives)
 }
 
 fn load_marks<S: Alter>(alloc: Global, tx: &mut Transaction<'_, S>) -> Result<Marks, Fault>
@@ -156,7 +139,7 @@ fn load_marks<S: Alter>(alloc: Global, tx: &mut Transaction<'_, S>) -> Result<Ma
         tx,
         "SELECT package, version, target FROM needs ORDER BY package, version, target",
     )?;
-    Ok(Marks { tags, targets })
+    Marks::new(tags, targets)
 }
 
 fn load_grades<S: Alter>(alloc: Global, tx: &mut Transaction<'_, S>) -> Result<Grades, Fault>

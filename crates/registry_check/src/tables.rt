@@ -1,7 +1,19 @@
-//! The rows of all tables, as they are read.
+//! The rows of all tables, as they are read. Those that are looked for are in the order of their keys.
 
+ghost use Rattle.std.specs.Prelude.{◌≡◌, ℤ, IfOk};
+ghost use Rattle.std.specs.List.{list_any};
+ghost use Rattle.std.specs.List.Sorted.{IsSortedByKey};
+ghost use Rattle.std.specs.Ordering.{int_cmp, int_eq};
+ghost use Rattle.std.proofs.Props.{props};
+ghost use Rattle.registry_names.specs.Keys.{pair_cmp};
+ghost use Rattle.registry_names.specs.Texts.{text_cmp};
+ghost use Rattle.registry_rows.specs.TextKeys.{texts_cmp};
+
+use crate::keys::held_numbers;
+use crate::order::in_order;
 use registry_access::{GrantRow, MaintainerRow, MemberRow, PackageRow, TeamMemberRow, TeamRow};
-use registry_names::{Blob, Text};
+use registry_names::{Blob, Fault, Text};
+use std::alloc::Global;
 
 /// The user of a token.
 #[derive(Drop)]
@@ -152,6 +164,28 @@ pub(crate) struct Accounts {
     pub(crate) tokens: Vec<TokenRow>,
     /// The names of the organisations.
     pub(crate) organisations: Vec<Text>,
+    ghost users_rise: { IsSortedByKey (λ u. u) text_cmp users.items } by { Prim.hlevel props },
+    ghost organisations_rise: { IsSortedByKey (λ o. o) text_cmp organisations.items } by { Prim.hlevel props },
+}
+
+impl Accounts {
+    /// These rows. It is a fault where those that are looked for aren't in the order of their keys;
+    /// so it is in each function `new` here.
+    pub(crate) fn new(
+        users: Vec<Text>,
+        tokens: Vec<TokenRow>,
+        organisations: Vec<Text>,
+    ) -> Result<Accounts, Fault>
+        ensures { IfOk result (λ rows. (rows.users.items ≡ users.items)
+            × (rows.tokens.items ≡ tokens.items)
+            × (rows.organisations.items ≡ organisations.items)) }
+    {
+        Ok(Accounts {
+            users: in_order(users)?,
+            tokens,
+            organisations: in_order(organisations)?,
+        })
+    }
 }
 
 /// Who is in which organisation and team.
@@ -163,6 +197,25 @@ pub(crate) struct Groups {
     pub(crate) teams: Vec<TeamRow>,
     /// Who is in which team.
     pub(crate) team_members: Vec<TeamMemberRow>,
+    ghost members_rise: { IsSortedByKey (λ r. (r.organisation, r.user)) pair_cmp members.items } by { Prim.hlevel props },
+    ghost teams_rise: { IsSortedByKey (λ r. (r.organisation, r.team)) pair_cmp teams.items } by { Prim.hlevel props },
+}
+
+impl Groups {
+    pub(crate) fn new(
+        members: Vec<MemberRow>,
+        teams: Vec<TeamRow>,
+        team_members: Vec<TeamMemberRow>,
+    ) -> Result<Groups, Fault>
+        ensures { IfOk result (λ rows. (rows.members.items ≡ members.items)
+            × (rows.teams.items ≡ teams.items) × (rows.team_members.items ≡ team_members.items)) }
+    {
+        Ok(Groups {
+            members: in_order(members)?,
+            teams: in_order(teams)?,
+            team_members,
+        })
+    }
 }
 
 /// What was published, and what callers may do with it.
@@ -174,6 +227,25 @@ pub(crate) struct Packages {
     pub(crate) grants: Vec<GrantRow>,
     /// The maintainers of packages.
     pub(crate) maintainers: Vec<MaintainerRow>,
+    ghost published_rise: { IsSortedByKey (λ r. r.package) text_cmp published.items } by { Prim.hlevel props },
+    ghost maintainers_rise: { IsSortedByKey (λ r. (r.package, r.user)) pair_cmp maintainers.items } by { Prim.hlevel props },
+}
+
+impl Packages {
+    pub(crate) fn new(
+        published: Vec<PackageRow>,
+        grants: Vec<GrantRow>,
+        maintainers: Vec<MaintainerRow>,
+    ) -> Result<Packages, Fault>
+        ensures { IfOk result (λ rows. (rows.published.items ≡ published.items)
+            × (rows.grants.items ≡ grants.items) × (rows.maintainers.items ≡ maintainers.items)) }
+    {
+        Ok(Packages {
+            published: in_order(published)?,
+            grants,
+            maintainers: in_order(maintainers)?,
+        })
+    }
 }
 
 /// The live versions, and what is stored of them elsewhere.
@@ -187,6 +259,37 @@ pub(crate) struct Versions {
     pub(crate) held: Vec<HeldRow>,
     /// The archives.
     pub(crate) archives: Vec<ArchiveRow>,
+    /// The numbers of the archives that they have.
+    pub(crate) numbers: Vec<i64>,
+    ghost live_rise: { IsSortedByKey (λ r. (r.package, r.version)) pair_cmp live.items } by { Prim.hlevel props },
+    ghost needs_rise: { IsSortedByKey (λ r. (r.package, (r.version, (r.target, r.range)))) (texts_cmp 3) needs.items } by { Prim.hlevel props },
+    ghost held_rise: { IsSortedByKey (λ r. (r.package, r.version)) pair_cmp held.items } by { Prim.hlevel props },
+    ghost archives_rise: { IsSortedByKey (λ r. r.number) int_cmp archives.items } by { Prim.hlevel props },
+    ghost numbers_rise: { IsSortedByKey (λ n. n) int_cmp numbers.items } by { Prim.hlevel props },
+    ghost are_held: { (n : ℤ) → list_any (λ m. int_eq m n) numbers.items ≡ list_any (λ r. int_eq r.archive n) held.items } by { Prim.hlevel props },
+}
+
+impl Versions {
+    pub(crate) fn new(
+        alloc: Global,
+        live: Vec<LiveRow>,
+        needs: Vec<NeedRow>,
+        held: Vec<HeldRow>,
+        archives: Vec<ArchiveRow>,
+    ) -> Result<Versions, Fault>
+        ensures { IfOk result (λ rows. (rows.live.items ≡ live.items)
+            × (rows.needs.items ≡ needs.items) × (rows.held.items ≡ held.items)
+            × (rows.archives.items ≡ archives.items)) }
+    {
+        let numbers = held_numbers(alloc, &held)?;
+        Ok(Versions {
+            live: in_order(live)?,
+            needs: in_order(needs)?,
+            held: in_order(held)?,
+            archives: in_order(archives)?,
+            numbers,
+        })
+    }
 }
 
 /// What versions are called besides, and what an older schema had of them.
@@ -196,6 +299,19 @@ pub(crate) struct Marks {
     pub(crate) tags: Vec<TagRow>,
     /// The rows of the table `needs`.
     pub(crate) targets: Vec<TargetRow>,
+    ghost tags_rise: { IsSortedByKey (λ r. (r.package, r.tag)) pair_cmp tags.items } by { Prim.hlevel props },
+}
+
+impl Marks {
+    pub(crate) fn new(tags: Vec<TagRow>, targets: Vec<TargetRow>) -> Result<Marks, Fault>
+        ensures { IfOk result (λ rows. (rows.tags.items ≡ tags.items)
+            × (rows.targets.items ≡ targets.items)) }
+    {
+        Ok(Marks {
+            tags: in_order(tags)?,
+            targets,
+        })
+    }
 }
 
 /// The numbers of roles, statuses and what is granted.

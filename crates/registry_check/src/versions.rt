@@ -2,7 +2,7 @@
 
 ghost use Rattle.std.specs.Prelude.{◌≡◌, ◌&&◌, IfOk, option_map};
 ghost use Rattle.std.specs.List.{list_all, list_any};
-ghost use Rattle.registry_names.specs.Keys.{Pair, pair_is};
+ghost use Rattle.registry_names.specs.Keys.{Pair};
 ghost use Rattle.registry_names.specs.Texts as texts;
 ghost use Rattle.registry_publish.specs.Needs as needs;
 ghost use Rattle.registry_tables.specs.Contents.{LiveVersion};
@@ -13,6 +13,8 @@ ghost use Rattle.registry_check.specs.Rules as rules;
 ghost use Rattle.registry_check.specs.Rules.{live_tests, need_is, need_tests};
 
 use crate::checked::Checked;
+use crate::keys::compare_pair;
+use crate::order::rows_with;
 use crate::people::copied;
 use crate::problem::{Test, Thing};
 use crate::rule::Rule;
@@ -131,13 +133,17 @@ fn is_named(alloc: Global, row: &NeedRow, all: &Tables) -> Result<bool, Fault>
     ensures { IfOk result (λ is. is
         ≡ rules.is_named (rows_of all.now) (need_entry row.now).0) }
 {
-    any_names(alloc, &all.versions.live, row)
+    let (package, version) = (row.package.as_str(), row.version.as_str());
+    let live = rows_with(&all.versions.live, |live| {
+        compare_pair(&live.package, &live.version, package, version)
+    });
+    any_names(alloc, live, row)
 }
 
+// Whether the manifest of one of these versions names what the need does.
 fn any_names(alloc: Global, rows: &[LiveRow], need: &NeedRow) -> Result<bool, Fault>
-    ensures { IfOk result (λ any. any ≡ list_any (λ r. pair_is
-        (r.package, r.version) (need.now.package, need.now.version)
-        && names_if_any need.now.target need.now.range (needs.needs_of r.manifest)) rows.now) }
+    ensures { IfOk result (λ any. any ≡ list_any (λ r. names_if_any
+        need.now.target need.now.range (needs.needs_of r.manifest)) rows.now) }
 {
     for row in rows {
         if is_needing(alloc, row, need)? {
@@ -147,28 +153,14 @@ fn any_names(alloc: Global, rows: &[LiveRow], need: &NeedRow) -> Result<bool, Fa
     Ok(false)
 }
 
-// Whether it is the version of the need, and its manifest names it.
 fn is_needing(alloc: Global, live: &LiveRow, need: &NeedRow) -> Result<bool, Fault>
-    ensures { IfOk result (λ is. is ≡ (pair_is
-        (live.now.package, live.now.version) (need.now.package, need.now.version)
-        && names_if_any need.now.target need.now.range (needs.needs_of live.now.manifest))) }
+    ensures { IfOk result (λ is. is ≡ names_if_any
+        need.now.target need.now.range (needs.needs_of live.now.manifest)) }
 {
-    if !is_of(live, need) {
-        return Ok(false);
-    }
     match named(alloc, live.manifest.as_str())? {
         Some(needs) => Ok(is_among(needs.as_slice(), need)),
         None => Ok(false),
     }
-}
-
-// Whether it is a need of this version.
-#[tactic(auto, unfolding(registry_names::specs::Texts::is))]
-fn is_of(live: &LiveRow, need: &NeedRow) -> bool
-    ensures { result ≡ pair_is
-        (live.now.package, live.now.version) (need.now.package, need.now.version) }
-{
-    live.package == need.package && live.version == need.version
 }
 
 fn is_among(needs: &[Need], row: &NeedRow) -> bool

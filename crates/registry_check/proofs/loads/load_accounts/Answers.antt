@@ -1,3 +1,7 @@
+use Rattle.std.proofs.Common.{◌∙◌, ap, map}
+use Rattle.std.proofs.lemmas.Result.{IfOk-weaker}
+use Rattle.registry_access.specs.RowMaps.{organisation_entry}
+use Rattle.registry_check.specs.Rows.{token_entry, user_entry}
 use Rattle.registry_names.specs.Maps.{entries}
 use Rattle.registry_rows.proofs.QuietFacts.{stays_then}
 use Rattle.registry_tables.specs.Contents.{contents}
@@ -28,5 +32,5 @@ returns g c =
     let all = next g.S.Store c.args.tx.now c.load-2.new.tx c.load-3.new.tx _ _ (next g.S.Store c.args.tx.now c.load.new.tx c.load-2.new.tx _ _ one two) three in
     record {
       stays = all.stays;
-      loads = λ clean. let r = all.reads clean in (r.0, record { users = r.1.0.0; tokens = r.1.0.1; organisations = r.1.1 });
+      loads = λ clean. let r = all.reads clean in IfOk-weaker c.new.result _ _ (λ rows e. (r.0, record { users = ap (map user_entry) e.0 ∙ r.1.0.0; tokens = ap (map token_entry) e.1 ∙ r.1.0.1; organisations = ap (map organisation_entry) e.2 ∙ r.1.1 })) c.new.ensures;
     }

@@ -1,3 +1,6 @@
+use Rattle.std.proofs.Common.{◌∙◌, ap, map}
+use Rattle.std.proofs.lemmas.Result.{IfOk-weaker}
+use Rattle.registry_access.specs.RowMaps.{member_entry, team_entry, team_member_entry}
 use Rattle.registry_names.specs.Maps.{entries}
 use Rattle.registry_rows.proofs.QuietFacts.{stays_then}
 use Rattle.registry_tables.specs.Contents.{access_of, contents}
@@ -28,5 +31,5 @@ returns g c =
     let all = next g.S.Store c.args.tx.now c.load-2.new.tx c.load-3.new.tx _ _ (next g.S.Store c.args.tx.now c.load.new.tx c.load-2.new.tx _ _ one two) three in
     record {
       stays = all.stays;
-      loads = λ clean. let r = all.reads clean in (r.0, record { members = r.1.0.0; teams = r.1.0.1; team_members = r.1.1 });
+      loads = λ clean. let r = all.reads clean in IfOk-weaker c.new.result _ _ (λ rows e. (r.0, record { members = ap (map member_entry) e.0 ∙ r.1.0.0; teams = ap (map team_entry) e.1 ∙ r.1.0.1; team_members = ap (map team_member_entry) e.2 ∙ r.1.1 })) c.new.ensures;
     }

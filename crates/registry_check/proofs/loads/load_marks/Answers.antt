@@ -1,3 +1,6 @@
+use Rattle.std.proofs.Common.{◌∙◌, ap, map}
+use Rattle.std.proofs.lemmas.Result.{IfOk-weaker}
+use Rattle.registry_check.specs.Rows.{tag_entry, target_entry}
 use Rattle.registry_names.specs.Maps.{entries}
 use Rattle.registry_rows.proofs.QuietFacts.{stays_then}
 use Rattle.registry_tables.specs.Contents.{contents}
@@ -21,5 +24,5 @@ returns g c =
     let all = next g.S.Store c.args.tx.now c.load.new.tx c.load-2.new.tx _ _ one two in
     record {
       stays = all.stays;
-      loads = λ clean. let r = all.reads clean in (r.0, record { tags = r.1.0; targets = r.1.1 });
+      loads = λ clean. let r = all.reads clean in IfOk-weaker c.new.result _ _ (λ rows e. (r.0, record { tags = ap (map tag_entry) e.0 ∙ r.1.0; targets = ap (map target_entry) e.1 ∙ r.1.1 })) c.new.ensures;
     }

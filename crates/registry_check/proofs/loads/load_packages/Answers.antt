@@ -1,3 +1,6 @@
+use Rattle.std.proofs.Common.{◌∙◌, ap, map}
+use Rattle.std.proofs.lemmas.Result.{IfOk-weaker}
+use Rattle.registry_access.specs.RowMaps.{grant_entry, maintainer_entry, package_entry}
 use Rattle.registry_names.specs.Maps.{entries}
 use Rattle.registry_rows.proofs.QuietFacts.{stays_then}
 use Rattle.registry_tables.specs.Contents.{access_of, contents}
@@ -28,5 +31,5 @@ returns g c =
     let all = next g.S.Store c.args.tx.now c.load-2.new.tx c.load-3.new.tx _ _ (next g.S.Store c.args.tx.now c.load.new.tx c.load-2.new.tx _ _ one two) three in
     record {
       stays = all.stays;
-      loads = λ clean. let r = all.reads clean in (r.0, record { published = r.1.0.0; grants = r.1.0.1; maintainers = r.1.1 });
+      loads = λ clean. let r = all.reads clean in IfOk-weaker c.new.result _ _ (λ rows e. (r.0, record { published = ap (map package_entry) e.0 ∙ r.1.0.0; grants = ap (map grant_entry) e.1 ∙ r.1.0.1; maintainers = ap (map maintainer_entry) e.2 ∙ r.1.1 })) c.new.ensures;
     }

@@ -1,3 +1,6 @@
+use Rattle.std.proofs.Common.{◌∙◌, ap, map}
+use Rattle.std.proofs.lemmas.Result.{IfOk-weaker}
+use Rattle.registry_check.specs.Rows.{archive_entry, held_entry, live_entry, need_entry}
 use Rattle.registry_names.specs.Maps.{entries}
 use Rattle.registry_rows.proofs.QuietFacts.{stays_then}
 use Rattle.registry_tables.specs.Contents.{contents}
@@ -36,5 +39,5 @@ returns g c =
     let all = next g.S.Store c.args.tx.now c.load-3.new.tx c.load-4.new.tx _ _ (next g.S.Store c.args.tx.now c.load-2.new.tx c.load-3.new.tx _ _ (next g.S.Store c.args.tx.now c.load.new.tx c.load-2.new.tx _ _ one two) three) four in
     record {
       stays = all.stays;
-      loads = λ clean. let r = all.reads clean in (r.0, record { live = r.1.0.0.0; needs = r.1.0.0.1; held = r.1.0.1; archives = r.1.1 });
+      loads = λ clean. let r = all.reads clean in IfOk-weaker c.new.result _ _ (λ rows e. (r.0, record { live = ap (map live_entry) e.0 ∙ r.1.0.0.0; needs = ap (map need_entry) e.1 ∙ r.1.0.0.1; held = ap (map held_entry) e.2 ∙ r.1.0.1; archives = ap (map archive_entry) e.3 ∙ r.1.1 })) c.new.ensures;
     }

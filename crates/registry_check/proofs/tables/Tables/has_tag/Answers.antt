@@ -1,9 +1,14 @@
-use Rattle.std.proofs.Common.{◌∙◌}
-use Rattle.registry_names.specs.Keys.{Pair, pair_is}
-use Rattle.registry_names.specs.Texts.{Text}
+use Rattle.std.proofs.Common.{◌∙◌, rules}
+use Rattle.registry_names.specs.Keys.{pair_cmp}
+use Rattle.registry_names.proofs.KeyFacts.{pair_key}
+use Rattle.registry_check.specs.declared.tables.TagRow.{TagRow}
 use Rattle.registry_check.specs.Rows.{tag_entry}
-use Rattle.registry_check.proofs.SearchFacts.{any_mapped}
+use Rattle.registry_check.proofs.OrderFacts.{rises}
+use Rattle.registry_check.proofs.SearchFacts.{has_mapped}
 use Rattle.registry_check.proofs.tables.Tables.has_tag.Goals as goal
 
 pub returns : goal.returns
-returns c = c.any_tag.ensures ∙ rw c.deref.ensures.value (any_mapped (λ (e : Pair × Text). pair_is e.0 (c.args.name.now, c.args.tag.now)) tag_entry _)
+returns c =
+    let call = rw c.deref.ensures.value at c.contains.ensures in
+    call (λ (r : TagRow). pair_cmp (r.package, r.tag) (c.args.name.now, c.args.tag.now)) (λ row answer k. search rules) (rises pair_key.total (λ (r : TagRow). (r.package, r.tag)) _ (c.args.name.now, c.args.tag.now) c.args.self.now.marks.tags_rise)
+    ∙ has_mapped pair_key tag_entry (c.args.name.now, c.args.tag.now) c.args.self.now.marks.tags.items

@@ -1,13 +1,16 @@
-use Rattle.std.proofs.lemmas.Int.{to_z-of_z}
-use Rattle.std.proofs.Common.{SFits, rules, w64, ◌∙◌, ℤ}
-use Rattle.std.specs.Ordering.{int_eq}
+use Rattle.std.proofs.Common.{Bor, ◌∙◌, ℤ, ap, option_map, rules}
+use Rattle.std.specs.Ordering.{int_cmp}
 use Rattle.registry_tables.specs.Contents.{Archive}
+use Rattle.registry_rows.proofs.KeyedFacts.{number_key}
 use Rattle.registry_check.specs.Rows.{archive_entry}
-use Rattle.registry_check.proofs.SearchFacts.{find_mapped}
+use Rattle.registry_check.specs.declared.tables.ArchiveRow.{ArchiveRow}
+use Rattle.registry_check.proofs.OrderFacts.{rises}
+use Rattle.registry_check.proofs.SearchFacts.{first_mapped, twice}
 use Rattle.registry_check.proofs.tables.Tables.integrity_under.Goals as goal
 
 pub returns : goal.returns
 returns c =
-    let fits : SFits w64 c.args.number = search rules in
-    let call = rw (c.deref.ensures.value, to_z-of_z w64 c.args.number fits) at c.integrity_in.ensures in
-    call ∙ find_mapped (λ (e : ℤ × Archive). int_eq e.0 c.args.number) archive_entry (λ (e : ℤ × Archive). e.1.integrity) _
+    let call = rw c.deref.ensures.value at c.first_with.ensures in
+    let found = call (λ (r : ArchiveRow). int_cmp r.number c.args.number) (λ row answer k. search rules) (rises number_key.total (λ (r : ArchiveRow). r.number) _ c.args.number c.args.self.now.versions.archives_rise) in
+    c.integrity_in.ensures ∙ twice (λ (r : Bor ArchiveRow). r.now) (λ (r : ArchiveRow). r.integrity) c.first_with.result ∙ ap (option_map (λ (r : ArchiveRow). r.integrity)) found
+    ∙ first_mapped number_key archive_entry c.args.number (λ (e : ℤ × Archive). e.1.integrity) c.args.self.now.versions.archives.items

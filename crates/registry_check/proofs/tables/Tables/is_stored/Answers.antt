@@ -1,13 +1,14 @@
-use Rattle.std.proofs.lemmas.Int.{to_z-of_z}
-use Rattle.std.proofs.Common.{SFits, rules, w64, ◌∙◌, ℤ}
-use Rattle.registry_tables.specs.Contents.{Archive}
+use Rattle.std.proofs.Common.{rules, ◌∙◌}
+use Rattle.std.specs.Ordering.{int_cmp}
+use Rattle.registry_rows.proofs.KeyedFacts.{number_key}
 use Rattle.registry_check.specs.Rows.{archive_entry}
-use Rattle.std.specs.Ordering.{int_eq}
-use Rattle.registry_check.proofs.SearchFacts.{any_mapped}
+use Rattle.registry_check.specs.declared.tables.ArchiveRow.{ArchiveRow}
+use Rattle.registry_check.proofs.OrderFacts.{rises}
+use Rattle.registry_check.proofs.SearchFacts.{has_mapped}
 use Rattle.registry_check.proofs.tables.Tables.is_stored.Goals as goal
 
 pub returns : goal.returns
 returns c =
-    let fits : SFits w64 c.args.number = search rules in
-    let call = rw (c.deref.ensures.value, to_z-of_z w64 c.args.number fits) at c.any_number.ensures in
-    call ∙ any_mapped (λ (e : ℤ × Archive). int_eq e.0 c.args.number) archive_entry _
+    let call = rw c.deref.ensures.value at c.contains.ensures in
+    call (λ (r : ArchiveRow). int_cmp r.number c.args.number) (λ row answer k. search rules) (rises number_key.total (λ (r : ArchiveRow). r.number) _ c.args.number c.args.self.now.versions.archives_rise)
+    ∙ has_mapped number_key archive_entry c.args.number c.args.self.now.versions.archives.items

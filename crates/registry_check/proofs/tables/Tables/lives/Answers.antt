@@ -1,9 +1,14 @@
-use Rattle.std.proofs.Common.{◌∙◌}
-use Rattle.registry_names.specs.Keys.{Pair, pair_is}
-use Rattle.registry_tables.specs.Contents.{LiveVersion}
+use Rattle.std.proofs.Common.{◌∙◌, rules}
+use Rattle.registry_names.specs.Keys.{pair_cmp}
+use Rattle.registry_names.proofs.KeyFacts.{pair_key}
+use Rattle.registry_check.specs.declared.tables.LiveRow.{LiveRow}
 use Rattle.registry_check.specs.Rows.{live_entry}
-use Rattle.registry_check.proofs.SearchFacts.{any_mapped}
+use Rattle.registry_check.proofs.OrderFacts.{rises}
+use Rattle.registry_check.proofs.SearchFacts.{has_mapped}
 use Rattle.registry_check.proofs.tables.Tables.lives.Goals as goal
 
 pub returns : goal.returns
-returns c = c.any_live.ensures ∙ rw c.deref.ensures.value (any_mapped (λ (e : Pair × LiveVersion). pair_is e.0 (c.args.name.now, c.args.version.now)) live_entry _)
+returns c =
+    let call = rw c.deref.ensures.value at c.contains.ensures in
+    call (λ (r : LiveRow). pair_cmp (r.package, r.version) (c.args.name.now, c.args.version.now)) (λ row answer k. search rules) (rises pair_key.total (λ (r : LiveRow). (r.package, r.version)) _ (c.args.name.now, c.args.version.now) c.args.self.now.versions.live_rise)
+    ∙ has_mapped pair_key live_entry (c.args.name.now, c.args.version.now) c.args.self.now.versions.live.items
