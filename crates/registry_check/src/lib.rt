@@ -25,8 +25,6 @@ mod rule;
 mod scope;
 mod search;
 mod tables;
-#[cfg(test)]
-mod tests;
 mod versions;
 mod whole;
 
