@@ -619,6 +619,7 @@ const next = (number) => {
 next(0);
 TEXT
 costs_nobody() {
+    : > "$work/halves"
     node "$work/halves.js" "$1" 1000 "$2" > "$work/halves" 2>&1 &
     halves=$!
     stand_ins="$stand_ins $halves"
@@ -645,6 +646,7 @@ begin_front "$work/few"
 few_address=https://localhost:$(nth_port 10)
 wait_for with_token --fail "$few_address/large" || give_up "the front with few connections does not answer: $(cat "$work/few/error.log" "$work/out")"
 costs_all() {
+    : > "$work/halves"
     node "$work/halves.js" "$(nth_port 10)" 800 tls > "$work/halves" 2>&1 &
     halves=$!
     stand_ins="$stand_ins $halves"
