@@ -11,7 +11,7 @@ EVERY := 1
 JOBS := 1
 SECONDS := 600
 
-.PHONY: help demo quick try run build test check stories stops plants fmt npm front beside log socket kill files older limits large soak starve fuzz bench compare examples kit
+.PHONY: help demo quick try run build test check stories stops plants fmt npm front beside log socket kill files older limits large soak starve fuzz bench compare house examples kit
 
 help:
 	@echo 'Build:'
@@ -47,6 +47,7 @@ help:
 	@echo 'Measure the built program out/registry:'
 	@echo '  make bench    measures how long requests and the reading of bodies take: 5 minutes'
 	@echo '  make compare  measures its speed beside nginx and SQLite: 15 minutes'
+	@echo '  make house    measures a registry of 10,000 packages: it needs 5 GB of disk'
 
 kit:
 ifeq ($(KIT),)
@@ -123,6 +124,9 @@ compare: out/registry
 
 bench: out/registry
 	@tools/measure_requests --program out/registry
+
+house: out/registry
+	@tools/measure_house --program out/registry
 
 # A test may take ten minutes, since the prover works beside it.
 test: kit examples
