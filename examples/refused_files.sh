@@ -9,7 +9,8 @@
 # other one; the server goes on meanwhile. Then a disk's syncs fail under a server: the publish that
 # meets this is answered by a fault, the server ends with status 3 and says why, and started again it
 # has what was answered. Then the registry's file is one that is none, or that may not be written: each command
-# must say so, as docs/CLI.md has it, and leave every byte. What can't be had here is left out, and
+# must say so, as docs/CLI.md has it, and leave every byte. What another SQLite wrote anew is rescued by
+# tools/rescue. What can't be had here is left out, and
 # the script says so: the full disk needs root and mount, one that fails cc, a file that may not be
 # written setpriv or su where root runs it, another program's file python3. The status is 0 where all else came out. It
 # needs curl, sha512sum, base64 and timeout.
@@ -308,6 +309,43 @@ byte=$(od -An -tu1 -j 24 -N 1 "$db")
 # shellcheck disable=SC2059
 printf "\\$(printf '%03o' $((byte ^ 90)))" | dd of="$db" bs=1 seek=24 conv=notrunc 2> /dev/null
 is_refused "$program"
+
+# ---- a registry that another SQLite wrote anew
+
+# The file that these lines make of a whole copy is refused, since its tables are in another order.
+# tools/rescue makes one of it that opens, in which all rows are as they were.
+is_rescued() {
+    lay "$1" "$foreign"
+    rm -f "$work"/whole.db* "$work"/rescued.db*
+    must "$made" backup "$work/whole.db"
+    python3 -c "$2" "$work/whole.db" "$db"
+    is_refused "$program"
+    "$top/tools/rescue" "$db" "$work/rescued.db" || fail "$what: tools/rescue ended with $?"
+    must "$work/rescued.db" check
+    for words in 'packument kit' 'archive kit 1.0.4'; do
+        # shellcheck disable=SC2086
+        must "$made" $words
+        mv "$work/out" "$work/wanted"
+        # shellcheck disable=SC2086
+        must "$work/rescued.db" $words
+        cmp -s "$work/out" "$work/wanted" || fail "$what: $words is another after the rescue"
+    done
+    say "$what: rescued, it passes the check and answers the same"
+}
+
+if command -v python3 > /dev/null; then
+    is_rescued 'a copy after VACUUM' 'import shutil, sqlite3, sys
+shutil.copy(*sys.argv[1:])
+conn = sqlite3.connect(sys.argv[2])
+conn.execute("VACUUM")
+conn.close()'
+    is_rescued 'a copy that was dumped and read again' 'import sqlite3, sys
+old, new = map(sqlite3.connect, sys.argv[1:])
+new.executescript("\n".join(old.iterdump()))
+new.close()'
+else
+    say 'left out: files that another SQLite wrote anew, which python3 makes'
+fi
 
 # ---- a registry that another process has, or that may not be written
 
