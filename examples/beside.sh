@@ -103,6 +103,7 @@ is() {
     [ "$(cat "$work/$1.status")" = "$2" ] && { grep -qF "$3" "$work/$1.out" || grep -qF "$3" "$work/$1.errors"; }
 }
 is_done() { is "$1" 0 '{"ok":true}'; }
+is_copied() { is "$1" 0 '{"ok":true,"checked":true}'; }
 
 # ---- the same commands by themselves and beside a server
 
@@ -168,6 +169,7 @@ cat > "$work/commands" <<'END'
 --at 100 --as=-ann token-new ann
 --at 100 check
 --at 100 backup no-such-folder/copy.db
+--at 100 backup --no-check no-such-folder/copy.db
 --at 100 members
 --at 100 --help
 check more
@@ -669,7 +671,7 @@ copies_while_it_publishes() {
         sleep 0.5
         cp "$work/published" "$work/before"
         run one "$db" backup "$work/copy-$time.db"
-        is_done one || return 1
+        is_copied one || return 1
         [ "$(stat -c %a "$work/copy-$time.db")" = 600 ] || return 1
         for end in -wal -part -part-wal; do [ ! -e "$work/copy-$time.db$end" ] || return 1; done
         run one "$work/copy-$time.db" check
@@ -730,7 +732,7 @@ goes_on_after_a_killed_hold() {
     is one 3 'a file has the name of the copy' || return 1
     rm "$work/held.db-part" "$work/held.db-part-wal"
     run one "$db" backup "$work/held.db"
-    is_done one
+    is_copied one
 }
 try 'a server that is held answers nobody, and goes on at once where the command is killed' goes_on_after_a_killed_hold
 

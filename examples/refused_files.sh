@@ -333,6 +333,23 @@ is_rescued() {
     say "$what: rescued, it passes the check and answers the same"
 }
 
+# A copy of a registry that breaks a rule is made, and says so. The rule is broken by another SQLite.
+copy_says_what_is_wrong() {
+    python3 -c 'import sqlite3, sys
+conn = sqlite3.connect(sys.argv[1])
+conn.execute("DELETE FROM tags")
+conn.commit()
+conn.close()' "$work/rescued.db"
+    if asks "$work/rescued.db" backup "$work/wrong.db"; then status=0; else status=$?; fi
+    [ "$status" -eq 1 ] && [ ! -s "$work/out" ] || fail "a copy that breaks a rule ended with $status"
+    echo 'wrong: package kit has a live version and no tag latest' | cmp -s - "$work/errors" || fail "a copy that breaks a rule said $(cat "$work/errors")"
+    if asks "$work/wrong.db" check; then status=0; else status=$?; fi
+    [ "$status" -eq 1 ] || fail "the check of that copy ended with $status"
+    must "$work/rescued.db" backup --no-check "$work/unchecked.db"
+    [ "$(cat "$work/out")" = '{"ok":true}' ] || fail "a copy that isn't checked said $(cat "$work/out")"
+    say 'a copy that breaks a rule: it is there, and says what is wrong with status 1'
+}
+
 if command -v python3 > /dev/null; then
     is_rescued 'a copy after VACUUM' 'import shutil, sqlite3, sys
 shutil.copy(*sys.argv[1:])
@@ -343,6 +360,7 @@ conn.close()'
 old, new = map(sqlite3.connect, sys.argv[1:])
 new.executescript("\n".join(old.iterdump()))
 new.close()'
+    copy_says_what_is_wrong
 else
     say 'left out: files that another SQLite wrote anew, which python3 makes'
 fi

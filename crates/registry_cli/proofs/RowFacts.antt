@@ -18,7 +18,7 @@ use Rattle.registry_cli.specs.Lines.{value_in, parameters_of}
 use Rattle.registry_cli.specs.Subcommands.{subcommand, subcommands, with_groups, with_rules, with_subcommands}
 use Rattle.registry_cli.specs.Tables.{row_of, rows_of_group, rule, rule_of_parameter}
 use Rattle.registry_cli.specs.declared.subcommand.Need.{Need}
-use Rattle.registry_cli.specs.declared.subcommand.Need.TheVariants.{Required, Default, Number, NumberIfSaid, WordIfSaid}
+use Rattle.registry_cli.specs.declared.subcommand.Need.TheVariants.{Required, Default, Number, NumberIfSaid, WordIfSaid, Flag}
 use Rattle.registry_cli.specs.declared.subcommand.Parameter.{Parameter}
 use Rattle.registry_cli.specs.declared.subcommand.Subcommand.{Subcommand}
 
@@ -62,6 +62,7 @@ id_of w = go w.need
     go (Number name most text) = refl
     go (NumberIfSaid name most) = refl
     go (WordIfSaid name) = refl
+    go (Flag name) = refl
 
 ids_of : (ws : List Parameter) → map (λ w. w.id) (map rule_of_parameter ws) ≡ map (λ w. w.id.now) ws
 ids_of [] = refl

@@ -1,7 +1,7 @@
 -- What whoever runs the registry asks for beside requests, and what the words of it mean. Arguments
 -- are read as an errand only where they are wrong as a request, so the words of requests keep their
 -- meaning.
-use Rattle.std.specs.Prelude.{◌≡◌, ◌||◌, ℕ, Bool, true, false, List, [], ◌∷◌, ◌++◌, Option, None, Some, Ok, codes, decimal, is_none, is_some, unwrap_or, if◌then◌else◌}
+use Rattle.std.specs.Prelude.{◌≡◌, ◌||◌, ℕ, Bool, true, false, List, [], ◌∷◌, ◌++◌, Option, None, Some, Ok, codes, decimal, is_none, is_some, not, unwrap_or, if◌then◌else◌}
 use Rattle.std.specs.Str.{bytes_eq}
 use Rattle.clap.specs.Simple.{App, matches_of, subcommand_of}
 use Rattle.clap.specs.Takes.{takes}
@@ -11,8 +11,8 @@ use Rattle.registry_rules.specs.declared.request.Action.{Action}
 use Rattle.registry_rules.specs.declared.request.Action.TheVariants as action
 use Rattle.registry_rules.specs.declared.request.Credential.{Credential}
 use Rattle.registry_cli.specs.Asked.{reads_line}
-use Rattle.registry_cli.specs.Lines.{at_in, has_both, line_of, value_in, who_in}
-use Rattle.registry_cli.specs.Subcommands.{bare, connections, number, numbers, option, options, registry, required, user, with_rules, with_subcommands}
+use Rattle.registry_cli.specs.Lines.{at_in, has_both, has_flag, line_of, value_in, who_in}
+use Rattle.registry_cli.specs.Subcommands.{bare, connections, flag, number, numbers, option, options, registry, required, user, with_rules, with_subcommands}
 use Rattle.registry_cli.specs.declared.errands.Errand.{Errand}
 use Rattle.registry_cli.specs.declared.errands.Errand.TheVariants.{TokenNew, Check, Backup, Stop, Serve}
 use Rattle.registry_cli.specs.declared.errands.NewToken.{NewToken}
@@ -26,6 +26,9 @@ use Rattle.registry_cli.specs.declared.meaning.Who.TheVariants.{Operator, User, 
 abbrev pub copy : Rule
 copy = required (codes "COPY")
 
+abbrev pub no_check : Rule
+no_check = flag (codes "no-check") (codes "no-check")
+
 -- the port, which may be left out where there is a socket or a log
 abbrev pub port_beside : Rule
 port_beside = number (codes "PORT") (codes "port") (numbers 1 65535)
@@ -37,7 +40,7 @@ abbrev pub log : Rule
 log = option (codes "LOG") (codes "log")
 
 abbrev pub errands : List (Text × List Rule)
-errands = (codes "token-new", user ∷ []) ∷ (codes "check", []) ∷ (codes "backup", copy ∷ []) ∷ (codes "stop", []) ∷ (codes "serve", port_beside ∷ socket ∷ connections ∷ log ∷ []) ∷ []
+errands = (codes "token-new", user ∷ []) ∷ (codes "check", []) ∷ (codes "backup", no_check ∷ copy ∷ []) ∷ (codes "stop", []) ∷ (codes "serve", port_beside ∷ socket ∷ connections ∷ log ∷ []) ∷ []
 
 -- the options are those of requests
 abbrev pub admin_command : App
@@ -54,8 +57,12 @@ new_token who rows found = Some (TokenNew (record { db = db_in rows; who = who; 
 abbrev pub check : List Row → Option Errand
 check rows = Some (Check (db_in rows))
 
+-- a copy is checked unless the flag says that it isn't
+abbrev pub is_checked : List Row → Bool
+is_checked found = not (has_flag found (codes "no-check"))
+
 abbrev pub backup : List Row → List Row → Option Errand
-backup rows found = Some (Backup (db_in rows) (value_in found (codes "COPY")))
+backup rows found = Some (Backup (db_in rows) (value_in found (codes "COPY")) (is_checked found))
 
 abbrev pub stop : List Row → Option Errand
 stop rows = Some (Stop (db_in rows))

@@ -20,8 +20,12 @@ value_in rows id = unwrap_or (first_of id rows) []
 abbrev pub user_in : List Row → Option Text
 user_in = first_of (codes "USER")
 
+-- the flag of this name is there
+abbrev pub has_flag : List Row → Text → Bool
+has_flag rows id = bytes_eq (value_in rows id) (codes "true")
+
 abbrev pub is_operator_in : List Row → Bool
-is_operator_in rows = bytes_eq (value_in rows (codes "operator")) (codes "true")
+is_operator_in rows = has_flag rows (codes "operator")
 
 -- both `--as` and `--operator`
 abbrev pub are_both : Option Text → Bool → Bool

@@ -21,6 +21,10 @@ optional id text = record (new_rule id) { defaults = text ∷ [] }
 abbrev pub option : Text → Text → Rule
 option id name = record (new_rule id) { long = Some name }
 
+-- an option without a value, `--name`: what is found of it is the text `true` or `false`
+abbrev pub flag : Text → Text → Rule
+flag id name = record (option id name) { action = Some SetTrue }
+
 -- whole numbers from the first to the second
 abbrev pub numbers : ℕ → ℕ → ValueParser
 numbers least most = Signed (pos least) (pos most)
@@ -44,9 +48,8 @@ db = with_default (codes "registry.db") (option (codes "PATH") (codes "db"))
 abbrev pub as_user : Rule
 as_user = option (codes "USER") (codes "as")
 
--- a flag
 abbrev pub as_operator : Rule
-as_operator = record (option (codes "operator") (codes "operator")) { action = Some SetTrue }
+as_operator = flag (codes "operator") (codes "operator")
 
 abbrev pub at_moment : Rule
 at_moment = number (codes "SECONDS") (codes "at") moments

@@ -47,6 +47,7 @@ fn argument<'a>(alloc: Global, parameter: &Parameter) -> Arg<'a>
             .long(option)
             .value_parser(ValueParser::Signed(1, i64::from(greatest))),
         Need::WordIfSaid { option } => argument.long(option),
+        Need::Flag { option } => argument.long(option).action(ArgAction::SetTrue),
     }
 }
 

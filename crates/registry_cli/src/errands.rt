@@ -19,7 +19,7 @@ ghost use Rattle.registry_cli.specs.declared.usage.Usage.TheVariants as usage;
 use crate::arguments::{Arguments, push_text, push_word};
 use crate::command::{admin_command, registry};
 use crate::meaning::{Line, Who};
-use crate::reading::{at, caller, given, line_by, texts, value};
+use crate::reading::{at, caller, given, has_flag, line_by, texts, value};
 use crate::usage::Usage;
 use clap::error::ErrorKind;
 use clap::{ArgMatches, Error};
@@ -42,6 +42,8 @@ pub enum Errand {
         db: Text,
         /// The path of the copy.
         copy: Text,
+        /// Whether what the copy holds is checked.
+        checks: bool,
     },
     /// The end of the server that has a file.
     Stop {
@@ -362,7 +364,15 @@ fn backup(
     Ok(Some(Errand::Backup {
         db: Text::from_str(alloc, value(matches, "PATH"))?,
         copy: Text::from_str(alloc, value(found, "COPY"))?,
+        checks: is_checked(found),
     }))
+}
+
+// Whether a copy is checked: nothing says that it isn't.
+fn is_checked(found: &ArgMatches<'_>) -> bool
+    ensures { result ≡ spec.is_checked (rows_of (found_of found.now)) }
+{
+    !has_flag(found, "no-check")
 }
 
 fn stop(alloc: Global, matches: &ArgMatches<'_>) -> Result<Option<Errand>, AllocError>

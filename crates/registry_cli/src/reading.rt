@@ -116,10 +116,17 @@ pub(crate) fn value<'a>(matches: &ArgMatches<'a>, id: &str) -> &'a str
     }
 }
 
+// Whether the flag of this name is there.
+pub(crate) fn has_flag(matches: &ArgMatches<'_>, id: &str) -> bool
+    ensures { result ≡ spec.has_flag (rows_of (found_of matches.now)) id.now }
+{
+    is_same(value(matches, id), "true")
+}
+
 fn is_operator(matches: &ArgMatches<'_>) -> bool
     ensures { result ≡ is_operator_in (rows_of (found_of matches.now)) }
 {
-    is_same(value(matches, "operator"), "true")
+    has_flag(matches, "operator")
 }
 
 // The message where both are given.

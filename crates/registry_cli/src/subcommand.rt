@@ -34,6 +34,11 @@ pub(crate) enum Need {
         /// The option's name, without its hyphens.
         option: &'static str,
     },
+    /// It is a flag: an option without a value.
+    Flag {
+        /// The option's name, without its hyphens.
+        option: &'static str,
+    },
 }
 
 /// An argument of a subcommand.
@@ -390,6 +395,12 @@ const LOG: Parameter = Parameter {
     need: Need::WordIfSaid { option: "log" },
 };
 
+const NO_CHECK: Parameter = Parameter {
+    id: "no-check",
+    help: "Don't check what the copy holds, but only that it opens",
+    need: Need::Flag { option: "no-check" },
+};
+
 static ERRANDS: [Subcommand; 5] = [
     Subcommand {
         name: "token-new",
@@ -405,7 +416,7 @@ static ERRANDS: [Subcommand; 5] = [
     },
     Subcommand {
         name: "backup",
-        parameters: &[COPY],
+        parameters: &[NO_CHECK, COPY],
         about: "Copy the file, and check the copy",
         example: "Example: registry --db registry.db backup copy.db",
     },

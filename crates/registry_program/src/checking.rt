@@ -11,7 +11,7 @@ ghost use Rattle.registry_desk.specs.Adopted.{CanBeAdopted, CanBeAdoptedAgain};
 use crate::beside::{TRIES, busy, hold_server, is_busy, pause, require_no_other};
 use crate::checking_beside::problems_beside;
 use crate::ending::{Ending, Failure, Obstacle};
-use crate::errands::print_done;
+use crate::errands::{DONE, print_done};
 use crate::opening::{obstacle_left, require_file, unopened};
 use crate::run::{obstacle_text, print_line};
 use registry_check::{Problem, Thing, check};
@@ -53,12 +53,32 @@ fn print_problems<O: ByteOut, E: ByteOut>(
     output: &mut O,
     errors: &mut E,
 ) -> Result<u8, Ending> {
-    if problems.is_empty() {
-        return print_done(output);
-    }
+    let lines = problem_lines(alloc, problems)?;
+    print_wrong(&lines, DONE, output, errors)
+}
+
+/// The texts of problems, in their order.
+pub fn problem_lines(alloc: Global, problems: &[Problem]) -> Result<Vec<String>, AllocError> {
+    let mut lines = Vec::new(alloc);
     for problem in problems {
-        let text = problem_text(alloc, problem)?;
-        print_line(errors, WRONG, text.as_str());
+        lines.push(problem_text(alloc, problem)?)?;
+    }
+    Ok(lines)
+}
+
+/// Says on the output that all is done where nothing is wrong, and otherwise prints what is. Gives the
+/// exit status.
+pub fn print_wrong<O: ByteOut, E: ByteOut>(
+    lines: &[String],
+    done: &str,
+    output: &mut O,
+    errors: &mut E,
+) -> Result<u8, Ending> {
+    if lines.is_empty() {
+        return print_done(done, output);
+    }
+    for line in lines {
+        print_line(errors, WRONG, line.as_str());
     }
     Ok(1)
 }
@@ -154,9 +174,9 @@ fn problems_within<S: Alter + Drop>(
     problems_of(alloc, &mut conn)
 }
 
-// What is wrong in the tables of a connection that is between requests. Nothing is wrong exactly
-// where everything holds that the promises suppose.
-fn problems_of<S: Alter>(alloc: Global, conn: &mut Connection<S>) -> Result<Vec<Problem>, Fault>
+/// What is wrong in the tables of a connection that is between requests. Nothing is wrong exactly
+/// where everything holds that the promises suppose.
+pub fn problems_of<S: Alter>(alloc: Global, conn: &mut Connection<S>) -> Result<Vec<Problem>, Fault>
     requires idle { conn.old.in_transaction ≡ false }
     requires ready { Ready tables.schema (state S.Store conn.old) }
     ensures { HasCleanDisk (state S.Store conn.new)

@@ -1,24 +1,28 @@
 //! Copying the file that keeps a registry.
 
-ghost use Rattle.std.specs.Prelude.{IfOk, IsTrue, OnOk};
+ghost use Rattle.std.specs.Prelude.{◌≡◌, false, IfOk, IsTrue, OnOk};
 ghost use Rattle.std.specs.Io.KnownBytes.{Appends};
 ghost use Rattle.sqlite.specs.Files.{file_state};
+ghost use Rattle.sqlite.specs.Held.{state};
 ghost use Rattle.sqlite_wal.specs.Reads.{AreClean};
+ghost use Rattle.registry_rows.specs.Ready.{Ready};
+ghost use Rattle.registry_tables.specs.Schema as tables;
 ghost use Rattle.registry_program.specs.Copies.{IsCopy};
 
 use crate::beside::{TRIES, busy, hold_server, is_busy, pause, require_held, require_no_other};
+use crate::checking::{problem_lines, problems_of};
 use crate::ending::{Ending, Failure, Obstacle, Snag};
 use crate::held::{copy_files, new_file, snag, snagged, written};
-use crate::opening::{close_files, open, require_file};
+use crate::opening::{close_files, open, require_file, unclosed};
+use crate::parts::Names;
 use registry_desk::Registry;
 use registry_guests::Hold;
-use sqlite::{FileStore, Files};
+use sqlite::{Alter, Connection, FileStore, Files};
 use sqlite_disk::Disk;
-use std::alloc::{AllocError, Global};
+use std::alloc::Global;
 use std::fs::File;
-use std::io::{ErrorKind, Write};
-use std::path::{AsPath, Path};
-use std::{fs, io};
+use std::io;
+use std::io::Write;
 
 /// How many bytes are copied at once.
 const PIECE: usize = 16_384;
@@ -28,66 +32,28 @@ const PIECE: usize = 16_384;
 /// The copy is made in a file whose name is the copy's with `-part`, opened to see that it is
 /// whole, and then gets its own name. Where no other process has the file, its log is copied into
 /// it first. Where a server has it, the server is held while the file and its log are copied, and
-/// the log is copied into the copy.
+/// the log is copied into the copy. A line is returned for each thing that is wrong in the copy, which
+/// is made all the same; none if it isn't to be checked.
 ///
 /// A fault is returned where the file isn't there or can't be opened; where a file already has the
 /// name of the copy, or that name and `-wal`, `-part` or `-part-wal` (that file isn't changed);
 /// where the copy can't be written or doesn't open; and where the server went on meanwhile. Then
 /// there is no copy.
-pub fn back_up(rt: &HostRuntime, alloc: Global, path: &str, copy: &str) -> Result<(), Ending> {
+pub fn back_up(
+    rt: &HostRuntime,
+    alloc: Global,
+    path: &str,
+    copy: &str,
+    checks: bool,
+) -> Result<Vec<String>, Ending> {
     let names = Names::of(alloc, copy)?;
     require_file(rt, path)?;
     require_no_other(rt, alloc, path)?;
     names.require_free(rt)?;
     let part = new_file(rt, names.part.as_str())?;
-    let made = make_copy(rt, alloc, path, part, &names);
+    let made = make_copy(rt, alloc, path, part, &names, checks);
     names.forget_part(rt);
     made
-}
-
-/// The names of a copy and of its log, and those under which they are made.
-#[derive(Drop)]
-struct Names<'a> {
-    copy: &'a str,
-    log: String,
-    part: String,
-    part_log: String,
-}
-
-impl Names<'_> {
-    fn of(alloc: Global, copy: &str) -> Result<Names<'_>, AllocError> {
-        Ok(Names {
-            copy,
-            log: format!(in alloc; "{copy}-wal")?,
-            part: format!(in alloc; "{copy}-part")?,
-            part_log: format!(in alloc; "{copy}-part-wal")?,
-        })
-    }
-
-    // A fault where a file has any of these names.
-    fn require_free(&self, rt: &HostRuntime) -> Result<(), Ending> {
-        require_none(rt, self.copy)?;
-        for name in [&self.log, &self.part, &self.part_log] {
-            require_none(rt, name.as_str())?;
-        }
-        Ok(())
-    }
-
-    // Removes the files in which the copy was made.
-    fn forget_part(&self, rt: &HostRuntime) {
-        for name in [&self.part, &self.part_log] {
-            let _ = fs::remove_file(rt, name.as_str());
-        }
-    }
-}
-
-// A fault where a file has the name.
-fn require_none(rt: &HostRuntime, path: &str) -> Result<(), Ending> {
-    match fs::symlink_metadata(rt, path) {
-        Err(error) if error.kind() == ErrorKind::NotFound => Ok(()),
-        Err(error) => Err(snagged(&error)),
-        Ok(_) => Err(snag(Snag::Taken)),
-    }
 }
 
 // Writes the part, checks that it is whole, and gives it the name of the copy.
@@ -97,14 +63,15 @@ fn make_copy(
     path: &str,
     part: File,
     names: &Names<'_>,
-) -> Result<(), Ending> {
+    checks: bool,
+) -> Result<Vec<String>, Ending> {
     let mut part = part;
     fill(rt, alloc, path, &mut part, names.part_log.as_str())?;
     written(part.sync_all())?;
-    see_whole(rt, names.part.as_str())?;
+    let lines = see_whole(rt, alloc, names.part.as_str(), checks)?;
     written(part.sync_all())?;
-    written(fs::hard_link(rt, names.part.as_str(), names.copy))?;
-    written(sync_folder(rt, names.copy))
+    names.give_name(rt)?;
+    Ok(lines)
 }
 
 // Writes the registry in a file to the part, also where a server has the file. Only then the part
@@ -144,18 +111,6 @@ fn copy_beside(
     require_held(&mut held)?;
     drop(held);
     written(log.sync_all())
-}
-
-// Syncs the names in the folder of the file to the disk.
-fn sync_folder(rt: &HostRuntime, path: &str) -> io::Result<()> {
-    fs::open(rt, folder_of(path))?.sync_all()
-}
-
-fn folder_of(path: &str) -> Path<'_> {
-    match Path::new(path).parent() {
-        Some(folder) if !folder.path_text().is_empty() => folder,
-        _ => Path::new("."),
-    }
 }
 
 // Copies the registry in a file that no other process has.
@@ -237,26 +192,57 @@ fn write_disk<D: Disk, W: Write>(disk: &mut D, output: &mut W) -> io::Result<()>
     Ok(())
 }
 
-// Opens the copy as a registry, and closes it again, which copies its log into it.
-fn see_whole(rt: &HostRuntime, copy: &str) -> Result<(), Ending> {
+// Opens the copy as a registry, and closes it again, which copies its log into it. Returns a line for
+// each thing that is wrong in it, if that is asked for.
+fn see_whole(
+    rt: &HostRuntime,
+    alloc: Global,
+    copy: &str,
+    checks: bool,
+) -> Result<Vec<String>, Ending> {
     match open(rt, copy) {
-        Ok(registry) => close_whole(registry),
+        Ok(registry) => see_inside(alloc, registry, checks),
         Err(Ending::Fault(Failure::Opening(Obstacle::Full))) => Err(snag(Snag::Full)),
         Err(Ending::Fault(Failure::Opening(_))) => Err(snag(Snag::Unreadable)),
         Err(ending) => Err(ending),
     }
 }
 
-fn close_whole<D: Disk + Drop>(registry: Registry<FileStore<D>>) -> Result<(), Ending> {
-    match close_files(registry) {
+/// Closes a copy that was opened, which copies its log into it. Returns a line for each thing that is
+/// wrong in it, if that is asked for.
+pub fn see_inside<D: Disk + Drop>(
+    alloc: Global,
+    registry: Registry<FileStore<D>>,
+    checks: bool,
+) -> Result<Vec<String>, Ending> {
+    let mut conn = registry.release();
+    let found = wrong_in(alloc, &mut conn, checks);
+    match conn.close_files() {
         Ok(files) => {
             drop(files);
-            Ok(())
+            found
         }
-        Err((ending, files)) => {
-            drop(files);
-            Err(snag(why_unclosed(&ending)))
+        Err((error, store)) => {
+            drop(store);
+            Err(snag(why_unclosed(&unclosed(error))))
         }
+    }
+}
+
+// A line for each thing that is wrong, if that is asked for.
+fn wrong_in<S: Alter>(
+    alloc: Global,
+    conn: &mut Connection<S>,
+    checks: bool,
+) -> Result<Vec<String>, Ending>
+    requires idle { conn.old.in_transaction ≡ false }
+    requires ready { Ready tables.schema (state S.Store conn.old) }
+{
+    if checks {
+        let problems = problems_of(alloc, conn)?;
+        Ok(problem_lines(alloc, &problems)?)
+    } else {
+        Ok(Vec::new(alloc))
     }
 }
 

@@ -2,7 +2,7 @@
 
 use crate::asking::Answer;
 use crate::beside::print_sent_token;
-use crate::checking::print_check;
+use crate::checking::{print_check, print_wrong};
 use crate::commands::{ask_line, given_alone};
 use crate::copying::back_up;
 use crate::ending::{Ending, Failure};
@@ -15,7 +15,10 @@ use std::alloc::Global;
 use std::random::RandomSource;
 
 /// What is printed for an errand that was done.
-const DONE: &str = "{\"ok\":true}\n";
+pub const DONE: &str = "{\"ok\":true}\n";
+
+/// What is printed for a copy that was made, and in which nothing is wrong.
+const CHECKED: &str = "{\"ok\":true,\"checked\":true}\n";
 
 /// Runs an errand, prints its result, and gives the exit status. A check, a copy and the end of a
 /// server always concern the file at the path, whatever `registries` are. Where a server has the
@@ -31,22 +34,27 @@ pub fn run_errand<R: Registries, O: ByteOut, E: ByteOut>(
     match errand {
         Errand::TokenNew(new) => make_token(rt, alloc, registries, new, output, errors),
         Errand::Check { db } => print_check(rt, alloc, db.as_str(), output, errors),
-        Errand::Backup { db, copy } => {
-            back_up(rt, alloc, db.as_str(), copy.as_str())?;
-            print_done(output)
+        Errand::Backup { db, copy, checks } => {
+            let wrong = back_up(rt, alloc, db.as_str(), copy.as_str(), checks)?;
+            print_wrong(&wrong, done_of(checks), output, errors)
         }
         Errand::Stop { db } => {
             stop(rt, alloc, db.as_str())?;
-            print_done(output)
+            print_done(DONE, output)
         }
         Errand::Serve(serving) => serve_beside(rt, alloc, &serving, output, errors),
     }
 }
 
 /// Says on the output that an errand was done, and gives the exit status.
-pub fn print_done<O: ByteOut>(output: &mut O) -> Result<u8, Ending> {
-    write_whole(output, DONE.as_bytes())?;
+pub fn print_done<O: ByteOut>(done: &str, output: &mut O) -> Result<u8, Ending> {
+    write_whole(output, done.as_bytes())?;
     Ok(0)
+}
+
+// What is printed for a copy that was made: whether it was checked, too.
+fn done_of(checks: bool) -> &'static str {
+    if checks { CHECKED } else { DONE }
 }
 
 // Makes a token, adds it, and prints it where it was added. The registry keeps only its digest, so

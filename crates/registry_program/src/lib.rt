@@ -15,6 +15,7 @@ mod log_place;
 mod logging;
 mod moment;
 mod opening;
+mod parts;
 mod publication;
 mod registries;
 mod run;

@@ -107,8 +107,8 @@ pub fn close_files<D: Disk + Drop>(
     }
 }
 
-// The fault where a registry's log can't be copied into its file.
-fn unclosed(error: Error) -> Ending {
+/// The fault where a registry's log can't be copied into its file.
+pub fn unclosed(error: Error) -> Ending {
     match error {
         Error::SqliteFailure(ErrorCode::OutOfMemory) => Ending::from(Fault::Memory),
         error => Ending::Fault(Failure::Opening(obstacle_of(error))),

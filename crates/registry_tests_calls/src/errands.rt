@@ -46,12 +46,16 @@ fn a_file_can_be_checked(rt: HostRuntime) {
 
 #[test]
 fn a_file_can_be_copied(rt: HostRuntime) {
-    let arguments = ["--db", "r.db", "backup", "copy.db"];
-    let Errand::Backup { db, copy } = errand(&rt, rt.alloc(), &arguments) else {
-        panic!(rt; "nothing is copied");
-    };
-    same(&rt, "db", db.as_str(), "r.db");
-    same(&rt, "copy", copy.as_str(), "copy.db");
+    let arguments = ["--db", "r.db", "backup", "copy.db", "--no-check"];
+    for (count, is_checked) in [(4, true), (5, false)] {
+        let Errand::Backup { db, copy, checks } = errand(&rt, rt.alloc(), &arguments[..count])
+        else {
+            panic!(rt; "nothing is copied");
+        };
+        same(&rt, "db", db.as_str(), "r.db");
+        same(&rt, "copy", copy.as_str(), "copy.db");
+        same(&rt, "checks", checks, is_checked);
+    }
 }
 
 #[test]
