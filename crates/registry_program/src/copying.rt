@@ -217,10 +217,18 @@ pub fn see_inside<D: Disk + Drop>(
 ) -> Result<Vec<String>, Ending> {
     let mut conn = registry.release();
     let found = wrong_in(alloc, &mut conn, checks);
+    match close_copy(conn) {
+        Ok(()) => found,
+        Err(ending) => Err(ending),
+    }
+}
+
+/// Closes a database that was made of a copy, which copies its log into it.
+pub fn close_copy<D: Disk + Drop>(conn: Connection<FileStore<D>>) -> Result<(), Ending> {
     match conn.close_files() {
         Ok(files) => {
             drop(files);
-            found
+            Ok(())
         }
         Err((error, store)) => {
             drop(store);

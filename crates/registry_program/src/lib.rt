@@ -18,6 +18,7 @@ mod opening;
 mod parts;
 mod publication;
 mod registries;
+mod restoring;
 mod run;
 mod serving;
 mod stopping;

@@ -150,9 +150,9 @@ fn obstacle_met(met: Tally) -> Obstacle {
     }
 }
 
-// What keeps an open database from being a registry. A database that has nothing yet is that of a
-// registry that couldn't be written.
-fn obstacle_in<S: Alter>(alloc: Global, conn: &mut Connection<S>) -> Obstacle {
+/// What keeps an open database from being a registry. A database that has nothing yet is that of a
+/// registry that couldn't be written.
+pub fn obstacle_in<S: Alter>(alloc: Global, conn: &mut Connection<S>) -> Obstacle {
     if has_nothing(conn) {
         Obstacle::Unreachable
     } else if is_newer(conn) {
