@@ -24,8 +24,8 @@ pub fn writers_read()
     ensures { WritersRead }
 {}
 
-/// A caller is allowed by nothing but what their ask concerns: of an organisation, whether it is
-/// there and their role in it; of a package, also its status, whether they are a maintainer of
+/// What a caller is allowed depends on what they ask about alone. Of an organisation that is whether
+/// it is there, and their role in it; of a package also its status, whether they are a maintainer of
 /// it, and what their teams are granted on it.
 pub fn agreeing_states_allow_the_same()
     ensures { AgreeingAllow }

@@ -2,10 +2,10 @@
 //! bytes.
 //!
 //! What is shared has many owners, and none of them copies it. A cache keeps texts, or bytes of any
-//! kind, by name: under a name nothing else than what was last put there and not forgotten since.
-//! Each takes its bytes, those of its name and a fixed number more of the cache's limit. Those that
-//! were asked least lately make room for a new one. One alone may take more than all of them may: it
-//! is kept beside them, in place of the one that was kept so before.
+//! kind, by name. Under a name it has what was last put there, unless that was forgotten since. An
+//! entry counts for its bytes, those of its name and a fixed number more. Where a new one has no
+//! room, those that were asked for least recently go. One entry may be larger than the limit: it is
+//! kept beside the others, in place of the last one that was as large.
 #![tactic(auto)]
 
 mod cache;

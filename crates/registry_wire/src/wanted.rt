@@ -1,4 +1,4 @@
-//! What a request asks for, before it is looked at closer.
+//! What a request asks for, before its target and its body are read.
 
 use registry_names::{Blob, Method};
 
