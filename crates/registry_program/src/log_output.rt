@@ -2,12 +2,13 @@
 
 ghost use Rattle.std.specs.Prelude.{◌≤◌, length};
 
+use crate::logging::put;
 use mio::unix::SourceFd;
 use mio::{Events, Interest, Poll, Token};
 use registry_log::LineSink;
 use std::alloc::Global;
 use std::io;
-use std::io::{ErrorKind, Write};
+use std::io::ErrorKind;
 use std::os::fd::RawFd;
 use std::time::Duration;
 
@@ -62,10 +63,7 @@ impl LogOutput {
         if !is_ready {
             return 0;
         }
-        match self.rt.stdout().write(line) {
-            Ok(count) => count,
-            Err(_) => 0,
-        }
+        put(&mut self.rt.stdout(), line)
     }
 }
 

@@ -1,6 +1,7 @@
 //! Where a log is kept, and its clock.
 
-ghost use Rattle.std.specs.Prelude.{◌≤◌, length};
+ghost use Rattle.std.specs.Prelude.{◌≤◌, length, take};
+ghost use Rattle.std.specs.Io.KnownBytes.{Appends};
 
 use crate::ending::{Ending, Failure};
 use crate::log_output::LogOutput;
@@ -194,11 +195,13 @@ fn last_byte(rt: &HostRuntime, path: &str) -> io::Result<u8> {
     Ok(last[0])
 }
 
-// Writes the bytes, and returns how many were written.
-fn put(file: &mut File, bytes: &[u8]) -> usize
-    ensures { result ≤ length bytes.now }
+/// Writes the bytes after those that are written, in one write, and returns how many of them the
+/// system took.
+pub(crate) fn put<W: Write>(writer: &mut W, bytes: &[u8]) -> usize
+    ensures few { result ≤ length bytes.now }
+    ensures wrote { Appends (W.contents writer.old) (W.contents writer.new) (take result bytes.now) }
 {
-    match file.write(bytes) {
+    match writer.write(bytes) {
         Ok(count) => count,
         Err(_) => 0,
     }
