@@ -1,5 +1,6 @@
 mod EachFacts
 mod FormFacts
+mod FoundFacts
 mod LoadFacts
 mod OrderFacts
 mod PremiseFacts

@@ -1,5 +1,5 @@
 -- One look-up after another loads of what was stored at first.
-use Rattle.std.proofs.Common.{◌≡◌, ◌∙◌, ℕ, List, [], arith, map, inl, inr, false, true, subst, sym, true≢false}
+use Rattle.std.proofs.Common.{◌≡◌, ◌∙◌, ℕ, List, [], arith, map, refl, inl, inr, false, true, subst, sym, true≢false}
 use Rattle.sqlite_value.specs.Order.{Row}
 use Rattle.sqlite_trees.specs.Tree.{Trees}
 use Rattle.sqlite_trees.specs.declared.store.Store.{Ghosts}
@@ -25,6 +25,21 @@ pub then_told : (a b c : Shown) (P : Trees → Type 0) → Reads schema a b → 
 then_told a b c P one two = (reads_then schema a b c one two.0, subst (λ (d : Database). P d.trees) one.same two.1)
 
 module _ {S : Type 0} (store : Ghosts S) where
+  -- a transaction stays by itself
+  pub stays_here : (tx : Transaction S) → Stays store tx tx
+  stays_here tx = record {
+    same_reference = refl;
+    committed = λ _. record { was_open = λ on. on; committed = λ on. refl };
+    survives = record {
+      clean = omega arith;
+      shield = λ s. s;
+      counts = omega arith;
+      limit = refl;
+      closes = λ _ on. inl on;
+      crash = λ _ db left. inl left;
+    };
+  }
+
   -- a call stays, and where the disk is clean, it read the tables and told this of them
   pub record Told (a b : Transaction S) (told : Trees → Type 0) : Type 0 where
     pub stays : Stays store a b

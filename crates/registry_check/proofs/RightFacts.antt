@@ -1,5 +1,5 @@
 -- No row breaks a rule exactly where the registry is right.
-use Rattle.std.proofs.Common.{◌≡◌, ◌∙◌, ◌==◌, ℕ, ℤ, ◌≤◌, Bool, true, false, not, ◌&&◌, ◌||◌, List, [], ◌∷◌, ◌++◌, find, length, is_none, is_some, option_and_then, option_map, arith, refl, sym, ap, ap₂, subst, true≢false, Some, None, Option, IsSome, IsTrue, cond}
+use Rattle.std.proofs.Common.{◌≡◌, ◌∙◌, ◌==◌, ℕ, ℤ, ◌≤◌, Bool, true, false, not, ◌&&◌, ◌||◌, List, [], ◌∷◌, ◌++◌, map, find, length, is_none, is_some, option_and_then, option_map, arith, refl, sym, ap, ap₂, subst, true≢false, Some, None, Option, IsSome, IsTrue, cond}
 use Rattle.std.specs.Ordering.{int_eq}
 use Rattle.std.proofs.lemmas.Bool.{and_from, and_parts, eqb-true, or_left, or_right}
 use Rattle.serde_json.specs.Data.{Data}
@@ -7,7 +7,7 @@ use Rattle.serde_json.specs.Read.{read}
 use Rattle.sqlite_trees.specs.Tree.{Trees}
 use Rattle.registry_names.specs.Idents.{is_ident}
 use Rattle.registry_names.specs.Keys.{IsKey, Pair, Triple, pair_is}
-use Rattle.registry_names.specs.Maps.{at, entries, first_at}
+use Rattle.registry_names.specs.Maps.{at, entries, first_at, seen}
 use Rattle.registry_names.specs.Messages.{is_message}
 use Rattle.registry_names.specs.Moments.{last_second}
 use Rattle.registry_names.specs.Names.{IsName, scope_of}
@@ -70,12 +70,12 @@ found_first {K} {X} same (e ∷ es) k = each (found_first same es k) (same e.0 k
     each next true = refl
     each next false = next
 
-found_integrity : (es : List (ℤ × Archive)) (n : ℤ) → option_map (λ (e : ℤ × Archive). e.1.integrity) (find (λ (e : ℤ × Archive). int_eq e.0 n) es) ≡ option_map (λ (a : Archive). a.integrity) (first_at int_eq es n)
+found_integrity : (es : List (ℤ × Archive)) (n : ℤ) → option_map (λ (e : ℤ × Text). e.1) (find (λ (e : ℤ × Text). int_eq e.0 n) (map (seen (λ (a : Archive). a.integrity)) es)) ≡ option_map (λ (a : Archive). a.integrity) (first_at int_eq es n)
 found_integrity [] n = refl
 found_integrity (e ∷ es) n = each (found_integrity es n) (int_eq e.0 n)
   where
-    each : (option_map (λ (e : ℤ × Archive). e.1.integrity) (find (λ (e : ℤ × Archive). int_eq e.0 n) es) ≡ option_map (λ (a : Archive). a.integrity) (first_at int_eq es n)) → (b : Bool) → option_map (λ (e : ℤ × Archive). e.1.integrity) (cond b (Some e) (find (λ (e : ℤ × Archive). int_eq e.0 n) es))
-        ≡ option_map (λ (a : Archive). a.integrity) (cond b (Some e.1) (first_at int_eq es n))
+    each : (option_map (λ (e : ℤ × Text). e.1) (find (λ (e : ℤ × Text). int_eq e.0 n) (map (seen (λ (a : Archive). a.integrity)) es)) ≡ option_map (λ (a : Archive). a.integrity) (first_at int_eq es n)) → (b : Bool)
+        → option_map (λ (e : ℤ × Text). e.1) (cond b (Some (e.0, e.1.integrity)) (find (λ (e : ℤ × Text). int_eq e.0 n) (map (seen (λ (a : Archive). a.integrity)) es))) ≡ option_map (λ (a : Archive). a.integrity) (cond b (Some e.1) (first_at int_eq es n))
     each next true = refl
     each next false = next
 
@@ -147,21 +147,21 @@ module _ (db : Trees) where
 
   -- ---- where no row breaks a rule
 
-  module _ (none : problems all ≡ []) where
-    releases : (number_problems all ≡ []) × ((version_form_problems all ≡ []) × ((spent_problems all ≡ []) × ((tag_problems all ≡ []) × (target_problems all ≡ []))))
-    releases = nil_five (number_problems all) (version_form_problems all) (spent_problems all) (tag_problems all) (target_problems all) none
+  module _ (none : problems all c.archives ≡ []) where
+    releases : (number_problems all c.archives ≡ []) × ((version_form_problems all ≡ []) × ((spent_problems all ≡ []) × ((tag_problems all ≡ []) × (target_problems all ≡ []))))
+    releases = nil_five (number_problems all c.archives) (version_form_problems all) (spent_problems all) (tag_problems all) (target_problems all) none
 
-    numbers : (name_problems all ≡ []) × ((role_problems all ≡ []) × ((status_problems all ≡ []) × ((level_problems all ≡ []) × (moment_problems all ≡ []))))
-    numbers = nil_five (name_problems all) (role_problems all) (status_problems all) (level_problems all) (moment_problems all) releases.0
+    numbers : (name_problems all c.archives ≡ []) × ((role_problems all ≡ []) × ((status_problems all ≡ []) × ((level_problems all ≡ []) × (moment_problems all ≡ []))))
+    numbers = nil_five (name_problems all c.archives) (role_problems all) (status_problems all) (level_problems all) (moment_problems all) releases.0
 
-    names : (premise_problems all ++ user_form_problems all ++ token_form_problems all ≡ []) × ((organisation_form_problems all ≡ []) × ((team_form_problems all ≡ []) × ((package_form_problems all ≡ []) × (maintainer_form_problems all ≡ []))))
-    names = nil_five (premise_problems all ++ user_form_problems all ++ token_form_problems all) (organisation_form_problems all) (team_form_problems all) (package_form_problems all) (maintainer_form_problems all) numbers.0
+    names : (premise_problems all c.archives ++ user_form_problems all ++ token_form_problems all ≡ []) × ((organisation_form_problems all ≡ []) × ((team_form_problems all ≡ []) × ((package_form_problems all ≡ []) × (maintainer_form_problems all ≡ []))))
+    names = nil_five (premise_problems all c.archives ++ user_form_problems all ++ token_form_problems all) (organisation_form_problems all) (team_form_problems all) (package_form_problems all) (maintainer_form_problems all) numbers.0
 
-    accounts : (premise_problems all ++ user_form_problems all ≡ []) × (token_form_problems all ≡ [])
-    accounts = nil_parts (premise_problems all ++ user_form_problems all) (token_form_problems all) names.0
+    accounts : (premise_problems all c.archives ++ user_form_problems all ≡ []) × (token_form_problems all ≡ [])
+    accounts = nil_parts (premise_problems all c.archives ++ user_form_problems all) (token_form_problems all) names.0
 
-    first : (premise_problems all ≡ []) × (user_form_problems all ≡ [])
-    first = nil_parts (premise_problems all) (user_form_problems all) accounts.0
+    first : (premise_problems all c.archives ≡ []) × (user_form_problems all ≡ [])
+    first = nil_parts (premise_problems all c.archives) (user_form_problems all) accounts.0
 
     -- what the rules say of each key and its value
 
@@ -429,22 +429,22 @@ module _ (db : Trees) where
     targets_fine : target_problems all ≡ []
     targets_fine = means_none triple_key c.needs spec.target (target_forms all) (λ k v h. absurd (no_value v (sym (right.unused k) ∙ h)))
 
-    premises_fine : premise_problems all ≡ []
+    premises_fine : premise_problems all c.archives ≡ []
     premises_fine = (none_means_premises c).1 right.premises
 
-    names_fine : name_problems all ≡ []
+    names_fine : name_problems all c.archives ≡ []
     names_fine =
-        five_nil (premise_problems all ++ user_form_problems all ++ token_form_problems all) (organisation_form_problems all) (team_form_problems all) (package_form_problems all) (maintainer_form_problems all)
-        (nil_two (premise_problems all ++ user_form_problems all) (token_form_problems all) (nil_two (premise_problems all) (user_form_problems all) premises_fine users_fine) tokens_fine)
+        five_nil (premise_problems all c.archives ++ user_form_problems all ++ token_form_problems all) (organisation_form_problems all) (team_form_problems all) (package_form_problems all) (maintainer_form_problems all)
+        (nil_two (premise_problems all c.archives ++ user_form_problems all) (token_form_problems all) (nil_two (premise_problems all c.archives) (user_form_problems all) premises_fine users_fine) tokens_fine)
         organisations_fine teams_fine packages_fine maintainers_fine
 
-    numbers_fine : number_problems all ≡ []
-    numbers_fine = five_nil (name_problems all) (role_problems all) (status_problems all) (level_problems all) (moment_problems all) names_fine roles_fine statuses_fine levels_fine moments_fine
+    numbers_fine : number_problems all c.archives ≡ []
+    numbers_fine = five_nil (name_problems all c.archives) (role_problems all) (status_problems all) (level_problems all) (moment_problems all) names_fine roles_fine statuses_fine levels_fine moments_fine
 
-    none_broken : problems all ≡ []
+    none_broken : problems all c.archives ≡ []
     none_broken =
-        five_nil (number_problems all) (version_form_problems all) (spent_problems all) (tag_problems all) (target_problems all) numbers_fine versions_fine spent_fine tags_fine targets_fine
+        five_nil (number_problems all c.archives) (version_form_problems all) (spent_problems all) (tag_problems all) (target_problems all) numbers_fine versions_fine spent_fine tags_fine targets_fine
 
 -- no row breaks a rule exactly where the registry is right
-pub none_means_right : (db : Trees) → TellsRight (problems (rows_at db)) db
+pub none_means_right : (db : Trees) → TellsRight (problems (rows_at db) (contents db).archives) db
 none_means_right db = (right_holds db, none_broken db)

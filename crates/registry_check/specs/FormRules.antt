@@ -10,7 +10,7 @@ use Rattle.registry_names.specs.Names.{scope_of}
 use Rattle.registry_names.specs.Tags.{is_tag, latest}
 use Rattle.registry_names.specs.Texts.{Text, is}
 use Rattle.registry_names.specs.declared.status.Status.{Status}
-use Rattle.registry_tables.specs.Contents.{Archive, LiveVersion}
+use Rattle.registry_tables.specs.Contents.{LiveVersion}
 use Rattle.registry_tables.specs.Numbers.{is_level, is_moment, is_role, is_status}
 use Rattle.registry_check.specs.Forms.{is_manifest_text, is_name, is_version, states}
 use Rattle.registry_check.specs.Rows.{Rows}
@@ -72,7 +72,7 @@ held_number R k = option_map (λ (e : Pair × ℤ). e.1) (find (λ (e : Pair × 
 
 -- the integrity stored with the archive of this number
 abbrev pub integrity_under : Rows → ℤ → Option Text
-integrity_under R n = option_map (λ (e : ℤ × Archive). e.1.integrity) (find (λ (e : ℤ × Archive). int_eq e.0 n) R.archives)
+integrity_under R n = option_map (λ (e : ℤ × Text). e.1) (find (λ (e : ℤ × Text). int_eq e.0 n) R.archives)
 
 -- the integrity stored with the archive that the version has
 abbrev pub held_integrity : Rows → Pair → Option Text

@@ -7,7 +7,7 @@ use Rattle.registry_tables.specs.Contents.{Contents, access_of}
 use Rattle.registry_tables.specs.Needs.{HoldsNeeds}
 use Rattle.registry_tables.specs.Teams.{GrantsInScope}
 use Rattle.registry_check.specs.Numbers.{numbers_in}
-use Rattle.registry_check.specs.Rows.{Rows}
+use Rattle.registry_check.specs.Rows.{Rows, integrities}
 use Rattle.registry_check.specs.declared.problem.Problem.{Problem}
 
 -- the rows of everything that is stored, in the order of their keys
@@ -25,7 +25,7 @@ rows_in c = record {
   live = entries c.versions;
   needs = entries c.need_ranges;
   held = entries c.held;
-  archives = entries c.archives;
+  archives = integrities c.archives;
   tags = entries c.tags;
   targets = entries c.needs;
   roles = entries (numbers_in c).roles;

@@ -40,7 +40,7 @@ rows_at db = rows_in (contents db)
 
 -- these are the problems of everything that is stored
 abbrev pub AreProblems : List Problem → Trees → Type 0
-AreProblems found db = found ≡ problems (rows_at db)
+AreProblems found db = found ≡ problems (rows_at db) (contents db).archives
 
 -- there is no problem exactly where the registry is right
 abbrev pub TellsRight : List Problem → Trees → Type 0
@@ -48,4 +48,4 @@ TellsRight found db = (found ≡ [] → IsRight db) × (IsRight db → found ≡
 
 -- the law of all tables
 abbrev pub NoneMeansRight : Type 0
-NoneMeansRight = (db : Trees) → TellsRight (problems (rows_at db)) db
+NoneMeansRight = (db : Trees) → TellsRight (problems (rows_at db) (contents db).archives) db

@@ -119,7 +119,7 @@ fn load_versions<S: Alter>(alloc: Global, tx: &mut Transaction<'_, S>) -> Result
     let archives = load::<Archives, S>(
         alloc,
         tx,
-        "SELECT id, integrity, bytes FROM archives ORDER BY id",
+        "SELECT id, integrity FROM archives ORDER BY id",
     )?;
     Versions::new(alloc, live, needs, held, archives)
 }

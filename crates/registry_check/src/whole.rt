@@ -2,13 +2,15 @@
 
 ghost use Rattle.std.specs.Prelude.{◌≡◌, ◌++◌, IfOk, OnOk};
 ghost use Rattle.registry_rows.specs.Frames.{Stays};
+ghost use Rattle.registry_rows.specs.KeyKinds.{NumberMap};
+ghost use Rattle.registry_tables.specs.Contents.{Archive};
 ghost use Rattle.registry_tables.specs.Effects.{InForm};
 ghost use Rattle.registry_check.specs.Loaded.{Tells};
 ghost use Rattle.registry_check.specs.Problems as spec;
 ghost use Rattle.registry_check.specs.Right.{AreProblems, TellsRight};
 ghost use Rattle.registry_check.specs.Rows.{rows_of};
 
-use crate::archives::{Archives, Held};
+use crate::archives::{Held, push_archives};
 use crate::checked::push_problems;
 use crate::loads::load_tables;
 use crate::names::{
@@ -39,21 +41,33 @@ pub fn check<S: Alter>(alloc: Global, tx: &mut Transaction<'_, S>) -> Result<Vec
     ensures met { Tells S.Store tx.old tx.new result (λ found db. TellsRight found.items db) }
 {
     let tables = load_tables(alloc, tx)?;
-    problems_in(alloc, &tables)
+    let mut problems = reference_problems(alloc, &tables)?;
+    push_archives(alloc, &mut problems, tx, &tables.versions.archives, &tables)?;
+    push_forms(alloc, &mut problems, &tables)?;
+    Ok(problems)
 }
 
-// What breaks a rule in these tables.
-fn problems_in(alloc: Global, all: &Tables) -> Result<Vec<Problem>, Fault>
-    ensures { IfOk result (λ problems. problems.items ≡ spec.problems (rows_of all.now)) }
+// What breaks a rule of references or needs.
+fn reference_problems(alloc: Global, all: &Tables) -> Result<Vec<Problem>, Fault>
+    ensures { IfOk result
+        (λ problems. problems.items ≡ spec.reference_problems (rows_of all.now)) }
 {
     let mut problems = Vec::new(alloc);
     push_people(alloc, &mut problems, all)?;
     push_packages(alloc, &mut problems, all)?;
     push_versions(alloc, &mut problems, all)?;
-    push_names(alloc, &mut problems, all)?;
-    push_numbers(alloc, &mut problems, all)?;
-    push_releases(alloc, &mut problems, all)?;
     Ok(problems)
+}
+
+// Adds what breaks a rule of form to what breaks the other rules.
+fn push_forms(alloc: Global, problems: &mut Vec<Problem>, all: &Tables) -> Result<(), Fault>
+    ensures { OnOk result ((archives : NumberMap Archive)
+        → problems.old.items ≡ spec.premise_problems (rows_of all.now) archives
+        → problems.new.items ≡ spec.problems (rows_of all.now) archives) }
+{
+    push_names(alloc, problems, all)?;
+    push_numbers(alloc, problems, all)?;
+    push_releases(alloc, problems, all)
 }
 
 fn push_people(alloc: Global, problems: &mut Vec<Problem>, all: &Tables) -> Result<(), Fault>
@@ -82,13 +96,11 @@ fn push_packages(alloc: Global, problems: &mut Vec<Problem>, all: &Tables) -> Re
 fn push_versions(alloc: Global, problems: &mut Vec<Problem>, all: &Tables) -> Result<(), Fault>
     ensures { OnOk result (problems.new.items
         ≡ problems.old.items ++ spec.live_problems (rows_of all.now)
-        ++ spec.need_problems (rows_of all.now) ++ spec.held_problems (rows_of all.now)
-        ++ spec.archive_problems (rows_of all.now)) }
+        ++ spec.need_problems (rows_of all.now) ++ spec.held_problems (rows_of all.now)) }
 {
     push_problems::<Live>(alloc, problems, &all.versions.live, all)?;
     push_problems::<Needs>(alloc, problems, &all.versions.needs, all)?;
-    push_problems::<Held>(alloc, problems, &all.versions.held, all)?;
-    push_problems::<Archives>(alloc, problems, &all.versions.archives, all)
+    push_problems::<Held>(alloc, problems, &all.versions.held, all)
 }
 
 fn push_names(alloc: Global, problems: &mut Vec<Problem>, all: &Tables) -> Result<(), Fault>
