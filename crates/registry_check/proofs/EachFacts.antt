@@ -29,13 +29,13 @@ no_fault : (b : Bool) (p : Problem) → (if b then [] else p ∷ []) ≡ [] → 
 no_fault true p e = refl
 no_fault false p e = absurd cc
 
-none_broken : (thing : Thing) (tests : List Test) → broken thing tests ≡ [] → all_hold tests ≡ true
+pub none_broken : (thing : Thing) (tests : List Test) → broken thing tests ≡ [] → all_hold tests ≡ true
 none_broken thing [] e = refl
 none_broken thing (t ∷ tests) e =
     let it = nil_parts (fault_of thing t) (broken thing tests) e in
     and_from t.holds (all_hold tests) (no_fault t.holds (record { rule = t.rule; thing = thing }) it.0) (none_broken thing tests it.1)
 
-broken_none : (thing : Thing) (tests : List Test) → all_hold tests ≡ true → broken thing tests ≡ []
+pub broken_none : (thing : Thing) (tests : List Test) → all_hold tests ≡ true → broken thing tests ≡ []
 broken_none thing [] h = refl
 broken_none thing (t ∷ tests) h =
     let both = and_parts t.holds (all_hold tests) h in
@@ -102,6 +102,20 @@ module _ {K X : Type 0} {cmp : K → K → Ordering} {same : K → K → Bool} (
 
   pub seen_at : {Y : Type 0} (g : X → Y) (m : MapBy cmp X) (k : K) → has same (map (seen g) (entries m)) k ≡ is_some (at m k)
   seen_at g m k = has_seen g (entries m) k ∙ has_at m k
+
+  module _ {Y : Type 0} (g : X → Y) (thing : K × Y → Thing) (tests : K × Y → List Test) where
+    seen_problems : (es : List (K × X)) → problems_of thing tests (map (seen g) es) ≡ problems_of (λ e. thing (seen g e)) (λ e. tests (seen g e)) es
+    seen_problems [] = refl
+    seen_problems (e ∷ es) = ap (λ ps. broken (thing (seen g e)) (tests (seen g e)) ++ ps) (seen_problems es)
+
+    -- where no row is a problem that shows a part of the value, the rules hold of each key and that
+    -- part
+    pub none_means_seen : (m : MapBy cmp X) → problems_of thing tests (map (seen g) (entries m)) ≡ [] → (k : K) (x : X) → at m k ≡ Some x → all_hold (tests (k, g x)) ≡ true
+    none_means_seen m h = none_means m (λ e. thing (seen g e)) (λ e. tests (seen g e)) (sym (seen_problems (entries m)) ∙ h)
+
+    -- and the other way round
+    pub means_none_seen : (m : MapBy cmp X) → ((k : K) (x : X) → at m k ≡ Some x → all_hold (tests (k, g x)) ≡ true) → problems_of thing tests (map (seen g) (entries m)) ≡ []
+    means_none_seen m f = seen_problems (entries m) ∙ means_none m (λ e. thing (seen g e)) (λ e. tests (seen g e)) f
 
   -- ---- some row of a map
 

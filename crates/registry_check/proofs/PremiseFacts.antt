@@ -67,7 +67,7 @@ public_else Restricted f = absurd (f refl)
 some_inside : {X : Type 0} (x y : X) → Some x ≡ Some y → x ≡ y
 some_inside x y e = cc
 
-nothing_there : (bytes : List ℕ) → (length bytes == 0) ≡ true → bytes ≡ []
+pub nothing_there : {X : Type 0} (bytes : List X) → (length bytes == 0) ≡ true → bytes ≡ []
 nothing_there [] h = refl
 nothing_there (b ∷ bytes) h = let none : suc (length bytes) ≡ 0 = eqb-true (length (b ∷ bytes)) 0 h in absurd (omega (arith, none))
 

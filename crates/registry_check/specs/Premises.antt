@@ -6,6 +6,7 @@ use Rattle.registry_tables.specs.Archives.{HoldsArchives}
 use Rattle.registry_tables.specs.Contents.{Contents, access_of}
 use Rattle.registry_tables.specs.Needs.{HoldsNeeds}
 use Rattle.registry_tables.specs.Teams.{GrantsInScope}
+use Rattle.registry_check.specs.Counter.{counter_in}
 use Rattle.registry_check.specs.Numbers.{numbers_in}
 use Rattle.registry_check.specs.Rows.{Rows, integrities}
 use Rattle.registry_check.specs.declared.problem.Problem.{Problem}
@@ -33,6 +34,7 @@ rows_in c = record {
   levels = entries (numbers_in c).levels;
   moments = entries (numbers_in c).moments;
   spent = entries (numbers_in c).spent;
+  counter = counter_in c;
 }
 
 -- References hold, and what each organisation and each package needs is there; each grant is on a

@@ -1,5 +1,5 @@
 -- The rows of the tables as contracts see them: each a key with its value, in the order of the keys.
-use Rattle.std.specs.Prelude.{ℕ, ℤ, List, Option, find, map, option_map}
+use Rattle.std.specs.Prelude.{ℕ, ℤ, Bool, List, Option, find, map, option_map}
 use Rattle.std.specs.List.{filter}
 use Rattle.std.specs.Ordering.{int_eq}
 use Rattle.registry_names.specs.Keys.{Pair, Triple}
@@ -11,6 +11,7 @@ use Rattle.registry_access.specs.declared.role.Role.{Role}
 use Rattle.registry_names.specs.Maps.{entries, seen}
 use Rattle.registry_rows.specs.KeyKinds.{NumberMap}
 use Rattle.registry_tables.specs.Contents.{Archive, LiveVersion}
+use Rattle.registry_check.specs.Counter.{counter_entry}
 use Rattle.registry_check.specs.declared.tables.ArchiveRow.{ArchiveRow}
 use Rattle.registry_check.specs.declared.tables.FoundArchive.{FoundArchive}
 use Rattle.registry_check.specs.declared.tables.HeldRow.{HeldRow}
@@ -67,6 +68,8 @@ pub record Rows : Type 0 where
   pub moments : List (Pair × ℤ)
   -- the numbers of those at which a withdrawn version was published and withdrawn
   pub spent : List (Pair × (ℤ × ℤ))
+  -- whether nothing but archives is counted, and the count
+  pub counter : Bool × Option ℤ
 
 -- ---- the key and the value of each row
 
@@ -155,4 +158,5 @@ rows_of t = record {
   levels = map level_entry t.grades.levels.items;
   moments = map moment_entry t.times.moments.items;
   spent = map spent_entry t.times.spent.items;
+  counter = counter_entry t.counter;
 }

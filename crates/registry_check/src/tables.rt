@@ -9,6 +9,7 @@ ghost use Rattle.registry_names.specs.Keys.{pair_cmp};
 ghost use Rattle.registry_names.specs.Texts.{text_cmp};
 ghost use Rattle.registry_rows.specs.TextKeys.{texts_cmp};
 
+use crate::counter::Counter;
 use crate::keys::held_numbers;
 use crate::order::in_order;
 use registry_access::{GrantRow, MaintainerRow, MemberRow, PackageRow, TeamMemberRow, TeamRow};
@@ -371,4 +372,6 @@ pub(crate) struct Tables {
     pub(crate) grades: Grades,
     /// The numbers of moments.
     pub(crate) times: Times,
+    /// What is counted.
+    pub(crate) counter: Counter,
 }
