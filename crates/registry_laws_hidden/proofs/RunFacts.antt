@@ -57,7 +57,7 @@ module _ (who : Caller) (p : Text) where
   publish_shows : (S : State) (now : ℕ) (what : Action) → is_member_publish S who what p ≡ true → is_published S p ≡ true → shows S now who what p ≡ true
   publish_shows S now (Publish f) member status =
       let both = and_parts (is f.name p) _ member in
-      λ i. both.0 i && (status i && both.1 i) || false
+      λ i. (both.0 i && (status i && both.1 i)) || false
   publish_shows S now _ member status = absurd (true≢false (sym member))
 
   publish_unlisted : (S : State) (what : Action) → is_member_publish S who what p ≡ true → is_listed S who what p ≡ false

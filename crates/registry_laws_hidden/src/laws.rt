@@ -54,9 +54,9 @@ pub fn unread_packages_make_no_difference()
 /// command. All else is asked in both, in the same order. Then each request that is asked in both,
 /// by a caller who has no level on the package at that point of either, is answered alike, except
 /// where it shows the package in only one of the runs, or by the list of all packages. Nothing is
-/// said of faults. Nor is anything said from the point on where the package alone keeps a withdrawal from being done in one run, or
-/// where a fault in one run keeps a command undone that the other accepts and that doesn't name the
-/// package.
+/// said of faults. Nor is anything said from the point on where the package alone keeps a withdrawal
+/// from being done in one run, or where a fault in one run keeps a command undone that the other
+/// accepts and that doesn't name the package.
 pub fn unread_packages_do_not_interfere()
     ensures { StrangersSeeTheSame }
 {}

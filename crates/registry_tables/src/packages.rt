@@ -86,8 +86,8 @@ fn with_latest<S: Alter>(
         (λ rows c. rows.items ≡ map (viewed c) (map package_entry packages.items)) }
 {
     let mut rows = Vec::new(alloc);
-    for package in packages {
-        let row = overview(alloc, tx, package)?;
+    for listed in packages {
+        let row = overview(alloc, tx, listed)?;
         rows.push(row)?;
     }
     Ok(rows)
@@ -97,14 +97,14 @@ fn with_latest<S: Alter>(
 fn overview<S: Alter>(
     alloc: Global,
     tx: &mut Transaction<'_, S>,
-    package: ListedPackage,
+    listed: ListedPackage,
 ) -> Result<Overview, Fault>
     requires in_form { InForm S.Store tx.old }
     ensures stays { Stays S.Store tx.old tx.new }
     ensures loads { Loads S.Store tx.old tx.new result
-        (λ row c. row ≡ viewed c (package_entry package)) }
+        (λ row c. row ≡ viewed c (package_entry listed)) }
 {
-    let ListedPackage { name, status } = package;
+    let ListedPackage { name, status } = listed;
     let latest = load_latest(alloc, tx, &name)?;
     Ok(Overview {
         name,

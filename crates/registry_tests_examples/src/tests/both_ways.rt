@@ -74,7 +74,11 @@ fn a_thousand_tokens_of_a_user_end_at_once(rt: HostRuntime) -> Result<(), Fail> 
     let requests = thousand_tokens(rt.alloc())?;
     let (outcomes, rows) = ran(rt.alloc(), &requests, "SELECT digest FROM tokens")?;
     same("how many are left", rows, 1)?;
-    same("they ended", have_ended(outcomes.get(1_003..).unwrap_or(&[])), true)
+    same(
+        "they ended",
+        have_ended(outcomes.get(1_003..).unwrap_or(&[])),
+        true,
+    )
 }
 
 // Two users: one has a token, and the other a thousand, which end. Then some are shown.

@@ -10,10 +10,10 @@ use Rattle.registry_tables.proofs.EffectFacts.{before_then, reads_nothing_new}
 use Rattle.registry_tables.proofs.OverviewFacts.{next_listed}
 use Rattle.registry_tables.proofs.packages.with_latest.Goals as goal
 
-pub loop-package-preserved : goal.loop-package-preserved
-loop-package-preserved g c =
-    let at = c.loop-package in
-    let steps : into_iter_items at.package-iterator ≡ c.in-Some.package ∷ into_iter_items c.next.new.self = c.in-Some.ensures.steps.0 in
+pub loop-listed-preserved : goal.loop-listed-preserved
+loop-listed-preserved g c =
+    let at = c.loop-listed in
+    let steps : into_iter_items at.listed-iterator ≡ c.in-Some.listed ∷ into_iter_items c.next.new.self = c.in-Some.ensures.steps.0 in
     record {
       stays = stays_then g.S.Store c.args.tx.now at.tx c.overview.new.tx at.invariant.stays c.overview.ensures.stays;
       kept = λ clean.
@@ -24,10 +24,10 @@ loop-package-preserved g c =
           let were : HasCleanDisk (shown g.S.Store at.tx) = omega (arith, c.overview.ensures.stays.survives.clean, clean) in
           let it = c.in_ok-overview.ensures.loads clean in
           let stored = stored_in g.S.Store c.args.tx.now in
-          let all = into_iter_items c.into_iter-package-iterator.result in
+          let all = into_iter_items c.into_iter-listed-iterator.result in
           let next = into_iter_items c.next.new.self in
-          let is = subst (λ (d : Database). c.in_ok-overview.row ≡ (λ p. viewed (contents d.trees) (package_entry p)) c.in-Some.package) (at.invariant.kept were).same it.1 in
-          next_listed (λ p. viewed stored (package_entry p)) at.rows.items c.in_ok-overview.row c.in-Some.package next (into_iter_items at.package-iterator) all _ steps is c.in_ok-push.ensures.items (at.invariant.told were);
+          let is = subst (λ (d : Database). c.in_ok-overview.row ≡ (λ p. viewed (contents d.trees) (package_entry p)) c.in-Some.listed) (at.invariant.kept were).same it.1 in
+          next_listed (λ p. viewed stored (package_entry p)) at.rows.items c.in_ok-overview.row c.in-Some.listed next (into_iter_items at.listed-iterator) all _ steps is c.in_ok-push.ensures.items (at.invariant.told were);
       remain =
           let was = at.invariant.remain in
           let gone = c.in-Some.ensures.steps.1 in
