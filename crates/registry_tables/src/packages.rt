@@ -83,7 +83,7 @@ fn with_latest<S: Alter>(
     requires in_form { InForm S.Store tx.old }
     ensures stays { Stays S.Store tx.old tx.new }
     ensures knows { Knows S.Store tx.old tx.new result
-        (λ rows c. rows.items ≡ map (viewed c) (map package_entry packages.items)) }
+        (λ rows c. rows.items ≡ map (λ p. viewed c (package_entry p)) packages.items) }
 {
     let mut rows = Vec::new(alloc);
     for listed in packages {

@@ -126,7 +126,7 @@ returns-in-WhoAmI-clause-loads g c clean =
 
 pub returns-in-Organisations-clause-loads : goal.returns-in-Organisations-clause-loads
 returns-in-Organisations-clause-loads g c clean =
-    found_either (Reads schema (shown g.S.Store c.args.tx.now) (shown g.S.Store c.facts_of_caller-2.new.tx)) (stored_in g.S.Store c.args.tx.now) c.args.request.now.at c.args.caller.now c.args.request.now.what asked.Organisations asked.Packages c.facts_of_caller-2.result c.map-in-Organisations.result c.in-Organisations.is refl refl c.map-in-Organisations.ensures.cases
+    found_either (Reads schema (shown g.S.Store c.args.tx.now) (shown g.S.Store c.facts_of_caller-in-Organisations.new.tx)) (stored_in g.S.Store c.args.tx.now) c.args.request.now.at c.args.caller.now c.args.request.now.what asked.Organisations asked.Packages c.facts_of_caller-in-Organisations.result c.map-in-Organisations.result c.in-Organisations.is refl refl c.map-in-Organisations.ensures.cases
     (λ x told sound. subst (λ (y : About). AboutTells y (registry_of (stored_in g.S.Store c.args.tx.now)) c.args.caller.now asked.Organisations) (sym told) tt)
     (λ x told sound. subst (λ (y : About). AboutTells y (registry_of (stored_in g.S.Store c.args.tx.now)) c.args.caller.now asked.Packages) (sym told) tt)
-    (c.facts_of_caller-2.ensures.loads clean) (c.facts_of_caller-2.ensures.loads clean)
+    (c.facts_of_caller-in-Organisations.ensures.loads clean) (c.facts_of_caller-in-Organisations.ensures.loads clean)

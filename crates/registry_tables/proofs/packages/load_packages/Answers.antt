@@ -1,4 +1,5 @@
-use Rattle.std.proofs.Common.{◌∙◌, ap, arith, map}
+use Rattle.std.proofs.Common.{◌∙◌, ap, arith, map, sym}
+use Rattle.std.proofs.lemmas.Simd.{map-map}
 use Rattle.std.proofs.lemmas.Result.{IfOk-weaker}
 use Rattle.sqlite.specs.Effect.{Database}
 use Rattle.sqlite.specs.State.{HasCleanDisk}
@@ -14,6 +15,7 @@ returns-clause-loads g c clean =
     let first = c.in_ok-packages.ensures.loads were in
     IfOk-weaker c.with_latest.result _ _ (λ _ it. (
       reads_as_before (shown g.S.Store c.args.tx.now) (shown g.S.Store c.load_statuses.new.tx) (shown g.S.Store c.with_latest.new.tx) first.0 it.0,
-      it.1 ∙ ap (λ (d : Database). map (viewed (contents d.trees)) (map package_entry c.in_ok-packages.packages.items)) first.0.same
+      it.1 ∙ ap (λ (d : Database). map (λ p. viewed (contents d.trees) (package_entry p)) c.in_ok-packages.packages.items) first.0.same
+          ∙ sym (map-map (viewed (stored_in g.S.Store c.args.tx.now)) package_entry c.in_ok-packages.packages.items)
           ∙ ap (map (viewed (stored_in g.S.Store c.args.tx.now))) first.1,
     )) (c.with_latest.ensures.knows clean)
