@@ -22,11 +22,11 @@ pub fn turns_beside_guests_are_one_run<S: Alter>()
 {}
 
 /// What is asked about a package, on connections and by commands beside them, changes no byte of
-/// what strangers to it are told. Take two registries whose servers answer commands, too. Legal
-/// histories left them, which are one list once the entries that name the package are dropped. In
+/// what strangers to it are told. Take two registries whose servers answer commands too. They were
+/// left by legal histories that are one list once the entries that name the package are dropped. In
 /// each world, turns may be taken that aren't in the other: for requests to change the package, for
-/// requests that change nothing, and where nothing is asked. All other turns are taken in both
-/// worlds, in one order, each for the same.
+/// requests that change nothing, and for nothing. All other turns are taken in both worlds, in one
+/// order, each for the same.
 ///
 /// Then a connection is answered the same in both worlds, byte for byte (`connections`), if none of
 /// its turns is in only one world, and if its requests are of callers who have no level on the

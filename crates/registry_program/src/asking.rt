@@ -1,4 +1,4 @@
-//! Asking the registry in a file, also where another process has the file.
+//! Asks the registry in a file, even if another process has the file.
 
 use crate::beside::{TRIES, ask_server, busy, is_busy, pause, require_no_other};
 use crate::ending::Ending;
@@ -7,8 +7,8 @@ use registry_names::Text;
 use registry_rules::{Reply, Request};
 use std::alloc::Global;
 
-/// What the registry in a file is asked: a request; and what a server is asked instead, which is
-/// the arguments and the bytes of the file that they name.
+/// What a command asks of the registry in a file: a request. A server is sent the arguments
+/// instead, and the bytes of the file that they name.
 #[derive(Clone, Copy)]
 pub struct Question<'a> {
     /// The path of the file that keeps the registry.
@@ -30,8 +30,8 @@ pub enum Answer {
     Sent(Vec<u8>),
 }
 
-/// Asks the registry in a file. Where another process has the file and is a server, the server is
-/// asked instead. Where no server is there either, both are tried again, for five seconds.
+/// Asks the registry in a file, or the server that has the file. If another process has it and no
+/// server answers, both are tried again, for five seconds.
 pub fn answer_to<R: Registries>(
     rt: &HostRuntime,
     alloc: Global,

@@ -33,8 +33,8 @@ pub fn is_busy<T>(done: &Result<T, Ending>) -> bool {
     matches!(done, Err(Ending::Fault(Failure::Opening(Obstacle::Busy))))
 }
 
-/// No server has another file open that was at the path before. So it is the file at the path that is
-/// asked, or whose server is.
+/// Checks that no server listens here that has another file open, one that was at the path before.
+/// So whatever answers is the file at the path or its server.
 pub fn require_no_other(rt: &HostRuntime, alloc: Global, path: &str) -> Result<(), Ending> {
     match has_other_file(rt, alloc, path) {
         Ok(false) => Ok(()),
@@ -78,9 +78,8 @@ fn sent_for(alloc: Global, stream: &UnixStream, message: &[u8]) -> Result<Vec<u8
     }
 }
 
-/// Prints what a server sent, as if the registry had been asked here: on the output where its
-/// status is 0, and otherwise on the errors as far as they take it. The exit status is the
-/// server's.
+/// Prints what a server sent, as if the registry had been asked here: on the output if its status
+/// is 0, and otherwise on the errors, as far as they take it. The exit status is the server's.
 pub fn print_sent<O: ByteOut, E: ByteOut>(
     alloc: Global,
     bytes: &[u8],
@@ -142,7 +141,7 @@ pub fn hold_server(rt: &HostRuntime, alloc: Global, path: &str) -> Result<Option
     }
 }
 
-/// An error where the server wasn't held all the time, or no longer is.
+/// Checks that the server was held all the time, and still is.
 pub fn require_held(held: &mut Hold) -> Result<(), Ending> {
     match held.confirm() {
         Ok(true) => Ok(()),

@@ -83,7 +83,7 @@ pub fn print_wrong<O: ByteOut, E: ByteOut>(
     Ok(1)
 }
 
-// What is wrong in a file, also where another process has it.
+// What is wrong in a file, even if another process has it.
 fn problems_at(rt: &HostRuntime, alloc: Global, path: &str) -> Result<Vec<Problem>, Ending> {
     require_file(rt, path)?;
     require_no_other(rt, alloc, path)?;

@@ -21,13 +21,13 @@ use std::io::ErrorKind;
 /// One byte more than a token and its newline may have: enough to see that it is none.
 const MOST_OF_TOKEN: usize = 130;
 
-/// Answers what the arguments ask for, prints the answer, and gives the exit status: 0, or 1 where
-/// the request is refused.
+/// Answers what the arguments ask for, prints the answer, and gives the exit status: 0, or 1 if the
+/// request is refused.
 ///
-/// The moment is read first, where the arguments give none, then the file of a publish or the token
-/// on the input, then the texts in their order, and last the registry is asked. Where another
-/// process has its file and is a server, the server is asked instead. Arguments that ask to serve
-/// are answered once the last connection has ended. Arguments that mean no line may name an errand.
+/// The clock is read first, unless the arguments give a moment; then the file of a publish, or the
+/// token on the input; and then the texts in their order. The registry is asked last, or the server
+/// that has its file. Arguments that ask to serve are answered once the last connection has ended.
+/// Arguments that mean no line may name an errand.
 pub fn answer_command<R: Registries, I: ByteIn, O: ByteOut, E: ByteOut>(
     rt: &HostRuntime,
     alloc: Global,

@@ -74,8 +74,8 @@ fn make_copy(
     Ok(lines)
 }
 
-// Writes the registry in a file to the part, also where a server has the file. Only then the part
-// has a log.
+// Writes the registry in a file to the part. Only if a server has the file does the part have a
+// log.
 fn fill(
     rt: &HostRuntime,
     alloc: Global,

@@ -17,9 +17,8 @@ const OUTPUT: RawFd = 1;
 /// The token by which it is watched.
 const TOKEN: Token = Token(0);
 
-/// Standard output, to which each line goes in a write of its own. Where it takes nothing at once, as
-/// a pipe that is full, and where it takes nothing any more, as one whose reader is gone, a line is
-/// lost.
+/// Standard output, to which each line goes in a write of its own. A line is lost if it can't be
+/// taken at once, as by a full pipe, or any more, as by a pipe whose reader is gone.
 #[derive(Drop)]
 pub(crate) struct LogOutput {
     rt: HostRuntime,
@@ -95,7 +94,7 @@ struct Watch {
 }
 
 impl Watch {
-    // None where it is a file, which can't be watched, and needs it not.
+    // None for a file, which can't be watched and needn't be.
     fn new(rt: &HostRuntime, alloc: Global) -> io::Result<Option<Watch>> {
         let poll = Poll::new(rt)?;
         let events = Events::with_capacity(alloc, 1)?;
@@ -109,7 +108,8 @@ impl Watch {
         }
     }
 
-    // Whether as much as a line is taken at once. To be watched anew makes it said anew.
+    // Whether as much as a line is taken at once. The system says so again each time that the
+    // output is registered anew.
     fn is_ready(&mut self) -> bool {
         let registry = self.poll.registry();
         let again = registry.reregister(&mut SourceFd(&OUTPUT), TOKEN, Interest::WRITABLE);

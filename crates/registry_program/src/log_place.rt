@@ -48,8 +48,8 @@ impl Named {
     }
 }
 
-/// What is seen of a path: what it names, where a link leads; its last name, which is empty where it
-/// has none; and the folder that this is in, if it is there.
+/// What is seen of a path: what it names, with links followed; its last name, or an empty text if
+/// it has none; and the folder of that name, if it is there.
 #[derive(Drop)]
 struct SeenPath {
     named: Named,
@@ -57,7 +57,7 @@ struct SeenPath {
     folder: Option<Place>,
 }
 
-/// What the path names now, where a link leads.
+/// What the path names now, with links followed.
 pub(crate) fn found_at(rt: &HostRuntime, path: &str) -> Named {
     match fs::metadata(rt, path) {
         Ok(found) => Named::of(&found),
@@ -65,8 +65,8 @@ pub(crate) fn found_at(rt: &HostRuntime, path: &str) -> Named {
     }
 }
 
-/// Whether a log may be kept at the path, which names this, beside a registry's file, which is open:
-/// nothing is there, or a file, and neither that nor the path is one of the registry's own.
+/// Whether a log may be kept at the path, which names this, while a registry's file is open:
+/// nothing is there, or a file, and neither it nor the path is one of the registry's own.
 pub(crate) fn may_log(
     rt: &HostRuntime,
     alloc: Global,
@@ -80,7 +80,7 @@ pub(crate) fn may_log(
         None => "",
     };
     let folder = seen(rt, alloc, parent, found_at(rt, parent))?;
-    // The registry's files lie where a link to its file leads, and its server's folder beside that.
+    // If the path is a link, the registry's files and its server's folder lie where it leads.
     let real = fs::canonicalize(rt, db)?;
     Ok(
         may_log_beside(rt, alloc, &log, &folder, db)?
@@ -154,7 +154,7 @@ fn own_paths(alloc: Global, file: &str) -> Result<[Text; 5], AllocError>
     ])
 }
 
-// The path of a file with this behind it.
+// The path of a file, with this after it.
 fn path_with(alloc: Global, file: &str, end: &str) -> Result<Text, AllocError>
     ensures { IfOk result (λ path. path ≡ file.now ++ end.now) }
 {

@@ -82,8 +82,8 @@ impl LineSink for LogSink {
     }
 }
 
-/// The file of a log. It is made where there is none. Where the path names another file than
-/// before, or none, since it was moved away, it is opened anew at the next line, unless that is one of
+/// The file of a log. It is made if there is none. If the path names another file than before, or
+/// none because the file was moved away, it is opened anew at the next line, unless it is one of
 /// the registry's own.
 #[derive(Drop)]
 pub(crate) struct LogFile {
@@ -129,8 +129,8 @@ impl LineSink for LogFile {
     }
 }
 
-// Opens a log where one may be kept. What a link leads to that named nothing is seen once it is open,
-// and so is a file that came to the path meanwhile: nothing is written before.
+// Opens a log where one may be kept. A file that a dangling link leads to, or that came to the path
+// meanwhile, is seen only once it is open: nothing is written before.
 fn open_beside(rt: &HostRuntime, path: &str, db: &str) -> Option<(File, Place)> {
     if !is_free(rt, path, found_at(rt, path), db) {
         return None;

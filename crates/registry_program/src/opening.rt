@@ -51,8 +51,8 @@ pub fn open_soon(rt: &HostRuntime, path: &str) -> Result<Registry<FileStore<File
     Err(busy())
 }
 
-/// A file that isn't empty has to be at the path. Without this check, an open would make a registry
-/// where there is no file or an empty one.
+/// Checks that the file at the path is there and isn't empty. Otherwise an open would make a
+/// registry there.
 pub fn require_file(rt: &HostRuntime, path: &str) -> Result<(), Ending> {
     match fs::metadata(rt, path) {
         Ok(found) if found.len() == 0 => Err(missing()),
@@ -61,8 +61,8 @@ pub fn require_file(rt: &HostRuntime, path: &str) -> Result<(), Ending> {
     }
 }
 
-/// Whether another process has the registry's file at the path, which is there. None of the file is
-/// read.
+/// Whether another process has the registry's file at the path. Nothing of the file is read. It is
+/// a fault if no file is there, or an empty one.
 pub fn is_taken(rt: &HostRuntime, path: &str) -> Result<bool, Ending> {
     require_file(rt, path)?;
     match sqlite_std_file::open(rt, path, Unknown) {
@@ -90,9 +90,9 @@ fn missing() -> Ending {
     Ending::Fault(Failure::Opening(Obstacle::Missing))
 }
 
-/// Closes a registry, whose log is copied into its file, and returns the files, which stay locked
-/// until they are dropped. They come with a fault where the log can't be copied: then the next open
-/// does that.
+/// Closes a registry: copies its log into its file, and returns the files, which stay locked until
+/// they are dropped. If the log can't be copied, they come with a fault, and the next open copies
+/// it.
 pub fn close_files<D: Disk + Drop>(
     registry: Registry<FileStore<D>>,
 ) -> Result<Files<D>, (Ending, Files<D>)>
@@ -115,7 +115,7 @@ pub fn unclosed(error: Error) -> Ending {
     }
 }
 
-// What is seen to keep the file from being opened: it is tried as any database is.
+// Why the file doesn't open, as far as an attempt to open it as any database shows.
 fn seen_obstacle(rt: &HostRuntime, path: &str) -> Obstacle {
     match Connection::open_with_sums(rt, path) {
         Ok(conn) => obstacle_left(rt.alloc(), Unopened::Database(conn)),
@@ -123,8 +123,7 @@ fn seen_obstacle(rt: &HostRuntime, path: &str) -> Obstacle {
     }
 }
 
-/// What keeps the files from being opened of which this is left. The files are let go of, and
-/// nothing is copied.
+/// Why files didn't open, by what is left of them. They are let go of, and nothing is copied.
 pub fn obstacle_left<D: Disk + Drop>(alloc: Global, left: Unopened<D>) -> Obstacle {
     let mut left = left;
     match obstacle_inside(alloc, &mut left) {

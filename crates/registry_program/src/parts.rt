@@ -31,7 +31,7 @@ impl Names<'_> {
         })
     }
 
-    /// A fault where a file has any of these names.
+    /// Checks that no file has any of these names.
     pub fn require_free(&self, rt: &HostRuntime) -> Result<(), Ending> {
         require_none(rt, self.whole)?;
         for name in [&self.log, &self.part, &self.part_log] {
@@ -54,7 +54,7 @@ impl Names<'_> {
     }
 }
 
-// A fault where a file has the name.
+// Checks that no file has the name.
 fn require_none(rt: &HostRuntime, path: &str) -> Result<(), Ending> {
     match fs::symlink_metadata(rt, path) {
         Err(error) if error.kind() == ErrorKind::NotFound => Ok(()),

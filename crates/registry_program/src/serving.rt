@@ -92,9 +92,9 @@ struct Bound<'a> {
 /// status, 0, once all have ended; the errors then say why the server ends. The greatest number
 /// stands for no limit: then it serves all that come. It listens before the file is opened. The
 /// address is printed on the output before the first connection is accepted. Commands beside the
-/// server are answered, too, and one of them may end it: then its log is copied into its file, and
-/// last of all that command is told. A registry that a fault of its disk has shut is a fault, and
-/// so is a log that can't be copied.
+/// server are answered, too, and one of them may end it: its log is then copied into its file, and
+/// that command is told last. A registry that a fault of its disk has shut is a fault, and so is a
+/// log that can't be copied.
 pub fn serve<O: ByteOut, E: ByteOut>(
     rt: &HostRuntime,
     alloc: Global,
@@ -138,9 +138,9 @@ fn serve_as<O: ByteOut, E: ByteOut>(
     serve_with_commands(rt, alloc, options, log, output, errors)
 }
 
-// Has the C library keep the room that a request took for the next one. It gives back what is free
-// at the end of its heap where that is more than twice the largest block that it mapped and let go
-// of, and each page that is taken again costs a page fault.
+// Makes the C library keep the room of one request for the next. Otherwise it gives memory at the
+// end of its heap back to the system, and each page that is taken again costs a page fault. It
+// keeps up to twice the largest block that it has mapped and freed.
 fn keep_room(alloc: Global) {
     let room: Result<Vec<u8>, AllocError> = Vec::with_capacity(alloc, ROOM);
     drop(room);

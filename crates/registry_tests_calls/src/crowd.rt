@@ -151,8 +151,8 @@ impl Crowd {
         }
     }
 
-    // Seventeen clients, of which only the last sends its whole body. All begin at 0, and enough of
-    // their bodies has come that they are a crowd.
+    // Seventeen clients. Only the last sends its whole body. All begin at 0, and so much of their
+    // bodies has come that they are a crowd.
     fn of_seventeen(rt: &impl Abort, alloc: Global) -> Crowd {
         let mut crowd = Crowd::new(rt, alloc);
         for number in 0..READ_TOGETHER {
@@ -170,7 +170,7 @@ impl Crowd {
         }
     }
 
-    // The first `count` places become free, and connections take them on which nothing comes.
+    // The first `count` places become free, and connections on which nothing comes take them.
     fn take_places(&mut self, rt: &impl Abort, alloc: Global, count: usize, now: u64) {
         for number in 0..count {
             same(rt, "a place", &self.pool.place(), &Some(number));

@@ -1,4 +1,4 @@
-//! Values in form, of which the cases consist.
+//! Values in form, from which cases are made.
 
 use registry_cache::{SharedBlob, SharedText};
 use registry_names::{Blob, Ident, Name, Text, Ver};

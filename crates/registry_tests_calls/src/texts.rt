@@ -26,8 +26,7 @@ const TWO: usize = 2 * ONE;
 const LONG: &str =
     "long567890123456789012345678901234567890123456789012345678901234567890123456789012345678901234567890123456789012345678901234567890123456789012345678901234567890123456789012345678901234567890123456789012345678901234567890123456789012345678901234567890123456789012345678";
 
-/// A step, and what the texts take after it that are kept, without one that alone takes more than
-/// the limit.
+/// A step, and what the kept texts take after it, without one that alone takes more than the limit.
 type Stage = (Step, usize);
 
 /// What is asked of a store that keeps nothing yet. The texts tell how long they are: each begins

@@ -9,7 +9,7 @@ use std::os::unix::net::UnixStream;
 use std::test::Fail;
 use std::time::Duration;
 
-/// So many milliseconds a client waits until something comes.
+/// How many milliseconds a client waits for something to come.
 const PATIENCE: u64 = 20;
 
 /// The byte by which a server says that it is ready.

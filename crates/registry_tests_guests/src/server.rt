@@ -51,7 +51,8 @@ impl Service for Counting {
     }
 }
 
-// Who asked, the words that may be seen, and whether the command was done. One that is prints 12 bytes.
+// Who asked, the words that may be seen, and whether the command was done. A command that is done
+// prints 12 bytes.
 fn write_down(told: &mut String, command: &AnsweredCommand<'_>) -> Result<(), AllocError> {
     told.push_str(command.caller)?;
     for word in command.words {

@@ -32,9 +32,9 @@ pub fn push_requests(alloc: Global, requests: &mut Vec<Request>, text: &str) -> 
 /// differences from a command line:
 ///
 /// - A line that begins with `token TOKEN ` is asked by the holder of that token.
-/// - After `publish` come a package and a version, and then, where they are others than these, the
-///   archive in Base64 (`YWJj`), the tag (`latest`), the dependencies as JSON (`{}`) and the status
-///   that is asked for as JSON (`null`).
+/// - After `publish` come a package and a version, and then, if they differ from these, the archive
+///   in Base64 (`YWJj`), the tag (`latest`), the dependencies as JSON (`{}`) and the status that is
+///   asked for as JSON (`null`).
 pub fn request_of(alloc: Global, line: &str) -> Result<Request, Fail> {
     match line.strip_prefix("token ") {
         Some(rest) => {

@@ -25,7 +25,7 @@ const FIFTH_ROUND: u32 = 10;
 /// the server.
 const SIXTH_ROUND: u32 = 12;
 
-// A server for two connections, which listens for commands of a file, too.
+// A server for two connections that also listens for commands of a file.
 fn server(rt: &HostRuntime, file: &str) -> Result<(Server, CommandListener), Fail> {
     lay(rt, file)?;
     let server = Server::bind(rt, rt.alloc(), 0, 2)?;
@@ -96,7 +96,7 @@ fn nobody_is_answered_during_a_hold(rt: HostRuntime) -> Result<(), Fail> {
     forget(&rt, file)
 }
 
-/// Between two readings this many milliseconds pass, of which a round counts 275 at most.
+/// This many milliseconds pass between two readings, and a round counts at most 275.
 const STEP: u64 = 200;
 
 /// The reading after 58 s.
@@ -105,7 +105,7 @@ const AFTER_58: u32 = 422;
 /// The reading after 66 s.
 const AFTER_66: u32 = 480;
 
-/// A clock by which time passes fast, as it lets no round wait. It ends a hold that lasts for 66 s.
+/// A fast clock, by which no round waits. It ends a hold that lasts for 66 s.
 #[derive(Drop)]
 struct Lapsing<'a> {
     readings: Cell<u32>,
@@ -149,7 +149,8 @@ fn a_hold_of_a_server_lapses_after_a_minute(rt: HostRuntime) -> Result<(), Fail>
     }
     wait(&rt);
     let asked = Cell::new(0);
-    // No guest has this token: those of commands come first, and then that of who holds the server.
+    // No guest has this token: those of commands come first, and then that of the command that
+    // holds the server.
     let clock = Lapsing {
         readings: Cell::new(0),
         waker: Waker::new(server.registry(), Token(FIRST_GUEST + GUEST_COUNT + 7))?,

@@ -13,13 +13,13 @@ use std::io;
 use std::net::{Shutdown, TcpStream};
 use std::test::Fail;
 
-/// A service that does whatever it is asked. When it is asked first, a client asks that was idle until
-/// then; and once those who have gone are answered, the other idle client ends.
+/// A service that does whatever it is asked. At its first request, a client that was idle until
+/// then asks, too; and once all clients that have left are answered, the other idle client ends.
 #[derive(Drop)]
 struct Waking<'a> {
     rt: &'a HostRuntime,
     asked: usize,
-    // How many clients have gone that have asked.
+    // How many clients have asked and left.
     gone: usize,
     asks: &'a TcpStream,
     idle: &'a TcpStream,
@@ -66,11 +66,11 @@ fn ask(rt: &HostRuntime, server: &Server) -> Result<TcpStream, Fail> {
     Ok(client)
 }
 
-// Clients come in the order in which they connect: two that are idle, `left` that leave at once, as
-// many that have asked and have gone as take all other places, and then newcomers, one more than have
-// left. The server has looked at the first two, on which nothing had come, when it comes to those who
-// have gone. These take no descriptor here: a process may often have 1,024, so it can't have both ends
-// of each connection.
+// Clients come in the order in which they connect: two that are idle; `left` that leave at once;
+// enough that ask and leave to take all other places; and then newcomers, one more than have left
+// at once. When the server comes to the clients that have asked and left, it has looked at the
+// first two, from which nothing had come. Clients that have left take no descriptor here: a process
+// may often have only 1,024, too few for both ends of each connection.
 fn newcomers_come(rt: &HostRuntime, left: usize) -> Result<(), Fail> {
     let gone = (CONNECTION_COUNT - 2).saturating_sub(left);
     let count = CONNECTION_COUNT.saturating_add(left).saturating_add(1);

@@ -12,8 +12,8 @@ use std::net::{Shutdown, TcpStream};
 use std::test::Fail;
 use std::time::{Clock, Duration};
 
-/// Between two readings this many milliseconds pass. A round reads the time twice, and 275 ms of it
-/// count at most: as long as a server waits, and 25 ms more.
+/// This many milliseconds pass between two readings. A round reads the time twice, and at most 275
+/// ms of it count: the time for which a server waits, and 25 ms more.
 const STEP: u64 = 200;
 
 /// The reading after 50 s: that of the 182nd round.
@@ -26,8 +26,8 @@ const AFTER_58: u32 = 422;
 /// once counts for 25 ms.
 const AFTER_62: u32 = 452;
 
-/// A clock by which time passes fast, as it lets no round wait. One client is silent, until both end
-/// after 62 s. The other asks after 50 s and after 62 s.
+/// A fast clock, by which no round waits. One client is silent; the other asks after 50 s and after
+/// 62 s. Then both end.
 #[derive(Drop)]
 struct Passing<'a> {
     rt: &'a HostRuntime,

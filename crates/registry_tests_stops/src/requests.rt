@@ -1,7 +1,7 @@
 //! The requests that are asked, one a line.
 
-/// The commands: three users, three tokens, of which two end, and an organisation; four versions, of
-/// which two have the same archive and two are withdrawn; one more, which is withdrawn and never
+/// The commands: three users, three tokens (two of them end) and an organisation; four versions,
+/// two with the same archive and two that are withdrawn; one more that is withdrawn and never
 /// published again; a team that has a member and a grant when it is destroyed; and a deprecation.
 pub(crate) const COMMANDS: &str = r#"
 --at 0 --operator user-add ann

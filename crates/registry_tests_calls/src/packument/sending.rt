@@ -43,8 +43,8 @@ fn narrow(alloc: Global, room: usize) -> Narrow {
     }
 }
 
-// How the packument is sent that was counted to have this many bytes, from a source that answers
-// this many calls, to a writer that takes what it has room for.
+// How a packument is sent that was counted to have this many bytes: from a source that answers this
+// many calls, to a writer that takes what it has room for.
 fn sent_to(rt: &impl Abort, alloc: Global, answers: u32, len: u64, writer: &mut Narrow) -> Sent {
     let head = head(rt, alloc, "kit", KIT_TAGS, KIT_VERSIONS);
     let mut source = Failing {

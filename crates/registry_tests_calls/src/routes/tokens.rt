@@ -1,4 +1,5 @@
-//! What authorizations show that no user has: such a token is refused like one that isn't in form.
+//! Authorizations with tokens that no user has: such a token is refused like one that isn't in
+//! form.
 
 use crate::outcome::same;
 use registry_routes::bearer_token;

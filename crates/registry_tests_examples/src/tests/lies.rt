@@ -1,4 +1,4 @@
-//! What may be where a registry's file is to be opened.
+//! What may lie at the path of a registry's file.
 
 use crate::tests::at_path::{number_at, outcome_at};
 use registry_rules::Reply;

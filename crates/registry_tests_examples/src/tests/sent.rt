@@ -164,7 +164,7 @@ fn is_answered<S: Alter>(alloc: Global, registry: &mut Registry<S>) -> Result<()
     }
 }
 
-// How a packument is sent, and what a writer takes of it that fails after this many bytes. The
+// How a packument is sent, and what a writer that fails after this many bytes takes of it. The
 // opening says whether the packument is as long as that of two versions.
 fn sent_to<S: Alter>(
     alloc: Global,

@@ -60,8 +60,8 @@ fn is_answered<D: Service>(alloc: Global, service: &mut D) -> Result<(), Fail> {
     }
 }
 
-// How a connection is served on which this is asked, and what a writer takes of the response that
-// fails after this many bytes.
+// How a connection is served on which this is asked, and what a writer that fails after this many
+// bytes takes of the response.
 fn served_to<D: PackumentService>(
     alloc: Global,
     service: &mut D,

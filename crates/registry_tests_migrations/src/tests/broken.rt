@@ -1,4 +1,4 @@
-//! Registries in which nothing is wrong but one thing, and what the check says of each.
+//! Registries in which one thing is wrong, and what the check says of each.
 //!
 //! Each line that the check has for a row is seen here, except those of a reference that the schema
 //! keeps: `HasUser`, `HasOrganisation`, `HasTeam`, `HasPackage`, `IsMember`, `Lives`, `IsStored` and
@@ -322,7 +322,7 @@ fn told_inside(alloc: Global, left: &mut Unopened<Memory>) -> Result<String, Fai
     }
 }
 
-// What the check says of the tables, which are a registry's, also where none opens.
+// What the check says of a registry's tables, even if no registry opens from them.
 fn told_by<S: Alter>(alloc: Global, conn: &mut Connection<S>) -> Result<String, Fail>
     requires idle { conn.old.in_transaction ≡ false }
     requires rises { CanBeAdopted (state S.Store conn.old) }

@@ -1,5 +1,5 @@
-//! A registry of schema 1, as it was left: its archives are in the rows of versions, and of needs
-//! it has only the targets.
+//! A registry of schema 1, as it was left: its archives are in the rows of versions, and it has
+//! only the targets of needs.
 
 use super::Shown;
 use super::asked::Asked;

@@ -1,5 +1,5 @@
-//! A registry of schema 2, as it was left: each archive is stored once, and of needs it has only
-//! the targets.
+//! A registry of schema 2, as it was left: each archive is stored once, and it has only the targets
+//! of needs.
 
 use super::Shown;
 use super::asked::Asked;

@@ -19,7 +19,7 @@ use std::test::Fail;
 /// More calls than any run makes of one file.
 const MOST_CALLS: u64 = 10_000;
 
-/// After one of this many stops the next open stops, too, unless the environment says otherwise.
+/// After one of this many stops the next open also stops, unless the environment says otherwise.
 const EVERY: u64 = 32;
 
 /// What is asked, and what a registry in memory, which never stops, answers.
@@ -142,7 +142,7 @@ fn no_stop_loses_an_answer(
     goes_on_after_stops(rt, &story, stops)
 }
 
-// The next open stops, too, after one of this many stops. In `make stops`, `STOPS_EVERY` gives the
+// After one of this many stops the next open also stops. In `make stops`, `STOPS_EVERY` gives the
 // number.
 fn every(rt: &HostRuntime) -> u64 {
     match env::var(rt, "STOPS_EVERY") {
@@ -227,7 +227,7 @@ fn is_stopped_after<D: StoppingDisk>(
     Ok(is_stopped)
 }
 
-// What a stop leaves goes on. Where the next open is to stop, too, it stops first.
+// A registry goes on from what a stop leaves. If the next open is to stop as well, it stops first.
 fn after_the_stop<D: StoppingDisk>(
     alloc: Global,
     calls: u64,
