@@ -20,7 +20,7 @@ use Rattle.registry_tables.specs.Fresh.{first_tables, schema_after}
 use Rattle.registry_tables.specs.Schema as table
 use Rattle.registry_tables.specs.Schema.{schema, schema_2}
 use Rattle.registry_tables.proofs.ContentsFacts.{contents_depend}
-use Rattle.registry_tables.proofs.SchemaFacts.{means_archives, means_archives_index, means_needs, means_needs_index}
+use Rattle.registry_tables.proofs.SchemaFacts.{means_archives, means_archives_index, means_needs, means_needs_index, means_held_index}
 use Rattle.registry_migration.specs.Older.{contents_1, contents_2, schema_1}
 
 -- what is stored where `held` is there, and no archives are
@@ -167,12 +167,18 @@ ranges_alike old new (users, (tokens, (organisations, (members, (teams, (team_me
 ranges_made : (old new : Shown) → Ready schema_2 old → Wrote (get_or creation 17 []) [] old new → HasCleanDisk new → Leaves (schema_after 18) contents (contents_2 old.now.trees) new
 ranges_made old new form call = create_keeps schema_2 (get_or creation 17 []) (record table.need_ranges { tree = 0 }) means_needs contents_2 contents ranges_alike old new (Ok call.0) form call.1
 
-ranges_index_made : (old new : Shown) → Ready (schema_after 18) old → Wrote (get_or creation 18 []) [] old new → HasCleanDisk new → Leaves schema contents (contents old.now.trees) new
+ranges_index_made : (old new : Shown) → Ready (schema_after 18) old → Wrote (get_or creation 18 []) [] old new → HasCleanDisk new → Leaves (schema_after 19) contents (contents old.now.trees) new
 ranges_index_made old new form call = index_keeps (schema_after 18) (get_or creation 18 []) 17 table.need_ranges (record table.need_ranges_by_target { tree = 0 }) means_needs_index contents contents_depend old new (Ok call.0) form call.1
 
-pub ranges_added : (a b c : Shown) → Ready schema_2 a → Wrote (get_or creation 17 []) [] a b → Wrote (get_or creation 18 []) [] b c → HasCleanDisk c → Leaves schema contents (contents_2 a.now.trees) c
-ranges_added a b c form one two clean =
-    let clean_b : HasCleanDisk b = omega (arith, two.1.survives.clean, clean) in
+held_index_made : (old new : Shown) → Ready (schema_after 19) old → Wrote (get_or creation 19 []) [] old new → HasCleanDisk new → Leaves schema contents (contents old.now.trees) new
+held_index_made old new form call = index_keeps (schema_after 19) (get_or creation 19 []) 14 table.held (record table.held_by_archive { tree = 0 }) means_held_index contents contents_depend old new (Ok call.0) form call.1
+
+pub ranges_added : (a b c d : Shown) → Ready schema_2 a → Wrote (get_or creation 17 []) [] a b → Wrote (get_or creation 18 []) [] b c → Wrote (get_or creation 19 []) [] c d → HasCleanDisk d
+    → Leaves schema contents (contents_2 a.now.trees) d
+ranges_added a b c d form one two three clean =
+    let clean_c : HasCleanDisk c = omega (arith, three.1.survives.clean, clean) in
+    let clean_b : HasCleanDisk b = omega (arith, two.1.survives.clean, clean_c) in
     let first = ranges_made a b form one clean_b in
-    let second = ranges_index_made b c (λ _ _. first.ready) two clean in
-    record { holds = second.holds ∙ first.holds; ready = second.ready; mode = second.mode }
+    let second = ranges_index_made b c (λ _ _. first.ready) two clean_c in
+    let third = held_index_made c d (λ _ _. second.ready) three clean in
+    record { holds = third.holds ∙ second.holds ∙ first.holds; ready = third.ready; mode = third.mode }

@@ -45,7 +45,8 @@ fn add_archives<S: Alter>(tx: &mut Transaction<'_, S>) -> Result<(), Fault>
     write(tx, TABLES[16], &[])
 }
 
-// Makes what schema 3 has and schema 2 lacks: the table of needs with their ranges, and its index.
+// Makes what schema 3 has and schema 2 lacks: the table of needs with their ranges, its index, and
+// the index by which the versions that have an archive are found.
 fn add_ranges<S: Alter>(tx: &mut Transaction<'_, S>) -> Result<(), Fault>
     requires second { Ready schema_2 (shown S.Store tx.old) }
     ensures stays { Stays S.Store tx.old tx.new }
@@ -54,5 +55,6 @@ fn add_ranges<S: Alter>(tx: &mut Transaction<'_, S>) -> Result<(), Fault>
         (shown S.Store tx.new)) }
 {
     write(tx, TABLES[17], &[])?;
-    write(tx, TABLES[18], &[])
+    write(tx, TABLES[18], &[])?;
+    write(tx, TABLES[19], &[])
 }

@@ -94,6 +94,10 @@ pub means_needs_index : MeansIndex (schema_after 18) (get_or creation 18 []) 17 
 unfolding understood everything creation
 means_needs_index = record { command = (refl, (refl, refl)); text = refl; found = refl; defined = refl }
 
+pub means_held_index : MeansIndex (schema_after 19) (get_or creation 19 []) 14 table.held (record table.held_by_archive { tree = 0 })
+unfolding understood everything creation
+means_held_index = record { command = (refl, (refl, refl)); text = refl; found = refl; defined = refl }
+
 -- the texts add tables one after another
 abbrev AddsAll : ℕ → List (List ℕ) → Type 0
 AddsAll n [] = Unit {0}
@@ -119,7 +123,7 @@ adds i within =
     let same : 0 + i ≡ i = omega arith in
     subst (λ sql. AddsTable i sql) (get_or-take 15 creation i [] within) (subst (λ k. AddsTable k (get_or (take 15 creation) i [])) same (each_adds (take 15 creation) 0 i all_add (omega (arith, long, within))))
 
-pub creation_length : length creation ≡ 19
+pub creation_length : length creation ≡ 20
 unfolding creation
 creation_length = refl
 

@@ -22,4 +22,5 @@ creation =
     ∷ codes "CREATE INDEX archives_by_integrity ON archives (integrity)"
     ∷ codes "CREATE TABLE need_ranges (package TEXT NOT NULL, version TEXT NOT NULL, target TEXT NOT NULL, range TEXT NOT NULL, PRIMARY KEY (package, version, target, range), FOREIGN KEY (package, version) REFERENCES versions ON DELETE CASCADE) STRICT"
     ∷ codes "CREATE INDEX need_ranges_by_target ON need_ranges (target, package, version, range)"
+    ∷ codes "CREATE INDEX held_by_archive ON held (archive)"
     ∷ []

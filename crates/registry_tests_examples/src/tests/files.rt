@@ -100,7 +100,7 @@ static DAMAGED: [(&str, Lies, &str); 9] = [
 ];
 
 /// Databases that aren't a registry of this schema, in the same form.
-static OTHERS: [(&str, Lies, &str); 11] = [
+static OTHERS: [(&str, Lies, &str); 12] = [
     (
         "another program's tables are none",
         Lies::Program("CREATE TABLE note (id INTEGER PRIMARY KEY, title TEXT)"),
@@ -140,6 +140,11 @@ static OTHERS: [(&str, Lies, &str); 11] = [
         "an index less is another schema",
         Lies::Changed("DROP INDEX need_ranges_by_target"),
         "",
+    ),
+    (
+        "the last index less is another schema",
+        Lies::Changed("DROP INDEX held_by_archive"),
+        FOREIGN,
     ),
     (
         "tables that count for something else are none",
