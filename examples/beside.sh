@@ -127,6 +127,13 @@ cat > "$work/commands" <<'END'
 --at 100 --operator tokens-rm bob
 --at 100 --operator tokens-rm bob
 --at 100 --operator org-create lab ann
+--at 100 --as ann whoami
+--at 100 --operator whoami
+--at 100 whoami
+--at 100 --operator users
+--at 100 --as ann users
+--at 100 --operator organisations
+--at 100 --as ann organisations
 --at 100 --as ann org-set lab bob developer
 --at 100 --as eve members lab
 --at 100 --as ann members lab
@@ -143,6 +150,10 @@ cat > "$work/commands" <<'END'
 --at 100 --as bob archive @lab/kit 1.0.0
 --at 100 --as bob archive @lab/kit 9.0.0
 --at 100 --as bob tags @lab/kit
+--at 100 --as bob maintainers @lab/kit
+--at 100 maintainers @lab/kit
+--at 100 --operator packages
+--at 100 --as bob packages
 --at 100 --as bob tag-set @lab/kit next 1.0.0
 --at 100 --as bob tag-rm @lab/kit latest
 --at 100 --as bob deprecate @lab/kit * old

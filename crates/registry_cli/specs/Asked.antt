@@ -12,7 +12,7 @@ use Rattle.registry_rules.specs.declared.request.Credential.TheVariants as crede
 use Rattle.registry_cli.specs.Lines.{argument_at, says_input}
 use Rattle.registry_cli.specs.Readings.{Reading, four, gives, one, read_then, reads_asked, reads_grant, reads_ident, reads_message, reads_name, reads_role, reads_selector, reads_status, reads_tag, reads_token, reads_version, three, two}
 use Rattle.registry_cli.specs.declared.action.Verb.{Verb}
-use Rattle.registry_cli.specs.declared.action.Verb.TheVariants.{UserAdd, TokenAdd, TokenRemove, TokensRemove, OrgCreate, OrgSet, OrgRemove, TeamCreate, TeamDestroy, TeamAdd, TeamRemove, Grant, Revoke, SetAccess, OwnerAdd, OwnerRemove, Publish, TagSet, TagRemove, Deprecate, Withdraw, Packument, VersionDoc, Archive, Tags, Members, Teams, TeamMembers, TeamPackages}
+use Rattle.registry_cli.specs.declared.action.Verb.TheVariants.{UserAdd, TokenAdd, TokenRemove, TokensRemove, OrgCreate, OrgSet, OrgRemove, TeamCreate, TeamDestroy, TeamAdd, TeamRemove, Grant, Revoke, SetAccess, OwnerAdd, OwnerRemove, Publish, TagSet, TagRemove, Deprecate, Withdraw, Packument, VersionDoc, Archive, Tags, Members, Teams, TeamMembers, TeamPackages, WhoAmI, Maintainers, Users, Organisations, Packages}
 use Rattle.registry_cli.specs.declared.meaning.Line.{Line}
 use Rattle.registry_cli.specs.declared.meaning.Who.{Who}
 use Rattle.registry_cli.specs.declared.meaning.Who.TheVariants as who
@@ -69,11 +69,16 @@ query_verb name =
     if bytes_eq name (codes "version-doc") then Some VersionDoc else (
     if bytes_eq name (codes "archive") then Some Archive else (
     if bytes_eq name (codes "tags") then Some Tags else (
+    if bytes_eq name (codes "maintainers") then Some Maintainers else (
     if bytes_eq name (codes "members") then Some Members else (
     if bytes_eq name (codes "teams") then Some Teams else (
     if bytes_eq name (codes "team-members") then Some TeamMembers else (
     if bytes_eq name (codes "team-packages") then Some TeamPackages else (
-    None))))))))
+    if bytes_eq name (codes "whoami") then Some WhoAmI else (
+    if bytes_eq name (codes "users") then Some Users else (
+    if bytes_eq name (codes "organisations") then Some Organisations else (
+    if bytes_eq name (codes "packages") then Some Packages else (
+    None)))))))))))))
 
 abbrev pub verb_of : Text → Option Verb
 verb_of name = option_or (organisation_verb name) (option_or (team_verb name) (option_or (package_verb name) (query_verb name)))
@@ -117,6 +122,11 @@ asked Members arguments body = read_then (one reads_ident arguments) (λ p. give
 asked Teams arguments body = read_then (one reads_ident arguments) (λ p. gives (action.Teams p))
 asked TeamMembers arguments body = read_then (two reads_ident reads_ident arguments) (λ p. gives (action.TeamMembers p.0 p.1))
 asked TeamPackages arguments body = read_then (two reads_ident reads_ident arguments) (λ p. gives (action.TeamPackages p.0 p.1))
+asked WhoAmI arguments body = gives action.WhoAmI
+asked Maintainers arguments body = read_then (one reads_name arguments) (λ p. gives (action.Maintainers p))
+asked Users arguments body = gives action.Users
+asked Organisations arguments body = gives action.Organisations
+asked Packages arguments body = gives action.Packages
 
 abbrev pub reads_verb : Option Verb → List Text → List ℕ → Reading Action
 reads_verb (Some verb) arguments body = asked verb arguments body

@@ -149,10 +149,15 @@ queries =
     ∷ (codes "version-doc", name ∷ version ∷ [])
     ∷ (codes "archive", name ∷ version ∷ [])
     ∷ (codes "tags", name ∷ [])
+    ∷ (codes "maintainers", name ∷ [])
     ∷ (codes "members", organisation ∷ [])
     ∷ (codes "teams", organisation ∷ [])
     ∷ (codes "team-members", organisation ∷ team ∷ [])
     ∷ (codes "team-packages", organisation ∷ team ∷ [])
+    ∷ (codes "whoami", [])
+    ∷ (codes "users", [])
+    ∷ (codes "organisations", [])
+    ∷ (codes "packages", [])
     ∷ []
 
 abbrev pub serving : List (Text × List Rule)

@@ -47,6 +47,11 @@ pub(crate) enum Verb {
     Teams,
     TeamMembers,
     TeamPackages,
+    WhoAmI,
+    Maintainers,
+    Users,
+    Organisations,
+    Packages,
 }
 
 /// The credential and the action that a line asks for. `body` is the content of the file that the
@@ -148,10 +153,15 @@ fn query_verb(name: &str) -> Option<Verb>
         "version-doc" => Some(Verb::VersionDoc),
         "archive" => Some(Verb::Archive),
         "tags" => Some(Verb::Tags),
+        "maintainers" => Some(Verb::Maintainers),
         "members" => Some(Verb::Members),
         "teams" => Some(Verb::Teams),
         "team-members" => Some(Verb::TeamMembers),
         "team-packages" => Some(Verb::TeamPackages),
+        "whoami" => Some(Verb::WhoAmI),
+        "users" => Some(Verb::Users),
+        "organisations" => Some(Verb::Organisations),
+        "packages" => Some(Verb::Packages),
         _ => None,
     }
 }
@@ -189,6 +199,11 @@ fn asked(alloc: Global, verb: Verb, arguments: &[Text], body: &[u8]) -> Result<A
         Verb::Teams => teams(alloc, arguments),
         Verb::TeamMembers => team_members(alloc, arguments),
         Verb::TeamPackages => team_packages(alloc, arguments),
+        Verb::WhoAmI => Ok(Action::WhoAmI),
+        Verb::Maintainers => maintainers(alloc, arguments),
+        Verb::Users => Ok(Action::Users),
+        Verb::Organisations => Ok(Action::Organisations),
+        Verb::Packages => Ok(Action::Packages),
     }
 }
 
@@ -429,6 +444,13 @@ fn tags(alloc: Global, arguments: &[Text]) -> Result<Action, Stop>
 {
     let package = one(alloc, arguments)?;
     Ok(Action::Tags { package })
+}
+
+fn maintainers(alloc: Global, arguments: &[Text]) -> Result<Action, Stop>
+    ensures { spec.asked verbs.Maintainers arguments.now [] result }
+{
+    let package = one(alloc, arguments)?;
+    Ok(Action::Maintainers { package })
 }
 
 fn members(alloc: Global, arguments: &[Text]) -> Result<Action, Stop>

@@ -316,7 +316,7 @@ static PACKAGES: [Subcommand; 8] = [
     },
 ];
 
-static QUERIES: [Subcommand; 8] = [
+static QUERIES: [Subcommand; 13] = [
     Subcommand {
         name: "packument",
         parameters: &[PACKAGE],
@@ -342,6 +342,12 @@ static QUERIES: [Subcommand; 8] = [
         example: "Example: registry --as bob tags @lab/kit",
     },
     Subcommand {
+        name: "maintainers",
+        parameters: &[PACKAGE],
+        about: "Print the maintainers of a package (who reads it)",
+        example: "Example: registry --as bob maintainers tool",
+    },
+    Subcommand {
         name: "members",
         parameters: &[ORGANISATION],
         about: "Print the members of an organisation with their roles (a member)",
@@ -364,6 +370,30 @@ static QUERIES: [Subcommand; 8] = [
         parameters: &[ORGANISATION, TEAM],
         about: "Print what a team is granted (a member of the organisation)",
         example: "Example: registry --as bob team-packages lab ops",
+    },
+    Subcommand {
+        name: "whoami",
+        parameters: &[],
+        about: "Print the name of the user who asks (a user)",
+        example: "Example: registry --as bob whoami",
+    },
+    Subcommand {
+        name: "users",
+        parameters: &[],
+        about: "Print all users, each with the number of their tokens (the operator)",
+        example: "Example: registry --operator users",
+    },
+    Subcommand {
+        name: "organisations",
+        parameters: &[],
+        about: "Print all organisations (the operator)",
+        example: "Example: registry --operator organisations",
+    },
+    Subcommand {
+        name: "packages",
+        parameters: &[],
+        about: "Print all packages, each with its status and its latest version (the operator)",
+        example: "Example: registry --operator packages",
     },
 ];
 

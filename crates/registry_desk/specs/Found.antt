@@ -1,6 +1,6 @@
 -- When what was loaded for an action is what the registry holds of it.
 use Rattle.std.specs.Prelude.{◌≡◌, true, Some, map, filter, option_map}
-use Rattle.registry_names.specs.Maps.{at, keys, of, pairs_of, parts, seen}
+use Rattle.registry_names.specs.Maps.{at, entries, keys, of, pairs_of, parts, seen}
 use Rattle.registry_names.specs.Texts.{Text}
 use Rattle.registry_names.specs.Versions.{text_of_version}
 use Rattle.registry_names.specs.Tags.{latest}
@@ -16,13 +16,13 @@ use Rattle.registry_rules.specs.Callers.{caller_of}
 use Rattle.registry_rules.specs.State.{State, Release, has_grant, has_live, has_maintainer, has_other_maintainer, has_other_owner, has_team, has_user, is_in_team, is_live, is_member, is_published, is_spent, stands, tokens_of}
 use Rattle.registry_rules.specs.Withdrawals.{last_withdrawal, live_versions}
 use Rattle.registry_rules.specs.declared.request.Action.{Action}
-use Rattle.registry_rules.specs.declared.request.Action.TheVariants.{TokensRemove, Deprecate, VersionDoc, Archive, Tags, Members, Teams, TeamMembers, TeamPackages, Withdraw}
+use Rattle.registry_rules.specs.declared.request.Action.TheVariants.{TokensRemove, Deprecate, VersionDoc, Archive, Tags, Members, Teams, TeamMembers, TeamPackages, Withdraw, WhoAmI, Maintainers, Users, Organisations, Packages}
 use Rattle.registry_rules.specs.declared.request.Request.{Request}
 use Rattle.registry_tables.specs.Contents.{Contents, registry_of}
 use Rattle.registry_tables.specs.Needs.{HoldsNeeds}
 use Rattle.registry_tables.specs.Spelled.{document, document_entry, member_entry, published, tag_entry}
 use Rattle.registry_tables.specs.Teams.{granted_entry}
-use Rattle.registry_laws_history.specs.Answers.{archive_in, asked_release, created_at, modified_at}
+use Rattle.registry_laws_history.specs.Answers.{archive_in, asked_release, created_at, modified_at, overview, own_name, token_count}
 use Rattle.registry_desk.specs.declared.grants.Grantable.{Grantable}
 use Rattle.registry_desk.specs.declared.maintainers.Leaver.{Leaver}
 use Rattle.registry_desk.specs.declared.maintainers.Newcomer.{Newcomer}
@@ -52,6 +52,11 @@ AreRowsOf (rows.Names names) S who (Teams o) = names.items ≡ keys (of S.access
 AreRowsOf (rows.Names names) S who (TeamMembers o t) = names.items ≡ keys (parts (pairs_of S.access.team_members o) t)
 AreRowsOf (rows.Grants granted) S who (TeamPackages o t) =
     map granted_entry granted.items ≡ filter (λ (e : Text × Grant). reads (level_in S.access who e.0)) (parts (pairs_of S.access.grants o) t)
+AreRowsOf (rows.OwnName name) S who WhoAmI = name ≡ own_name who
+AreRowsOf (rows.Names names) S who (Maintainers p) = names.items ≡ keys (of S.access.maintainers p)
+AreRowsOf (rows.Users users) S who Users = users.items ≡ map (token_count S) (keys (entries S.access.users))
+AreRowsOf (rows.Names names) S who Organisations = names.items ≡ keys (entries S.access.organisations)
+AreRowsOf (rows.Packages packages) S who Packages = packages.items ≡ map (overview S) (entries S.access.statuses)
 AreRowsOf (rows.Digests digests) S who (TokensRemove u) = digests.items ≡ tokens_of S u
 AreRowsOf (rows.Live live) S who (Deprecate p selector message) = map text_of_version live.items ≡ live_versions S p
 AreRowsOf rows.Nothing S who (TokensRemove u) = ⊥

@@ -150,7 +150,7 @@ module _ (old new : Shown) where
       → Says (grown h (registry_in old) r o) (registry_in new)
 
   -- of what a legal history led to: a caller who has no level on a package, or nobody, is answered
-  -- as on the registry without it, except by the two replies that show it. What is held then agrees,
+  -- as on the registry without it, except by the replies that show it. What is held then agrees,
   -- in all but the package, with what the request makes of the registry without it
   abbrev pub HidesUnread : Request → Outcome → Type 0
   HidesUnread r o = NeedsFor r.what (stored old) → HasCleanDisk new → (h : List Entry) → Legal h → registry_in old ≡ after h

@@ -12,11 +12,12 @@ use crate::organisations::{
     facts_about_organisation, facts_for_org_create, facts_for_org_remove, facts_for_org_set,
 };
 use crate::packages::{
-    facts_about_archive, facts_about_document, facts_about_package, facts_for_publish,
-    facts_for_set_access, facts_for_tag_remove, facts_for_tag_set,
+    facts_about_archive, facts_about_document, facts_about_package, facts_for_maintainers,
+    facts_for_publish, facts_for_set_access, facts_for_tag_remove, facts_for_tag_set,
 };
 use crate::people::{
     facts_for_token_add, facts_for_token_remove, facts_for_tokens_remove, facts_for_user_add,
+    facts_of_caller,
 };
 use crate::policy::Found;
 use crate::teams::{
@@ -132,5 +133,10 @@ pub(crate) fn load_facts<S: Alter>(
         }
         Action::TeamMembers { organisation, team } | Action::TeamPackages { organisation, team } =>
             { facts_about_team(alloc, tx, caller, organisation, team).map(Found::About) }
+        Action::Maintainers { package } => {
+            facts_for_maintainers(alloc, tx, caller, package).map(Found::About)
+        }
+        Action::WhoAmI | Action::Users => facts_of_caller(tx).map(Found::About),
+        Action::Organisations | Action::Packages => facts_of_caller(tx).map(Found::About),
     }
 }

@@ -43,6 +43,23 @@ pub(crate) fn facts_for_set_access<S: Alter>(
     })
 }
 
+/// Of a query for the maintainers of a package.
+pub(crate) fn facts_for_maintainers<S: Alter>(
+    alloc: Global,
+    tx: &mut Transaction<'_, S>,
+    caller: &Caller,
+    name: &Name,
+) -> Result<About, Fault>
+    requires in_form { InForm S.Store tx.old }
+    ensures stays { Stays S.Store tx.old tx.new }
+    ensures loads { Loads S.Store tx.old tx.new result (λ about c. AreTeamsSound c
+        → AboutTells about (registry_of c) caller.now (asked.Maintainers name.now)) }
+{
+    Ok(About::Maintainers {
+        standing: load_standing(alloc, tx, caller, name)?,
+    })
+}
+
 /// Of a publish, by a caller whom the policy allows it.
 pub(crate) fn facts_for_publish<S: Alter>(
     alloc: Global,

@@ -1,6 +1,6 @@
 //! What decides an action about users and their tokens.
 
-ghost use Rattle.std.specs.Prelude.{ℕ};
+ghost use Rattle.std.specs.Prelude.{◌≡◌, ℕ};
 ghost use Rattle.registry_access.specs.declared.caller.Caller.{Caller as Asker};
 ghost use Rattle.registry_rows.specs.Frames.{Stays};
 ghost use Rattle.registry_tables.specs.Contents.{registry_of};
@@ -31,6 +31,17 @@ pub(crate) fn facts_for_user_add<S: Alter>(
     Ok(About::UserAdd {
         exists: has_user(tx, user.text())?,
     })
+}
+
+/// Of an action that is decided by who asks alone. A user of no name is looked for, so that what is
+/// answered comes of an open registry.
+pub(crate) fn facts_of_caller<S: Alter>(tx: &mut Transaction<'_, S>) -> Result<About, Fault>
+    requires in_form { InForm S.Store tx.old }
+    ensures stays { Stays S.Store tx.old tx.new }
+    ensures loads { Loads S.Store tx.old tx.new result (λ about c. about ≡ About.Nothing) }
+{
+    has_user(tx, "")?;
+    Ok(About::Nothing)
 }
 
 /// Of a token that is to be added.

@@ -102,10 +102,19 @@ fn text_of(alloc: Global, what: &Action, rows: Rows) -> Result<Text, Fault>
         (Action::VersionDoc { .. }, Rows::Document(Some(row))) => document(alloc, &row),
         (Action::Tags { .. }, Rows::Tags(tags)) => tags_of(alloc, tags),
         (Action::Members { .. }, Rows::Members(members)) => members_of(alloc, members),
-        (Action::Teams { .. } | Action::TeamMembers { .. }, Rows::Names(names)) => {
-            list_text(alloc, &List::Names(names))
-        }
+        (
+            Action::Teams { .. }
+            | Action::TeamMembers { .. }
+            | Action::Maintainers { .. }
+            | Action::Organisations,
+            Rows::Names(names),
+        ) => list_text(alloc, &List::Names(names)),
         (Action::TeamPackages { .. }, Rows::Grants(granted)) => grants_of(alloc, granted),
+        (Action::WhoAmI, Rows::OwnName(name)) => list_text(alloc, &List::Username(name)),
+        (Action::Users, Rows::Users(users)) => list_text(alloc, &List::Users(users)),
+        (Action::Packages, Rows::Packages(packages)) => {
+            list_text(alloc, &List::Packages(packages))
+        }
         _ => Err(Fault::Database),
     }
 }

@@ -1,7 +1,8 @@
 //! The rows that answer an action which nothing refuses. Nothing is changed.
 
-ghost use Rattle.std.specs.Prelude.{◌≡◌, List, map, option_map, IfSome};
+ghost use Rattle.std.specs.Prelude.{◌≡◌, List, map, option_map, IfOk, IfSome};
 ghost use Rattle.registry_access.specs.declared.caller.Caller.{Caller};
+ghost use Rattle.registry_laws_history.specs.Answers as answers;
 ghost use Rattle.registry_laws_history.specs.Answers.{asked_release};
 ghost use Rattle.registry_names.specs.Maps.{of, seen};
 ghost use Rattle.registry_names.specs.Texts.{Text as SpecText};
@@ -23,16 +24,16 @@ use crate::cache::{Caches, cached_archive};
 use registry_access::Caller;
 use registry_cache::{BlobCache, Shared, SharedBlob, SharedText, TextCache};
 use registry_names::{Blob, DistTag, Fault, Ident, LATEST, Name, Text, Ver};
-use registry_packument::{Granted, Member, PackTimes, VersionTime};
+use registry_packument::{Granted, Member, Overview, PackTimes, TokenCount, VersionTime};
 use registry_publish::TokenDigest;
 use registry_rules::{Action, Asked};
 use registry_tables::{
-    DocumentRow, load_archive, load_document, load_last_withdrawal, load_live, load_members,
-    load_spent_publications, load_tag, load_tags, load_team_packages, load_team_users, load_teams,
-    load_user_tokens,
+    DocumentRow, load_archive, load_document, load_last_withdrawal, load_live, load_maintainers,
+    load_members, load_organisations, load_packages, load_spent_publications, load_tag, load_tags,
+    load_team_packages, load_team_users, load_teams, load_user_tokens, load_users,
 };
 use sqlite::{Alter, Transaction};
-use std::alloc::Global;
+use std::alloc::{AllocError, Global};
 
 /// The rows that answer an action.
 #[derive(Drop)]
@@ -53,10 +54,17 @@ pub(crate) enum Rows {
     Tags(Vec<DistTag>),
     /// The members of an organisation, in byte order of their names.
     Members(Vec<Member>),
-    /// The teams of an organisation, or the members of a team, in byte order.
+    /// The teams of an organisation, the members of a team, the maintainers of a package, or all
+    /// organisations, in byte order.
     Names(Vec<Text>),
     /// What a team is granted, in byte order of the packages: only of those that the caller reads.
     Grants(Vec<Granted>),
+    /// The name of the user who asks.
+    OwnName(Text),
+    /// All users, in byte order.
+    Users(Vec<TokenCount>),
+    /// All packages that were published, now or once, in byte order.
+    Packages(Vec<Overview>),
 }
 
 /// Loads what answers a caller's action.
@@ -110,7 +118,62 @@ pub(crate) fn rows_for<S: Alter>(
         Action::TeamPackages { organisation, team } => {
             grant_rows(alloc, tx, caller, organisation, team)
         }
+        Action::WhoAmI => Ok(Rows::OwnName(own_name(alloc, caller)?)),
+        Action::Maintainers { package } => maintainer_rows(alloc, tx, package),
+        Action::Users => user_rows(alloc, tx),
+        Action::Organisations => organisation_rows(alloc, tx),
+        Action::Packages => package_rows(alloc, tx),
     }
+}
+
+// The name of a user. It is empty of a caller who is none.
+fn own_name(alloc: Global, caller: &Caller) -> Result<Text, AllocError>
+    ensures { IfOk result (λ name. name ≡ answers.own_name caller.now) }
+{
+    match caller {
+        Caller::User(name) => Text::from_str(alloc, name.text()),
+        Caller::Operator | Caller::Anonymous => Text::from_str(alloc, ""),
+    }
+}
+
+fn maintainer_rows<S: Alter>(
+    alloc: Global,
+    tx: &mut Transaction<'_, S>,
+    name: &Name,
+) -> Result<Rows, Fault>
+    requires in_form { InForm S.Store tx.old }
+    ensures stays { Stays S.Store tx.old tx.new }
+    ensures loads { Loads S.Store tx.old tx.new result (λ rows c. (who : Caller)
+        → AreRowsOf rows (registry_of c) who (asked.Maintainers name.now)) }
+{
+    Ok(Rows::Names(load_maintainers(alloc, tx, name)?))
+}
+
+fn user_rows<S: Alter>(alloc: Global, tx: &mut Transaction<'_, S>) -> Result<Rows, Fault>
+    requires in_form { InForm S.Store tx.old }
+    ensures stays { Stays S.Store tx.old tx.new }
+    ensures loads { Loads S.Store tx.old tx.new result
+        (λ rows c. (who : Caller) → AreRowsOf rows (registry_of c) who asked.Users) }
+{
+    Ok(Rows::Users(load_users(alloc, tx)?))
+}
+
+fn organisation_rows<S: Alter>(alloc: Global, tx: &mut Transaction<'_, S>) -> Result<Rows, Fault>
+    requires in_form { InForm S.Store tx.old }
+    ensures stays { Stays S.Store tx.old tx.new }
+    ensures loads { Loads S.Store tx.old tx.new result
+        (λ rows c. (who : Caller) → AreRowsOf rows (registry_of c) who asked.Organisations) }
+{
+    Ok(Rows::Names(load_organisations(alloc, tx)?))
+}
+
+fn package_rows<S: Alter>(alloc: Global, tx: &mut Transaction<'_, S>) -> Result<Rows, Fault>
+    requires in_form { InForm S.Store tx.old }
+    ensures stays { Stays S.Store tx.old tx.new }
+    ensures loads { Loads S.Store tx.old tx.new result
+        (λ rows c. (who : Caller) → AreRowsOf rows (registry_of c) who asked.Packages) }
+{
+    Ok(Rows::Packages(load_packages(alloc, tx)?))
 }
 
 fn token_rows<S: Alter>(

@@ -10,7 +10,7 @@ use Rattle.registry_rules.specs.declared.request.Request.{Request}
 use Rattle.registry_laws_history.specs.History.{after}
 use Rattle.registry_laws_history.specs.Runs.{IsAnswer, Outcome, end_of, next}
 use Rattle.registry_laws_history.proofs.RunFacts.{end_push}
-use Rattle.registry_laws_hidden.specs.Concerns.{is_shown}
+use Rattle.registry_laws_hidden.specs.Concerns.{IsShownAlike}
 use Rattle.registry_laws_hidden.specs.Runs.{AreAlikeTo, IsTheirs}
 use Rattle.registry_laws_hidden.proofs.RunFacts.{AreOneTo, one_answer, one_next, one_start, runs_are_alike}
 use Rattle.registry_service.specs.HttpAnswers.{response_to}
@@ -37,7 +37,7 @@ runs-answered_alike g h p who differ nothing nothing' rs os qs first second = an
 -- ---- their turns
 
 module _ (who : Caller) (p : Text) where
-  same-outcome : (U V : State) (r : Request) (o q : Outcome) → AreOneTo who p U V → IsTheirs who (caller_of U r.who) → is_shown U r p ≡ is_shown V r p → AreReplies o q → IsAnswer U r o → IsAnswer V r q
+  same-outcome : (U V : State) (r : Request) (o q : Outcome) → AreOneTo who p U V → IsTheirs who (caller_of U r.who) → IsShownAlike U V r p → AreReplies o q → IsAnswer U r o → IsAnswer V r q
       → (o ≡ q) × AreOneTo who p (next U r o) (next V r q)
   same-outcome U V r (Ok a) (Ok b) near theirs shown replies answered answered' = (ap Ok (answered ∙ one_answer who p U V r near theirs shown ∙ sym answered'), one_next who p U V r a b near theirs shown answered answered')
   same-outcome U V r (Ok a) (Err g) near theirs shown replies answered answered' = absurd replies

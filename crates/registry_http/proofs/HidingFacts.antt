@@ -15,7 +15,7 @@ use Rattle.registry_rules.specs.State.{State}
 use Rattle.registry_rules.specs.declared.reply.Reply.{Reply}
 use Rattle.registry_rules.specs.declared.reply.Reply.TheVariants.{Refused}
 use Rattle.registry_rules.specs.declared.request.Action.{Action}
-use Rattle.registry_rules.specs.declared.request.Action.TheVariants.{UserAdd, TokenAdd, TokenRemove, TokensRemove, OrgCreate, OrgSet, OrgRemove, TeamCreate, TeamDestroy, TeamAdd, TeamRemove, Grant, Revoke, SetAccess, OwnerAdd, OwnerRemove, Publish, TagSet, TagRemove, Withdraw, Deprecate, Packument, VersionDoc, Archive, Tags, Members, Teams, TeamMembers, TeamPackages}
+use Rattle.registry_rules.specs.declared.request.Action.TheVariants.{UserAdd, TokenAdd, TokenRemove, TokensRemove, OrgCreate, OrgSet, OrgRemove, TeamCreate, TeamDestroy, TeamAdd, TeamRemove, Grant, Revoke, SetAccess, OwnerAdd, OwnerRemove, Publish, TagSet, TagRemove, Withdraw, Deprecate, Packument, VersionDoc, Archive, Tags, Members, Teams, TeamMembers, TeamPackages, WhoAmI, Maintainers, Users, Organisations, Packages}
 use Rattle.registry_rules.specs.declared.request.Request.{Request}
 use Rattle.registry_laws_history.specs.Answers.{answer, reply, reply_to, unless_refused}
 use Rattle.registry_service.specs.HttpAnswers.{response_to}
@@ -30,6 +30,7 @@ refused-by S now who (Packument q) p is hidden = unread (reads (level_in S.acces
 refused-by S now who (VersionDoc q asked) p is hidden = unread (reads (level_in S.access who q)) _ (ap (λ (q : Text). reads (level_in S.access who q)) is ∙ hidden)
 refused-by S now who (Archive q v) p is hidden = unread (reads (level_in S.access who q)) _ (ap (λ (q : Text). reads (level_in S.access who q)) is ∙ hidden)
 refused-by S now who (Tags q) p is hidden = unread (reads (level_in S.access who q)) _ (ap (λ (q : Text). reads (level_in S.access who q)) is ∙ hidden)
+refused-by S now who (Maintainers q) p is hidden = unread (reads (level_in S.access who q)) _ (ap (λ (q : Text). reads (level_in S.access who q)) is ∙ hidden)
 refused-by S now who (UserAdd u) p is hidden = absurd is
 refused-by S now who (TokenAdd u digest) p is hidden = absurd is
 refused-by S now who (TokenRemove digest) p is hidden = absurd is
@@ -55,6 +56,10 @@ refused-by S now who (Members o) p is hidden = absurd is
 refused-by S now who (Teams o) p is hidden = absurd is
 refused-by S now who (TeamMembers o t) p is hidden = absurd is
 refused-by S now who (TeamPackages o t) p is hidden = absurd is
+refused-by S now who WhoAmI p is hidden = absurd is
+refused-by S now who Users p is hidden = absurd is
+refused-by S now who Organisations p is hidden = absurd is
+refused-by S now who Packages p is hidden = absurd is
 
 not-found : (S : State) (r : Request) (p : Text) → IsQueryOf p r.what → IsUnread S r.who p → answer S r ≡ Refused NotFound
 not-found S r p is (who, known, hidden) =

@@ -11,7 +11,7 @@ use Rattle.registry_rules.specs.State.{State}
 use Rattle.registry_rules.specs.declared.request.Request.{Request}
 use Rattle.registry_laws_history.specs.History.{Entry, after}
 use Rattle.registry_laws_history.specs.Runs.{Outcome, HaveOutcomes, next}
-use Rattle.registry_laws_hidden.specs.Concerns.{is_shown}
+use Rattle.registry_laws_hidden.specs.Concerns.{IsShownAlike}
 use Rattle.registry_laws_hidden.specs.Runs.{DifferInPackage, IsTheirs}
 use Rattle.registry_service.specs.Histories.{World}
 use Rattle.registry_service.specs.HttpAnswers.{response_to}
@@ -23,9 +23,9 @@ use Rattle.registry_http.specs.Unseen.{AreReplies, IsWorldOf, Meeting, first_lef
 -- As long as the caller alone asks, with credentials that are theirs or nobody's, the responses in
 -- both runs are the same, byte for byte, whether or not they end their connections. This holds up
 -- to the first fault in either run, and up to the first request that shows the package in only one
--- of them
+-- of them, or by the list of all packages
 abbrev pub AreAnsweredAlikeTo : Caller → Text → State → State → List Request → List Outcome → List Outcome → Type 0
-AreAnsweredAlikeTo who p S T (r ∷ rs) (Ok a ∷ os) (Ok b ∷ qs) = IsTheirs who (caller_of S r.who) → is_shown S r p ≡ is_shown T r p
+AreAnsweredAlikeTo who p S T (r ∷ rs) (Ok a ∷ os) (Ok b ∷ qs) = IsTheirs who (caller_of S r.who) → IsShownAlike S T r p
     → ((closes : Bool) → response_to (Ok a) closes ≡ response_to (Ok b) closes) × AreAnsweredAlikeTo who p (next S r (Ok a)) (next T r (Ok b)) rs os qs
 AreAnsweredAlikeTo who p S T _ _ _ = Unit {0}
 
@@ -37,11 +37,11 @@ RunsAreAnsweredAlike = (g h : List Entry) (p : Text) (who : Caller) → DifferIn
 -- ---- by connections
 
 -- The turn has the same cause in both worlds. Where it asks something of the registry, the request
--- is the caller's or nobody's, it shows the package in both worlds or in neither, and it met no
--- fault; where it asks nothing, the turn is the same
+-- is the caller's or nobody's, it shows the package in both worlds or in neither, and not by the
+-- list of all packages, and it met no fault; where it asks nothing, the turn is the same
 abbrev pub IsTheirTurn : Caller → Text → State → State → Option Request → Turn → Turn → Type 0
 IsTheirTurn who p S T None t u = t ≡ u
-IsTheirTurn who p S T (Some r) t u = (t.cause ≡ u.cause) × IsTheirs who (caller_of S r.who) × (is_shown S r p ≡ is_shown T r p) × AreReplies t.outcome u.outcome
+IsTheirTurn who p S T (Some r) t u = (t.cause ≡ u.cause) × IsTheirs who (caller_of S r.who) × IsShownAlike S T r p × AreReplies t.outcome u.outcome
 
 -- each turn is like this, and none is taken in only one of the worlds
 abbrev pub IsAlone : Caller → Text → State → State → List Meeting → Type 0

@@ -8,7 +8,7 @@ use Rattle.registry_tables.specs.Effects.{registry_in, stored}
 use Rattle.registry_laws_history.specs.History.{Entry, after}
 use Rattle.registry_laws_history.specs.Runs.{Outcome, end_of}
 use Rattle.registry_laws_hidden.specs.Arrivals.{StaysClose, leaves_the_rest}
-use Rattle.registry_laws_hidden.specs.Concerns.{is_shown}
+use Rattle.registry_laws_hidden.specs.Concerns.{IsShownAlike}
 use Rattle.registry_laws_hidden.specs.Levels.{IsStranger}
 use Rattle.registry_laws_hidden.specs.Runs.{DifferInPackage}
 use Rattle.registry_desk.specs.Promises.{IsOneRun, NeedsForEach}
@@ -118,10 +118,10 @@ AreReplies (Ok a) (Ok b) = Unit {0}
 AreReplies o q = ⊥
 
 -- In both worlds the request is of a caller who has no level on the package, or of nobody; it shows
--- the package in both or in neither; and it met no fault
+-- the package in both or in neither, and not by the list of all packages; and it met no fault
 abbrev pub IsUnseen : Text → State → State → Option Request → Outcome → Outcome → Type 0
 IsUnseen p S T None o q = Unit {0}
-IsUnseen p S T (Some r) o q = IsStranger S r.who p × IsStranger T r.who p × (is_shown S r p ≡ is_shown T r p) × AreReplies o q
+IsUnseen p S T (Some r) o q = IsStranger S r.who p × IsStranger T r.who p × IsShownAlike S T r p × AreReplies o q
 
 -- each turn of this connection is like this, and none of them is taken in only one of the worlds
 abbrev pub IsStrangers : ℕ → Text → State → State → List Meeting → Type 0

@@ -31,7 +31,7 @@ use Rattle.registry_rules.specs.State.{State, Release, Withdrawal, asked_version
 use Rattle.registry_rules.specs.Withdrawals.{is_depended, is_less_than_a_day_ago, is_need_of, is_too_old, is_waiting, last_of, needs_in, published_at}
 use Rattle.registry_rules.specs.declared.request.Action.{Action}
 use Rattle.registry_rules.specs.declared.request.Action.TheVariants as command
-use Rattle.registry_rules.specs.declared.request.Action.TheVariants.{OrgSet, OrgRemove, TeamCreate, TeamDestroy, TeamAdd, TeamRemove, Revoke, SetAccess, OwnerAdd, OwnerRemove, Publish, TagSet, TagRemove, Withdraw, Deprecate, Packument, VersionDoc, Archive, Tags, Members, Teams, TeamMembers, TeamPackages}
+use Rattle.registry_rules.specs.declared.request.Action.TheVariants.{OrgSet, OrgRemove, TeamCreate, TeamDestroy, TeamAdd, TeamRemove, Revoke, SetAccess, OwnerAdd, OwnerRemove, Publish, TagSet, TagRemove, Withdraw, Deprecate, Packument, VersionDoc, Archive, Tags, Members, Teams, TeamMembers, TeamPackages, Maintainers}
 use Rattle.registry_rules.specs.declared.request.Asked.{Asked}
 use Rattle.registry_rules.specs.declared.request.Asked.TheVariants.{Exact, Latest}
 use Rattle.registry_rules.proofs.AllowedFacts.{policy_passed, state_passed}
@@ -102,6 +102,7 @@ permission_other A who (Packument q) p other = ap may_read (position_other A p q
 permission_other A who (VersionDoc q asked) p other = ap may_read (position_other A p q other who)
 permission_other A who (Archive q v) p other = ap may_read (position_other A p q other who)
 permission_other A who (Tags q) p other = ap may_read (position_other A p q other who)
+permission_other A who (Maintainers q) p other = ap may_read (position_other A p q other who)
 permission_other A who (Members o) p other = ap (may_see_organisation who (has_organisation A o)) (same_role A p who o)
 permission_other A who (Teams o) p other = ap (may_see_organisation who (has_organisation A o)) (same_role A p who o)
 permission_other A who (TeamMembers o t) p other = ap (may_see_organisation who (has_organisation A o)) (same_role A p who o)
@@ -213,6 +214,7 @@ unconcerned (Packument q) p command other = absurd (true≢false (sym command))
 unconcerned (VersionDoc q asked) p command other = absurd (true≢false (sym command))
 unconcerned (Archive q v) p command other = absurd (true≢false (sym command))
 unconcerned (Tags q) p command other = absurd (true≢false (sym command))
+unconcerned (Maintainers q) p command other = absurd (true≢false (sym command))
 unconcerned _ p command other = other
 
 withdrawal_accepted : (S : State) (now : ℕ) (who : Caller) (q : Text) (v : VersionParts) (p : Text) → is q p ≡ false → refusal_by S now who (Withdraw q v) ≡ None → refusal_by (state_without S p) now who (Withdraw q v) ≡ None

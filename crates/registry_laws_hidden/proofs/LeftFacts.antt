@@ -13,7 +13,7 @@ use Rattle.registry_rules.specs.State.{State}
 use Rattle.registry_rules.specs.declared.reply.Reply.{Reply}
 use Rattle.registry_rules.specs.declared.request.Action.{Action}
 use Rattle.registry_rules.specs.declared.request.Action.TheVariants as command
-use Rattle.registry_rules.specs.declared.request.Action.TheVariants.{UserAdd, TokenAdd, TokenRemove, TokensRemove, OrgCreate, OrgSet, OrgRemove, TeamCreate, TeamDestroy, TeamAdd, TeamRemove, Revoke, SetAccess, OwnerAdd, OwnerRemove, Publish, TagSet, TagRemove, Withdraw, Deprecate, Packument, VersionDoc, Archive, Tags, Members, Teams, TeamMembers, TeamPackages}
+use Rattle.registry_rules.specs.declared.request.Action.TheVariants.{UserAdd, TokenAdd, TokenRemove, TokensRemove, OrgCreate, OrgSet, OrgRemove, TeamCreate, TeamDestroy, TeamAdd, TeamRemove, Revoke, SetAccess, OwnerAdd, OwnerRemove, Publish, TagSet, TagRemove, Withdraw, Deprecate, Packument, VersionDoc, Archive, Tags, Members, Teams, TeamMembers, TeamPackages, WhoAmI, Maintainers, Users, Organisations, Packages}
 use Rattle.registry_rules.specs.declared.request.Credential.{Credential}
 use Rattle.registry_rules.specs.declared.request.Request.{Request}
 use Rattle.registry_laws_history.specs.Answers.{answer, reply, reply_to, unless_refused}
@@ -21,7 +21,7 @@ use Rattle.registry_laws_history.specs.History.{Entry, Legal, after}
 use Rattle.registry_laws_history.specs.Runs.{IsAnswer, Outcome, accepts, enters, grown, next}
 use Rattle.registry_laws_history.proofs.RunFacts.{legal_grown}
 use Rattle.registry_laws_hidden.specs.Arrivals.{leaves_the_rest}
-use Rattle.registry_laws_hidden.specs.Concerns.{is_held, is_kept_by, is_shown, is_taken, keeps_from, shows, shows_to}
+use Rattle.registry_laws_hidden.specs.Concerns.{IsShownAlike, is_enumerated, is_held, is_kept_by, is_listed, is_shown, is_taken, keeps_from, shows, shows_to}
 use Rattle.registry_laws_hidden.specs.Laws.{RestsAreAlike}
 use Rattle.registry_laws_hidden.specs.Levels.{IsStranger}
 use Rattle.registry_laws_hidden.specs.Runs.{DifferInPackage}
@@ -82,6 +82,11 @@ accepted_reply S who (Members o) = refl
 accepted_reply S who (Teams o) = refl
 accepted_reply S who (TeamMembers o t) = refl
 accepted_reply S who (TeamPackages o t) = refl
+accepted_reply S who WhoAmI = refl
+accepted_reply S who (Maintainers q) = refl
+accepted_reply S who Users = refl
+accepted_reply S who Organisations = refl
+accepted_reply S who Packages = refl
 
 accepted_by : (S : State) (now : ℕ) (o : Option Caller) (what : Action) → accepts (Ok (unless_refused (refusal_for S now o what) (reply_to S o what))) ≡ is_none (refusal_for S now o what)
 accepted_by S now None what = refl
@@ -181,18 +186,18 @@ module _ (S T : State) (p : Text) (same : state_without S p ≡ state_without T 
   -- ---- what is answered to one without a level on the package in both
 
   module _ (rests : Rests S) (rests' : Rests T) (r : Request) (stranger : IsStranger S r.who p) (stranger' : IsStranger T r.who p) where
-    answers_as : (b : Bool) → is_shown S r p ≡ b → is_shown T r p ≡ b → answer S r ≡ answer T r
-    answers_as true here there = shown S p rests r stranger here ∙ sym (shown T p rests' r stranger' there)
-    answers_as false here there = unheard S p rests r stranger here ∙ ap (λ U. answer U r) same ∙ sym (unheard T p rests' r stranger' there)
+    answers_as : (b : Bool) → IsShownAlike S T r p → is_shown S r p ≡ b → is_shown T r p ≡ b → answer S r ≡ answer T r
+    answers_as true one here there = shown S p rests r stranger one.first here ∙ sym (shown T p rests' r stranger' one.second there)
+    answers_as false one here there = unheard S p rests r stranger here ∙ ap (λ U. answer U r) same ∙ sym (unheard T p rests' r stranger' there)
 
     -- the same, where the request shows the package in both or in neither
-    pub answers_alike : is_shown S r p ≡ is_shown T r p → answer S r ≡ answer T r
-    answers_alike one = answers_as (is_shown S r p) refl (sym one)
+    pub answers_alike : IsShownAlike S T r p → answer S r ≡ answer T r
+    answers_alike one = answers_as (is_shown S r p) one refl (sym one.shown)
 
 -- ---- what the package alone keeps from being done shows it
 
 held_kept : (S : State) (now : ℕ) (who : Caller) (what : Action) (p : Text) → shows S now who what p ≡ false → is_kept_by S now who what p ≡ false
-held_kept S now who what p hides = by (is_kept_by S now who what p) (is_taken S who what p) hides
+held_kept S now who what p hides = by (is_kept_by S now who what p) (is_taken S who what p || is_listed S who what p) hides
   where
     by : (a b : Bool) → (a || b) ≡ false → a ≡ false
     by true b e = absurd (true≢false e)

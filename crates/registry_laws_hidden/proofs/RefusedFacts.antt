@@ -29,7 +29,7 @@ use Rattle.registry_rules.specs.Refusals.{grant_refusal, is_scope, refuse, refus
 use Rattle.registry_rules.specs.State.{State, has_grant, has_team, is_published}
 use Rattle.registry_rules.specs.declared.request.Action.{Action}
 use Rattle.registry_rules.specs.declared.request.Action.TheVariants as command
-use Rattle.registry_rules.specs.declared.request.Action.TheVariants.{Revoke, SetAccess, OwnerAdd, OwnerRemove, Publish, TagSet, TagRemove, Withdraw, Deprecate, Packument, VersionDoc, Archive, Tags}
+use Rattle.registry_rules.specs.declared.request.Action.TheVariants.{Revoke, SetAccess, OwnerAdd, OwnerRemove, Publish, TagSet, TagRemove, Withdraw, Deprecate, Packument, VersionDoc, Archive, Tags, Maintainers}
 use Rattle.registry_laws_hidden.specs.Without.{state_without}
 use Rattle.registry_laws_hidden.proofs.AcceptedFacts.{same_role}
 use Rattle.registry_laws_hidden.proofs.KeepFacts.{at-unkept}
@@ -237,4 +237,6 @@ module _ (S : State) (now : ℕ) (who : Caller) (p o : Text) (sound : IsSound S.
       refused_both S (state_without S p) now who (Archive q v) NotFound (unshown S now who p nothing q here (state_refusal S now (Archive q v)) (state_refusal (state_without S p) now (Archive q v)))
   concerned_refused (Tags q) here nothing stranger =
       refused_both S (state_without S p) now who (Tags q) NotFound (unshown S now who p nothing q here (state_refusal S now (Tags q)) (state_refusal (state_without S p) now (Tags q)))
+  concerned_refused (Maintainers q) here nothing stranger =
+      refused_both S (state_without S p) now who (Maintainers q) NotFound (unshown S now who p nothing q here (state_refusal S now (Maintainers q)) (state_refusal (state_without S p) now (Maintainers q)))
   concerned_refused _ here nothing stranger = absurd (true≢false (sym here))

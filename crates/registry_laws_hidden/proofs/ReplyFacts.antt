@@ -9,7 +9,7 @@ use Rattle.registry_names.specs.Versions.{text_of_version}
 use Rattle.registry_names.proofs.KeyFacts.{pair_key, text_key, same_true}
 use Rattle.registry_names.proofs.PartFacts.{part-keep}
 use Rattle.registry_packument.specs.Documents.{document_text}
-use Rattle.registry_packument.specs.Lists.{tags_text, grants_text}
+use Rattle.registry_packument.specs.Lists.{tags_text, grants_text, names_text}
 use Rattle.registry_access.specs.Access.{Access}
 use Rattle.registry_access.specs.Hiding as access
 use Rattle.registry_access.specs.Levels.{reads}
@@ -21,7 +21,7 @@ use Rattle.registry_rules.specs.State.{State, Release, asked_version}
 use Rattle.registry_rules.specs.Withdrawals.{selected}
 use Rattle.registry_rules.specs.declared.reply.Reply.TheVariants.{Count, Doc, Bytes}
 use Rattle.registry_rules.specs.declared.request.Action.{Action}
-use Rattle.registry_rules.specs.declared.request.Action.TheVariants.{Deprecate, Packument, VersionDoc, Archive, Tags, TeamPackages}
+use Rattle.registry_rules.specs.declared.request.Action.TheVariants.{Deprecate, Packument, VersionDoc, Archive, Tags, TeamPackages, Maintainers, Packages}
 use Rattle.registry_rules.specs.declared.request.Asked.{Asked}
 use Rattle.registry_laws_history.specs.Answers.{asked_release, dist_tag, listed_grant, packument_of, reply}
 use Rattle.registry_laws_hidden.specs.Without.{state_without}
@@ -86,13 +86,20 @@ module _ (S : State) (p q : Text) (other : is q p ≡ false) where
   same_release : (asked : Asked) → asked_release (state_without S p) q asked ≡ asked_release S q asked
   same_release asked = ap (option_and_then (λ v. at (state_without S p).live (q, v))) (same_asked S p q other asked) ∙ named_release (asked_version S q asked)
 
-pub reply_other : (S : State) (who : Caller) (what : Action) (p : Text) → concerns what p ≡ false → level_in S.access who p ≡ Nothing → reply (state_without S p) who what ≡ reply S who what
-reply_other S who (Deprecate q selector message) p other nothing = ap (λ (es : List (Text × Release)). Count (length (selected (keys es) selector))) (of_other p q other S.live)
-reply_other S who (Packument q) p other nothing =
+-- whether it is the query for all packages
+abbrev pub lists_all : Action → Bool
+lists_all Packages = true
+lists_all _ = false
+
+pub reply_other : (S : State) (who : Caller) (what : Action) (p : Text) → concerns what p ≡ false → lists_all what ≡ false → level_in S.access who p ≡ Nothing → reply (state_without S p) who what ≡ reply S who what
+reply_other S who (Deprecate q selector message) p other one nothing = ap (λ (es : List (Text × Release)). Count (length (selected (keys es) selector))) (of_other p q other S.live)
+reply_other S who (Packument q) p other one nothing =
     λ i. Doc (packument_of q (of_other p q other S.tags i) (of_other p q other S.live i) (of_other p q other S.spent i))
-reply_other S who (VersionDoc q asked) p other nothing =
+reply_other S who (VersionDoc q asked) p other one nothing =
     ap (λ o. Doc (unwrap_or (option_and_then (λ (r : Release). document_text r.manifest r.message) o) [])) (same_release S p q other asked)
-reply_other S who (Archive q v) p other nothing = ap (λ o. Bytes (unwrap_or (option_map (λ (r : Release). r.archive) o) [])) (at_other p q other S.live (text_of_version v))
-reply_other S who (Tags q) p other nothing = ap (λ (ts : List (Text × Text)). Doc (tags_text (map dist_tag ts))) (of_other p q other S.tags)
-reply_other S who (TeamPackages o t) p other nothing = ap (λ (es : List (Text × Grant)). Doc (grants_text (map listed_grant es))) (team_packages_alike S.access who p o t nothing)
-reply_other S who _ p other nothing = refl
+reply_other S who (Archive q v) p other one nothing = ap (λ o. Bytes (unwrap_or (option_map (λ (r : Release). r.archive) o) [])) (at_other p q other S.live (text_of_version v))
+reply_other S who (Tags q) p other one nothing = ap (λ (ts : List (Text × Text)). Doc (tags_text (map dist_tag ts))) (of_other p q other S.tags)
+reply_other S who (TeamPackages o t) p other one nothing = ap (λ (es : List (Text × Grant)). Doc (grants_text (map listed_grant es))) (team_packages_alike S.access who p o t nothing)
+reply_other S who (Maintainers q) p other one nothing = ap (λ (es : List (Text × Unit {0})). Doc (names_text (keys es))) (of_other p q other S.access.maintainers)
+reply_other S who Packages p other one nothing = absurd (true≢false one)
+reply_other S who _ p other one nothing = refl

@@ -24,7 +24,7 @@ use Rattle.registry_laws_history.specs.Answers.{answer}
 use Rattle.registry_laws_history.specs.History.{Entry, after}
 use Rattle.registry_laws_history.specs.Runs.{HaveOutcomes, Outcome, enters, next}
 use Rattle.registry_laws_history.proofs.RunFacts.{accepted}
-use Rattle.registry_laws_hidden.specs.Concerns.{is_shown, shows, shows_to}
+use Rattle.registry_laws_hidden.specs.Concerns.{IsShownAlike, is_enumerated, is_listed, is_shown, lists_to, shows, shows_to}
 use Rattle.registry_laws_hidden.specs.Levels.{HasNoLevel}
 use Rattle.registry_laws_hidden.specs.Runs.{AreAlikeTo, DifferInPackage, IsTheirs, RunsAreAlike}
 use Rattle.registry_laws_hidden.specs.Without.{state_without}
@@ -57,8 +57,12 @@ module _ (who : Caller) (p : Text) where
   publish_shows : (S : State) (now : ℕ) (what : Action) → is_member_publish S who what p ≡ true → is_published S p ≡ true → shows S now who what p ≡ true
   publish_shows S now (Publish f) member status =
       let both = and_parts (is f.name p) _ member in
-      λ i. both.0 i && (status i && both.1 i)
+      λ i. (both.0 i && (status i && both.1 i)) || false
   publish_shows S now _ member status = absurd (true≢false (sym member))
+
+  publish_unlisted : (S : State) (what : Action) → is_member_publish S who what p ≡ true → is_listed S who what p ≡ false
+  publish_unlisted S (Publish f) member = refl
+  publish_unlisted S _ member = absurd (true≢false (sym member))
 
   module _ (S T : State) (left : IsLeft S) (left' : IsLeft T) (same : state_without S p ≡ state_without T p) (nothing : level_in S.access who p ≡ Nothing) (nothing' : level_in T.access who p ≡ Nothing)
       (there : (is_published S p ≡ true) ⊎ (is_published T p ≡ true)) where
@@ -81,7 +85,7 @@ module _ (who : Caller) (p : Text) where
     members_alike _ = refl
 
     refused : (now : ℕ) (what : Action) → shows S now who what p ≡ shows T now who what p → is_member_publish S who what p ≡ true → refusal_by S now who what ≡ Some (why_shown what)
-    refused now what one member = shown_is S now who what p (left_rests S left) nothing (by there)
+    refused now what one member = shown_is S now who what p (left_rests S left) nothing (publish_unlisted S what member) (by there)
       where
         by : (is_published S p ≡ true) ⊎ (is_published T p ≡ true) → shows S now who what p ≡ true
         by (inl status) = publish_shows S now what member status
@@ -133,12 +137,12 @@ module _ (who : Caller) (p : Text) where
   theirs_there : (S T : State) (r : Request) → AreNearTo who p S T → IsTheirs who (caller_of S r.who) → IsTheirs who (caller_of T r.who)
   theirs_there S T r near theirs = subst (IsTheirs who) (same_callers S T p near.same r.who) theirs
 
-  one_reply : (S T : State) (r : Request) → AreNearTo who p S T → IsTheirs who (caller_of S r.who) → is_shown S r p ≡ is_shown T r p → answer S r ≡ answer T r
+  one_reply : (S T : State) (r : Request) → AreNearTo who p S T → IsTheirs who (caller_of S r.who) → IsShownAlike S T r p → answer S r ≡ answer T r
   one_reply S T r near theirs one =
       answers_alike S T p near.same (left_rests S near.left) (left_rests T near.other_left) r (is_stranger S who p near.nothing (caller_of S r.who) theirs)
       (is_stranger T who p near.other_nothing (caller_of T r.who) (theirs_there S T r near theirs)) one
 
-  near_next : (S T : State) (r : Request) (a b : Reply) → AreNearTo who p S T → (is_published S p ≡ true) ⊎ (is_published T p ≡ true) → IsTheirs who (caller_of S r.who) → is_shown S r p ≡ is_shown T r p
+  near_next : (S T : State) (r : Request) (a b : Reply) → AreNearTo who p S T → (is_published S p ≡ true) ⊎ (is_published T p ≡ true) → IsTheirs who (caller_of S r.who) → IsShownAlike S T r p
       → a ≡ answer S r → b ≡ answer T r → AreNearTo who p (next S r (Ok a)) (next T r (Ok b))
   near_next S T r a b near there theirs one answered answered' =
       let replies = answered ∙ one_reply S T r near theirs one ∙ sym answered' in
@@ -146,8 +150,8 @@ module _ (who : Caller) (p : Text) where
         left = left_next S r (Ok a) near.left answered;
         other_left = left_next T r (Ok b) near.other_left answered';
         same = both_next S T p near.same r (Ok a) (Ok b) (ap (λ x. enters r (Ok x)) replies);
-        nothing = keeps_none who p S T near.left near.other_left near.same near.nothing near.other_nothing there r a answered theirs one;
-        other_nothing = keeps_none who p T S near.other_left near.left (sym near.same) near.other_nothing near.nothing (turned there) r b answered' (theirs_there S T r near theirs) (sym one);
+        nothing = keeps_none who p S T near.left near.other_left near.same near.nothing near.other_nothing there r a answered theirs one.shown;
+        other_nothing = keeps_none who p T S near.other_left near.left (sym near.same) near.other_nothing near.nothing (turned there) r b answered' (theirs_there S T r near theirs) (sym one.shown);
       }
 
   near_one : (S T : State) → AreNearTo who p S T → AreOneTo who p S T
@@ -158,11 +162,11 @@ module _ (who : Caller) (p : Text) where
       by (Some s) t here there = inr (near, inl (ap is_some here))
       by None (Some t) here there = inr (near, inr (ap is_some there))
 
-  pub one_answer : (S T : State) (r : Request) → AreOneTo who p S T → IsTheirs who (caller_of S r.who) → is_shown S r p ≡ is_shown T r p → answer S r ≡ answer T r
+  pub one_answer : (S T : State) (r : Request) → AreOneTo who p S T → IsTheirs who (caller_of S r.who) → IsShownAlike S T r p → answer S r ≡ answer T r
   one_answer S T r (inl same) theirs one = ap (λ U. answer U r) same
   one_answer S T r (inr (near, there)) theirs one = one_reply S T r near theirs one
 
-  pub one_next : (S T : State) (r : Request) (a b : Reply) → AreOneTo who p S T → IsTheirs who (caller_of S r.who) → is_shown S r p ≡ is_shown T r p → a ≡ answer S r → b ≡ answer T r
+  pub one_next : (S T : State) (r : Request) (a b : Reply) → AreOneTo who p S T → IsTheirs who (caller_of S r.who) → IsShownAlike S T r p → a ≡ answer S r → b ≡ answer T r
       → AreOneTo who p (next S r (Ok a)) (next T r (Ok b))
   one_next S T r a b (inl same) theirs one answered answered' = inl (ap₂ (λ U x. next U r (Ok x)) same (answered ∙ ap (λ U. answer U r) same ∙ sym answered'))
   one_next S T r a b (inr (near, there)) theirs one answered answered' = near_one (next S r (Ok a)) (next T r (Ok b)) (near_next S T r a b near there theirs one answered answered')

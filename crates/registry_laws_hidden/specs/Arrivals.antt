@@ -7,7 +7,7 @@ use Rattle.registry_rules.specs.State.{State}
 use Rattle.registry_rules.specs.declared.request.Request.{Request}
 use Rattle.registry_laws_history.specs.History.{Entry, after}
 use Rattle.registry_laws_history.specs.Runs.{Outcome, HaveOutcomes, enters, next}
-use Rattle.registry_laws_hidden.specs.Concerns.{is_held, is_shown}
+use Rattle.registry_laws_hidden.specs.Concerns.{IsShownAlike, is_held}
 use Rattle.registry_laws_hidden.specs.Levels.{IsStranger}
 use Rattle.registry_laws_hidden.specs.Runs.{DifferInPackage}
 
@@ -64,10 +64,10 @@ pub record AreRuns (S T : State) (p : Text) (xs : List Arrival) : Type 0 where
 -- ---- what strangers see
 
 -- A caller who has no level on the package when they ask, in both runs, or nobody, gets the same
--- reply in both, except where the request shows the package in only one of them. Nothing is said of
--- faults
+-- reply in both, except where the request shows the package in only one of them, or is the
+-- operator's for all packages. Nothing is said of faults
 abbrev pub IsAnsweredAlike : Text → State → State → Request → Outcome → Outcome → Type 0
-IsAnsweredAlike p S T r (Ok a) (Ok b) = IsStranger S r.who p → IsStranger T r.who p → is_shown S r p ≡ is_shown T r p → a ≡ b
+IsAnsweredAlike p S T r (Ok a) (Ok b) = IsStranger S r.who p → IsStranger T r.who p → IsShownAlike S T r p → a ≡ b
 IsAnsweredAlike p S T r _ _ = Unit {0}
 
 -- Whether a request of both leaves them the same in all but the package. It may not where the

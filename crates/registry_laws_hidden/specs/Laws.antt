@@ -51,7 +51,7 @@ UntouchedLeaveTheRest = (h : List Entry) (p : Text) → Legal h → Legal (untou
 
 -- ---- one request of a caller who has no level on the package, or of nobody
 
--- where it isn't one of the two that show the package, its reply is that of the registry without
+-- where it isn't one of the three that show the package, its reply is that of the registry without
 -- the package
 abbrev pub RepliesAreAlike : Type 0
 RepliesAreAlike = (h : List Entry) (p : Text) (r : Request) → Legal h → IsStranger (after h) r.who p → is_shown (after h) r p ≡ false → answer (after h) r ≡ answer (state_without (after h) p) r
@@ -62,7 +62,7 @@ abbrev pub RestsAreAlike : Type 0
 RestsAreAlike = (h : List Entry) (p : Text) (r : Request) → Legal h → IsStranger (after h) r.who p → is_shown (after h) r p ≡ false
     → state_without (left_by (after h) r) p ≡ state_without (left_by (state_without (after h) p) r) p
 
--- ---- the two that show the package
+-- ---- the two that show the package and nothing of it
 
 -- A withdrawal that the package alone keeps from being done, whoever asks
 abbrev pub KeptIsDepended : Type 0

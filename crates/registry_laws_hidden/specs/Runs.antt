@@ -10,7 +10,7 @@ use Rattle.registry_rules.specs.State.{State}
 use Rattle.registry_rules.specs.declared.request.Request.{Request}
 use Rattle.registry_laws_history.specs.History.{Entry, Legal, after}
 use Rattle.registry_laws_history.specs.Runs.{Outcome, HaveOutcomes, next}
-use Rattle.registry_laws_hidden.specs.Concerns.{is_shown}
+use Rattle.registry_laws_hidden.specs.Concerns.{IsShownAlike}
 use Rattle.registry_laws_hidden.specs.Histories.{untouched}
 
 -- two legal histories that are the same list once the entries that name the package are dropped
@@ -26,9 +26,9 @@ IsTheirs who (Some c) = c ≡ who
 
 -- As long as the caller alone asks, with any credentials of theirs or of nobody, each request is
 -- answered alike in both runs, up to the first fault in either, and up to the first request that
--- shows the package in one of them alone
+-- shows the package in one of them alone, or by the list of all packages
 abbrev pub AreAlikeTo : Caller → Text → State → State → List Request → List Outcome → List Outcome → Type 0
-AreAlikeTo who p S T (r ∷ rs) (Ok a ∷ os) (Ok b ∷ qs) = IsTheirs who (caller_of S r.who) → is_shown S r p ≡ is_shown T r p
+AreAlikeTo who p S T (r ∷ rs) (Ok a ∷ os) (Ok b ∷ qs) = IsTheirs who (caller_of S r.who) → IsShownAlike S T r p
     → (a ≡ b) × AreAlikeTo who p (next S r (Ok a)) (next T r (Ok b)) rs os qs
 AreAlikeTo who p S T _ _ _ = Unit {0}
 

@@ -23,15 +23,15 @@ pub fn histories_without_a_package_leave_the_rest()
 
 /// A request of a caller who has no level on a package, by any token or name of theirs, or with a
 /// credential of nobody, is answered as if nobody had ever touched the package. What the registry
-/// holds then is the same in all else. Two requests are excepted: a withdrawal of another package
-/// that this one alone keeps from being done, and a publish of the package by a member of its
-/// scope, whose name is taken.
+/// holds then is the same in all else. Three requests are excepted: a withdrawal of another package
+/// that this one alone keeps from being done, a publish of the package by a member of its scope,
+/// whose name is taken, and the operator's query for all packages, of which it is one.
 pub fn unread_packages_are_unheard_of()
     ensures replies { RepliesAreAlike }
     ensures rests { RestsAreAlike }
 {}
 
-/// What the two excepted requests show. The withdrawal is refused with `Depended`, and would be
+/// What the first two excepted requests show. The withdrawal is refused with `Depended`, and would be
 /// done without the package; the publish is refused with `Denied A6`, and would create the package.
 /// So each is answered differently wherever it is excepted.
 pub fn two_requests_show_a_package()
@@ -43,8 +43,8 @@ pub fn two_requests_show_a_package()
 /// dropped, and a caller who has no level on the package after either. Whatever requests they make,
 /// with any credentials of theirs or of nobody, at any moments, while nobody else asks anything,
 /// the replies are the same after both, up to the first fault in either, and up to the first of the
-/// two that shows the package in only one of them. Nothing is said of the time and the memory that
-/// a reply takes.
+/// first two that shows the package in only one of them, or of the third that shows it in either.
+/// Nothing is said of the time and the memory that a reply takes.
 pub fn unread_packages_make_no_difference()
     ensures { RunsAreAlike }
 {}
@@ -53,10 +53,10 @@ pub fn unread_packages_make_no_difference()
 /// anybody may ask more than in the other: what names the package, and what isn't an accepted
 /// command. All else is asked in both, in the same order. Then each request that is asked in both,
 /// by a caller who has no level on the package at that point of either, is answered alike, except
-/// where it shows the package in only one of the runs. Nothing is said of faults. Nor is anything
-/// said from the point on where the package alone keeps a withdrawal from being done in one run, or
-/// where a fault in one run keeps a command undone that the other accepts and that doesn't name the
-/// package.
+/// where it shows the package in only one of the runs, or by the list of all packages. Nothing is
+/// said of faults. Nor is anything said from the point on where the package alone keeps a withdrawal
+/// from being done in one run, or where a fault in one run keeps a command undone that the other
+/// accepts and that doesn't name the package.
 pub fn unread_packages_do_not_interfere()
     ensures { StrangersSeeTheSame }
 {}
@@ -71,9 +71,9 @@ pub fn lists_have_arrivals()
 /// So take two lists of requests, by any callers at any moments, after such histories, that are the
 /// same list once the accepted commands that name the package are dropped from both. What is left,
 /// with its queries, is answered alike in both runs to every caller who has no level on the package
-/// at that point of both, whatever others did with it in between. Only the first exception applies,
-/// and nothing is said from the same points on. The second shows nothing here: a publish of the
-/// package that is left was accepted in neither run.
+/// at that point of both, whatever others did with it in between. Only the first exception and the
+/// third apply, and nothing is said from the same points on. The second shows nothing here: a
+/// publish of the package that is left was accepted in neither run.
 pub fn strangers_are_answered_alike()
     ensures { ListsAreAnsweredAlike }
 {}

@@ -1,14 +1,19 @@
 -- The lists that the registry answers with, as values.
-use Rattle.std.specs.Prelude.{ℕ, List}
-use Rattle.serde_json.specs.Data.{Data, array, object}
+use Rattle.std.specs.Prelude.{ℕ, List, Option, Some, None, codes}
+use Rattle.serde_json.specs.Data.{Data, Members, array, member, no_members, number, object, string, unsigned}
 use Rattle.serde_json.specs.Written.{compact_text}
 use Rattle.registry_access.specs.Spellings.{role_text, grant_text}
-use Rattle.registry_packument.specs.TextValues.{text_items, text_members}
+use Rattle.registry_packument.specs.TextValues.{text_items, text_members, value_members}
 use Rattle.registry_packument.specs.declared.list.Member.{Member}
 use Rattle.registry_packument.specs.declared.list.Granted.{Granted}
+use Rattle.registry_packument.specs.declared.list.TokenCount.{TokenCount}
+use Rattle.registry_packument.specs.declared.list.Overview.{Overview}
 use Rattle.registry_packument.specs.declared.list.List.{List as Answered}
-use Rattle.registry_packument.specs.declared.list.List.TheVariants.{Tags, Members, Names, Grants}
+use Rattle.registry_packument.specs.declared.list.List.TheVariants.{Tags, Members as Memberships, Names, Grants, Username, Users, Packages}
+use Rattle.registry_names.specs.Spellings.{status_text}
+use Rattle.registry_names.specs.Tags.{latest}
 use Rattle.registry_names.specs.declared.dist_tag.DistTag.{DistTag}
+use Rattle.registry_names.specs.declared.status.Status.{Status}
 
 -- a tag, and the version that it names
 abbrev pub tag_texts : DistTag → List ℕ × List ℕ
@@ -22,12 +27,33 @@ member_texts r = (r.user, role_text r.role)
 abbrev pub grant_texts : Granted → List ℕ × List ℕ
 grant_texts r = (r.name, grant_text r.grant)
 
--- tags to versions, users to roles, packages to grants, or an array of names
+-- a user, and how many tokens they have
+abbrev pub count_member : TokenCount → List ℕ × Data
+count_member r = (r.user, number (unsigned r.tokens))
+
+-- the status of a package, after what its `latest` names, if it has one
+abbrev pub overview_members : Option (List ℕ) → Status → Members
+overview_members None status = member (codes "status") (string (status_text status)) no_members
+overview_members (Some version) status = member latest (string version) (overview_members None status)
+
+-- a package, and what is shown of it
+abbrev pub overview_member : Overview → List ℕ × Data
+overview_member r = (r.name, object (overview_members r.latest r.status))
+
+-- the name of a user
+abbrev pub username_member : List ℕ → Members
+username_member name = member (codes "username") (string name) no_members
+
+-- tags to versions, users to roles, packages to grants, users to numbers, packages to what is shown
+-- of them, a user's name, or an array of names
 abbrev pub list_value : Answered → Data
 list_value (Tags rows) = object (text_members tag_texts rows.items)
-list_value (Members rows) = object (text_members member_texts rows.items)
+list_value (Memberships rows) = object (text_members member_texts rows.items)
 list_value (Names names) = array (text_items names.items)
 list_value (Grants rows) = object (text_members grant_texts rows.items)
+list_value (Username name) = object (username_member name)
+list_value (Users rows) = object (value_members count_member rows.items)
+list_value (Packages rows) = object (value_members overview_member rows.items)
 
 -- the text of tags, each with its version
 abbrev pub tags_text : List DistTag → List ℕ
@@ -44,3 +70,15 @@ names_text names = compact_text (array (text_items names))
 -- the text of packages, each with what is granted on it
 abbrev pub grants_text : List Granted → List ℕ
 grants_text rows = compact_text (object (text_members grant_texts rows))
+
+-- the text of a user's name
+abbrev pub username_text : List ℕ → List ℕ
+username_text name = compact_text (object (username_member name))
+
+-- the text of users, each with how many tokens they have
+abbrev pub counts_text : List TokenCount → List ℕ
+counts_text rows = compact_text (object (value_members count_member rows))
+
+-- the text of packages, each with what is shown of it
+abbrev pub overviews_text : List Overview → List ℕ
+overviews_text rows = compact_text (object (value_members overview_member rows))

@@ -3,10 +3,10 @@
 ghost use Rattle.std.specs.Prelude.{◌≡◌, ◌++◌, ◌∷◌, [], List, ℕ, true, string_bytes, OnOk};
 ghost use Rattle.std.specs.List.{list_all};
 ghost use Rattle.json.specs.Print.{quoted};
-ghost use Rattle.serde_json.specs.Data.{array, object};
+ghost use Rattle.serde_json.specs.Data.{Data, array, number, object, unsigned};
 ghost use Rattle.serde_json.specs.Written.{comma_if, compact_text};
 ghost use Rattle.registry_packument.specs.ObjectTexts.{member_text};
-ghost use Rattle.registry_packument.specs.TextValues.{is_plain_char, text_items, text_members};
+ghost use Rattle.registry_packument.specs.TextValues.{is_plain_char, text_items, text_members, value_members};
 
 use registry_names::Text;
 use serde_json::Value;
@@ -22,6 +22,17 @@ pub(crate) trait TextMember {
 
     fn text(&self) -> &str
         ensures { result.now ≡ (pair self.now).1 };
+}
+
+/// A row that is a member of an object, with any value.
+pub(crate) trait ValueMember {
+    // The key, and the value.
+    ghost member: { Self → List ℕ × Data };
+
+    // Its key and its value, with the comma before it where a member came earlier.
+    fn push(&self, alloc: Global, out: &mut String, later: bool) -> Result<(), AllocError>
+        ensures { OnOk result (string_bytes out.new ≡ string_bytes out.old
+            ++ member_text later ((member self.now).0, compact_text (member self.now).1)) };
 }
 
 /// A text in JSON's quotes, with what has to be escaped escaped.
@@ -111,6 +122,33 @@ pub(crate) fn push_object<T: TextMember>(
         later = true;
     }
     out.push_str("}")
+}
+
+/// The same of rows with any values.
+pub(crate) fn push_values<T: ValueMember>(
+    alloc: Global,
+    out: &mut String,
+    rows: &[T],
+) -> Result<(), AllocError>
+    ensures { OnOk result (string_bytes out.new
+        ≡ string_bytes out.old ++ compact_text (object (value_members T.member rows.now))) }
+{
+    out.push_str("{")?;
+    let mut later = false;
+    for row in rows {
+        row.push(alloc, out, later)?;
+        later = true;
+    }
+    out.push_str("}")
+}
+
+/// A number in decimal.
+pub(crate) fn push_number(alloc: Global, out: &mut String, value: u64) -> Result<(), AllocError>
+    ensures { OnOk result (string_bytes out.new
+        ≡ string_bytes out.old ++ compact_text (number (unsigned value))) }
+{
+    let digits = Value::from(value).to_string(alloc)?;
+    out.push_str(digits.as_str())
 }
 
 /// An array of the texts, in their order.

@@ -1,13 +1,18 @@
-//! Lists: what the registry answers of tags, members, names and grants.
+//! Lists: what the registry answers of tags, members, names and grants, and of all users and
+//! packages.
 
-ghost use Rattle.std.specs.Prelude.{◌≡◌, IfOk, IfErr};
+ghost use Rattle.std.specs.Prelude.{◌≡◌, ◌++◌, IfOk, IfErr, OnOk, string_bytes};
+ghost use Rattle.serde_json.specs.Data.{object};
 ghost use Rattle.serde_json.specs.Written.{compact_text};
-ghost use Rattle.registry_packument.specs.Lists.{tag_texts, member_texts, grant_texts, list_value};
+ghost use Rattle.registry_packument.specs.Lists.{tag_texts, member_texts, grant_texts, count_member, overview_member, overview_members, username_member, list_value};
 
-use crate::json_text::{TextMember, push_array, push_object};
+use crate::json_text::{
+    TextMember, ValueMember, push_array, push_key, push_number, push_object, push_text_member,
+    push_values,
+};
 use registry_access::{Grant, Role};
-use registry_names::{DistTag, Fault, Text};
-use std::alloc::Global;
+use registry_names::{DistTag, Fault, LATEST, Status, Text};
+use std::alloc::{AllocError, Global};
 
 /// A member of an organisation.
 #[derive(Drop)]
@@ -27,6 +32,26 @@ pub struct Granted {
     pub grant: Grant,
 }
 
+/// A user, and how many tokens they have.
+#[derive(Drop)]
+pub struct TokenCount {
+    /// The user's name.
+    pub user: Text,
+    /// How many tokens name them.
+    pub tokens: u64,
+}
+
+/// A package that was published, now or once.
+#[derive(Drop)]
+pub struct Overview {
+    /// The package's name.
+    pub name: Text,
+    /// Who may read it.
+    pub status: Status,
+    /// The version that `latest` names. `None` where no version lives.
+    pub latest: Option<Text>,
+}
+
 /// A list that the registry answers with. Its rows are in byte order of their first text, each
 /// text once.
 #[derive(Drop)]
@@ -35,10 +60,16 @@ pub enum List {
     Tags(Vec<DistTag>),
     /// The members of an organisation.
     Members(Vec<Member>),
-    /// The names of an organisation's teams, or of a team's members.
+    /// Names, as those of an organisation's teams, of a team's members, or of maintainers.
     Names(Vec<Text>),
     /// The grants to a team.
     Grants(Vec<Granted>),
+    /// The name of the user who asks.
+    Username(Text),
+    /// All users.
+    Users(Vec<TokenCount>),
+    /// All packages.
+    Packages(Vec<Overview>),
 }
 
 impl TextMember for DistTag {
@@ -77,8 +108,56 @@ impl TextMember for Granted {
     }
 }
 
+impl ValueMember for TokenCount {
+    ghost member = { count_member };
+
+    fn push(&self, alloc: Global, out: &mut String, later: bool) -> Result<(), AllocError> {
+        push_key(alloc, out, later, self.user.as_str())?;
+        push_number(alloc, out, self.tokens)
+    }
+}
+
+impl ValueMember for Overview {
+    ghost member = { overview_member };
+
+    fn push(&self, alloc: Global, out: &mut String, later: bool) -> Result<(), AllocError> {
+        push_key(alloc, out, later, self.name.as_str())?;
+        push_overview(alloc, out, &self.latest, self.status)
+    }
+}
+
+// What is shown of a package, as an object.
+fn push_overview(
+    alloc: Global,
+    out: &mut String,
+    latest: &Option<Text>,
+    status: Status,
+) -> Result<(), AllocError>
+    ensures { OnOk result (string_bytes out.new
+        ≡ string_bytes out.old ++ compact_text (object (overview_members latest.now status))) }
+{
+    out.push_str("{")?;
+    if let Some(version) = latest {
+        push_text_member(alloc, out, false, LATEST, version.as_str())?;
+    }
+    push_text_member(alloc, out, latest.is_some(), "status", status.text())?;
+    out.push_str("}")
+}
+
+// An object with the name of a user alone.
+fn push_username(alloc: Global, out: &mut String, name: &str) -> Result<(), AllocError>
+    ensures { OnOk result (string_bytes out.new
+        ≡ string_bytes out.old ++ compact_text (object (username_member name.now))) }
+{
+    out.push_str("{")?;
+    push_text_member(alloc, out, false, "username", name)?;
+    out.push_str("}")
+}
+
 /// A list in compact JSON: an object of tags to versions, of users to `developer`, `admin` or
-/// `owner`, or of packages to `read-only` or `read-write`; or an array of names.
+/// `owner`, of packages to `read-only` or `read-write`, of users to the number of their tokens, or
+/// of packages to objects, each with `status`, which is `public` or `restricted`, and with `latest`
+/// where a version lives; an object of `username` to a name; or an array of names.
 ///
 /// The rows are written as they come, in byte order and each once. `Memory` is returned when no
 /// memory is left, and no other fault is returned.
@@ -92,6 +171,9 @@ pub fn list_text(alloc: Global, list: &List) -> Result<Text, Fault>
         List::Members(rows) => push_object(alloc, &mut out, rows)?,
         List::Names(names) => push_array(alloc, &mut out, names)?,
         List::Grants(rows) => push_object(alloc, &mut out, rows)?,
+        List::Username(name) => push_username(alloc, &mut out, name.as_str())?,
+        List::Users(rows) => push_values(alloc, &mut out, rows)?,
+        List::Packages(rows) => push_values(alloc, &mut out, rows)?,
     }
     Ok(Text::from(out))
 }

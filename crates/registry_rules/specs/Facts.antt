@@ -22,7 +22,7 @@ use Rattle.registry_rules.specs.declared.facts.About.TheVariants as about
 use Rattle.registry_rules.specs.declared.facts.Facts.{Facts}
 use Rattle.registry_rules.specs.declared.facts.PublishFacts.{PublishFacts}
 use Rattle.registry_rules.specs.declared.request.Action.{Action}
-use Rattle.registry_rules.specs.declared.request.Action.TheVariants.{UserAdd, TokenAdd, TokenRemove, TokensRemove, OrgCreate, OrgSet, OrgRemove, TeamCreate, TeamDestroy, TeamAdd, TeamRemove, Grant, Revoke, SetAccess, OwnerAdd, OwnerRemove, Publish, TagSet, TagRemove, Withdraw, Deprecate, Packument, VersionDoc, Archive, Tags, Members, Teams, TeamMembers, TeamPackages}
+use Rattle.registry_rules.specs.declared.request.Action.TheVariants.{UserAdd, TokenAdd, TokenRemove, TokensRemove, OrgCreate, OrgSet, OrgRemove, TeamCreate, TeamDestroy, TeamAdd, TeamRemove, Grant, Revoke, SetAccess, OwnerAdd, OwnerRemove, Publish, TagSet, TagRemove, Withdraw, Deprecate, Packument, VersionDoc, Archive, Tags, Members, Teams, TeamMembers, TeamPackages, WhoAmI, Maintainers, Users, Organisations, Packages}
 use Rattle.registry_rules.specs.declared.request.Request.{Request}
 
 pub record ArePublishFacts (facts : PublishFacts) (S : State) (who : Caller) (f : FormParts) : Type 0 where
@@ -120,6 +120,11 @@ AboutTells (about.Organisation rows) S who (Members o) = SayOf rows S who o
 AboutTells (about.Organisation rows) S who (Teams o) = SayOf rows S who o
 AboutTells (about.Team rows exists) S who (TeamMembers o t) = SayOf rows S who o × (exists ≡ has_team S o t)
 AboutTells (about.Team rows exists) S who (TeamPackages o t) = SayOf rows S who o × (exists ≡ has_team S o t)
+AboutTells (about.Maintainers standing) S who (Maintainers p) = StandingTells standing S.access who p
+AboutTells about.Nothing S who WhoAmI = Unit {0}
+AboutTells about.Nothing S who Users = Unit {0}
+AboutTells about.Nothing S who Organisations = Unit {0}
+AboutTells about.Nothing S who Packages = Unit {0}
 AboutTells _ S who _ = ⊥
 
 -- The facts are what the registry holds for the request. Nothing has to be said of an action of

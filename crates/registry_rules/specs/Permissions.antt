@@ -3,13 +3,18 @@
 use Rattle.std.specs.Prelude.{is_some}
 use Rattle.registry_names.specs.Maps.{at}
 use Rattle.registry_names.specs.Names.{scope_of}
+use Rattle.registry_names.specs.declared.refusal.Rule.TheVariants.{A5}
 use Rattle.registry_access.specs.Access.{Access}
-use Rattle.registry_access.specs.Callers.{role_of}
-use Rattle.registry_access.specs.Policy.{Verdict, may_operate, may_end_token, may_manage_members, may_manage_teams, may_see_organisation, may_publish, may_write, may_manage_maintainers, may_read}
+use Rattle.registry_access.specs.Callers.{is_user, role_of}
+use Rattle.registry_access.specs.Policy.{Verdict, by_rule, for_known, may_operate, may_end_token, may_manage_members, may_manage_teams, may_see_organisation, may_publish, may_write, may_manage_maintainers, may_read}
 use Rattle.registry_access.specs.Positions.{has_organisation, position_in}
 use Rattle.registry_access.specs.declared.caller.Caller.{Caller}
 use Rattle.registry_rules.specs.declared.request.Action.{Action}
-use Rattle.registry_rules.specs.declared.request.Action.TheVariants.{UserAdd, TokenAdd, TokenRemove, TokensRemove, OrgCreate, OrgSet, OrgRemove, TeamCreate, TeamDestroy, TeamAdd, TeamRemove, Grant, Revoke, SetAccess, OwnerAdd, OwnerRemove, Publish, TagSet, TagRemove, Withdraw, Deprecate, Packument, VersionDoc, Archive, Tags, Members, Teams, TeamMembers, TeamPackages}
+use Rattle.registry_rules.specs.declared.request.Action.TheVariants.{UserAdd, TokenAdd, TokenRemove, TokensRemove, OrgCreate, OrgSet, OrgRemove, TeamCreate, TeamDestroy, TeamAdd, TeamRemove, Grant, Revoke, SetAccess, OwnerAdd, OwnerRemove, Publish, TagSet, TagRemove, Withdraw, Deprecate, Packument, VersionDoc, Archive, Tags, Members, Teams, TeamMembers, TeamPackages, WhoAmI, Maintainers, Users, Organisations, Packages}
+
+-- A5: any user
+abbrev pub may_be_named : Caller → Verdict
+may_be_named who = for_known who (by_rule A5 (is_user who))
 
 abbrev pub permission : Access → Caller → Action → Verdict
 permission A who (UserAdd u) = may_operate who
@@ -41,3 +46,8 @@ permission A who (Members o) = may_see_organisation who (has_organisation A o) (
 permission A who (Teams o) = may_see_organisation who (has_organisation A o) (role_of A who o)
 permission A who (TeamMembers o t) = may_see_organisation who (has_organisation A o) (role_of A who o)
 permission A who (TeamPackages o t) = may_see_organisation who (has_organisation A o) (role_of A who o)
+permission A who WhoAmI = may_be_named who
+permission A who (Maintainers p) = may_read (position_in A who p)
+permission A who Users = may_operate who
+permission A who Organisations = may_operate who
+permission A who Packages = may_operate who

@@ -22,7 +22,7 @@ use Rattle.registry_rules.specs.Permissions.{permission}
 use Rattle.registry_rules.specs.State.{State, developers, has_user, has_token, is_member, has_team, is_in_team, has_grant, is_published, has_maintainer, has_other_maintainer, is_last_owner, is_live, is_spent, has_live, stands, asked_version, lives}
 use Rattle.registry_rules.specs.Withdrawals.{is_depended, is_too_old, is_waiting, published_at}
 use Rattle.registry_rules.specs.declared.request.Action.{Action}
-use Rattle.registry_rules.specs.declared.request.Action.TheVariants.{UserAdd, TokenAdd, TokenRemove, TokensRemove, OrgCreate, OrgSet, OrgRemove, TeamCreate, TeamDestroy, TeamAdd, TeamRemove, Grant, Revoke, SetAccess, OwnerAdd, OwnerRemove, Publish, TagSet, TagRemove, Withdraw, Deprecate, Packument, VersionDoc, Archive, Tags, Members, Teams, TeamMembers, TeamPackages}
+use Rattle.registry_rules.specs.declared.request.Action.TheVariants.{UserAdd, TokenAdd, TokenRemove, TokensRemove, OrgCreate, OrgSet, OrgRemove, TeamCreate, TeamDestroy, TeamAdd, TeamRemove, Grant, Revoke, SetAccess, OwnerAdd, OwnerRemove, Publish, TagSet, TagRemove, Withdraw, Deprecate, Packument, VersionDoc, Archive, Tags, Members, Teams, TeamMembers, TeamPackages, WhoAmI, Maintainers, Users, Organisations, Packages}
 use Rattle.registry_rules.specs.declared.request.Request.{Request}
 
 abbrev pub refuse : Bool → Refusal → Option Refusal → Option Refusal
@@ -79,7 +79,7 @@ grant_refusal team published o p = refuse (not team || (is_scope o (scope_of p) 
 -- At this moment. What is there already isn't added, and what isn't there isn't found. An
 -- organisation keeps an owner and its first team, and a package its last maintainer; only members
 -- are in teams. A tag is set only to a live version, and only a live version has a document and an
--- archive; a package without a live version has no packument and no tags
+-- archive; a package without a live version has no packument and no tags, but has maintainers
 abbrev pub state_refusal : State → ℕ → Action → Option Refusal
 state_refusal S now (UserAdd u) = unless_new (has_user S u)
 state_refusal S now (TokenAdd u digest) = refuse (not (has_user S u)) NotFound (unless_new (has_token S digest))
@@ -110,6 +110,11 @@ state_refusal S now (Members o) = None
 state_refusal S now (Teams o) = None
 state_refusal S now (TeamMembers o t) = unless_there (has_team S o t)
 state_refusal S now (TeamPackages o t) = unless_there (has_team S o t)
+state_refusal S now WhoAmI = None
+state_refusal S now (Maintainers p) = None
+state_refusal S now Users = None
+state_refusal S now Organisations = None
+state_refusal S now Packages = None
 
 -- ---- requests
 

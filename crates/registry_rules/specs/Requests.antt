@@ -10,7 +10,7 @@ use Rattle.registry_publish.specs.Form.{FormParts, IsManifestText}
 use Rattle.registry_publish.specs.Integrity.{integrity_text}
 use Rattle.registry_publish.specs.Needs.{needs_of}
 use Rattle.registry_rules.specs.declared.request.Action.{Action}
-use Rattle.registry_rules.specs.declared.request.Action.TheVariants.{UserAdd, TokenAdd, TokenRemove, TokensRemove, OrgCreate, OrgSet, OrgRemove, TeamCreate, TeamDestroy, TeamAdd, TeamRemove, Grant, Revoke, SetAccess, OwnerAdd, OwnerRemove, Publish, TagSet, TagRemove, Withdraw, Deprecate, Packument, VersionDoc, Archive, Tags, Members, Teams, TeamMembers, TeamPackages}
+use Rattle.registry_rules.specs.declared.request.Action.TheVariants.{UserAdd, TokenAdd, TokenRemove, TokensRemove, OrgCreate, OrgSet, OrgRemove, TeamCreate, TeamDestroy, TeamAdd, TeamRemove, Grant, Revoke, SetAccess, OwnerAdd, OwnerRemove, Publish, TagSet, TagRemove, Withdraw, Deprecate, Packument, VersionDoc, Archive, Tags, Members, Teams, TeamMembers, TeamPackages, WhoAmI, Maintainers, Users, Organisations, Packages}
 use Rattle.registry_rules.specs.declared.request.Asked.{Asked}
 use Rattle.registry_rules.specs.declared.request.Asked.TheVariants.{Exact, Latest}
 use Rattle.registry_rules.specs.declared.request.Request.{Request}
@@ -57,6 +57,11 @@ IsActionInForm (Members o) = IsTrue (is_ident o)
 IsActionInForm (Teams o) = IsTrue (is_ident o)
 IsActionInForm (TeamMembers o t) = IsTrue (is_ident o) × IsTrue (is_ident t)
 IsActionInForm (TeamPackages o t) = IsTrue (is_ident o) × IsTrue (is_ident t)
+IsActionInForm WhoAmI = Unit {0}
+IsActionInForm (Maintainers p) = IsName p
+IsActionInForm Users = Unit {0}
+IsActionInForm Organisations = Unit {0}
+IsActionInForm Packages = Unit {0}
 
 -- it is asked at a moment, and its texts are in form
 pub record IsInForm (r : Request) : Type 0 where

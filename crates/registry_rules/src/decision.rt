@@ -151,7 +151,12 @@ fn state_refusal(about: &About, action: &Action, now: &Moment) -> Option<Refusal
             },
             Action::TeamRemove { .. },
         ) => { unless_there(*team_exists && *is_in_team) }
-        (About::Organisation { .. }, Action::Members { .. } | Action::Teams { .. }) => None,
+        (About::Organisation { .. }, Action::Members { .. } | Action::Teams { .. })
+        | (About::Maintainers { .. }, Action::Maintainers { .. })
+        | (
+            About::Nothing,
+            Action::WhoAmI | Action::Users | Action::Organisations | Action::Packages,
+        ) => None,
         (About::Team { exists, .. }, Action::TeamMembers { .. } | Action::TeamPackages { .. }) => {
             unless_there(*exists)
         }

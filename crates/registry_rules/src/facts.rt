@@ -165,7 +165,8 @@ pub enum About {
         /// The organisation, and the caller in it.
         rows: AccessRows,
     },
-    /// Of an action of nobody: nothing is asked about it.
+    /// Of an action of nobody, or of one that is decided by who asks alone: nothing is asked about
+    /// it.
     Nothing,
     /// Of a publish.
     Publish(PublishFacts),
@@ -211,6 +212,11 @@ pub enum About {
         standing: Standing,
         /// Whether it lives.
         lives: bool,
+    },
+    /// Of a query for the maintainers of a package.
+    Maintainers {
+        /// The caller and the package.
+        standing: Standing,
     },
     /// Of a query about a package.
     Package {

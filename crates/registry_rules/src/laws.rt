@@ -240,9 +240,11 @@ fn action_is_in_form(what: &Action)
         }
         Action::SetAccess { package, .. }
         | Action::Packument { package }
-        | Action::Tags { package } => {
+        | Action::Tags { package }
+        | Action::Maintainers { package } => {
             package.text();
         }
+        Action::WhoAmI | Action::Users | Action::Organisations | Action::Packages => {}
     }
 }
 

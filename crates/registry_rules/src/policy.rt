@@ -31,8 +31,12 @@ pub(crate) fn permission(caller: &Caller, about: &About, action: &Action) -> Res
             Action::UserAdd { .. }
             | Action::TokenAdd { .. }
             | Action::TokensRemove { .. }
-            | Action::OrgCreate { .. },
+            | Action::OrgCreate { .. }
+            | Action::Users
+            | Action::Organisations
+            | Action::Packages,
         ) => may_operate(caller),
+        (_, Action::WhoAmI) => may_be_named(caller),
         (About::TokenRemove { user }, Action::TokenRemove { .. }) => may_end_token(caller, user),
         (About::OrgSet { rows, .. }, Action::OrgSet { organisation, .. }) => {
             may_manage_members(rows, caller, organisation)
@@ -106,7 +110,20 @@ pub(crate) fn permission(caller: &Caller, about: &About, action: &Action) -> Res
         (About::Package { standing, .. }, Action::Tags { package }) => {
             may_read(standing, caller, package)
         }
+        (About::Maintainers { standing }, Action::Maintainers { package }) => {
+            may_read(standing, caller, package)
+        }
         _ => Err(Refusal::NotFound),
+    }
+}
+
+fn may_be_named(caller: &Caller) -> Result<Rule, Refusal>
+    ensures { result ≡ spec.may_be_named caller.now }
+{
+    match caller {
+        Caller::User(_) => Ok(Rule::A5),
+        Caller::Operator => Err(Refusal::Denied(Rule::A5)),
+        Caller::Anonymous => Err(Refusal::NoCaller),
     }
 }
 

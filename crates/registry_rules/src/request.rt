@@ -258,6 +258,20 @@ pub enum Action {
         /// The team's name.
         team: Ident,
     },
+    /// A user's query for their own name.
+    WhoAmI,
+    /// The query for the maintainers of a package.
+    Maintainers {
+        /// The package's name.
+        package: Name,
+    },
+    /// The operator's query for all users, each with the number of their tokens.
+    Users,
+    /// The operator's query for all organisations.
+    Organisations,
+    /// The operator's query for all packages that were ever published, each with its status and
+    /// the version that `latest` names.
+    Packages,
 }
 
 // Written out, so that dropping an action is one call wherever a function is left.
@@ -358,6 +372,11 @@ impl Drop for Action {
                 organisation: _,
                 team: _,
             } => {}
+            Action::WhoAmI => {}
+            Action::Maintainers { package: _ } => {}
+            Action::Users => {}
+            Action::Organisations => {}
+            Action::Packages => {}
         }
     }
 }

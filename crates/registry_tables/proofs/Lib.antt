@@ -22,6 +22,7 @@ pub mod NeedFacts
 pub mod NumberFacts
 pub mod OpeningFacts
 pub mod OrganisationFacts
+pub mod OverviewFacts
 pub mod ParentFacts
 pub mod RangeFacts
 pub mod ReadFacts

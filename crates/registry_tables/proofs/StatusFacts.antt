@@ -1,5 +1,5 @@
 -- What the statements on statuses make and show.
-use Rattle.std.proofs.Common.{◌≡◌, ℕ, List, [], ◌∷◌, Option, Some, None, option_map, slice_get, Ok, refl, sym, subst, ◌∙◌, codes}
+use Rattle.std.proofs.Common.{◌≡◌, ℕ, List, [], ◌∷◌, map, Option, Some, None, option_map, slice_get, Ok, refl, sym, subst, ◌∙◌, codes}
 use Rattle.sqlite.specs.declared.types.Value.TheVariants.{Null, Int, Text as Stored}
 use Rattle.sqlite.specs.Command.TheVariants.{Insert, Update, Select}
 use Rattle.sqlite.specs.Source.TheVariants.{Values}
@@ -11,20 +11,22 @@ use Rattle.sqlite_sql.specs.Term.{Term, lit, col}
 use Rattle.registry_names.specs.Texts.{Text}
 use Rattle.registry_rows.specs.Frames.{Wrote}
 use Rattle.registry_rows.specs.Ready.{Ready, Leaves, Reads, Queried}
+use Rattle.registry_tables.specs.Overviews.{package_spelled}
+use Rattle.registry_tables.specs.Schema as table
 use Rattle.registry_tables.specs.Schema.{schema}
 use Rattle.registry_tables.specs.Contents.{access_of, contents}
 use Rattle.registry_tables.specs.Effects.{stored}
-use Rattle.registry_names.specs.Maps.{at, put}
+use Rattle.registry_names.specs.Maps.{at, entries, put}
 use Rattle.registry_names.specs.declared.status.Status.{Status}
 use Rattle.registry_names.proofs.KeyFacts.{text_key}
-use Rattle.registry_rows.specs.Statements.{Means, MeansQuery, scan, by_texts, set_terms}
+use Rattle.registry_rows.specs.Statements.{Means, MeansQuery, scan, by_texts, in_order, select_where, set_terms}
 use Rattle.registry_rows.proofs.StatementFacts.{insert_puts, insert_meets_none, update_revises}
-use Rattle.registry_rows.proofs.LookUpFacts.{select_finds, first_listed}
+use Rattle.registry_rows.proofs.LookUpFacts.{select_all, select_finds, first_listed}
 use Rattle.registry_tables.specs.Changes.{amended}
 use Rattle.registry_tables.specs.Numbers.{status_number, status_of}
 use Rattle.registry_tables.specs.Spelled.{status_spelled}
 use Rattle.registry_tables.proofs.MappedFacts.{packages_mapped}
-use Rattle.registry_tables.proofs.ReadFacts.{at-read}
+use Rattle.registry_tables.proofs.ReadFacts.{at-read, entries-read}
 use Rattle.registry_tables.proofs.ReviseFacts.{revised}
 
 -- ---- INSERT
@@ -79,3 +81,19 @@ pub status_found : (p : Text) (old new : Shown) (rows : List Row) → Ready sche
 status_found p old new rows form call clean =
     let it = select_finds packages_mapped find_text (col 1 2 ∷ []) _ find_means p status_spelled status_of (λ id vs. refl) old new rows form call clean in
     (it.0, first_listed status_spelled rows _ it.1 ∙ sym (at-read text_key (stored old).packages (λ _ n. status_of n) p))
+
+abbrev list_text : List ℕ
+list_text = codes "SELECT name, status FROM packages ORDER BY name"
+
+abbrev list_columns : List Term
+list_columns = col 1 1 ∷ col 1 2 ∷ []
+
+list_means : MeansQuery schema list_text (select_where table.packages list_columns [] (in_order 0 1) (codes "name" ∷ codes "status" ∷ []))
+unfolding understood everything
+list_means = ((refl, (refl, refl)), refl)
+
+pub statuses_listed : (old new : Shown) (rows : List Row) → Ready schema old → Queried list_text [] old new rows → HasCleanDisk new
+    → Reads schema old new × (map package_spelled rows ≡ entries (access_of (stored old)).statuses)
+statuses_listed old new rows form call clean =
+    let it = select_all packages_mapped list_text list_columns _ list_means package_spelled status_of (λ id vs. refl) old new rows form call clean in
+    (it.0, it.1 ∙ sym (entries-read text_key (stored old).packages (λ _ n. status_of n)))

@@ -1,5 +1,6 @@
 -- What the statements on users make and show.
-use Rattle.std.proofs.Common.{◌≡◌, ◌==◌, ℕ, List, [], ◌∷◌, not, is_some, length, None, Ok, refl, codes}
+use Rattle.std.proofs.Common.{◌≡◌, ◌∙◌, ◌==◌, ℕ, List, [], ◌∷◌, ap, map, not, is_some, length, None, Ok, refl, sym, codes}
+use Rattle.std.proofs.lemmas.Simd.{map-map}
 use Rattle.sqlite.specs.declared.types.Value.TheVariants.{Null, Text as Stored}
 use Rattle.sqlite.specs.Command.TheVariants.{Insert, Select}
 use Rattle.sqlite.specs.Source.TheVariants.{Values}
@@ -9,12 +10,15 @@ use Rattle.sqlite_tied.specs.Compute.{everything}
 use Rattle.sqlite_value.specs.Order.{Row}
 use Rattle.sqlite_sql.specs.Term.{Term, lit, col}
 use Rattle.registry_names.specs.Texts.{Text}
-use Rattle.registry_names.specs.Maps.{at, put}
+use Rattle.registry_names.specs.Maps.{at, entries, keys, put}
 use Rattle.registry_rows.specs.Frames.{Wrote}
 use Rattle.registry_rows.specs.Ready.{Ready, Leaves, Reads, Queried}
-use Rattle.registry_rows.specs.Statements.{Means, MeansQuery, scan, by_texts}
+use Rattle.registry_rows.specs.Statements.{Means, MeansQuery, scan, by_texts, in_order, select_where}
 use Rattle.registry_rows.proofs.StatementFacts.{insert_puts, insert_meets_none}
+use Rattle.registry_rows.proofs.LookUpFacts.{select_all, seen_as_is}
+use Rattle.registry_tables.specs.Schema as table
 use Rattle.registry_tables.specs.Schema.{schema}
+use Rattle.registry_tables.specs.Teams.{text_spelled}
 use Rattle.registry_tables.specs.Contents.{contents}
 use Rattle.registry_tables.specs.Effects.{stored}
 use Rattle.registry_tables.proofs.FoundFacts.{there_found}
@@ -52,3 +56,20 @@ find_means = ((refl, (refl, refl)), refl)
 pub user_found : (u : Text) (old new : Shown) (rows : List Row) → Ready schema old → Queried find_text (Stored u ∷ []) old new rows → HasCleanDisk new
     → Reads schema old new × (not (length rows == 0) ≡ is_some (at (stored old).users u))
 user_found u = there_found users_mapped find_text (col 1 1 ∷ []) _ find_means u
+
+abbrev list_text : List ℕ
+list_text = codes "SELECT name FROM users ORDER BY name"
+
+list_means : MeansQuery schema list_text (select_where table.users (col 1 1 ∷ []) [] (in_order 0 1) (codes "name" ∷ []))
+unfolding understood everything
+list_means = ((refl, (refl, refl)), refl)
+
+-- a user who is there
+abbrev user_entry : Row → Text × Unit {0}
+user_entry r = (text_spelled r, tt)
+
+pub users_listed : (old new : Shown) (rows : List Row) → Ready schema old → Queried list_text [] old new rows → HasCleanDisk new
+    → Reads schema old new × (map text_spelled rows ≡ keys (entries (stored old).users))
+users_listed old new rows form call clean =
+    let it = select_all users_mapped list_text (col 1 1 ∷ []) _ list_means user_entry (λ (u : Unit {0}). u) (λ id vs. refl) old new rows form call clean in
+    (it.0, sym (map-map (λ (e : Text × Unit {0}). e.0) user_entry rows) ∙ ap keys (it.1 ∙ seen_as_is (entries (stored old).users)))

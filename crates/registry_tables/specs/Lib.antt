@@ -9,6 +9,7 @@ pub mod Laws
 pub mod Needs
 pub mod Numbers
 pub mod Opening
+pub mod Overviews
 pub mod Ranges
 pub mod ReadMaps
 pub mod Schema

@@ -21,6 +21,7 @@ mod moments;
 mod needs;
 mod numbers;
 mod organisations;
+mod packages;
 mod schema;
 mod scopes;
 mod spent;
@@ -44,12 +45,13 @@ pub use crate::change::make;
 pub use crate::counters::counts_archives_alone;
 pub use crate::dependents::is_depended;
 pub use crate::grants::{has_grant, load_grants};
-pub use crate::maintainers::{has_other_maintainer, is_maintainer};
+pub use crate::maintainers::{has_other_maintainer, is_maintainer, load_maintainers};
 pub use crate::members::{has_other_owner, load_members, load_role};
 pub use crate::meta::opened;
 pub use crate::needs::{load_dependents, put_needs};
 pub use crate::numbers::numbers_are_in_range;
-pub use crate::organisations::has_organisation;
+pub use crate::organisations::{has_organisation, load_organisations};
+pub use crate::packages::load_packages;
 pub use crate::schema::{TABLES, create};
 pub use crate::scopes::are_grants_in_scope;
 pub use crate::spent::{is_spent, load_last_withdrawal, load_spent_publications};
@@ -60,7 +62,7 @@ pub use crate::team_members::{is_in_team, load_team_users};
 pub use crate::team_packages::load_team_packages;
 pub use crate::teams::{has_team, load_teams};
 pub use crate::tokens::{load_token_user, load_user_tokens};
-pub use crate::users::has_user;
+pub use crate::users::{has_user, load_users};
 pub use crate::versions::{
     DocumentRow, has_live, has_version, load_document, load_live, load_published, load_times,
     put_version,

@@ -51,8 +51,8 @@ pub fn has_other_maintainer<S: Alter>(
     Ok(maintained_by_another(&maintainers, user))
 }
 
-// The maintainers of a package, in byte order.
-fn load_maintainers<S: Alter>(
+/// The maintainers of a package, in byte order.
+pub fn load_maintainers<S: Alter>(
     alloc: Global,
     tx: &mut Transaction<'_, S>,
     name: &Name,

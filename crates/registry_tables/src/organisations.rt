@@ -1,14 +1,16 @@
 //! The table `orgs`: every organisation.
 
 ghost use Rattle.std.specs.Prelude.{◌≡◌, is_some};
-ghost use Rattle.registry_names.specs.Maps.{at, put};
+ghost use Rattle.registry_names.specs.Maps.{at, entries, keys, put};
 ghost use Rattle.registry_rows.specs.Frames.{Stays};
 ghost use Rattle.registry_tables.specs.Changes.{IsFree};
 ghost use Rattle.registry_tables.specs.Effects.{InForm, Makes, OnlyWhere, Loads};
 
-use registry_names::Fault;
+use crate::texts::texts_in;
+use registry_names::{Fault, Text};
 use registry_rows::{read, write};
 use sqlite::{Alter, Transaction, params};
+use std::alloc::Global;
 
 /// Whether there is an organisation of this name.
 pub fn has_organisation<S: Alter>(
@@ -26,6 +28,20 @@ pub fn has_organisation<S: Alter>(
         params![organisation],
     )?;
     Ok(!rows.is_empty())
+}
+
+/// The names of all organisations, in byte order.
+pub fn load_organisations<S: Alter>(
+    alloc: Global,
+    tx: &mut Transaction<'_, S>,
+) -> Result<Vec<Text>, Fault>
+    requires in_form { InForm S.Store tx.old }
+    ensures stays { Stays S.Store tx.old tx.new }
+    ensures loads { Loads S.Store tx.old tx.new result
+        (λ names c. names.items ≡ keys (entries c.organisations)) }
+{
+    let rows = read(tx, "SELECT name FROM orgs ORDER BY name", &[])?;
+    texts_in(alloc, &rows)
 }
 
 /// Adds an organisation. It is a fault where one of its name is there.

@@ -117,8 +117,8 @@ fn number_of(status: Status) -> i64
     }
 }
 
-// No other number is ever written.
-fn status_of(number: i64) -> Result<Status, Error>
+/// The status that a number spells. No other number is ever written.
+pub(crate) fn status_of(number: i64) -> Result<Status, Error>
     ensures { IfOk result (λ status. number ≡ status_number status) }
 {
     match number {

@@ -48,6 +48,11 @@ token npm_bob_000000001 --at 200 tags @lab/kit
 --at 200 --as ann team-members lab ops
 --at 200 --as ann team-packages lab developers
 --at 200 --as ann team-packages lab ops
+--at 200 --as eve whoami
+--at 200 --as bob maintainers @lab/kit
+--at 200 --operator users
+--at 200 --operator organisations
+--at 200 --operator packages
 --at 200 --as eve packument @lab/kit
 ";
 

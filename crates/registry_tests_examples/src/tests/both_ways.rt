@@ -16,6 +16,21 @@ use std::test::Fail;
 /// A query that gives a row where the tables have this program's schema number.
 const NUMBER: &str = "SELECT name FROM meta WHERE name = 'schema' AND value = 3";
 
+/// Two users, of whom one has a token.
+const TWO_USERS: &str = "
+--operator user-add ann
+--operator user-add bob
+--operator token-add bob npm_bob_000000001
+";
+
+/// The end of all tokens of the other, the first and the last of them, and the token that is left.
+const ENDED: &str = "
+--operator tokens-rm ann
+token npm_ann_0_000000001 whoami
+token npm_ann_999_000000001 whoami
+token npm_bob_000000001 whoami
+";
+
 /// Requests, and the outcome of each.
 struct Told<'a> {
     requests: Vec<Request>,
@@ -52,6 +67,41 @@ fn fifty_rounds_are_the_same_both_ways(rt: HostRuntime) -> Result<(), Fail> {
     let outcomes = both_ways(rt.alloc(), "fifty rounds", &requests)?;
     same("how many", outcomes.len(), requests.len())?;
     are_rounds(outcomes.get(6..).unwrap_or(&[]))
+}
+
+#[test]
+fn a_thousand_tokens_of_a_user_end_at_once(rt: HostRuntime) -> Result<(), Fail> {
+    let requests = thousand_tokens(rt.alloc())?;
+    let (outcomes, rows) = ran(rt.alloc(), &requests, "SELECT digest FROM tokens")?;
+    same("how many are left", rows, 1)?;
+    same(
+        "they ended",
+        have_ended(outcomes.get(1_003..).unwrap_or(&[])),
+        true,
+    )
+}
+
+// Two users: one has a token, and the other a thousand, which end. Then some are shown.
+fn thousand_tokens(alloc: Global) -> Result<Vec<Request>, Fail> {
+    let mut requests = requests_of(alloc, TWO_USERS)?;
+    for number in 0..1_000u64 {
+        let line = format!(in alloc; "--operator token-add ann npm_ann_{number}_000000001")?;
+        requests.push(request_of(alloc, &line)?)?;
+    }
+    push_requests(alloc, &mut requests, ENDED)?;
+    Ok(requests)
+}
+
+fn have_ended(outcomes: &[Outcome]) -> bool {
+    matches!(
+        outcomes,
+        [
+            Ok(Reply::Count(1_000)),
+            Ok(Reply::Refused(Refusal::NoCaller)),
+            Ok(Reply::Refused(Refusal::NoCaller)),
+            Ok(Reply::Doc(_)),
+        ]
+    )
 }
 
 // The outcomes of requests, which are the same all at once and one by one, and without faults.

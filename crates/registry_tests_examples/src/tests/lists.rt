@@ -37,6 +37,10 @@ pub(crate) static CALLERS_BACKWARDS: [&str; 5] = [
 
 /// Every action on users, organisations and teams, over two users, teams and packages.
 pub(crate) const ON_TEAMS: &str = r#"
+whoami
+users
+organisations
+packages
 members lab
 teams lab
 user-add bob

@@ -1,6 +1,9 @@
-use Rattle.std.proofs.Common.{refl}
+use Rattle.std.proofs.Common.{refl, subst, sym}
 use Rattle.registry_rows.specs.Ready.{Reads}
+use Rattle.registry_rules.specs.Facts.{AboutTells}
+use Rattle.registry_rules.specs.declared.facts.About.{About}
 use Rattle.registry_rules.specs.declared.request.Action.TheVariants as asked
+use Rattle.registry_tables.specs.Contents.{registry_of}
 use Rattle.registry_tables.specs.Effects.{shown, stored_in}
 use Rattle.registry_tables.specs.Schema.{schema}
 use Rattle.registry_desk.proofs.EarlyFacts.{found_about, found_either, found_so, found_some}
@@ -109,3 +112,21 @@ returns-in-Members-clause-loads g c clean =
 pub returns-in-TeamMembers-clause-loads : goal.returns-in-TeamMembers-clause-loads
 returns-in-TeamMembers-clause-loads g c clean =
     found_either (Reads schema (shown g.S.Store c.args.tx.now) (shown g.S.Store c.facts_about_team.new.tx)) (stored_in g.S.Store c.args.tx.now) c.args.request.now.at c.args.caller.now c.args.request.now.what (asked.TeamMembers c.in-TeamMembers.organisation c.in-TeamMembers.team) (asked.TeamPackages c.in-TeamMembers.organisation c.in-TeamMembers.team) c.facts_about_team.result c.map-in-TeamMembers.result c.in-TeamMembers.is refl refl c.map-in-TeamMembers.ensures.cases (λ x told sound. told) (λ x told sound. told) (c.facts_about_team.ensures.members clean) (c.facts_about_team.ensures.packages clean)
+
+pub returns-in-Maintainers-clause-loads : goal.returns-in-Maintainers-clause-loads
+returns-in-Maintainers-clause-loads g c clean =
+    found_about (Reads schema (shown g.S.Store c.args.tx.now) (shown g.S.Store c.facts_for_maintainers.new.tx)) (stored_in g.S.Store c.args.tx.now) c.args.request.now.at c.args.caller.now c.args.request.now.what (asked.Maintainers c.in-Maintainers.package) c.facts_for_maintainers.result c.map-in-Maintainers.result c.in-Maintainers.is refl c.map-in-Maintainers.ensures.cases (λ x told. told) (c.facts_for_maintainers.ensures.loads clean)
+
+pub returns-in-WhoAmI-clause-loads : goal.returns-in-WhoAmI-clause-loads
+returns-in-WhoAmI-clause-loads g c clean =
+    found_either (Reads schema (shown g.S.Store c.args.tx.now) (shown g.S.Store c.facts_of_caller.new.tx)) (stored_in g.S.Store c.args.tx.now) c.args.request.now.at c.args.caller.now c.args.request.now.what asked.WhoAmI asked.Users c.facts_of_caller.result c.map-in-WhoAmI.result c.in-WhoAmI.is refl refl c.map-in-WhoAmI.ensures.cases
+    (λ x told sound. subst (λ (y : About). AboutTells y (registry_of (stored_in g.S.Store c.args.tx.now)) c.args.caller.now asked.WhoAmI) (sym told) tt)
+    (λ x told sound. subst (λ (y : About). AboutTells y (registry_of (stored_in g.S.Store c.args.tx.now)) c.args.caller.now asked.Users) (sym told) tt)
+    (c.facts_of_caller.ensures.loads clean) (c.facts_of_caller.ensures.loads clean)
+
+pub returns-in-Organisations-clause-loads : goal.returns-in-Organisations-clause-loads
+returns-in-Organisations-clause-loads g c clean =
+    found_either (Reads schema (shown g.S.Store c.args.tx.now) (shown g.S.Store c.facts_of_caller-in-Organisations.new.tx)) (stored_in g.S.Store c.args.tx.now) c.args.request.now.at c.args.caller.now c.args.request.now.what asked.Organisations asked.Packages c.facts_of_caller-in-Organisations.result c.map-in-Organisations.result c.in-Organisations.is refl refl c.map-in-Organisations.ensures.cases
+    (λ x told sound. subst (λ (y : About). AboutTells y (registry_of (stored_in g.S.Store c.args.tx.now)) c.args.caller.now asked.Organisations) (sym told) tt)
+    (λ x told sound. subst (λ (y : About). AboutTells y (registry_of (stored_in g.S.Store c.args.tx.now)) c.args.caller.now asked.Packages) (sym told) tt)
+    (c.facts_of_caller-in-Organisations.ensures.loads clean) (c.facts_of_caller-in-Organisations.ensures.loads clean)

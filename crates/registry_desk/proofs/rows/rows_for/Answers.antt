@@ -51,3 +51,23 @@ pub returns-in-TeamMembers-clause-knows : goal.returns-in-TeamMembers-clause-kno
 returns-in-TeamMembers-clause-knows g c clean =
     answer (stored_in g.S.Store c.args.tx.now) c.args.caches.now c.args.caller.now c.args.what.now (asked.TeamMembers c.in-TeamMembers.organisation c.in-TeamMembers.team) c.in-TeamMembers.is
     c.team_member_rows.result _ _ _ (reads_nothing_new _ _) (λ rows told _. told c.args.caller.now) (c.team_member_rows.ensures.loads clean)
+
+pub returns-in-Maintainers-clause-knows : goal.returns-in-Maintainers-clause-knows
+returns-in-Maintainers-clause-knows g c clean =
+    answer (stored_in g.S.Store c.args.tx.now) c.args.caches.now c.args.caller.now c.args.what.now (asked.Maintainers c.in-Maintainers.package) c.in-Maintainers.is
+    c.maintainer_rows.result _ _ _ (reads_nothing_new _ _) (λ rows told _. told c.args.caller.now) (c.maintainer_rows.ensures.loads clean)
+
+pub returns-in-Users-clause-knows : goal.returns-in-Users-clause-knows
+returns-in-Users-clause-knows g c clean =
+    answer (stored_in g.S.Store c.args.tx.now) c.args.caches.now c.args.caller.now c.args.what.now asked.Users c.in-Users.is
+    c.user_rows.result _ _ _ (reads_nothing_new _ _) (λ rows told _. told c.args.caller.now) (c.user_rows.ensures.loads clean)
+
+pub returns-in-Organisations-clause-knows : goal.returns-in-Organisations-clause-knows
+returns-in-Organisations-clause-knows g c clean =
+    answer (stored_in g.S.Store c.args.tx.now) c.args.caches.now c.args.caller.now c.args.what.now asked.Organisations c.in-Organisations.is
+    c.organisation_rows.result _ _ _ (reads_nothing_new _ _) (λ rows told _. told c.args.caller.now) (c.organisation_rows.ensures.loads clean)
+
+pub returns-in-Packages-clause-knows : goal.returns-in-Packages-clause-knows
+returns-in-Packages-clause-knows g c clean =
+    answer (stored_in g.S.Store c.args.tx.now) c.args.caches.now c.args.caller.now c.args.what.now asked.Packages c.in-Packages.is
+    c.package_rows.result _ _ _ (reads_nothing_new _ _) (λ rows told _. told c.args.caller.now) (c.package_rows.ensures.loads clean)

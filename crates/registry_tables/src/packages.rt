@@ -1,0 +1,129 @@
+//! All packages, each with what is listed of it.
+
+ghost use Rattle.std.specs.Prelude.{◌≡◌, map};
+ghost use Rattle.registry_names.specs.Maps.{at, entries};
+ghost use Rattle.registry_names.specs.Tags.{latest};
+ghost use Rattle.registry_names.specs.Texts.{Text as Bytes};
+ghost use Rattle.registry_names.specs.declared.status.Status.{Status as Readers};
+ghost use Rattle.registry_rows.specs.Frames.{Stays};
+ghost use Rattle.registry_tables.specs.Contents.{access_of};
+ghost use Rattle.registry_tables.specs.Effects.{InForm, Knows, Loads};
+ghost use Rattle.registry_tables.specs.Overviews.{package_entry, package_spelled, packages_viewed, viewed};
+
+use crate::statuses::status_of;
+use crate::tags::load_tag;
+use crate::texts::read_back;
+use registry_names::{Fault, LATEST, Name, Status, Text};
+use registry_packument::Overview;
+use registry_rows::{RowKind, read, values_of_rows};
+use sqlite::{Alter, Error, Row, Transaction};
+use std::alloc::Global;
+
+/// All packages that were published, now or once, in byte order, each with its status and the
+/// version that `latest` names.
+pub fn load_packages<S: Alter>(
+    alloc: Global,
+    tx: &mut Transaction<'_, S>,
+) -> Result<Vec<Overview>, Fault>
+    requires in_form { InForm S.Store tx.old }
+    ensures stays { Stays S.Store tx.old tx.new }
+    ensures loads { Loads S.Store tx.old tx.new result
+        (λ packages c. packages.items ≡ packages_viewed c) }
+{
+    let packages = load_statuses(alloc, tx)?;
+    with_latest(alloc, tx, packages)
+}
+
+// A package and its status.
+#[derive(Drop)]
+pub(crate) struct ListedPackage {
+    pub(crate) name: Text,
+    pub(crate) status: Status,
+}
+
+// All packages with their statuses, in byte order.
+fn load_statuses<S: Alter>(
+    alloc: Global,
+    tx: &mut Transaction<'_, S>,
+) -> Result<Vec<ListedPackage>, Fault>
+    requires in_form { InForm S.Store tx.old }
+    ensures stays { Stays S.Store tx.old tx.new }
+    ensures loads { Loads S.Store tx.old tx.new result
+        (λ packages c. map package_entry packages.items ≡ entries (access_of c).statuses) }
+{
+    let rows = read(tx, "SELECT name, status FROM packages ORDER BY name", &[])?;
+    values_of_rows::<ListedPackage>(alloc, &rows)
+}
+
+impl RowKind for ListedPackage {
+    type Value = ListedPackage;
+
+    ghost Seen = { Bytes × Readers };
+
+    ghost seen = { package_entry };
+
+    ghost spelled = { package_spelled };
+
+    fn read(row: &Row) -> Result<ListedPackage, Error> {
+        let name: String = row.get(0)?;
+        let number: i64 = row.get(1)?;
+        Ok(ListedPackage {
+            name: Text::from(name),
+            status: status_of(number)?,
+        })
+    }
+}
+
+// Each of these packages, with the version that `latest` names.
+fn with_latest<S: Alter>(
+    alloc: Global,
+    tx: &mut Transaction<'_, S>,
+    packages: Vec<ListedPackage>,
+) -> Result<Vec<Overview>, Fault>
+    requires in_form { InForm S.Store tx.old }
+    ensures stays { Stays S.Store tx.old tx.new }
+    ensures knows { Knows S.Store tx.old tx.new result
+        (λ rows c. rows.items ≡ map (λ p. viewed c (package_entry p)) packages.items) }
+{
+    let mut rows = Vec::new(alloc);
+    for listed in packages {
+        let row = overview(alloc, tx, listed)?;
+        rows.push(row)?;
+    }
+    Ok(rows)
+}
+
+// A package with the version that `latest` names.
+fn overview<S: Alter>(
+    alloc: Global,
+    tx: &mut Transaction<'_, S>,
+    listed: ListedPackage,
+) -> Result<Overview, Fault>
+    requires in_form { InForm S.Store tx.old }
+    ensures stays { Stays S.Store tx.old tx.new }
+    ensures loads { Loads S.Store tx.old tx.new result
+        (λ row c. row ≡ viewed c (package_entry listed)) }
+{
+    let ListedPackage { name, status } = listed;
+    let latest = load_latest(alloc, tx, &name)?;
+    Ok(Overview {
+        name,
+        status,
+        latest,
+    })
+}
+
+// The version that `latest` names of a package, if one lives.
+fn load_latest<S: Alter>(
+    alloc: Global,
+    tx: &mut Transaction<'_, S>,
+    name: &Text,
+) -> Result<Option<Text>, Fault>
+    requires in_form { InForm S.Store tx.old }
+    ensures stays { Stays S.Store tx.old tx.new }
+    ensures loads { Loads S.Store tx.old tx.new result
+        (λ version c. version ≡ at c.tags (name.now, latest)) }
+{
+    let name = read_back(Name::parse(alloc, name.as_str()))?;
+    load_tag(tx, &name, LATEST)
+}
