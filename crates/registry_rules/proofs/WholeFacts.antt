@@ -20,7 +20,7 @@ use Rattle.registry_rules.specs.Withdrawals.{all_tags, live_since, live_versions
 use Rattle.registry_rules.proofs.WithdrawnFacts.{made_then}
 
 -- one of the keys went first, and then the others
-gone_joined : {X : Type 0} (here first later : Bool) (old : Option X) → cond (here && later) None (cond (here && first) None old) ≡ cond (here && (first || later)) None old
+pub gone_joined : {X : Type 0} (here first later : Bool) (old : Option X) → cond (here && later) None (cond (here && first) None old) ≡ cond (here && (first || later)) None old
 gone_joined true true true old = refl
 gone_joined true true false old = refl
 gone_joined true false later old = refl
@@ -126,7 +126,7 @@ module _ (S : State) (now : ℕ) (p : Text) where
   cond_stood false o = refl
 
   -- a key of this package, or of another
-  here_or : {X : Type 0} (q u : Text) (m : PairMap X) (b : Bool) → is p q ≡ b → cond (b && is_some (at m (p, u))) None (at m (q, u)) ≡ cond b None (at m (q, u))
+  pub here_or : {X : Type 0} (q u : Text) (m : PairMap X) (b : Bool) → is p q ≡ b → cond (b && is_some (at m (p, u))) None (at m (q, u)) ≡ cond b None (at m (q, u))
   here_or q u m true e = ap (λ r. cond (is_some (at m (r, u))) None (at m (q, u))) (same_true text_key p q e) ∙ cond_stood true (at m (q, u))
   here_or q u m false e = refl
 
