@@ -56,20 +56,23 @@ some_same x y e = cc
 -- ---- the versions that texts spell
 
 module _ (test : VersionParts → Bool) where
+  or_right : (a b : Bool) → b ≡ true → (a || b) ≡ true
+  or_right true b e = refl
+  or_right false b e = e
+
+  first_passes : (s t : Text) (v : VersionParts) → version_in t ≡ Some v → test v ≡ true → s ≡ t → list_any test (option_to_list (version_in s)) ≡ true
+  first_passes s t v reads passed same = ap (λ o. list_any test (option_to_list o)) (ap version_in same ∙ reads) ∙ ap (λ b. b || false) passed
+
+  first_or_more : (s t : Text) (v : VersionParts) (rest more : Bool) → version_in t ≡ Some v → test v ≡ true → (rest ≡ true → more ≡ true) → (b : Bool) → is s t ≡ b → (b || rest) ≡ true
+      → (list_any test (option_to_list (version_in s)) || more) ≡ true
+  first_or_more s t v rest more reads passed later true same h = ap (λ b. b || more) (first_passes s t v reads passed (is_true s t same))
+  first_or_more s t v rest more reads passed later false same h = or_right (list_any test (option_to_list (version_in s))) more (later h)
+
   any_spelled : (ts : List Text) (t : Text) (v : VersionParts) → version_in t ≡ Some v → among is ts t ≡ true → test v ≡ true → list_any test (versions_in ts) ≡ true
   any_spelled [] t v reads here passed = absurd (true≢false (sym here))
-  any_spelled (s ∷ ss) t v reads here passed = list_any-append test (option_to_list (version_in s)) (versions_in ss) ∙ by_test (is s t) refl here
-    where
-      first_passes : s ≡ t → list_any test (option_to_list (version_in s)) ≡ true
-      first_passes same = ap (λ o. list_any test (option_to_list o)) (ap version_in same ∙ reads) ∙ ap (λ b. b || false) passed
-
-      or_right : (a b : Bool) → b ≡ true → (a || b) ≡ true
-      or_right true b e = refl
-      or_right false b e = e
-
-      by_test : (b : Bool) → is s t ≡ b → (b || among is ss t) ≡ true → (list_any test (option_to_list (version_in s)) || list_any test (versions_in ss)) ≡ true
-      by_test true same h = ap (λ b. b || list_any test (versions_in ss)) (first_passes (is_true s t same))
-      by_test false same h = or_right (list_any test (option_to_list (version_in s))) (list_any test (versions_in ss)) (any_spelled ss t v reads h passed)
+  any_spelled (s ∷ ss) t v reads here passed =
+      list_any-append test (option_to_list (version_in s)) (versions_in ss)
+      ∙ first_or_more s t v (among is ss t) (list_any test (versions_in ss)) reads passed (λ h. any_spelled ss t v reads h passed) (is s t) refl here
 
   -- one of the texts spells a version that passes
   record Spelled (ts : List Text) : Type 0 where
@@ -89,17 +92,18 @@ module _ (test : VersionParts → Bool) where
   first_spelled : (s : Text) (ss : List Text) (v : VersionParts) → version_in s ≡ Some v → test v ≡ true → Spelled (s ∷ ss)
   first_spelled s ss v reads passed = record { text = s; version = v; member = ap (λ b. b || among is ss s) (same_self text_key s); spells = reads; passed = passed }
 
+  by_passing : (s : Text) (ss : List Text) (v : VersionParts) (more : Bool) → version_in s ≡ Some v → (more ≡ true → Spelled ss) → (b : Bool) → test v ≡ b → ((b || false) || more) ≡ true → Spelled (s ∷ ss)
+  by_passing s ss v more reads later true passed e = first_spelled s ss v reads passed
+  by_passing s ss v more reads later false passed e = more_spelled s ss (later e)
+
+  by_version : (s : Text) (ss : List Text) (more : Bool) → (more ≡ true → Spelled ss) → (o : Option VersionParts) → version_in s ≡ o → (list_any test (option_to_list o) || more) ≡ true → Spelled (s ∷ ss)
+  by_version s ss more later None reads e = more_spelled s ss (later e)
+  by_version s ss more later (Some v) reads e = by_passing s ss v more reads later (test v) refl e
+
   spelled_any : (ts : List Text) → list_any test (versions_in ts) ≡ true → Spelled ts
   spelled_any [] h = absurd (true≢false (sym h))
-  spelled_any (s ∷ ss) h = by_version (version_in s) refl (sym (list_any-append test (option_to_list (version_in s)) (versions_in ss)) ∙ h)
-    where
-      by_test : (v : VersionParts) → version_in s ≡ Some v → (b : Bool) → test v ≡ b → ((b || false) || list_any test (versions_in ss)) ≡ true → Spelled (s ∷ ss)
-      by_test v reads true passed e = first_spelled s ss v reads passed
-      by_test v reads false passed e = more_spelled s ss (spelled_any ss e)
-
-      by_version : (o : Option VersionParts) → version_in s ≡ o → (list_any test (option_to_list o) || list_any test (versions_in ss)) ≡ true → Spelled (s ∷ ss)
-      by_version None reads e = more_spelled s ss (spelled_any ss e)
-      by_version (Some v) reads e = by_test v reads (test v) refl e
+  spelled_any (s ∷ ss) h =
+      by_version s ss (list_any test (versions_in ss)) (λ e. spelled_any ss e) (version_in s) refl (sym (list_any-append test (option_to_list (version_in s)) (versions_in ss)) ∙ h)
 
 -- ---- where the whole isn't refused
 
@@ -253,7 +257,7 @@ module _ (now : ℕ) (who : Caller) (p : Text) (moment : now ≤ last_second) wh
       let spent = spends S v may kept in
       let rest = ran T vs (left_kept S v may kept) (ap (λ A. unless_allowed (may_write who (position_in A who p))) spent.access ∙ policy)
       (all_may S v may kept vs once.0 (All-tail (MayGo S) v vs all)) once.1 in
-      let later = λ u. among is (map text_of_version vs) u in
+      let later : Text → Bool = λ u. among is (map text_of_version vs) u in
       record {
         accepted = (goes S v policy may, rest.accepted);
         kept = rest.kept;
@@ -401,7 +405,7 @@ module _ (S : State) (now : ℕ) (who : Caller) (p : Text) (kept : IsKept S) whe
   as_one : (why : Refusal) → IsTrue (has_live S p) → refusal_by S now who (WithdrawAll p) ≡ Some why → AsOne why
   as_one why lives h = by_policy denied refl h
     where
-      not_empty : (es : List (Text × Release)) → not (is_empty es) ≡ true → is_empty (map (λ (e : Text × Release). (e.0, e.1.at)) es) ≡ false
+      not_empty : (es : List (Text × Release)) → not (is_empty es) ≡ true → is_empty {X = Text × ℕ} (map (λ (e : Text × Release). (e.0, e.1.at)) es) ≡ false
       not_empty [] e = absurd (true≢false (sym e))
       not_empty (x ∷ xs) e = refl
 
