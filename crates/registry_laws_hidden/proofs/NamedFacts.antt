@@ -110,12 +110,12 @@ whole_gone : (S : State) (now : ℕ) (p q : Text) → is q p ≡ true → state_
 whole_gone S now p q named =
     let T : State = whole_left S now q in
     let live = keep_alike pair_key (other_pair p) T.live S.live (λ k passed.
-        whole_live S now q k.0 k.1 ∙ ap (λ b. cond b None (at S.live k)) (unlike p q named k.0 passed (is q k.0) refl)) in
+    whole_live S now q k.0 k.1 ∙ ap (λ b. cond b None (at S.live k)) (unlike p q named k.0 passed (is q k.0) refl)) in
     let spent = keep_alike pair_key (other_pair p) T.spent S.spent (λ k passed.
-        whole_spent S now q k.0 k.1
-        ∙ ap (λ b. cond (b && is_live S q k.1) (option_map (moments_at now) (since_when S now q k.1)) (at S.spent k)) (unlike p q named k.0 passed (is q k.0) refl)) in
+    whole_spent S now q k.0 k.1
+    ∙ ap (λ b. cond (b && is_live S q k.1) (option_map (moments_at now) (since_when S now q k.1)) (at S.spent k)) (unlike p q named k.0 passed (is q k.0) refl)) in
     let tags = keep_alike pair_key (other_pair p) T.tags S.tags (λ k passed.
-        whole_tags S now q k.0 k.1 ∙ ap (λ b. cond b None (at S.tags k)) (unlike p q named k.0 passed (is q k.0) refl)) in
+    whole_tags S now q k.0 k.1 ∙ ap (λ b. cond b None (at S.tags k)) (unlike p q named k.0 passed (is q k.0) refl)) in
     λ i. record (state_without S p) { live = live i; spent = spent i; tags = tags i }
 
 published_gone : (S : State) (now : ℕ) (who : Caller) (f : FormParts) (p : Text) → is f.name p ≡ true → state_without (left_by S now who (Publish f)) p ≡ state_without S p

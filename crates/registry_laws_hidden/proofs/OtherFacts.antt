@@ -177,19 +177,19 @@ whole_alike S now p q other =
     let T : State = whole_left S now q in
     let lives = λ (u : Text). at_other p q other S.live u in
     let live = same_map pair_key _ _ (λ k.
-        whole_live R now q k.0 k.1 ∙ ap (λ (o : Option Release). cond (is q k.0) None o) (at-keep pair_key S.live (other_pair p) k)
-        ∙ gone_alike (is q k.0) (other_pair p k) (at S.live k)
-        ∙ sym (at-keep pair_key T.live (other_pair p) k ∙ ap (λ (o : Option Release). cond (other_pair p k) o None) (whole_live S now q k.0 k.1))) in
+    whole_live R now q k.0 k.1 ∙ ap (λ (o : Option Release). cond (is q k.0) None o) (at-keep pair_key S.live (other_pair p) k)
+    ∙ gone_alike (is q k.0) (other_pair p k) (at S.live k)
+    ∙ sym (at-keep pair_key T.live (other_pair p) k ∙ ap (λ (o : Option Release). cond (other_pair p k) o None) (whole_live S now q k.0 k.1))) in
     let spent = same_map pair_key _ _ (λ k.
-        whole_spent R now q k.0 k.1
-        ∙ ap₂ (λ (o : Option Release) (old : Option Withdrawal). cond (is q k.0 && is_some o) (option_map (moments_at now) (option_map (λ (r : Release). r.at) o)) old) (lives k.1) (at-keep pair_key S.spent (other_pair p) k)
-        ∙ put_alike (is q k.0 && is_live S q k.1) (other_pair p k) (option_map (moments_at now) (since_when S now q k.1)) (at S.spent k)
-        (λ here. ap not (ap (λ r. is r p) (sym (same_true text_key q k.0 (first_of (is q k.0) (is_live S q k.1) here))) ∙ other))
-        ∙ sym (at-keep pair_key T.spent (other_pair p) k ∙ ap (λ (o : Option Withdrawal). cond (other_pair p k) o None) (whole_spent S now q k.0 k.1))) in
+    whole_spent R now q k.0 k.1
+    ∙ ap₂ (λ (o : Option Release) (old : Option Withdrawal). cond (is q k.0 && is_some o) (option_map (moments_at now) (option_map (λ (r : Release). r.at) o)) old) (lives k.1) (at-keep pair_key S.spent (other_pair p) k)
+    ∙ put_alike (is q k.0 && is_live S q k.1) (other_pair p k) (option_map (moments_at now) (since_when S now q k.1)) (at S.spent k)
+    (λ here. ap not (ap (λ r. is r p) (sym (same_true text_key q k.0 (first_of (is q k.0) (is_live S q k.1) here))) ∙ other))
+    ∙ sym (at-keep pair_key T.spent (other_pair p) k ∙ ap (λ (o : Option Withdrawal). cond (other_pair p k) o None) (whole_spent S now q k.0 k.1))) in
     let tags = same_map pair_key _ _ (λ k.
-        whole_tags R now q k.0 k.1 ∙ ap (λ (o : Option Text). cond (is q k.0) None o) (at-keep pair_key S.tags (other_pair p) k)
-        ∙ gone_alike (is q k.0) (other_pair p k) (at S.tags k)
-        ∙ sym (at-keep pair_key T.tags (other_pair p) k ∙ ap (λ (o : Option Text). cond (other_pair p k) o None) (whole_tags S now q k.0 k.1))) in
+    whole_tags R now q k.0 k.1 ∙ ap (λ (o : Option Text). cond (is q k.0) None o) (at-keep pair_key S.tags (other_pair p) k)
+    ∙ gone_alike (is q k.0) (other_pair p k) (at S.tags k)
+    ∙ sym (at-keep pair_key T.tags (other_pair p) k ∙ ap (λ (o : Option Text). cond (other_pair p k) o None) (whole_tags S now q k.0 k.1))) in
     λ i. record R { live = live i; spent = spent i; tags = tags i }
 
 deprecated_alike : (S : State) (p q message : Text) (selector : List (List Condition)) → is q p ≡ false

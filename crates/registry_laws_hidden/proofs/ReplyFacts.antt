@@ -18,7 +18,9 @@ use Rattle.registry_access.specs.Levels.{reads}
 use Rattle.registry_access.specs.Positions.{level_at, level_in}
 use Rattle.registry_access.specs.declared.caller.Caller.{Caller}
 use Rattle.registry_access.specs.declared.grant.Grant.{Grant}
+use Rattle.registry_access.specs.declared.levels.Level.{Level}
 use Rattle.registry_access.specs.declared.levels.Level.TheVariants.{Nothing}
+use Rattle.registry_packument.specs.declared.list.PackageLevel.{PackageLevel}
 use Rattle.registry_rules.specs.Refusals.{is_scope}
 use Rattle.registry_rules.specs.State.{State, Release, asked_version, is_own}
 use Rattle.registry_rules.specs.Withdrawals.{selected}
@@ -83,26 +85,26 @@ team_packages_alike A who p o t nothing =
 -- ---- the packages that the caller reads, each with their level
 
 -- the names of those that pass, which without the package are read alike
-names_alike : (p : Text) (with_it without_it : Text → Bool) → ((q : Text) → is q p ≡ false → without_it q ≡ with_it q) → ((q : Text) → is q p ≡ true → with_it q ≡ false) → (es : List (Text × Status))
-    → filter without_it (keys (filter (λ (e : Text × Status). not (is e.0 p)) es)) ≡ filter with_it (keys es)
-names_alike p with_it without_it same hidden [] = refl
-names_alike p with_it without_it same hidden (e ∷ es) = one_name (is e.0 p) refl (names_alike p with_it without_it same hidden es)
-  where
-    abbrev rest : List (Text × Status)
-    rest = filter (λ (d : Text × Status). not (is d.0 p)) es
+module _ (p : Text) (with_it without_it : Text → Bool) (same : (q : Text) → is q p ≡ false → without_it q ≡ with_it q) (hidden : (q : Text) → is q p ≡ true → with_it q ≡ false) where
+  one_name : (e : Text × Status) (rest es : List (Text × Status)) (here : Bool) → is e.0 p ≡ here → filter without_it (keys rest) ≡ filter with_it (keys es)
+      → filter without_it (keys (if not here then e ∷ rest else rest)) ≡ (if with_it e.0 then e.0 ∷ filter with_it (keys es) else filter with_it (keys es))
+  one_name e rest es true h later = later ∙ sym (ap (λ b. if b then e.0 ∷ filter with_it (keys es) else filter with_it (keys es)) (hidden e.0 h))
+  one_name e rest es false h later = ap₂ (λ b (ns : List Text). if b then e.0 ∷ ns else ns) (same e.0 h) later
 
-    one_name : (here : Bool) → is e.0 p ≡ here → filter without_it (keys rest) ≡ filter with_it (keys es)
-        → filter without_it (keys (if not here then e ∷ rest else rest)) ≡ (if with_it e.0 then e.0 ∷ filter with_it (keys es) else filter with_it (keys es))
-    one_name true h later = later ∙ sym (ap (λ b. if b then e.0 ∷ filter with_it (keys es) else filter with_it (keys es)) (hidden e.0 h))
-    one_name false h later = ap₂ (λ b (ns : List Text). if b then e.0 ∷ ns else ns) (same e.0 h) later
+  names_alike : (es : List (Text × Status)) → filter without_it (keys (filter (λ (e : Text × Status). not (is e.0 p)) es)) ≡ filter with_it (keys es)
+  names_alike [] = refl
+  names_alike (e ∷ es) = one_name e (filter (λ (d : Text × Status). not (is d.0 p)) es) es (is e.0 p) refl (names_alike es)
 
 module _ (S : State) (who : Caller) (p : Text) (nothing : level_in S.access who p ≡ Nothing) where
   abbrev R : State
   R = state_without S p
 
+  abbrev at_level : Text → Level → PackageLevel
+  at_level q l = record { name = q; level = l }
+
   same_levels : (ns : List Text) → map (package_level R who) ns ≡ map (package_level S who) ns
   same_levels [] = refl
-  same_levels (q ∷ qs) = ap₂ (λ l ls. record { name = q; level = l } ∷ ls) (same_level S.access who p nothing q) (same_levels qs)
+  same_levels (q ∷ qs) = ap₂ (λ l ls. at_level q l ∷ ls) (same_level S.access who p nothing q) (same_levels qs)
 
   hidden_of : (test : Text → Bool) (q : Text) → is q p ≡ true → (test q && reads (level_in S.access who q)) ≡ false
   hidden_of test q here = ap (λ b. test q && b) (unread S.access who p nothing q here) ∙ none (test q)

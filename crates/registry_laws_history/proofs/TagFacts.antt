@@ -185,7 +185,7 @@ tagged_whole now who q h S has versions =
     let grown : List Entry = record { at = now; who = who; what = WithdrawAll q } ∷ h in
     let gone = λ (p : Text) (u : Text). whole_live S now q p u in
     let none_left = λ (p : Text) (here : is q p ≡ true). none_among (remaining grown p)
-        (λ u. among_remaining grown p u ∙ sym (versions.live (p, u)) ∙ ap is_some (gone p u ∙ ap (λ b. cond b None (at S.live (p, u))) here)) in
+    (λ u. among_remaining grown p u ∙ sym (versions.live (p, u)) ∙ ap is_some (gone p u ∙ ap (λ b. cond b None (at S.live (p, u))) here)) in
     let still = λ (p : Text) (u : Text) (other : is q p ≡ false). gone p u ∙ ap (λ b. cond b None (at S.live (p, u))) other in
     record {
       newest = λ p. whole_tags S now q p latest

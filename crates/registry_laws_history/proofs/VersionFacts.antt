@@ -157,8 +157,8 @@ versions_whole now who p h S has =
     let stands : Pair → Bool = λ k. is_some (at S.spent k) in
     let gone = λ (k : Pair). ap is_some (whole_live S now p k.0 k.1) ∙ erased_stands (is p k.0) (at S.live k) in
     let spent = λ (k : Pair).
-        ap is_some (whole_spent S now p k.0 k.1) ∙ spent_stands (is p k.0) now (at S.live (p, k.1)) (at S.spent k)
-        ∙ ap (λ b. b || stands k) (here_alike (is p k.0) (is_some (at S.live (p, k.1))) (lives k) (λ e. ap (λ q. is_some (at S.live (q, k.1))) (same_true text_key p k.0 e))) in
+    ap is_some (whole_spent S now p k.0 k.1) ∙ spent_stands (is p k.0) now (at S.live (p, k.1)) (at S.spent k)
+    ∙ ap (λ b. b || stands k) (here_alike (is p k.0) (is_some (at S.live (p, k.1))) (lives k) (λ e. ap (λ q. is_some (at S.live (q, k.1))) (same_true text_key p k.0 e))) in
     let all_gone = λ (k : Pair). among_more (pairs_under (published h) p) (withdrawn h) k ∙ ap (λ b. b || before k) (among_under (published h) p k) in
     record {
       once = has.once;

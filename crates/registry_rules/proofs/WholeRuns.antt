@@ -1,25 +1,26 @@
 -- The withdrawal of all versions of a package is the run of the withdrawals of its live versions,
 -- and is refused as one of them is.
-use Rattle.std.proofs.Common.{◌≡◌, ◌≢◌, ℕ, ◌≤◌, Bool, true, false, cond, not, ◌&&◌, ◌||◌, All, List, [], ◌∷◌, ◌++◌, map, is_some, Option, Some, None, option_map, refl, sym, ap, ap₂, ◌∙◌, subst, true≢false}
+use Rattle.std.proofs.Common.{◌≡◌, ◌≢◌, ℕ, ◌≤◌, Bool, true, false, cond, not, ◌&&◌, ◌||◌, All, List, [], ◌∷◌, ◌++◌, map, is_some, Option, Some, None, option_map, refl, sym, ap, ap₂, ◌∙◌, subst, true≢false, Ordering, Less, Equal, Greater, is_lt, is_eq}
 use Rattle.std.proofs.lemmas.Bool.{and_parts, and_from}
 use Rattle.std.proofs.lemmas.List.Elements.{All-cons, All-head, All-nil, All-tail}
 use Rattle.std.proofs.lemmas.List.Folds.{list_any-append}
+use Rattle.std.specs.FinMap.Entries.{below_all}
 use Rattle.std.specs.List.{list_any}
 use Rattle.std.specs.Option.{option_or, option_to_list}
 use Rattle.std.specs.Prelude.{IsSome, IsTrue}
 use Rattle.registry_names.specs.Keys.{Pair, pair_is}
-use Rattle.registry_names.specs.Maps.{among, at, of}
+use Rattle.registry_names.specs.Maps.{among, at, keys, of, rises}
 use Rattle.registry_names.specs.Moments.{last_second}
 use Rattle.registry_names.specs.Precedence.{version_in}
-use Rattle.registry_names.specs.Texts.{Text, is}
+use Rattle.registry_names.specs.Texts.{Text, is, text_cmp}
 use Rattle.registry_names.specs.Versions.{IsVersionOf, VersionParts, text_of_version}
 use Rattle.registry_names.specs.declared.refusal.Refusal.{Refusal}
 use Rattle.registry_names.specs.declared.refusal.Refusal.TheVariants.{NotFound, TooLate, Depended}
 use Rattle.registry_names.proofs.KeyFacts.{text_key, pair_key, same_true, same_self}
 use Rattle.registry_names.proofs.MapFacts.{same_map}
-use Rattle.registry_names.proofs.PartFacts.{any-part}
+use Rattle.registry_names.proofs.PartFacts.{any-part, part_found, part_rises}
 use Rattle.registry_names.proofs.PrecedenceFacts.{version_reads}
-use Rattle.registry_names.proofs.TextFacts.{is_same, is_sym, is_true}
+use Rattle.registry_names.proofs.TextFacts.{is_same, is_sym, is_tie, is_true}
 use Rattle.registry_access.specs.Access.{Access}
 use Rattle.registry_access.specs.Policy.{may_write}
 use Rattle.registry_access.specs.Positions.{position_in}
@@ -27,7 +28,7 @@ use Rattle.registry_access.specs.declared.caller.Caller.{Caller}
 use Rattle.registry_ranges.proofs.RangeFacts.{list_any-map}
 use Rattle.registry_rules.specs.Effects.{step_by}
 use Rattle.registry_rules.specs.Kept.{IsKept}
-use Rattle.registry_rules.specs.Laws.{AreAccepted, AreTheLive, IsDependent, IsOnce, IsRefusedAsOne, SpendsVersion, WithdrawalsOfAllAreRefusedAsOne, WithdrawalsOfAllAreRuns, WithdrawalsOfAllSpend, WithdrawsAll, all_withdrawn}
+use Rattle.registry_rules.specs.Laws.{AreAccepted, AreTheLive, IsDependent, IsOnce, IsRefusedAsOne, LiveVersionsAreTheLive, SpendsVersion, WithdrawalsOfAllAreRefusedAsOne, WithdrawalsOfAllAreRuns, WithdrawalsOfAllSpend, WithdrawsAll, all_withdrawn}
 use Rattle.registry_rules.specs.Refusals.{refusal_by, refuse, state_refusal, unless_allowed, withdraw_refusal, withdraw_all_refusal}
 use Rattle.registry_rules.specs.State.{State, Release, Withdrawal, has_live, is_empty, is_live}
 use Rattle.registry_rules.specs.Withdrawals.{is_any_depended, is_depended, is_too_old, live_since, live_versions, versions_in}
@@ -104,6 +105,61 @@ module _ (test : VersionParts → Bool) where
   spelled_any [] h = absurd (true≢false (sym h))
   spelled_any (s ∷ ss) h =
       by_version s ss (list_any test (versions_in ss)) (λ e. spelled_any ss e) (version_in s) refl (sym (list_any-append test (option_to_list (version_in s)) (versions_in ss)) ∙ h)
+
+-- ---- the live versions
+
+-- no text is below itself, and so none among those above it
+none_above : {X : Type 0} (k : Text) (es : List (Text × X)) → below_all text_cmp k es ≡ true → among is (keys es) k ≡ false
+none_above k [] low = refl
+none_above k (e ∷ es) low =
+    let both = and_parts (is_lt (text_cmp k e.0)) (below_all text_cmp k es) low in
+    ap₂ (λ a b. a || b) (is_sym e.0 k ∙ is_tie k e.0 ∙ untied (text_cmp k e.0) both.0) (none_above k es both.1)
+  where
+    untied : (o : Ordering) → is_lt o ≡ true → is_eq o ≡ false
+    untied Less e = refl
+    untied Equal e = sym e
+    untied Greater e = refl
+
+once_rising : {X : Type 0} (es : List (Text × X)) → rises text_cmp es ≡ true → IsOnce (keys es)
+once_rising [] up = tt
+once_rising (e ∷ es) up = let both = and_parts (below_all text_cmp e.0 es) (rises text_cmp es) up in (none_above e.0 es both.0, once_rising es both.1)
+
+module _ (S : State) (p : Text) (kept : IsKept S) where
+  abbrev Lives : Text × Release → Type 0
+  Lives e = at S.live (p, e.0) ≡ Some e.1
+
+  abbrev InForm : VersionParts → Type 0
+  InForm v = IsVersionOf (text_of_version v) v
+
+  -- what the text of a live version spells has this text
+  spelled_as : (e : Text × Release) → Lives e → (v : VersionParts) × (version_in e.0 ≡ Some v) × InForm v × (text_of_version v ≡ e.0)
+  spelled_as e lives =
+      let was = kept.live p e.0 e.1 lives in
+      (was.version, version_reads e.0 was.version was.is_version, subst (λ t. IsVersionOf t was.version) was.is_version.0 was.is_version, sym was.is_version.0)
+
+  texts_back : (es : List (Text × Release)) → All Lives es → map text_of_version (versions_in (keys es)) ≡ keys es
+  texts_back [] all = refl
+  texts_back (e ∷ es) all =
+      let v = spelled_as e (All-head Lives e es all) in
+      ap (λ o. map text_of_version (option_to_list o ++ versions_in (keys es))) v.1 ∙ ap₂ (λ t ts. t ∷ ts) v.3 (texts_back es (All-tail Lives e es all))
+
+  all_in_form : (es : List (Text × Release)) → All Lives es → All InForm (versions_in (keys es))
+  all_in_form [] all = All-nil InForm
+  all_in_form (e ∷ es) all =
+      let v = spelled_as e (All-head Lives e es all) in
+      subst (λ o. All InForm (option_to_list o ++ versions_in (keys es))) (sym v.1) (All-cons InForm v.0 (versions_in (keys es)) v.2 (all_in_form es (All-tail Lives e es all)))
+
+  pub are_the_live : AreTheLive S p (versions_in (live_versions S p))
+  are_the_live =
+      let texts = texts_back (of S.live p) (part_found text_key S.live p) in
+      record {
+        form = all_in_form (of S.live p) (part_found text_key S.live p);
+        once = subst IsOnce (sym texts) (once_rising (of S.live p) (part_rises text_cmp S.live p));
+        live = λ v. sym (any-part text_key S.live p v) ∙ ap (λ ts. among is ts v) (sym texts);
+      }
+
+pub live_versions_are_the_live : LiveVersionsAreTheLive
+live_versions_are_the_live S p kept = are_the_live S p kept
 
 -- ---- where the whole isn't refused
 
