@@ -1,5 +1,5 @@
 -- Which requests show a package that their caller doesn't read.
-use Rattle.std.specs.Prelude.{◌≡◌, ℕ, Bool, false, not, ◌&&◌, ◌||◌, is_none, is_some, Option, Some, None}
+use Rattle.std.specs.Prelude.{◌≡◌, ℕ, Bool, false, not, ◌&&◌, ◌||◌, List, [], ◌∷◌, map, is_none, is_some, Option, Some, None}
 use Rattle.std.specs.List.{list_any}
 use Rattle.registry_names.specs.Keys.{Pair}
 use Rattle.registry_names.specs.Maps.{entries}
@@ -12,9 +12,9 @@ use Rattle.registry_access.specs.declared.caller.Caller.{Caller}
 use Rattle.registry_rules.specs.Callers.{caller_of}
 use Rattle.registry_rules.specs.Refusals.{refusal_by}
 use Rattle.registry_rules.specs.State.{State, Release, is_published}
-use Rattle.registry_rules.specs.Withdrawals.{is_need_of, needs_in}
+use Rattle.registry_rules.specs.Withdrawals.{is_need_of, live_versions, needs_in, versions_in}
 use Rattle.registry_rules.specs.declared.request.Action.{Action}
-use Rattle.registry_rules.specs.declared.request.Action.TheVariants.{Publish, Withdraw, Packages}
+use Rattle.registry_rules.specs.declared.request.Action.TheVariants.{Publish, Withdraw, WithdrawAll, Packages}
 use Rattle.registry_rules.specs.declared.request.Request.{Request}
 use Rattle.registry_laws_hidden.specs.Without.{state_without}
 
@@ -22,11 +22,17 @@ use Rattle.registry_laws_hidden.specs.Without.{state_without}
 abbrev pub is_needed_by : State → Text → Text → VersionParts → Bool
 is_needed_by S p q v = list_any (λ (e : Pair × Release). is e.0.0 p && list_any (is_need_of q v) (needs_in e.1)) (entries S.live)
 
+-- the versions that it withdraws, each with its package
+abbrev pub versions_ended : State → Action → List (Text × VersionParts)
+versions_ended S (Withdraw q v) = (q, v) ∷ []
+versions_ended S (WithdrawAll q) = map (λ v. (q, v)) (versions_in (live_versions S q))
+versions_ended S _ = []
+
 -- Whether it withdraws a version of another package which this package alone keeps: a live version
 -- of it needs the version, and nothing else refuses the withdrawal
 abbrev pub is_kept_by : State → ℕ → Caller → Action → Text → Bool
-is_kept_by S now who (Withdraw q v) p = not (is q p) && (is_needed_by S p q v && is_none (refusal_by (state_without S p) now who (Withdraw q v)))
-is_kept_by S now who _ p = false
+is_kept_by S now who what p = list_any (λ (e : Text × VersionParts). not (is e.0 p) && is_needed_by S p e.0 e.1) (versions_ended S what)
+    && is_none (refusal_by (state_without S p) now who what)
 
 -- Whether a member of the package's scope publishes the package, whose name is taken
 abbrev pub is_taken : State → Caller → Action → Text → Bool

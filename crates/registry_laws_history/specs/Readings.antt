@@ -16,7 +16,7 @@
 -- |                   |                                        | greatest that lives, if any     |
 -- | `status`          | a publish, which may ask for one; a    | nothing                         |
 -- |                   | change of access                       |                                 |
-use Rattle.std.specs.Prelude.{◌≡◌, ◌↔◌, ℕ, Bool, true, false, not, ◌&&◌, ◌||◌, List, [], ◌∷◌, map, filter, is_some, is_none, option_map, unwrap_or, Option, Some, None, if◌then◌else◌, IsTrue}
+use Rattle.std.specs.Prelude.{◌≡◌, ◌↔◌, ℕ, Bool, true, false, not, ◌&&◌, ◌||◌, List, [], ◌∷◌, ◌++◌, map, filter, is_some, is_none, option_map, unwrap_or, Option, Some, None, if◌then◌else◌, IsTrue}
 use Rattle.std.specs.List.{list_any}
 use Rattle.registry_names.specs.Texts.{Text, is}
 use Rattle.registry_names.specs.Keys.{Pair, pair_is}
@@ -31,7 +31,7 @@ use Rattle.registry_names.specs.Precedence.{version_in}
 use Rattle.registry_ranges.specs.Selectors.{Condition, set_selects}
 use Rattle.registry_rules.specs.State.{State, Release, Withdrawal, is_live}
 use Rattle.registry_rules.specs.declared.request.Action.{Action}
-use Rattle.registry_rules.specs.declared.request.Action.TheVariants.{SetAccess, Publish, TagSet, TagRemove, Withdraw, Deprecate}
+use Rattle.registry_rules.specs.declared.request.Action.TheVariants.{SetAccess, Publish, TagSet, TagRemove, Withdraw, WithdrawAll, Deprecate}
 use Rattle.registry_laws_history.specs.History.{Entry}
 
 -- what is said first, or else what was said before
@@ -55,15 +55,21 @@ abbrev pub published : List Entry → List Pair
 published [] = []
 published (e ∷ h) = published_by e.what (published h)
 
--- the package and version that a command withdraws, in front of others
-abbrev pub withdrawn_by : Action → List Pair → List Pair
-withdrawn_by (Withdraw p v) ks = (p, text_of_version v) ∷ ks
-withdrawn_by _ ks = ks
+-- the pairs of this package
+abbrev pub pairs_under : List Pair → Text → List Pair
+pairs_under ks p = filter (λ (k : Pair). is k.0 p) ks
+
+-- The package and version that a command withdraws, in front of others. Where it withdraws all of a
+-- package, no version that was published before is left
+abbrev pub withdrawn_by : List Pair → Action → List Pair → List Pair
+withdrawn_by before (Withdraw p v) ks = (p, text_of_version v) ∷ ks
+withdrawn_by before (WithdrawAll p) ks = pairs_under before p ++ ks
+withdrawn_by before _ ks = ks
 
 -- each package and version ever withdrawn
 abbrev pub withdrawn : List Entry → List Pair
 withdrawn [] = []
-withdrawn (e ∷ h) = withdrawn_by e.what (withdrawn h)
+withdrawn (e ∷ h) = withdrawn_by (published h) e.what (withdrawn h)
 
 -- whether it was published and not withdrawn
 abbrev pub remains : List Entry → Pair → Bool
@@ -87,6 +93,7 @@ records now _ k = None
 -- whether a command withdraws the version
 abbrev pub withdraws : Action → Pair → Bool
 withdraws (Withdraw p v) k = pair_is (p, text_of_version v) k
+withdraws (WithdrawAll p) k = is p k.0
 withdraws _ k = false
 
 -- a record, if there is one, with this message
@@ -116,6 +123,7 @@ moments_if here now (Some release) = if here then Some (record { published = rel
 -- those of a version that this command withdraws, which was recorded so before
 abbrev pub withdrawal_by : ℕ → Action → Pair → Option Release → Option Withdrawal
 withdrawal_by now (Withdraw p v) k before = moments_if (pair_is (p, text_of_version v) k) now before
+withdrawal_by now (WithdrawAll p) k before = moments_if (is p k.0) now before
 withdrawal_by now _ k before = None
 
 -- when a version was published and withdrawn
@@ -140,10 +148,12 @@ sets (Publish f) p t = if is f.name p && is f.tag t then Some (text_of_version f
 sets (TagSet q u v) p t = if is q p && is u t then Some (text_of_version v) else None
 sets _ p t = None
 
--- whether it ends a tag, which named this version: it removes the tag, or withdraws the version
+-- whether it ends a tag, which named this version: it removes the tag, or withdraws the version, or
+-- all of the package
 abbrev pub ends : Action → Text → Text → Option Text → Bool
 ends (TagRemove q u) p t named = is q p && is u t
 ends (Withdraw q v) p t named = is q p && is_named (text_of_version v) named
+ends (WithdrawAll q) p t named = is q p
 ends _ p t named = false
 
 -- the version to which it sets `latest`, which named this one before
@@ -158,9 +168,10 @@ abbrev pub other_tag : List Entry → Text → Text → Option Text
 other_tag [] p t = None
 other_tag (e ∷ h) p t = or_before (sets e.what p t) (unless_ended (ends e.what p t (other_tag h p t)) (other_tag h p t))
 
--- whether a command withdraws the version that `latest` named
+-- whether a command withdraws the version that `latest` named, or all of the package
 abbrev pub takes_latest : Action → Text → Option Text → Bool
 takes_latest (Withdraw q v) p before = is q p && is_named (text_of_version v) before
+takes_latest (WithdrawAll q) p before = is q p
 takes_latest _ p before = false
 
 -- `latest` names the version of the last publish under `latest`, or under any tag where there was

@@ -4,13 +4,13 @@
 ghost use Rattle.std.specs.Prelude.{◌≡◌, ◌++◌, IfOk, IfErr, OnOk, string_bytes};
 ghost use Rattle.serde_json.specs.Data.{object};
 ghost use Rattle.serde_json.specs.Written.{compact_text};
-ghost use Rattle.registry_packument.specs.Lists.{tag_texts, member_texts, grant_texts, count_member, overview_member, overview_members, username_member, list_value};
+ghost use Rattle.registry_packument.specs.Lists.{tag_texts, member_texts, grant_texts, level_texts, count_member, overview_member, overview_members, username_member, list_value};
 
 use crate::json_text::{
     TextMember, ValueMember, push_array, push_key, push_number, push_object, push_text_member,
     push_values,
 };
-use registry_access::{Grant, Role};
+use registry_access::{Grant, Level, Role};
 use registry_names::{DistTag, Fault, LATEST, Status, Text};
 use std::alloc::{AllocError, Global};
 
@@ -30,6 +30,15 @@ pub struct Granted {
     pub name: Text,
     /// What is granted on it.
     pub grant: Grant,
+}
+
+/// A package that a caller reads, and what they may do with it.
+#[derive(Drop)]
+pub struct PackageLevel {
+    /// The package's name.
+    pub name: Text,
+    /// Whether they read it, or also write it.
+    pub level: Level,
 }
 
 /// A user, and how many tokens they have.
@@ -64,6 +73,8 @@ pub enum List {
     Names(Vec<Text>),
     /// The grants to a team.
     Grants(Vec<Granted>),
+    /// Packages that the caller reads.
+    Levels(Vec<PackageLevel>),
     /// The name of the user who asks.
     Username(Text),
     /// All users.
@@ -105,6 +116,18 @@ impl TextMember for Granted {
 
     fn text(&self) -> &str {
         self.grant.text()
+    }
+}
+
+impl TextMember for PackageLevel {
+    ghost pair = { level_texts };
+
+    fn key(&self) -> &str {
+        self.name.as_str()
+    }
+
+    fn text(&self) -> &str {
+        self.level.text()
     }
 }
 
@@ -155,9 +178,10 @@ fn push_username(alloc: Global, out: &mut String, name: &str) -> Result<(), Allo
 }
 
 /// A list in compact JSON: an object of tags to versions, of users to `developer`, `admin` or
-/// `owner`, of packages to `read-only` or `read-write`, of users to the number of their tokens, or
-/// of packages to objects, each with `status`, which is `public` or `restricted`, and with `latest`
-/// where a version lives; an object of `username` to a name; or an array of names.
+/// `owner`, of packages to `read-only` or `read-write`, or to `read` or `write`, of users to the
+/// number of their tokens, or of packages to objects, each with `status`, which is `public` or
+/// `restricted`, and with `latest` where a version lives; an object of `username` to a name; or an
+/// array of names.
 ///
 /// The rows are written as they come, in byte order and each once. `Memory` is returned when no
 /// memory is left, and no other fault is returned.
@@ -171,6 +195,7 @@ pub fn list_text(alloc: Global, list: &List) -> Result<Text, Fault>
         List::Members(rows) => push_object(alloc, &mut out, rows)?,
         List::Names(names) => push_array(alloc, &mut out, names)?,
         List::Grants(rows) => push_object(alloc, &mut out, rows)?,
+        List::Levels(rows) => push_object(alloc, &mut out, rows)?,
         List::Username(name) => push_username(alloc, &mut out, name.as_str())?,
         List::Users(rows) => push_values(alloc, &mut out, rows)?,
         List::Packages(rows) => push_values(alloc, &mut out, rows)?,

@@ -5,7 +5,7 @@ use Rattle.registry_names.specs.Texts.{Text, is}
 use Rattle.registry_names.specs.Versions.{text_of_version}
 use Rattle.registry_publish.specs.Form.{FormParts}
 use Rattle.registry_rules.specs.declared.request.Action.{Action}
-use Rattle.registry_rules.specs.declared.request.Action.TheVariants.{UserAdd, TokenAdd, TokenRemove, TokensRemove, OrgCreate, OrgSet, OrgRemove, TeamCreate, TeamDestroy, TeamAdd, TeamRemove, Grant, Revoke, SetAccess, OwnerAdd, OwnerRemove, Publish, TagSet, TagRemove, Withdraw, Deprecate}
+use Rattle.registry_rules.specs.declared.request.Action.TheVariants.{UserAdd, TokenAdd, TokenRemove, TokensRemove, OrgCreate, OrgSet, OrgRemove, TeamCreate, TeamDestroy, TeamAdd, TeamRemove, Grant, Revoke, SetAccess, OwnerAdd, OwnerRemove, Publish, TagSet, TagRemove, Withdraw, WithdrawAll, Deprecate}
 
 -- whether it may change the registry
 abbrev pub is_command : Action → Bool
@@ -29,6 +29,7 @@ is_command (Publish f) = true
 is_command (TagSet p t v) = true
 is_command (TagRemove p t) = true
 is_command (Withdraw p v) = true
+is_command (WithdrawAll p) = true
 is_command (Deprecate p selector message) = true
 is_command _ = false
 
@@ -47,6 +48,7 @@ names_package (Publish f) p = is f.name p
 names_package (TagSet q t v) p = is q p
 names_package (TagRemove q t) p = is q p
 names_package (Withdraw q v) p = is q p
+names_package (WithdrawAll q) p = is q p
 names_package (Deprecate q selector message) p = is q p
 names_package _ p = false
 

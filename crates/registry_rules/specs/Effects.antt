@@ -20,9 +20,9 @@ use Rattle.registry_rules.specs.Actions.{version_of}
 use Rattle.registry_rules.specs.Callers.{caller_of}
 use Rattle.registry_rules.specs.Changes.{Change, AddUser, AddToken, DropToken, AddOrg, PutMember, DropMember, AddTeam, PutTeamMember, DropTeamMember, DropTeam, PutGrant, DropGrant, PutOwner, DropOwner, PutStatus, AddVersion, RetireVersion, PutDeprecation, PutTag, DropTag, all_made}
 use Rattle.registry_rules.specs.State.{State, developers, tokens_of, is_in_team, has_grant, is_published, has_maintainer, stands}
-use Rattle.registry_rules.specs.Withdrawals.{live_versions, others, published_at, selected, tags_of}
+use Rattle.registry_rules.specs.Withdrawals.{all_tags, live_since, live_versions, others, published_at, selected, tags_of}
 use Rattle.registry_rules.specs.declared.request.Action.{Action}
-use Rattle.registry_rules.specs.declared.request.Action.TheVariants.{UserAdd, TokenAdd, TokenRemove, TokensRemove, OrgCreate, OrgSet, OrgRemove, TeamCreate, TeamDestroy, TeamAdd, TeamRemove, Grant, Revoke, SetAccess, OwnerAdd, OwnerRemove, Publish, TagSet, TagRemove, Withdraw, Deprecate}
+use Rattle.registry_rules.specs.declared.request.Action.TheVariants.{UserAdd, TokenAdd, TokenRemove, TokensRemove, OrgCreate, OrgSet, OrgRemove, TeamCreate, TeamDestroy, TeamAdd, TeamRemove, Grant, Revoke, SetAccess, OwnerAdd, OwnerRemove, Publish, TagSet, TagRemove, Withdraw, WithdrawAll, Deprecate}
 use Rattle.registry_rules.specs.declared.request.Request.{Request}
 
 -- ---- tokens
@@ -101,6 +101,11 @@ abbrev pub withdrawal : ℕ → Text → Text → Option ℕ → List Text → L
 withdrawal now p v None live tags = []
 withdrawal now p v (Some published) live tags = map (freed p (greatest (others live v))) tags ++ RetireVersion p v published now ∷ []
 
+-- The withdrawal of all live versions, of which each was published at its moment: every tag of the
+-- package goes, and then each version
+abbrev pub withdrawal_of_all : ℕ → Text → List (Text × ℕ) → List Text → List Change
+withdrawal_of_all now p live tags = map (DropTag p) tags ++ map (λ (e : Text × ℕ). RetireVersion p e.0 e.1 now) live
+
 -- ---- a deprecation
 
 -- each of these versions has the message
@@ -136,6 +141,7 @@ effects S now who (Publish f) = publication S now who f
 effects S now who (TagSet p t v) = PutTag p t (text_of_version v) (stands S p t) ∷ []
 effects S now who (TagRemove p t) = DropTag p t ∷ []
 effects S now who (Withdraw p v) = withdrawal now p (text_of_version v) (published_at S p (text_of_version v)) (live_versions S p) (tags_of S p (text_of_version v))
+effects S now who (WithdrawAll p) = withdrawal_of_all now p (live_since S p) (all_tags S p)
 effects S now who (Deprecate p selector message) = deprecation p message (selected (live_versions S p) selector)
 effects S now who _ = []
 

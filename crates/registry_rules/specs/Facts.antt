@@ -16,13 +16,14 @@ use Rattle.registry_publish.specs.Form.{FormParts}
 use Rattle.registry_rules.specs.Actions.{version_of}
 use Rattle.registry_rules.specs.Callers.{caller_of}
 use Rattle.registry_rules.specs.State.{State, has_user, has_team, is_member, is_in_team, has_grant, is_published, has_maintainer, has_other_maintainer, has_other_owner, has_token, tokens_of, is_live, is_spent, has_live, stands, asked_version, lives}
-use Rattle.registry_rules.specs.Withdrawals.{is_depended, last_withdrawal, live_versions, published_at, tags_of}
+use Rattle.registry_rules.specs.Withdrawals.{all_tags, is_any_depended, is_depended, last_withdrawal, live_since, live_versions, published_at, tags_of}
 use Rattle.registry_rules.specs.declared.facts.About.{About}
 use Rattle.registry_rules.specs.declared.facts.About.TheVariants as about
 use Rattle.registry_rules.specs.declared.facts.Facts.{Facts}
+use Rattle.registry_rules.specs.declared.facts.LiveVersion.{LiveVersion}
 use Rattle.registry_rules.specs.declared.facts.PublishFacts.{PublishFacts}
 use Rattle.registry_rules.specs.declared.request.Action.{Action}
-use Rattle.registry_rules.specs.declared.request.Action.TheVariants.{UserAdd, TokenAdd, TokenRemove, TokensRemove, OrgCreate, OrgSet, OrgRemove, TeamCreate, TeamDestroy, TeamAdd, TeamRemove, Grant, Revoke, SetAccess, OwnerAdd, OwnerRemove, Publish, TagSet, TagRemove, Withdraw, Deprecate, Packument, VersionDoc, Archive, Tags, Members, Teams, TeamMembers, TeamPackages, WhoAmI, Maintainers, Users, Organisations, Packages}
+use Rattle.registry_rules.specs.declared.request.Action.TheVariants.{UserAdd, TokenAdd, TokenRemove, TokensRemove, OrgCreate, OrgSet, OrgRemove, TeamCreate, TeamDestroy, TeamAdd, TeamRemove, Grant, Revoke, SetAccess, OwnerAdd, OwnerRemove, Publish, TagSet, TagRemove, Withdraw, WithdrawAll, Deprecate, Packument, VersionDoc, Archive, Tags, Members, Teams, TeamMembers, TeamPackages, WhoAmI, Maintainers, OrgPackages, MyPackages, Users, Organisations, Packages}
 use Rattle.registry_rules.specs.declared.request.Request.{Request}
 
 pub record ArePublishFacts (facts : PublishFacts) (S : State) (who : Caller) (f : FormParts) : Type 0 where
@@ -88,6 +89,16 @@ pub record AreWithdrawFacts (standing : Standing) (since : Option ℕ) (needed :
   pub tags : named ≡ tags_of S p (text_of_version v)
   pub live : map text_of_version living ≡ live_versions S p
 
+-- a live version, and when it was published
+abbrev pub since_of : LiveVersion → Text × ℕ
+since_of r = (text_of_version r.version, r.published)
+
+pub record AreWithdrawAllFacts (standing : Standing) (needed : Bool) (named : List Text) (living : List LiveVersion) (S : State) (who : Caller) (p : Text) : Type 0 where
+  pub standing_tells : StandingTells standing S.access who p
+  pub depended : needed ≡ is_any_depended S p
+  pub tags : named ≡ all_tags S p
+  pub live : map since_of living ≡ live_since S p
+
 -- What is said of a caller's action holds. What is said of another kind of action agrees with no
 -- state
 abbrev pub AboutTells : About → State → Caller → Action → Type 0
@@ -111,6 +122,7 @@ AboutTells (about.Publish facts) S who (Publish f) = ArePublishFacts facts S who
 AboutTells (about.TagSet standing version_lives tag_stands) S who (TagSet p t v) = AreTagSetFacts standing version_lives tag_stands S who p t (text_of_version v)
 AboutTells (about.TagRemove standing tag_stands) S who (TagRemove p t) = StandingTells standing S.access who p × (tag_stands ≡ stands S p t)
 AboutTells (about.Withdraw standing published depended tags live) S who (Withdraw p v) = AreWithdrawFacts standing published depended tags.items live.items S who p v
+AboutTells (about.WithdrawAll standing depended tags live) S who (WithdrawAll p) = AreWithdrawAllFacts standing depended tags.items live.items S who p
 AboutTells (about.Deprecate standing live) S who (Deprecate p selector message) = StandingTells standing S.access who p × (map text_of_version live.items ≡ live_versions S p)
 AboutTells (about.Version standing found) S who (VersionDoc p asked) = StandingTells standing S.access who p × (found ≡ lives S p (asked_version S p asked))
 AboutTells (about.Version standing found) S who (Archive p v) = StandingTells standing S.access who p × (found ≡ is_live S p (text_of_version v))
@@ -118,10 +130,12 @@ AboutTells (about.Package standing found) S who (Packument p) = StandingTells st
 AboutTells (about.Package standing found) S who (Tags p) = StandingTells standing S.access who p × (found ≡ has_live S p)
 AboutTells (about.Organisation rows) S who (Members o) = SayOf rows S who o
 AboutTells (about.Organisation rows) S who (Teams o) = SayOf rows S who o
+AboutTells (about.Organisation rows) S who (OrgPackages o) = SayOf rows S who o
 AboutTells (about.Team rows exists) S who (TeamMembers o t) = SayOf rows S who o × (exists ≡ has_team S o t)
 AboutTells (about.Team rows exists) S who (TeamPackages o t) = SayOf rows S who o × (exists ≡ has_team S o t)
 AboutTells (about.Maintainers standing) S who (Maintainers p) = StandingTells standing S.access who p
 AboutTells about.Nothing S who WhoAmI = Unit {0}
+AboutTells about.Nothing S who MyPackages = Unit {0}
 AboutTells about.Nothing S who Users = Unit {0}
 AboutTells about.Nothing S who Organisations = Unit {0}
 AboutTells about.Nothing S who Packages = Unit {0}

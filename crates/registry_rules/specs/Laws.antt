@@ -1,12 +1,15 @@
 -- What commands make of what the registry holds, said of each map apart.
-use Rattle.std.specs.Prelude.{◌≡◌, ◌≢◌, ◌↔◌, ◌⊎◌, ℕ, List, true, false, [], Some, None, IsSome, Any, if◌then◌else◌}
+use Rattle.std.specs.Prelude.{◌≡◌, ◌≢◌, ◌≤◌, ◌∷◌, map, IsTrue, ◌↔◌, ◌⊎◌, ℕ, List, true, false, [], Some, None, IsSome, Any, if◌then◌else◌}
+use Rattle.std.specs.List.{IsDistinct}
 use Rattle.registry_names.specs.Keys.{Pair, Triple}
-use Rattle.registry_names.specs.Maps.{at}
+use Rattle.registry_names.specs.Maps.{among, at}
+use Rattle.registry_names.specs.Moments.{last_second}
 use Rattle.registry_names.specs.Greatest.{greatest}
 use Rattle.registry_names.specs.Tags.{latest}
-use Rattle.registry_names.specs.Texts.{Text}
+use Rattle.registry_names.specs.Texts.{Text, is}
 use Rattle.registry_names.specs.Versions.{VersionParts, text_of_version}
-use Rattle.registry_names.specs.declared.refusal.Refusal.TheVariants.{NotFound}
+use Rattle.registry_names.specs.declared.refusal.Refusal.{Refusal}
+use Rattle.registry_names.specs.declared.refusal.Refusal.TheVariants.{NotFound, TooLate}
 use Rattle.registry_names.specs.declared.status.Status.{Status}
 use Rattle.registry_names.specs.declared.status.Status.TheVariants.{Public, Restricted}
 use Rattle.registry_names.specs.Names.{scope_of}
@@ -21,16 +24,16 @@ use Rattle.registry_publish.specs.declared.need.Need.{Need}
 use Rattle.registry_rules.specs.Actions.{is_command, version_of, names_package, ends_team}
 use Rattle.registry_rules.specs.Callers.{caller_of}
 use Rattle.registry_rules.specs.Effects.{step_by}
-use Rattle.registry_rules.specs.Kept.{IsSound}
+use Rattle.registry_rules.specs.Kept.{IsKept, IsSound}
 use Rattle.registry_rules.specs.Refusals.{refusal_by}
-use Rattle.registry_rules.specs.State.{State, Release, developers, has_other_owner, has_other_maintainer}
+use Rattle.registry_rules.specs.State.{State, Release, developers, has_live, has_other_owner, has_other_maintainer, is_live}
 use Rattle.registry_rules.specs.Withdrawals.{is_depended, live_versions, needs_in, others, selects}
 use Rattle.registry_ranges.specs.Comparators.{Allows}
 use Rattle.registry_ranges.specs.Grammar.{IsRangeText}
 use Rattle.registry_ranges.specs.Selectors.{Condition}
 use Rattle.registry_rules.specs.declared.request.Action.{Action}
 use Rattle.registry_rules.specs.declared.request.Credential.TheVariants.{Token}
-use Rattle.registry_rules.specs.declared.request.Action.TheVariants.{UserAdd, TokenAdd, TokenRemove, TokensRemove, OrgCreate, OrgSet, OrgRemove, TeamCreate, TeamDestroy, TeamAdd, TeamRemove, Grant, Revoke, SetAccess, OwnerAdd, OwnerRemove, Publish, TagSet, TagRemove, Withdraw, Deprecate}
+use Rattle.registry_rules.specs.declared.request.Action.TheVariants.{UserAdd, TokenAdd, TokenRemove, TokensRemove, OrgCreate, OrgSet, OrgRemove, TeamCreate, TeamDestroy, TeamAdd, TeamRemove, Grant, Revoke, SetAccess, OwnerAdd, OwnerRemove, Publish, TagSet, TagRemove, Withdraw, WithdrawAll, Deprecate}
 
 -- ---- users and tokens
 
@@ -307,6 +310,56 @@ WithdrawalsSpend = (S : State) (now : ℕ) (who : Caller) (p : Text) (v : Versio
 abbrev pub WithdrawalsFreeTags : Type 0
 WithdrawalsFreeTags = (S : State) (now : ℕ) (who : Caller) (p : Text) (v : VersionParts) → IsSome (at S.live (p, text_of_version v))
     → FreesTags S (step_by S now who (Withdraw p v)) p (text_of_version v)
+
+-- ---- the withdrawal of all versions
+
+-- these are the live versions of the package, each once and in any order
+pub record AreTheLive (S : State) (p : Text) (vs : List VersionParts) : Type 0 where
+  pub once : IsDistinct is (map text_of_version vs)
+  pub live : (v : Text) → is_live S p v ≡ among is (map text_of_version vs) v
+
+-- what is left when each of these versions is withdrawn, one after another
+abbrev pub all_withdrawn : State → ℕ → Caller → Text → List VersionParts → State
+all_withdrawn S now who p [] = S
+all_withdrawn S now who p (v ∷ vs) = all_withdrawn (step_by S now who (Withdraw p v)) now who p vs
+
+-- the withdrawal of each is accepted on what the earlier ones left
+abbrev pub AreAccepted : State → ℕ → Caller → Text → List VersionParts → Type 0
+AreAccepted S now who p [] = Unit {0}
+AreAccepted S now who p (v ∷ vs) = (refusal_by S now who (Withdraw p v) ≡ None) × AreAccepted (step_by S now who (Withdraw p v)) now who p vs
+
+-- where it isn't refused, it is the run of the withdrawals of the live versions, in any order, at
+-- the same moment and by the same caller; each of them is accepted
+abbrev pub WithdrawalsOfAllAreRuns : Type 0
+WithdrawalsOfAllAreRuns = (S : State) (now : ℕ) (who : Caller) (p : Text) (vs : List VersionParts) → IsKept S → now ≤ last_second → AreTheLive S p vs
+    → refusal_by S now who (WithdrawAll p) ≡ None → AreAccepted S now who p vs × (step_by S now who (WithdrawAll p) ≡ all_withdrawn S now who p vs)
+
+-- Where a version lives, it is refused as the withdrawal of one of them is. Where the withdrawal of
+-- one of them is refused, so is it, and as too late where one is too late
+pub record IsRefusedAsOne (S : State) (now : ℕ) (who : Caller) (p : Text) : Type 0 where
+  pub as_one : (why : Refusal) → IsTrue (has_live S p) → refusal_by S now who (WithdrawAll p) ≡ Some why
+      → (v : VersionParts) × IsTrue (is_live S p (text_of_version v)) × (refusal_by S now who (Withdraw p v) ≡ Some why)
+  pub if_one : (v : VersionParts) (why : Refusal) → IsTrue (is_live S p (text_of_version v)) → refusal_by S now who (Withdraw p v) ≡ Some why → IsSome (refusal_by S now who (WithdrawAll p))
+  pub too_late : (v : VersionParts) → IsTrue (is_live S p (text_of_version v)) → refusal_by S now who (Withdraw p v) ≡ Some TooLate → refusal_by S now who (WithdrawAll p) ≡ Some TooLate
+  pub none_lives : has_live S p ≡ false → IsSome (refusal_by S now who (WithdrawAll p))
+
+abbrev pub WithdrawalsOfAllAreRefusedAsOne : Type 0
+WithdrawalsOfAllAreRefusedAsOne = (S : State) (now : ℕ) (who : Caller) (p : Text) → IsKept S → IsRefusedAsOne S now who p
+
+-- No version of the package lives, and no tag of it is left. Each that lived is spent, with both
+-- moments; nothing else has changed
+pub record WithdrawsAll (S T : State) (now : ℕ) (p : Text) : Type 0 where
+  pub gone : (v : Text) → at T.live (p, v) ≡ None
+  pub tags : (t : Text) → at T.tags (p, t) ≡ None
+  pub spent : (v : Text) (release : Release) → at S.live (p, v) ≡ Some release → at T.spent (p, v) ≡ Some (record { published = release.at; withdrawn = now })
+  pub earlier : (v : Text) → at S.live (p, v) ≡ None → at T.spent (p, v) ≡ at S.spent (p, v)
+  pub live : (q v : Text) → q ≢ p → at T.live (q, v) ≡ at S.live (q, v)
+  pub others : (q v : Text) → q ≢ p → at T.spent (q, v) ≡ at S.spent (q, v)
+  pub other_tags : (q t : Text) → q ≢ p → at T.tags (q, t) ≡ at S.tags (q, t)
+  pub access : T.access ≡ S.access
+
+abbrev pub WithdrawalsOfAllSpend : Type 0
+WithdrawalsOfAllSpend = (S : State) (now : ℕ) (who : Caller) (p : Text) → WithdrawsAll S (step_by S now who (WithdrawAll p)) now p
 
 -- ---- a deprecation
 

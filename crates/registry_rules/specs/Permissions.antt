@@ -10,7 +10,7 @@ use Rattle.registry_access.specs.Policy.{Verdict, by_rule, for_known, may_operat
 use Rattle.registry_access.specs.Positions.{has_organisation, position_in}
 use Rattle.registry_access.specs.declared.caller.Caller.{Caller}
 use Rattle.registry_rules.specs.declared.request.Action.{Action}
-use Rattle.registry_rules.specs.declared.request.Action.TheVariants.{UserAdd, TokenAdd, TokenRemove, TokensRemove, OrgCreate, OrgSet, OrgRemove, TeamCreate, TeamDestroy, TeamAdd, TeamRemove, Grant, Revoke, SetAccess, OwnerAdd, OwnerRemove, Publish, TagSet, TagRemove, Withdraw, Deprecate, Packument, VersionDoc, Archive, Tags, Members, Teams, TeamMembers, TeamPackages, WhoAmI, Maintainers, Users, Organisations, Packages}
+use Rattle.registry_rules.specs.declared.request.Action.TheVariants.{UserAdd, TokenAdd, TokenRemove, TokensRemove, OrgCreate, OrgSet, OrgRemove, TeamCreate, TeamDestroy, TeamAdd, TeamRemove, Grant, Revoke, SetAccess, OwnerAdd, OwnerRemove, Publish, TagSet, TagRemove, Withdraw, WithdrawAll, Deprecate, Packument, VersionDoc, Archive, Tags, Members, Teams, TeamMembers, TeamPackages, WhoAmI, Maintainers, OrgPackages, MyPackages, Users, Organisations, Packages}
 
 -- A5: any user
 abbrev pub may_be_named : Caller → Verdict
@@ -37,6 +37,7 @@ permission A who (Publish f) = may_publish who (is_some (scope_of f.name)) (posi
 permission A who (TagSet p t v) = may_write who (position_in A who p)
 permission A who (TagRemove p t) = may_write who (position_in A who p)
 permission A who (Withdraw p v) = may_write who (position_in A who p)
+permission A who (WithdrawAll p) = may_write who (position_in A who p)
 permission A who (Deprecate p selector message) = may_write who (position_in A who p)
 permission A who (Packument p) = may_read (position_in A who p)
 permission A who (VersionDoc p asked) = may_read (position_in A who p)
@@ -48,6 +49,8 @@ permission A who (TeamMembers o t) = may_see_organisation who (has_organisation 
 permission A who (TeamPackages o t) = may_see_organisation who (has_organisation A o) (role_of A who o)
 permission A who WhoAmI = may_be_named who
 permission A who (Maintainers p) = may_read (position_in A who p)
+permission A who (OrgPackages o) = may_see_organisation who (has_organisation A o) (role_of A who o)
+permission A who MyPackages = may_be_named who
 permission A who Users = may_operate who
 permission A who Organisations = may_operate who
 permission A who Packages = may_operate who

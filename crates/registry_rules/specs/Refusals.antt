@@ -1,6 +1,7 @@
 -- Why a request is refused, on what the registry holds: the first reason that holds, if one
 -- does.
-use Rattle.std.specs.Prelude.{ℕ, Bool, true, false, not, ◌&&◌, ◌||◌, is_none, Option, Some, None, Result, Ok, Err, if◌then◌else◌}
+use Rattle.std.specs.Prelude.{ℕ, Bool, true, false, List, map, not, ◌&&◌, ◌||◌, is_none, Option, Some, None, Result, Ok, Err, if◌then◌else◌}
+use Rattle.std.specs.List.{list_any}
 use Rattle.std.specs.Option.{option_or}
 use Rattle.registry_names.specs.Tags.{latest}
 use Rattle.registry_names.specs.Texts.{Text, is}
@@ -19,10 +20,10 @@ use Rattle.registry_publish.specs.Form.{FormParts}
 use Rattle.registry_rules.specs.Actions.{version_of}
 use Rattle.registry_rules.specs.Callers.{caller_of}
 use Rattle.registry_rules.specs.Permissions.{permission}
-use Rattle.registry_rules.specs.State.{State, developers, has_user, has_token, is_member, has_team, is_in_team, has_grant, is_published, has_maintainer, has_other_maintainer, is_last_owner, is_live, is_spent, has_live, stands, asked_version, lives}
-use Rattle.registry_rules.specs.Withdrawals.{is_depended, is_too_old, is_waiting, published_at}
+use Rattle.registry_rules.specs.State.{State, developers, has_user, has_token, is_member, has_team, is_in_team, has_grant, is_published, has_maintainer, has_other_maintainer, is_last_owner, is_empty, is_live, is_spent, has_live, stands, asked_version, lives}
+use Rattle.registry_rules.specs.Withdrawals.{is_any_depended, is_depended, is_too_old, is_waiting, live_since, published_at}
 use Rattle.registry_rules.specs.declared.request.Action.{Action}
-use Rattle.registry_rules.specs.declared.request.Action.TheVariants.{UserAdd, TokenAdd, TokenRemove, TokensRemove, OrgCreate, OrgSet, OrgRemove, TeamCreate, TeamDestroy, TeamAdd, TeamRemove, Grant, Revoke, SetAccess, OwnerAdd, OwnerRemove, Publish, TagSet, TagRemove, Withdraw, Deprecate, Packument, VersionDoc, Archive, Tags, Members, Teams, TeamMembers, TeamPackages, WhoAmI, Maintainers, Users, Organisations, Packages}
+use Rattle.registry_rules.specs.declared.request.Action.TheVariants.{UserAdd, TokenAdd, TokenRemove, TokensRemove, OrgCreate, OrgSet, OrgRemove, TeamCreate, TeamDestroy, TeamAdd, TeamRemove, Grant, Revoke, SetAccess, OwnerAdd, OwnerRemove, Publish, TagSet, TagRemove, Withdraw, WithdrawAll, Deprecate, Packument, VersionDoc, Archive, Tags, Members, Teams, TeamMembers, TeamPackages, WhoAmI, Maintainers, OrgPackages, MyPackages, Users, Organisations, Packages}
 use Rattle.registry_rules.specs.declared.request.Request.{Request}
 
 abbrev pub refuse : Bool → Refusal → Option Refusal → Option Refusal
@@ -61,6 +62,13 @@ publish_refusal S now f = refuse (is_live S f.name (version_of f)) Published
 abbrev pub withdraw_refusal : ℕ → Option ℕ → Bool → Option Refusal
 withdraw_refusal now None depended = Some NotFound
 withdraw_refusal now (Some published) depended = refuse (is_too_old now published) TooLate (refuse depended Depended None)
+
+-- Of all live versions of a package, which were published at these moments: why a withdrawal of one
+-- of them would be refused, the first reason first. They are none where no version lives
+abbrev pub withdraw_all_refusal : ℕ → List ℕ → Bool → Option Refusal
+withdraw_all_refusal now published depended = refuse (is_empty published) NotFound
+    (refuse (list_any (is_too_old now) published) TooLate
+    (refuse depended Depended None))
 
 -- a tag that isn't there can't go, and `latest` never goes
 abbrev pub tag_refusal : Bool → Text → Option Refusal
@@ -101,6 +109,7 @@ state_refusal S now (Publish f) = publish_refusal S now f
 state_refusal S now (TagSet p t v) = unless_there (is_live S p (text_of_version v))
 state_refusal S now (TagRemove p t) = tag_refusal (stands S p t) t
 state_refusal S now (Withdraw p v) = withdraw_refusal now (published_at S p (text_of_version v)) (is_depended S p v)
+state_refusal S now (WithdrawAll p) = withdraw_all_refusal now (map (λ e. e.1) (live_since S p)) (is_any_depended S p)
 state_refusal S now (Deprecate p selector message) = None
 state_refusal S now (Packument p) = unless_there (has_live S p)
 state_refusal S now (VersionDoc p asked) = unless_there (lives S p (asked_version S p asked))
@@ -112,6 +121,8 @@ state_refusal S now (TeamMembers o t) = unless_there (has_team S o t)
 state_refusal S now (TeamPackages o t) = unless_there (has_team S o t)
 state_refusal S now WhoAmI = None
 state_refusal S now (Maintainers p) = None
+state_refusal S now (OrgPackages o) = None
+state_refusal S now MyPackages = None
 state_refusal S now Users = None
 state_refusal S now Organisations = None
 state_refusal S now Packages = None

@@ -10,7 +10,7 @@ use Rattle.registry_publish.specs.Form.{FormParts, IsManifestText}
 use Rattle.registry_publish.specs.Integrity.{integrity_text}
 use Rattle.registry_publish.specs.Needs.{needs_of}
 use Rattle.registry_rules.specs.declared.request.Action.{Action}
-use Rattle.registry_rules.specs.declared.request.Action.TheVariants.{UserAdd, TokenAdd, TokenRemove, TokensRemove, OrgCreate, OrgSet, OrgRemove, TeamCreate, TeamDestroy, TeamAdd, TeamRemove, Grant, Revoke, SetAccess, OwnerAdd, OwnerRemove, Publish, TagSet, TagRemove, Withdraw, Deprecate, Packument, VersionDoc, Archive, Tags, Members, Teams, TeamMembers, TeamPackages, WhoAmI, Maintainers, Users, Organisations, Packages}
+use Rattle.registry_rules.specs.declared.request.Action.TheVariants.{UserAdd, TokenAdd, TokenRemove, TokensRemove, OrgCreate, OrgSet, OrgRemove, TeamCreate, TeamDestroy, TeamAdd, TeamRemove, Grant, Revoke, SetAccess, OwnerAdd, OwnerRemove, Publish, TagSet, TagRemove, Withdraw, WithdrawAll, Deprecate, Packument, VersionDoc, Archive, Tags, Members, Teams, TeamMembers, TeamPackages, WhoAmI, Maintainers, OrgPackages, MyPackages, Users, Organisations, Packages}
 use Rattle.registry_rules.specs.declared.request.Asked.{Asked}
 use Rattle.registry_rules.specs.declared.request.Asked.TheVariants.{Exact, Latest}
 use Rattle.registry_rules.specs.declared.request.Request.{Request}
@@ -48,6 +48,7 @@ IsActionInForm (Publish f) = ArePartsInForm f
 IsActionInForm (TagSet p t v) = IsName p × IsTrue (is_tag t) × IsVersionOf (text_of_version v) v
 IsActionInForm (TagRemove p t) = IsName p × IsTrue (is_tag t)
 IsActionInForm (Withdraw p v) = IsName p × IsVersionOf (text_of_version v) v
+IsActionInForm (WithdrawAll p) = IsName p
 IsActionInForm (Deprecate p selector message) = IsName p × IsTrue (is_message message)
 IsActionInForm (Packument p) = IsName p
 IsActionInForm (VersionDoc p asked) = IsName p × IsAskedInForm asked
@@ -59,6 +60,8 @@ IsActionInForm (TeamMembers o t) = IsTrue (is_ident o) × IsTrue (is_ident t)
 IsActionInForm (TeamPackages o t) = IsTrue (is_ident o) × IsTrue (is_ident t)
 IsActionInForm WhoAmI = Unit {0}
 IsActionInForm (Maintainers p) = IsName p
+IsActionInForm (OrgPackages o) = IsTrue (is_ident o)
+IsActionInForm MyPackages = Unit {0}
 IsActionInForm Users = Unit {0}
 IsActionInForm Organisations = Unit {0}
 IsActionInForm Packages = Unit {0}

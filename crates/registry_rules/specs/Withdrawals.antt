@@ -1,8 +1,9 @@
 -- When a version may be withdrawn, when a package may be published again, and which versions and
 -- tags a withdrawal or a deprecation concerns.
-use Rattle.std.specs.Prelude.{ℕ, ◌+◌, Bool, false, not, ◌&&◌, List, [], ◌∷◌, filter, max, nat_le, nat_lt, Option, Some, None, unwrap_or, option_map, if◌then◌else◌}
+use Rattle.std.specs.Prelude.{ℕ, ◌+◌, Bool, false, not, ◌&&◌, List, [], ◌∷◌, ◌++◌, filter, map, max, nat_le, nat_lt, Option, Some, None, unwrap_or, option_map, if◌then◌else◌}
 use Rattle.std.specs.Borrow.{Bor}
 use Rattle.std.specs.List.{list_any}
+use Rattle.std.specs.Option.{option_to_list}
 use Rattle.registry_names.specs.Greatest.{greater}
 use Rattle.registry_names.specs.Keys.{Pair}
 use Rattle.registry_names.specs.Maps.{at, entries, keys, of}
@@ -71,6 +72,19 @@ published_at S p v = option_map (λ (r : Release). r.at) (at S.live (p, v))
 abbrev pub live_versions : State → Text → List Text
 live_versions S p = keys (of S.live p)
 
+-- the versions that these texts spell. A text that spells none is left out
+abbrev pub versions_in : List Text → List VersionParts
+versions_in [] = []
+versions_in (t ∷ ts) = option_to_list (version_in t) ++ versions_in ts
+
+-- a live version of another package needs one of the package's live versions
+abbrev pub is_any_depended : State → Text → Bool
+is_any_depended S p = list_any (is_depended S p) (versions_in (live_versions S p))
+
+-- the live versions, each with when it was published
+abbrev pub live_since : State → Text → List (Text × ℕ)
+live_since S p = map (λ (e : Text × Release). (e.0, e.1.at)) (of S.live p)
+
 -- the text of the version that a reference points to
 abbrev pub text_seen : Bor VersionParts → Text
 text_seen v = text_of_version v.now
@@ -86,6 +100,10 @@ better best other without = if is other without then best else Some (greater oth
 -- the tags that name the version
 abbrev pub tags_of : State → Text → Text → List Text
 tags_of S p v = keys (filter (λ (e : Text × Text). is e.1 v) (of S.tags p))
+
+-- all tags of the package
+abbrev pub all_tags : State → Text → List Text
+all_tags S p = keys (of S.tags p)
 
 -- ---- what a deprecation is about
 

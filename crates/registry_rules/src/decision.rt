@@ -20,7 +20,9 @@ use crate::request::{Action, Request};
 use crate::tags::tag_remove_refusal;
 use crate::teams::{team_destroy_refusal, team_joined};
 use crate::users::{added_to_refusal, all_ended, unless_new};
-use crate::withdrawals::{deprecation, withdraw_refusal, withdrawal};
+use crate::withdrawals::{
+    deprecation, withdraw_all_refusal, withdraw_refusal, withdrawal, withdrawal_of_all,
+};
 use registry_access::Caller;
 use registry_names::{Fault, Moment, Refusal, Rule, Stop};
 use std::alloc::{AllocError, Global};
@@ -151,11 +153,18 @@ fn state_refusal(about: &About, action: &Action, now: &Moment) -> Option<Refusal
             },
             Action::TeamRemove { .. },
         ) => { unless_there(*team_exists && *is_in_team) }
-        (About::Organisation { .. }, Action::Members { .. } | Action::Teams { .. })
+        (
+            About::Organisation { .. },
+            Action::Members { .. } | Action::Teams { .. } | Action::OrgPackages { .. },
+        )
         | (About::Maintainers { .. }, Action::Maintainers { .. })
         | (
             About::Nothing,
-            Action::WhoAmI | Action::Users | Action::Organisations | Action::Packages,
+            Action::WhoAmI
+            | Action::MyPackages
+            | Action::Users
+            | Action::Organisations
+            | Action::Packages,
         ) => None,
         (About::Team { exists, .. }, Action::TeamMembers { .. } | Action::TeamPackages { .. }) => {
             unless_there(*exists)
@@ -202,6 +211,9 @@ fn state_refusal(about: &About, action: &Action, now: &Moment) -> Option<Refusal
             },
             Action::Withdraw { .. },
         ) => { withdraw_refusal(*published, *depended, now) }
+        (About::WithdrawAll { depended, live, .. }, Action::WithdrawAll { .. }) => {
+            withdraw_all_refusal(live, *depended, now)
+        }
         (About::Deprecate { .. }, Action::Deprecate { .. }) => None,
         (About::Version { lives, .. }, Action::VersionDoc { .. } | Action::Archive { .. })
         | (About::Package { lives, .. }, Action::Packument { .. } | Action::Tags { .. }) => {
@@ -400,6 +412,9 @@ fn changes<'a>(
             },
             Action::Withdraw { package, version },
         ) => { withdrawal(alloc, package, version, published, live, tags, &request.at) }
+        (About::WithdrawAll { tags, live, .. }, Action::WithdrawAll { package }) => {
+            withdrawal_of_all(alloc, package, live, tags, &request.at)
+        }
         (
             About::Deprecate { live, .. },
             Action::Deprecate {

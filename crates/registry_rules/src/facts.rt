@@ -199,6 +199,17 @@ pub enum About {
         /// The live versions of the package, in byte order of their texts.
         live: Vec<Ver>,
     },
+    /// Of a package of which all live versions are to be withdrawn.
+    WithdrawAll {
+        /// The caller and the package.
+        standing: Standing,
+        /// Whether a live version of another package needs one of them.
+        depended: bool,
+        /// The tags of the package, in byte order.
+        tags: Vec<Text>,
+        /// The live versions, in byte order of their texts.
+        live: Vec<LiveVersion>,
+    },
     /// Of versions that are to be deprecated.
     Deprecate {
         /// The caller and the package.
@@ -225,6 +236,15 @@ pub enum About {
         /// Whether a version of it lives.
         lives: bool,
     },
+}
+
+/// A live version.
+#[derive(Drop)]
+pub struct LiveVersion {
+    /// The version.
+    pub version: Ver,
+    /// When it was published.
+    pub published: Moment,
 }
 
 /// What decides a publish.

@@ -3,7 +3,7 @@
 
 ghost use Rattle.std.specs.Prelude.{◌≡◌, None};
 ghost use Rattle.registry_rules.specs.Kept.{IsKept};
-ghost use Rattle.registry_rules.specs.Laws.{GrantsAreGiven, GrantsAreRevoked, MaintainersAreAdded, MaintainersAreRemoved, OtherMaintainersAreMaintainers, PublishesGiveFirstRights, StatusesAreSet, NewTeamsAreEmpty, TeamMembersAreAdded, TeamMembersAreRemoved, TeamsAreCreated, TeamsAreDestroyed, MembersAreRemoved, NeededHaveDependents, OrganisationsAreCreated, OtherOwnersAreOwners, OthersTokensAreHidden, RolesAreSet, PackagesStandApart, PublishesAddVersions, PublishesSetStatuses, PublishesSetTags, QueriesChangeNothing, RemovedTagsAreGone, SetTagsName, AllTokensAreEnded, TokensAreAdded, TokensAreEnded, UsersAreAdded, WithdrawalsSpend, WithdrawalsFreeTags, DeprecationsMark};
+ghost use Rattle.registry_rules.specs.Laws.{GrantsAreGiven, GrantsAreRevoked, MaintainersAreAdded, MaintainersAreRemoved, OtherMaintainersAreMaintainers, PublishesGiveFirstRights, StatusesAreSet, NewTeamsAreEmpty, TeamMembersAreAdded, TeamMembersAreRemoved, TeamsAreCreated, TeamsAreDestroyed, MembersAreRemoved, NeededHaveDependents, OrganisationsAreCreated, OtherOwnersAreOwners, OthersTokensAreHidden, RolesAreSet, PackagesStandApart, PublishesAddVersions, PublishesSetStatuses, PublishesSetTags, QueriesChangeNothing, RemovedTagsAreGone, SetTagsName, AllTokensAreEnded, TokensAreAdded, TokensAreEnded, UsersAreAdded, WithdrawalsSpend, WithdrawalsFreeTags, WithdrawalsOfAllAreRefusedAsOne, WithdrawalsOfAllAreRuns, WithdrawalsOfAllSpend, DeprecationsMark};
 ghost use Rattle.registry_rules.specs.Refusals.{refusal};
 ghost use Rattle.registry_rules.specs.Requests.{ArePartsInForm, IsActionInForm, IsAskedInForm, IsInForm};
 ghost use Rattle.registry_rules.specs.State.{State, nothing};
@@ -100,6 +100,17 @@ pub fn withdrawals_spend()
     ensures tags { WithdrawalsFreeTags }
 {}
 
+/// The withdrawal of all versions of a package is the run of the withdrawals of its live versions, in
+/// any order, at the same moment and by the same caller, each of which is accepted. Where the
+/// withdrawal of one of them would be refused, it is refused so, and first as too late; then nothing
+/// is withdrawn. Afterwards no version of the package lives and it has no tag, and each that lived is
+/// spent. Nothing else changes.
+pub fn whole_withdrawals_are_runs()
+    ensures runs { WithdrawalsOfAllAreRuns }
+    ensures refused { WithdrawalsOfAllAreRefusedAsOne }
+    ensures spent { WithdrawalsOfAllSpend }
+{}
+
 /// Each live version of the package that a deprecation's selector selects has its message, and
 /// nothing else changes.
 pub fn deprecations_mark()
@@ -161,7 +172,9 @@ fn action_is_in_form(what: &Action)
             organisation.text();
             user.text();
         }
-        Action::Members { organisation } | Action::Teams { organisation } => {
+        Action::Members { organisation }
+        | Action::Teams { organisation }
+        | Action::OrgPackages { organisation } => {
             organisation.text();
         }
         Action::TeamCreate { organisation, team }
@@ -241,10 +254,15 @@ fn action_is_in_form(what: &Action)
         Action::SetAccess { package, .. }
         | Action::Packument { package }
         | Action::Tags { package }
-        | Action::Maintainers { package } => {
+        | Action::Maintainers { package }
+        | Action::WithdrawAll { package } => {
             package.text();
         }
-        Action::WhoAmI | Action::Users | Action::Organisations | Action::Packages => {}
+        Action::WhoAmI
+        | Action::MyPackages
+        | Action::Users
+        | Action::Organisations
+        | Action::Packages => {}
     }
 }
 

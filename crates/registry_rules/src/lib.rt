@@ -23,7 +23,7 @@ mod withdrawals;
 
 pub use crate::change::{Change, Changes};
 pub use crate::decision::{decide, may_ask};
-pub use crate::facts::{About, Facts, PublishFacts};
+pub use crate::facts::{About, Facts, LiveVersion, PublishFacts};
 pub use crate::organisations::DEVELOPERS;
 pub use crate::reply::Reply;
 pub use crate::request::{Action, Asked, Credential, Request};

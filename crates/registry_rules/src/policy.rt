@@ -36,7 +36,7 @@ pub(crate) fn permission(caller: &Caller, about: &About, action: &Action) -> Res
             | Action::Organisations
             | Action::Packages,
         ) => may_operate(caller),
-        (_, Action::WhoAmI) => may_be_named(caller),
+        (_, Action::WhoAmI | Action::MyPackages) => may_be_named(caller),
         (About::TokenRemove { user }, Action::TokenRemove { .. }) => may_end_token(caller, user),
         (About::OrgSet { rows, .. }, Action::OrgSet { organisation, .. }) => {
             may_manage_members(rows, caller, organisation)
@@ -68,6 +68,9 @@ pub(crate) fn permission(caller: &Caller, about: &About, action: &Action) -> Res
         (About::Organisation { rows }, Action::Teams { organisation }) => {
             may_see_organisation(rows, caller, organisation)
         }
+        (About::Organisation { rows }, Action::OrgPackages { organisation }) => {
+            may_see_organisation(rows, caller, organisation)
+        }
         (About::Team { rows, .. }, Action::TeamMembers { organisation, .. }) => {
             may_see_organisation(rows, caller, organisation)
         }
@@ -93,6 +96,9 @@ pub(crate) fn permission(caller: &Caller, about: &About, action: &Action) -> Res
             may_write(standing, caller, package)
         }
         (About::Withdraw { standing, .. }, Action::Withdraw { package, .. }) => {
+            may_write(standing, caller, package)
+        }
+        (About::WithdrawAll { standing, .. }, Action::WithdrawAll { package }) => {
             may_write(standing, caller, package)
         }
         (About::Deprecate { standing, .. }, Action::Deprecate { package, .. }) => {

@@ -197,6 +197,12 @@ pub enum Action {
         /// The version that is to be withdrawn.
         version: Ver,
     },
+    /// The command to withdraw all live versions of a package, or none: where the withdrawal of one
+    /// of them would be refused, nothing is changed.
+    WithdrawAll {
+        /// The package's name.
+        package: Name,
+    },
     /// The command to deprecate the live versions that a selector selects, prereleases included,
     /// or, by the empty message, to take that back. Versions that are published later aren't
     /// touched.
@@ -265,6 +271,16 @@ pub enum Action {
         /// The package's name.
         package: Name,
     },
+    /// The query for the packages of an organisation's scope that the caller reads, each with what
+    /// they may do with it.
+    OrgPackages {
+        /// The organisation's name.
+        organisation: Ident,
+    },
+    /// A user's query for the packages that are theirs, each with what they may do with it: those
+    /// without a scope that they maintain, and those that they read of the organisations whose
+    /// members they are.
+    MyPackages,
     /// The operator's query for all users, each with the number of their tokens.
     Users,
     /// The operator's query for all organisations.
@@ -347,6 +363,7 @@ impl Drop for Action {
                 package: _,
                 version: _,
             } => {}
+            Action::WithdrawAll { package: _ } => {}
             Action::Deprecate {
                 package: _,
                 selector: _,
@@ -374,6 +391,8 @@ impl Drop for Action {
             } => {}
             Action::WhoAmI => {}
             Action::Maintainers { package: _ } => {}
+            Action::OrgPackages { organisation: _ } => {}
+            Action::MyPackages => {}
             Action::Users => {}
             Action::Organisations => {}
             Action::Packages => {}

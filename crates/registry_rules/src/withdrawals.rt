@@ -7,12 +7,15 @@ ghost use Rattle.registry_names.specs.Precedence.{text_precedence};
 ghost use Rattle.registry_names.specs.Tags.{latest};
 ghost use Rattle.registry_names.specs.Texts as texts;
 ghost use Rattle.registry_names.specs.Versions.{text_of_version};
+ghost use Rattle.registry_rules.specs.Changes as changed;
 ghost use Rattle.registry_rules.specs.Changes.{change_of};
 ghost use Rattle.registry_rules.specs.Effects as effects;
+ghost use Rattle.registry_rules.specs.Facts.{since_of};
 ghost use Rattle.registry_rules.specs.Refusals as spec;
 ghost use Rattle.registry_rules.specs.Withdrawals as definitions;
 
 use crate::change::{Change, Changes};
+use crate::facts::LiveVersion;
 use registry_names::{LATEST, Message, Moment, Name, Refusal, Text, Ver};
 use registry_ranges::Selector;
 use std::alloc::{AllocError, Global};
@@ -57,6 +60,31 @@ pub(crate) fn withdraw_refusal(
     }
 }
 
+/// Why the live versions of a package aren't all withdrawn, if they aren't: there is none, one of
+/// them is older than three days, or another package needs one.
+pub(crate) fn withdraw_all_refusal(
+    live: &[LiveVersion],
+    depended: bool,
+    now: &Moment,
+) -> Option<Refusal>
+    ensures { result ≡ spec.withdraw_all_refusal now.now
+        (map (λ r. r.published) live.now) depended }
+{
+    if live.is_empty() {
+        return Some(Refusal::NotFound);
+    }
+    if live
+        .iter()
+        .any(|version| is_too_old(now, version.published))
+    {
+        return Some(Refusal::TooLate);
+    }
+    if depended {
+        return Some(Refusal::Depended);
+    }
+    None
+}
+
 /// What a withdrawal that isn't refused changes. First no tag names the version any more: `latest`
 /// names the greatest other live version instead, where there is one. Then the version goes. A
 /// version that doesn't live is refused.
@@ -84,6 +112,49 @@ pub(crate) fn withdrawal<'a>(
         published,
         withdrawn: now,
     })?;
+    Ok(changes)
+}
+
+/// What the withdrawal of all live versions changes, where it isn't refused. First every tag of the
+/// package goes, and then each version.
+pub(crate) fn withdrawal_of_all<'a>(
+    alloc: Global,
+    name: &'a Name,
+    live: &'a [LiveVersion],
+    tags: &'a [Text],
+    now: &'a Moment,
+) -> Result<Changes<'a>, AllocError>
+    ensures { IfOk result (λ changes. map change_of changes.items
+        ≡ effects.withdrawal_of_all now.now name.now (map since_of live.now) tags.now) }
+{
+    let mut changes = all_dropped(alloc, name, tags)?;
+    for row in live {
+        changes.push(Change::RetireVersion {
+            package: name,
+            version: &row.version,
+            published: &row.published,
+            withdrawn: now,
+        })?;
+    }
+    Ok(changes)
+}
+
+// Each of these tags goes.
+fn all_dropped<'a>(
+    alloc: Global,
+    name: &'a Name,
+    tags: &'a [Text],
+) -> Result<Changes<'a>, AllocError>
+    ensures { IfOk result (λ changes. map change_of changes.items
+        ≡ map (changed.DropTag name.now) tags.now) }
+{
+    let mut changes = Vec::new(alloc);
+    for tag in tags {
+        changes.push(Change::DropTag {
+            package: name,
+            tag: tag.as_str(),
+        })?;
+    }
     Ok(changes)
 }
 
