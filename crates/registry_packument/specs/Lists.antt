@@ -36,10 +36,14 @@ level_texts r = (r.name, level_text r.level)
 abbrev pub count_member : TokenCount → List ℕ × Data
 count_member r = (r.user, number (unsigned r.tokens))
 
--- the status of a package, after what its `latest` names, if it has one
+-- the status of a package
+abbrev pub status_member : Status → Members
+status_member status = member (codes "status") (string (status_text status)) no_members
+
+-- what its `latest` names, if it has one, and then its status
 abbrev pub overview_members : Option (List ℕ) → Status → Members
-overview_members None status = member (codes "status") (string (status_text status)) no_members
-overview_members (Some version) status = member latest (string version) (overview_members None status)
+overview_members None status = status_member status
+overview_members (Some version) status = member latest (string version) (status_member status)
 
 -- a package, and what is shown of it
 abbrev pub overview_member : Overview → List ℕ × Data

@@ -6,7 +6,9 @@ use Rattle.registry_names.specs.Texts.{Text, is}
 use Rattle.registry_names.specs.Maps.{PairMap, empty, at, entries, keys, of}
 use Rattle.registry_names.specs.Versions.{text_of_version}
 use Rattle.registry_access.specs.Access.{Access}
+use Rattle.registry_access.specs.Callers.{is_maintainer, role_of}
 use Rattle.registry_access.specs.Levels.{is_owner}
+use Rattle.registry_access.specs.declared.caller.Caller.{Caller}
 use Rattle.registry_access.specs.declared.role.Role.{Role}
 use Rattle.registry_rules.specs.declared.request.Asked.{Asked}
 use Rattle.registry_rules.specs.declared.request.Asked.TheVariants.{Exact, Latest}
@@ -90,6 +92,12 @@ has_other_owner S o u = list_any (λ (e : Text × Role). not (is e.0 u) && is_ow
 -- they are the only owner of the organisation
 abbrev pub is_last_owner : State → Text → Text → Bool
 is_last_owner S o u = is_owner (at S.access.roles (o, u)) && not (has_other_owner S o u)
+
+-- Whether a package of this scope is a caller's own: they are a member of its organisation, or
+-- maintain it where it has no scope
+abbrev pub is_own : Access → Caller → Text → Option Text → Bool
+is_own A who p None = is_maintainer A who p
+is_own A who p (Some o) = is_some (role_of A who o)
 
 -- there is a token with this digest
 abbrev pub has_token : State → Text → Bool
