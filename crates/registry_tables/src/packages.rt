@@ -1,6 +1,7 @@
 //! All packages, each with what is listed of it.
 
-ghost use Rattle.std.specs.Prelude.{◌≡◌, ◌∷◌, ◌++◌, IfOk, filter, map};
+ghost use Rattle.std.specs.Prelude.{◌≡◌, ◌∷◌, ◌++◌, IfOk, filter, map, true};
+ghost use Rattle.registry_names.specs.Idents.{is_ident};
 ghost use Rattle.registry_names.specs.Maps.{at, entries};
 ghost use Rattle.registry_names.specs.Tags.{latest};
 ghost use Rattle.registry_names.specs.Texts.{Text as Bytes};
@@ -100,7 +101,8 @@ fn load_after_scope<S: Alter>(
 
 // The scope of an organisation, and a text after it.
 fn scoped(alloc: Global, organisation: &Ident, rest: &str) -> Result<Text, AllocError>
-    ensures { IfOk result (λ text. text ≡ 64 ∷ (organisation.now ++ rest.now)) }
+    ensures { IfOk result (λ text. (text ≡ 64 ∷ (organisation.now ++ rest.now))
+        × (is_ident organisation.now ≡ true)) }
 {
     let mut text = String::from_str(alloc, "@")?;
     text.push_str(organisation.text())?;
