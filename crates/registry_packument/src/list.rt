@@ -3,8 +3,8 @@
 
 ghost use Rattle.std.specs.Prelude.{◌≡◌, ◌++◌, IfOk, IfErr, OnOk, string_bytes};
 ghost use Rattle.serde_json.specs.Data.{object};
-ghost use Rattle.serde_json.specs.Written.{compact_text};
-ghost use Rattle.registry_packument.specs.Lists.{tag_texts, member_texts, grant_texts, level_texts, count_member, overview_member, overview_members, username_member, list_value};
+ghost use Rattle.serde_json.specs.Written.{compact_text, members_text};
+ghost use Rattle.registry_packument.specs.Lists.{tag_texts, member_texts, grant_texts, level_texts, count_member, overview_member, overview_members, status_member, username_member, list_value};
 
 use crate::json_text::{
     TextMember, ValueMember, push_array, push_key, push_number, push_object, push_text_member,
@@ -160,10 +160,26 @@ fn push_overview(
         ≡ string_bytes out.old ++ compact_text (object (overview_members latest.now status))) }
 {
     out.push_str("{")?;
-    if let Some(version) = latest {
-        push_text_member(alloc, out, false, LATEST, version.as_str())?;
+    match latest {
+        Some(version) => {
+            push_text_member(alloc, out, false, LATEST, version.as_str())?;
+            push_status(alloc, out, true, status)
+        }
+        None => push_status(alloc, out, false, status),
     }
-    push_text_member(alloc, out, latest.is_some(), "status", status.text())?;
+}
+
+// The status, as the last member of an object.
+fn push_status(
+    alloc: Global,
+    out: &mut String,
+    later: bool,
+    status: Status,
+) -> Result<(), AllocError>
+    ensures { OnOk result (string_bytes out.new
+        ≡ string_bytes out.old ++ members_text later (status_member status)) }
+{
+    push_text_member(alloc, out, later, "status", status.text())?;
     out.push_str("}")
 }
 

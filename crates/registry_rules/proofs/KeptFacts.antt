@@ -30,7 +30,7 @@ use Rattle.registry_rules.specs.State.{State, Release, Withdrawal, nothing, deve
 use Rattle.registry_rules.specs.Withdrawals.{live_versions, selected}
 use Rattle.registry_rules.specs.declared.request.Action.{Action}
 use Rattle.registry_rules.specs.declared.request.Action.TheVariants as asked
-use Rattle.registry_rules.specs.declared.request.Action.TheVariants.{UserAdd, TokenAdd, TokenRemove, TokensRemove, OrgCreate, OrgSet, OrgRemove, TeamCreate, TeamDestroy, TeamAdd, TeamRemove, Revoke, SetAccess, OwnerAdd, OwnerRemove, Publish, TagSet, TagRemove, Withdraw, Deprecate}
+use Rattle.registry_rules.specs.declared.request.Action.TheVariants.{UserAdd, TokenAdd, TokenRemove, TokensRemove, OrgCreate, OrgSet, OrgRemove, TeamCreate, TeamDestroy, TeamAdd, TeamRemove, Revoke, SetAccess, OwnerAdd, OwnerRemove, Publish, TagSet, TagRemove, Withdraw, WithdrawAll, Deprecate}
 use Rattle.registry_rules.specs.declared.request.Request.{Request}
 use Rattle.registry_rules.proofs.AllowedFacts.{IsAllowed, allowed_publish, is_there, isnt_kept, state_passed}
 use Rattle.registry_rules.proofs.MadeFacts.{latest_put, role_put, tag_put}
@@ -40,6 +40,7 @@ use Rattle.registry_rules.proofs.SoundFacts.{created, destroyed, was_left}
 use Rattle.registry_rules.proofs.SoundSteps.{none_there, nothing_sound, step_sound}
 use Rattle.registry_rules.proofs.PublishedFacts.{statuses_after, status_of, after_publish, published_is}
 use Rattle.registry_rules.proofs.TokenFacts.{ended_all, ended_is, ended_was}
+use Rattle.registry_rules.proofs.WholeFacts.{whole_is, whole_kept}
 use Rattle.registry_rules.proofs.WithdrawnFacts.{deprecated_is}
 use Rattle.registry_rules.proofs.WithdrawnKept.{deprecated_kept, withdrawal_kept}
 use Rattle.registry_names.proofs.PutFacts.{each_put, each_left, some_before, put_there, still_there}
@@ -374,6 +375,7 @@ action_kept S now who (TagSet p t v) moment form known may kept =
 action_kept S now who (TagRemove p t) moment form known may kept =
     tag_removed_kept S p t (isnt_kept (stands S p t) (is t latest) (state_passed S now who (TagRemove p t) may)) kept
 action_kept S now who (Withdraw p v) moment form known may kept = withdrawal_kept S now p v (at S.live (p, text_of_version v)) refl moment form.0 form.1 kept
+action_kept S now who (WithdrawAll p) moment form known may kept = subst IsKept (sym (whole_is S now p)) (whole_kept S now p moment kept)
 action_kept S now who (Deprecate p selector message) moment form known may kept =
     subst IsKept (sym (deprecated_is S p message (selected (live_versions S p) selector))) (deprecated_kept S p message (selected (live_versions S p) selector) form.1 kept)
 action_kept S now who _ moment form known may kept = kept

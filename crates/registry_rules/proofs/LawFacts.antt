@@ -29,16 +29,17 @@ use Rattle.registry_names.specs.Names.{scope_of}
 use Rattle.registry_publish.specs.Form.{FormParts}
 use Rattle.registry_rules.specs.Actions.{version_of, ends_team}
 use Rattle.registry_rules.specs.Changes.{all_made, release_of}
-use Rattle.registry_rules.specs.Effects.{deprecation, ending, first_status, joining, membership, maintaining, new_status}
+use Rattle.registry_rules.specs.Effects.{deprecation, ending, first_status, joining, membership, maintaining, new_status, withdrawal_of_all}
 use Rattle.registry_rules.specs.Laws.{SpendsVersion, FreesTags, WithdrawalsSpend, WithdrawalsFreeTags, Deprecates, DeprecationsMark, GivesFirstRight, IsGrantChange, IsOwnerChange, SetsAccess, GrantsAreGiven, GrantsAreRevoked, StatusesAreSet, MaintainersAreAdded, MaintainersAreRemoved, PublishesGiveFirstRights, SetsRole, OrganisationsAreCreated, RolesAreSet, MembersAreRemoved, UsersAreAdded, TokensAreAdded, EndsTokens, TokensAreEnded, AllTokensAreEnded, OthersTokensAreHidden, AddsVersion, SetsTags, SetsStatus, IsTagChange, IsApart, DestroysTeam, IsTeamMemberChange, TeamsAreCreated, NewTeamsAreEmpty, TeamsAreDestroyed, TeamMembersAreAdded, TeamMembersAreRemoved, PublishesAddVersions, PublishesSetTags, PublishesSetStatuses, SetTagsName, RemovedTagsAreGone, QueriesChangeNothing, PackagesStandApart}
 use Rattle.registry_rules.specs.Refusals.{state_refusal, unless_allowed}
 use Rattle.registry_rules.specs.Operations.{without_team, with_grant, with_status, with_tag, without_tag}
-use Rattle.registry_rules.specs.State.{State, Release, developers, tokens_of, is_in_team, has_grant, is_published, has_maintainer, stands}
+use Rattle.registry_rules.specs.State.{State, Release, developers, tokens_of, is_in_team, has_grant, is_live, is_published, has_maintainer, stands}
 use Rattle.registry_rules.specs.declared.request.Action.{Action}
 use Rattle.registry_rules.specs.declared.request.Action.TheVariants as asked
-use Rattle.registry_rules.specs.declared.request.Action.TheVariants.{UserAdd, TokenAdd, TokenRemove, TokensRemove, OrgCreate, OrgSet, OrgRemove, TeamCreate, TeamDestroy, TeamAdd, TeamRemove, Revoke, SetAccess, OwnerAdd, OwnerRemove, Publish, TagSet, TagRemove, Withdraw, Deprecate}
+use Rattle.registry_rules.specs.declared.request.Action.TheVariants.{UserAdd, TokenAdd, TokenRemove, TokensRemove, OrgCreate, OrgSet, OrgRemove, TeamCreate, TeamDestroy, TeamAdd, TeamRemove, Revoke, SetAccess, OwnerAdd, OwnerRemove, Publish, TagSet, TagRemove, Withdraw, WithdrawAll, Deprecate}
 use Rattle.registry_rules.proofs.MadeFacts.{grant_put, latest_put, role_put, status_put, tag_put}
-use Rattle.registry_rules.specs.Withdrawals.{live_versions, others, selected, selects, tags_of}
+use Rattle.registry_rules.specs.Withdrawals.{all_tags, live_since, live_versions, others, selected, selects, tags_of}
+use Rattle.registry_rules.proofs.WholeFacts.{since_when, whole_is, whole_live, whole_left, whole_spent, whole_tags}
 use Rattle.registry_rules.proofs.WithdrawnFacts.{among_passing, among_where_names, apart_where_others, at-freed, at-marked, deprecated_is, freed_gone, freed_latest, marked_value, withdrawal_of, withdrawn_is}
 use Rattle.registry_rules.proofs.TokenFacts.{among_theirs, at-all_ended, ended_is, others_apart}
 use Rattle.registry_rules.proofs.PublishedFacts.{statuses_after, granted_first, grants_after, maintained_first, maintainers_after, status_of, after_publish, published_is}
@@ -499,6 +500,7 @@ queries_change_nothing S now who (Publish f) e = absurd (true≢false e)
 queries_change_nothing S now who (TagSet p t v) e = absurd (true≢false e)
 queries_change_nothing S now who (TagRemove p t) e = absurd (true≢false e)
 queries_change_nothing S now who (Withdraw p v) e = absurd (true≢false e)
+queries_change_nothing S now who (WithdrawAll p) e = absurd (true≢false e)
 queries_change_nothing S now who (Deprecate p selector message) e = absurd (true≢false e)
 queries_change_nothing S now who _ e = refl
 
@@ -599,6 +601,17 @@ apart_from_withdrawal S now q v (Some r) p other =
       grants = λ o t. refl;
     })
 
+apart_from_whole : (S : State) (now : ℕ) (q p : Text) → is q p ≡ false → IsApart S (all_made S (withdrawal_of_all now q (live_since S q) (all_tags S q))) (WithdrawAll q) p
+apart_from_whole S now q p other =
+    subst (λ T. IsApart S T (WithdrawAll q) p) (sym (whole_is S now q)) (record {
+      live = λ u. whole_live S now q p u ∙ ap (λ b. cond b None (at S.live (p, u))) other;
+      spent = λ u. whole_spent S now q p u ∙ not_here (is q p) (is_live S q u) _ _ other;
+      tags = λ u. whole_tags S now q p u ∙ ap (λ b. cond b None (at S.tags (p, u))) other;
+      status = refl;
+      maintainers = λ u. refl;
+      grants = λ o t. refl;
+    })
+
 apart_from_deprecation : (S : State) (q : Text) (selector : List (List Condition)) (message : Text) (p : Text) → is q p ≡ false
     → IsApart S (all_made S (deprecation q message (selected (live_versions S q) selector))) (Deprecate q selector message) p
 apart_from_deprecation S q selector message p other =
@@ -643,5 +656,6 @@ commands_leave_other_packages S now who (TagSet q t v) p other =
 commands_leave_other_packages S now who (TagRemove q t) p other =
     apart_from_tag S (without_tag S q t) (TagRemove q t) p refl refl refl (λ u. at-erase_other pair_key S.tags (q, t) (p, u) (elsewhere q p t u other)) (λ o s. refl)
 commands_leave_other_packages S now who (Withdraw q v) p other = apart_from_withdrawal S now q v (at S.live (q, text_of_version v)) p other
+commands_leave_other_packages S now who (WithdrawAll q) p other = apart_from_whole S now q p other
 commands_leave_other_packages S now who (Deprecate q selector message) p other = apart_from_deprecation S q selector message p other
 commands_leave_other_packages S now who _ p other = same_of_itself S _ p (λ o t. refl)

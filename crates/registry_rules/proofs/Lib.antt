@@ -10,5 +10,7 @@ pub mod PublishedFacts
 pub mod SoundFacts
 pub mod SoundSteps
 pub mod TokenFacts
+pub mod WholeFacts
+pub mod WholeRuns
 pub mod WithdrawnFacts
 pub mod WithdrawnKept

@@ -41,6 +41,17 @@ changes_more f g cs c xs i d within so_far is = map_append f cs (c ∷ []) ∙ a
 pub pushed : {C D : Type 0} (f : C → D) (old new : List C) (c : C) (ds : List D) → new ≡ old ++ c ∷ [] → map f old ≡ ds → map f new ≡ ds ++ f c ∷ []
 pushed f old new c ds e so_far = ap (map f) e ∙ map_append f old (c ∷ []) ∙ ap (λ l. l ++ f c ∷ []) so_far
 
+-- one more change is made of one more of a list, after others
+pub listed_more : {X Y D : Type 0} (before : List D) (g : X → Y) (h : Y → D) (xs : List X) (i : ℕ) (d : X) → i < length xs
+    → (before ++ map h (map g (take i xs))) ++ h (g (slice_index_or xs i d)) ∷ [] ≡ before ++ map h (map g (take (i + 1) xs))
+listed_more before g h xs i d within =
+    joined before (map h (map g (take i xs))) (h (g (slice_index_or xs i d)) ∷ [])
+    ∙ ap (λ l. before ++ l) (sym (map_append h (map g (take i xs)) (g (slice_index_or xs i d) ∷ [])) ∙ ap (map h) (sym (mapped_more g xs i d within)))
+  where
+    joined : {X : Type 0} (xs ys zs : List X) → (xs ++ ys) ++ zs ≡ xs ++ (ys ++ zs)
+    joined [] ys zs = refl
+    joined (x ∷ xs) ys zs = ap (λ l. x ∷ l) (joined xs ys zs)
+
 pub messages_more : (p message : Text) (conditions : List (List Condition)) (xs : List Text) (x : Text)
     → deprecation p message (selected (xs ++ x ∷ []) conditions) ≡ deprecation p message (selected xs conditions) ++ deprecation p message (selected (x ∷ []) conditions)
 messages_more p message conditions xs x =

@@ -31,7 +31,7 @@ use Rattle.registry_rules.specs.Refusals.{grant_refusal, is_restricted, publish_
 use Rattle.registry_rules.specs.State.{State, nothing, developers, tokens_of, has_grant, has_other_maintainer, has_team, has_user, is_in_team, is_last_owner, is_member, has_maintainer, is_published, stands}
 use Rattle.registry_rules.specs.declared.request.Action.{Action}
 use Rattle.registry_rules.specs.declared.request.Action.TheVariants as asked
-use Rattle.registry_rules.specs.declared.request.Action.TheVariants.{UserAdd, TokenAdd, TokenRemove, TokensRemove, OrgCreate, OrgSet, OrgRemove, TeamCreate, TeamDestroy, TeamAdd, TeamRemove, Revoke, SetAccess, OwnerAdd, OwnerRemove, Publish, TagSet, Withdraw, Deprecate}
+use Rattle.registry_rules.specs.declared.request.Action.TheVariants.{UserAdd, TokenAdd, TokenRemove, TokensRemove, OrgCreate, OrgSet, OrgRemove, TeamCreate, TeamDestroy, TeamAdd, TeamRemove, Revoke, SetAccess, OwnerAdd, OwnerRemove, Publish, TagSet, Withdraw, WithdrawAll, Deprecate}
 use Rattle.registry_rules.proofs.AllowedFacts.{found_there, is_there, may_be_public, may_grant, not_false, passed, policy_passed, publisher_is_user, published_has_status, published_where_read, scope_there, state_passed, status_allowed, user_there}
 use Rattle.registry_rules.proofs.MadeFacts as made
 use Rattle.registry_rules.proofs.MadeFacts.{role_put, tag_put}
@@ -40,6 +40,7 @@ use Rattle.registry_rules.proofs.PublishedFacts.{status_of, published_is}
 use Rattle.registry_rules.specs.Withdrawals.{live_versions, selected}
 use Rattle.registry_rules.proofs.SoundFacts as change
 use Rattle.registry_rules.proofs.TokenFacts.{ended_all, ended_is, ended_left}
+use Rattle.registry_rules.proofs.WholeFacts.{whole_is}
 use Rattle.registry_rules.proofs.WithdrawnFacts.{deprecated_is, withdrawn_access}
 use Rattle.registry_names.proofs.PutFacts.{each_left}
 use Rattle.registry_rules.proofs.SoundFacts.{HasOwner, HasPublisher, user_added, token_added, tokens_left, organisation_created, role_given, member_joined, member_removed, team_created, team_destroyed, team_joined, team_left}
@@ -187,6 +188,7 @@ step_sound S now who (Publish f) known may sound =
     publish_sound S who f now known (policy_passed S now who (Publish f) may) (state_passed S now who (Publish f) may) sound
 step_sound S now who (TagSet p t v) known may sound = subst (λ (T : State). IsSound T.access) (sym (tag_put S p t (text_of_version v) (stands S p t) (λ there. there))) sound
 step_sound S now who (Withdraw p v) known may sound = subst IsSound (sym (withdrawn_access S now p (text_of_version v) (at S.live (p, text_of_version v)))) sound
+step_sound S now who (WithdrawAll p) known may sound = subst (λ (T : State). IsSound T.access) (sym (whole_is S now p)) sound
 step_sound S now who (Deprecate p selector message) known may sound =
     subst (λ (T : State). IsSound T.access) (sym (deprecated_is S p message (selected (live_versions S p) selector))) sound
 step_sound S now who _ known may sound = sound

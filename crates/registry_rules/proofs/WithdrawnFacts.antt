@@ -47,7 +47,7 @@ tags_freed : (S : State) (p : Text) (other : Option Text) (ts : List Text) → a
 tags_freed S p other [] = refl
 tags_freed S p other (t ∷ ts) = ap (λ T. all_made T (map (freed p other) ts)) (tag_freed S p other t) ∙ tags_freed (record S { tags = freed_tag S.tags p other t }) p other ts
 
-made_then : (S : State) (cs ds : List Change) → all_made S (cs ++ ds) ≡ all_made (all_made S cs) ds
+pub made_then : (S : State) (cs ds : List Change) → all_made S (cs ++ ds) ≡ all_made (all_made S cs) ds
 made_then S [] ds = refl
 made_then S (c ∷ cs) ds = made_then (made S c) cs ds
 

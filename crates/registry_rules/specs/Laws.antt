@@ -1,13 +1,12 @@
 -- What commands make of what the registry holds, said of each map apart.
-use Rattle.std.specs.Prelude.{◌≡◌, ◌≢◌, ◌≤◌, ◌∷◌, map, IsTrue, ◌↔◌, ◌⊎◌, ℕ, List, true, false, [], Some, None, IsSome, Any, if◌then◌else◌}
-use Rattle.std.specs.List.{IsDistinct}
+use Rattle.std.specs.Prelude.{◌≡◌, ◌≢◌, ◌≤◌, ◌∷◌, map, IsTrue, All, ◌↔◌, ◌⊎◌, ℕ, List, true, false, [], Some, None, IsSome, Any, if◌then◌else◌}
 use Rattle.registry_names.specs.Keys.{Pair, Triple}
 use Rattle.registry_names.specs.Maps.{among, at}
 use Rattle.registry_names.specs.Moments.{last_second}
 use Rattle.registry_names.specs.Greatest.{greatest}
 use Rattle.registry_names.specs.Tags.{latest}
 use Rattle.registry_names.specs.Texts.{Text, is}
-use Rattle.registry_names.specs.Versions.{VersionParts, text_of_version}
+use Rattle.registry_names.specs.Versions.{IsVersionOf, VersionParts, text_of_version}
 use Rattle.registry_names.specs.declared.refusal.Refusal.{Refusal}
 use Rattle.registry_names.specs.declared.refusal.Refusal.TheVariants.{NotFound, TooLate}
 use Rattle.registry_names.specs.declared.status.Status.{Status}
@@ -25,7 +24,8 @@ use Rattle.registry_rules.specs.Actions.{is_command, version_of, names_package, 
 use Rattle.registry_rules.specs.Callers.{caller_of}
 use Rattle.registry_rules.specs.Effects.{step_by}
 use Rattle.registry_rules.specs.Kept.{IsKept, IsSound}
-use Rattle.registry_rules.specs.Refusals.{refusal_by}
+use Rattle.registry_rules.specs.Permissions.{permission}
+use Rattle.registry_rules.specs.Refusals.{refusal_by, unless_allowed}
 use Rattle.registry_rules.specs.State.{State, Release, developers, has_live, has_other_owner, has_other_maintainer, is_live}
 use Rattle.registry_rules.specs.Withdrawals.{is_depended, live_versions, needs_in, others, selects}
 use Rattle.registry_ranges.specs.Comparators.{Allows}
@@ -313,9 +313,15 @@ WithdrawalsFreeTags = (S : State) (now : ℕ) (who : Caller) (p : Text) (v : Ver
 
 -- ---- the withdrawal of all versions
 
+-- no text occurs twice
+abbrev pub IsOnce : List Text → Type 0
+IsOnce [] = Unit {0}
+IsOnce (t ∷ ts) = (among is ts t ≡ false) × IsOnce ts
+
 -- these are the live versions of the package, each once and in any order
 pub record AreTheLive (S : State) (p : Text) (vs : List VersionParts) : Type 0 where
-  pub once : IsDistinct is (map text_of_version vs)
+  pub form : All (λ v. IsVersionOf (text_of_version v) v) vs
+  pub once : IsOnce (map text_of_version vs)
   pub live : (v : Text) → is_live S p v ≡ among is (map text_of_version vs) v
 
 -- what is left when each of these versions is withdrawn, one after another
@@ -335,13 +341,15 @@ WithdrawalsOfAllAreRuns = (S : State) (now : ℕ) (who : Caller) (p : Text) (vs 
     → refusal_by S now who (WithdrawAll p) ≡ None → AreAccepted S now who p vs × (step_by S now who (WithdrawAll p) ≡ all_withdrawn S now who p vs)
 
 -- Where a version lives, it is refused as the withdrawal of one of them is. Where the withdrawal of
--- one of them is refused, so is it, and as too late where one is too late
+-- one of them is refused, so is it, and as too late where one is too late. Where none lives and the
+-- policy allows it, it isn't found
 pub record IsRefusedAsOne (S : State) (now : ℕ) (who : Caller) (p : Text) : Type 0 where
   pub as_one : (why : Refusal) → IsTrue (has_live S p) → refusal_by S now who (WithdrawAll p) ≡ Some why
-      → (v : VersionParts) × IsTrue (is_live S p (text_of_version v)) × (refusal_by S now who (Withdraw p v) ≡ Some why)
-  pub if_one : (v : VersionParts) (why : Refusal) → IsTrue (is_live S p (text_of_version v)) → refusal_by S now who (Withdraw p v) ≡ Some why → IsSome (refusal_by S now who (WithdrawAll p))
+      → (v : VersionParts) × IsVersionOf (text_of_version v) v × IsTrue (is_live S p (text_of_version v)) × (refusal_by S now who (Withdraw p v) ≡ Some why)
+  pub if_one : (v : VersionParts) (why : Refusal) → IsVersionOf (text_of_version v) v → IsTrue (is_live S p (text_of_version v)) → refusal_by S now who (Withdraw p v) ≡ Some why
+      → IsSome (refusal_by S now who (WithdrawAll p))
   pub too_late : (v : VersionParts) → IsTrue (is_live S p (text_of_version v)) → refusal_by S now who (Withdraw p v) ≡ Some TooLate → refusal_by S now who (WithdrawAll p) ≡ Some TooLate
-  pub none_lives : has_live S p ≡ false → IsSome (refusal_by S now who (WithdrawAll p))
+  pub none_lives : has_live S p ≡ false → unless_allowed (permission S.access who (WithdrawAll p)) ≡ None → refusal_by S now who (WithdrawAll p) ≡ Some NotFound
 
 abbrev pub WithdrawalsOfAllAreRefusedAsOne : Type 0
 WithdrawalsOfAllAreRefusedAsOne = (S : State) (now : ℕ) (who : Caller) (p : Text) → IsKept S → IsRefusedAsOne S now who p

@@ -1,6 +1,6 @@
 -- Why a request is refused, on what the registry holds: the first reason that holds, if one
 -- does.
-use Rattle.std.specs.Prelude.{ℕ, Bool, true, false, List, map, not, ◌&&◌, ◌||◌, is_none, Option, Some, None, Result, Ok, Err, if◌then◌else◌}
+use Rattle.std.specs.Prelude.{ℕ, Bool, true, false, List, not, ◌&&◌, ◌||◌, is_none, Option, Some, None, Result, Ok, Err, if◌then◌else◌}
 use Rattle.std.specs.List.{list_any}
 use Rattle.std.specs.Option.{option_or}
 use Rattle.registry_names.specs.Tags.{latest}
@@ -63,11 +63,11 @@ abbrev pub withdraw_refusal : ℕ → Option ℕ → Bool → Option Refusal
 withdraw_refusal now None depended = Some NotFound
 withdraw_refusal now (Some published) depended = refuse (is_too_old now published) TooLate (refuse depended Depended None)
 
--- Of all live versions of a package, which were published at these moments: why a withdrawal of one
--- of them would be refused, the first reason first. They are none where no version lives
-abbrev pub withdraw_all_refusal : ℕ → List ℕ → Bool → Option Refusal
-withdraw_all_refusal now published depended = refuse (is_empty published) NotFound
-    (refuse (list_any (is_too_old now) published) TooLate
+-- Of all live versions of a package, each with when it was published: where there is none, or else
+-- the first reason for which the withdrawal of one of them is refused
+abbrev pub withdraw_all_refusal : ℕ → List (Text × ℕ) → Bool → Option Refusal
+withdraw_all_refusal now live depended = refuse (is_empty live) NotFound
+    (refuse (list_any (λ (e : Text × ℕ). is_too_old now e.1) live) TooLate
     (refuse depended Depended None))
 
 -- a tag that isn't there can't go, and `latest` never goes
@@ -109,7 +109,7 @@ state_refusal S now (Publish f) = publish_refusal S now f
 state_refusal S now (TagSet p t v) = unless_there (is_live S p (text_of_version v))
 state_refusal S now (TagRemove p t) = tag_refusal (stands S p t) t
 state_refusal S now (Withdraw p v) = withdraw_refusal now (published_at S p (text_of_version v)) (is_depended S p v)
-state_refusal S now (WithdrawAll p) = withdraw_all_refusal now (map (λ e. e.1) (live_since S p)) (is_any_depended S p)
+state_refusal S now (WithdrawAll p) = withdraw_all_refusal now (live_since S p) (is_any_depended S p)
 state_refusal S now (Deprecate p selector message) = None
 state_refusal S now (Packument p) = unless_there (has_live S p)
 state_refusal S now (VersionDoc p asked) = unless_there (lives S p (asked_version S p asked))

@@ -1,6 +1,7 @@
 //! The decision on a withdrawal and on a deprecation.
 
 ghost use Rattle.std.specs.Prelude.{◌≡◌, ◌++◌, ◌∷◌, [], map, option_map, IfOk, OnOk};
+ghost use Rattle.std.specs.List.{list_any};
 ghost use Rattle.std.specs.Ordering.{is_lt};
 ghost use Rattle.registry_names.specs.Greatest as greatest;
 ghost use Rattle.registry_names.specs.Precedence.{text_precedence};
@@ -67,22 +68,23 @@ pub(crate) fn withdraw_all_refusal(
     depended: bool,
     now: &Moment,
 ) -> Option<Refusal>
-    ensures { result ≡ spec.withdraw_all_refusal now.now
-        (map (λ r. r.published) live.now) depended }
+    ensures { result ≡ spec.withdraw_all_refusal now.now (map since_of live.now) depended }
 {
     if live.is_empty() {
-        return Some(Refusal::NotFound);
+        Some(Refusal::NotFound)
+    } else if has_too_old(now, live) {
+        Some(Refusal::TooLate)
+    } else if depended {
+        Some(Refusal::Depended)
+    } else {
+        None
     }
-    if live
-        .iter()
-        .any(|version| is_too_old(now, version.published))
-    {
-        return Some(Refusal::TooLate);
-    }
-    if depended {
-        return Some(Refusal::Depended);
-    }
-    None
+}
+
+fn has_too_old(now: &Moment, live: &[LiveVersion]) -> bool
+    ensures { result ≡ list_any (λ r. definitions.is_too_old now.now r.published) live.now }
+{
+    live.iter().any(|row| is_too_old(now, row.published))
 }
 
 /// What a withdrawal that isn't refused changes. First no tag names the version any more: `latest`
