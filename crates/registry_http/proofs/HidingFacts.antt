@@ -15,7 +15,7 @@ use Rattle.registry_rules.specs.State.{State}
 use Rattle.registry_rules.specs.declared.reply.Reply.{Reply}
 use Rattle.registry_rules.specs.declared.reply.Reply.TheVariants.{Refused}
 use Rattle.registry_rules.specs.declared.request.Action.{Action}
-use Rattle.registry_rules.specs.declared.request.Action.TheVariants.{UserAdd, TokenAdd, TokenRemove, TokensRemove, OrgCreate, OrgSet, OrgRemove, TeamCreate, TeamDestroy, TeamAdd, TeamRemove, Grant, Revoke, SetAccess, OwnerAdd, OwnerRemove, Publish, TagSet, TagRemove, Withdraw, Deprecate, Packument, VersionDoc, Archive, Tags, Members, Teams, TeamMembers, TeamPackages, WhoAmI, Maintainers, Users, Organisations, Packages}
+use Rattle.registry_rules.specs.declared.request.Action.TheVariants.{UserAdd, TokenAdd, TokenRemove, TokensRemove, OrgCreate, OrgSet, OrgRemove, TeamCreate, TeamDestroy, TeamAdd, TeamRemove, Grant, Revoke, SetAccess, OwnerAdd, OwnerRemove, Publish, TagSet, TagRemove, Withdraw, WithdrawAll, Deprecate, Packument, VersionDoc, Archive, Tags, Members, Teams, TeamMembers, TeamPackages, WhoAmI, Maintainers, OrgPackages, MyPackages, Users, Organisations, Packages}
 use Rattle.registry_rules.specs.declared.request.Request.{Request}
 use Rattle.registry_laws_history.specs.Answers.{answer, reply, reply_to, unless_refused}
 use Rattle.registry_service.specs.HttpAnswers.{response_to}
@@ -51,12 +51,15 @@ refused-by S now who (Publish f) p is hidden = absurd is
 refused-by S now who (TagSet q t v) p is hidden = absurd is
 refused-by S now who (TagRemove q t) p is hidden = absurd is
 refused-by S now who (Withdraw q v) p is hidden = absurd is
+refused-by S now who (WithdrawAll q) p is hidden = absurd is
 refused-by S now who (Deprecate q selector message) p is hidden = absurd is
 refused-by S now who (Members o) p is hidden = absurd is
 refused-by S now who (Teams o) p is hidden = absurd is
 refused-by S now who (TeamMembers o t) p is hidden = absurd is
 refused-by S now who (TeamPackages o t) p is hidden = absurd is
 refused-by S now who WhoAmI p is hidden = absurd is
+refused-by S now who (OrgPackages o) p is hidden = absurd is
+refused-by S now who MyPackages p is hidden = absurd is
 refused-by S now who Users p is hidden = absurd is
 refused-by S now who Organisations p is hidden = absurd is
 refused-by S now who Packages p is hidden = absurd is

@@ -1,10 +1,10 @@
 -- What the registry and the registry without a package say to an action that isn't about the
 -- package.
-use Rattle.std.proofs.Common.{◌≡◌, ℕ, Bool, true, false, not, ◌&&◌, ◌||◌, refl, sym, ap, ap₂, ◌∙◌, true≢false, Some, None, Option, option_map, List, [], ◌∷◌, is_some, is_none, filter, if◌then◌else◌}
+use Rattle.std.proofs.Common.{◌≡◌, ℕ, Bool, true, false, not, ◌&&◌, ◌||◌, refl, sym, ap, ap₂, ◌∙◌, true≢false, Some, None, Option, option_map, List, [], ◌∷◌, is_some, is_none, filter, map, if◌then◌else◌}
 use Rattle.std.specs.List.{list_any}
 use Rattle.std.specs.Option.{option_or}
 use Rattle.registry_names.specs.Keys.{Pair}
-use Rattle.registry_names.specs.Maps.{at, entries}
+use Rattle.registry_names.specs.Maps.{at, entries, keys}
 use Rattle.registry_names.specs.Names.{scope_of}
 use Rattle.registry_names.specs.Tags.{latest}
 use Rattle.registry_names.specs.Texts.{Text, is}
@@ -26,12 +26,12 @@ use Rattle.registry_publish.specs.Form.{FormParts}
 use Rattle.registry_rules.specs.Actions.{is_command, names_package, version_of}
 use Rattle.registry_rules.specs.Callers.{is_known}
 use Rattle.registry_rules.specs.Permissions.{permission}
-use Rattle.registry_rules.specs.Refusals.{grant_refusal, is_restricted, publish_refusal, refuse, refusal_by, state_refusal, tag_refusal, unless_allowed, unless_there, withdraw_refusal}
+use Rattle.registry_rules.specs.Refusals.{grant_refusal, is_restricted, publish_refusal, refuse, refusal_by, state_refusal, tag_refusal, unless_allowed, unless_there, withdraw_all_refusal, withdraw_refusal}
 use Rattle.registry_rules.specs.State.{State, Release, Withdrawal, asked_version, has_live, has_maintainer, has_other_maintainer, has_team, is_empty, is_live, lives}
-use Rattle.registry_rules.specs.Withdrawals.{is_depended, is_less_than_a_day_ago, is_need_of, is_too_old, is_waiting, last_of, needs_in, published_at}
+use Rattle.registry_rules.specs.Withdrawals.{is_any_depended, is_depended, is_less_than_a_day_ago, is_need_of, is_too_old, is_waiting, last_of, live_since, live_versions, needs_in, published_at, versions_in}
 use Rattle.registry_rules.specs.declared.request.Action.{Action}
 use Rattle.registry_rules.specs.declared.request.Action.TheVariants as command
-use Rattle.registry_rules.specs.declared.request.Action.TheVariants.{OrgSet, OrgRemove, TeamCreate, TeamDestroy, TeamAdd, TeamRemove, Revoke, SetAccess, OwnerAdd, OwnerRemove, Publish, TagSet, TagRemove, Withdraw, Deprecate, Packument, VersionDoc, Archive, Tags, Members, Teams, TeamMembers, TeamPackages, Maintainers}
+use Rattle.registry_rules.specs.declared.request.Action.TheVariants.{OrgSet, OrgRemove, TeamCreate, TeamDestroy, TeamAdd, TeamRemove, Revoke, SetAccess, OwnerAdd, OwnerRemove, Publish, TagSet, TagRemove, Withdraw, WithdrawAll, Deprecate, Packument, VersionDoc, Archive, Tags, Members, Teams, TeamMembers, TeamPackages, Maintainers, OrgPackages}
 use Rattle.registry_rules.specs.declared.request.Asked.{Asked}
 use Rattle.registry_rules.specs.declared.request.Asked.TheVariants.{Exact, Latest}
 use Rattle.registry_rules.proofs.AllowedFacts.{policy_passed, state_passed}
@@ -44,6 +44,7 @@ use Rattle.registry_laws_hidden.proofs.Subjects.{concerns}
 
 abbrev pub withdraws_another : Action → Text → Bool
 withdraws_another (Withdraw q v) p = not (is q p)
+withdraws_another (WithdrawAll q) p = not (is q p)
 withdraws_another _ p = false
 
 -- ---- the policy
@@ -59,7 +60,7 @@ same_in_team A p (User u) o t = refl
 same_in_team A p Anonymous o t = refl
 
 module _ (A : Access) (p q : Text) (other : is q p ≡ false) where
-  same_maintainer : (who : Caller) → is_maintainer (access.access_without A p) who q ≡ is_maintainer A who q
+  pub same_maintainer : (who : Caller) → is_maintainer (access.access_without A p) who q ≡ is_maintainer A who q
   same_maintainer Operator = refl
   same_maintainer (User u) = ap is_some (at_other p q other A.maintainers u)
   same_maintainer Anonymous = refl
@@ -97,6 +98,7 @@ permission_other A who (Publish f) p other = ap (may_publish who (is_some (scope
 permission_other A who (TagSet q t v) p other = ap (may_write who) (position_other A p q other who)
 permission_other A who (TagRemove q t) p other = ap (may_write who) (position_other A p q other who)
 permission_other A who (Withdraw q v) p other = ap (may_write who) (position_other A p q other who)
+permission_other A who (WithdrawAll q) p other = ap (may_write who) (position_other A p q other who)
 permission_other A who (Deprecate q selector message) p other = ap (may_write who) (position_other A p q other who)
 permission_other A who (Packument q) p other = ap may_read (position_other A p q other who)
 permission_other A who (VersionDoc q asked) p other = ap may_read (position_other A p q other who)
@@ -106,6 +108,7 @@ permission_other A who (Maintainers q) p other = ap may_read (position_other A p
 permission_other A who (Members o) p other = ap (may_see_organisation who (has_organisation A o)) (same_role A p who o)
 permission_other A who (Teams o) p other = ap (may_see_organisation who (has_organisation A o)) (same_role A p who o)
 permission_other A who (TeamMembers o t) p other = ap (may_see_organisation who (has_organisation A o)) (same_role A p who o)
+permission_other A who (OrgPackages o) p other = ap (may_see_organisation who (has_organisation A o)) (same_role A p who o)
 permission_other A who (TeamPackages o t) p other = ap (may_see_organisation who (has_organisation A o)) (same_role A p who o)
 permission_other A who _ p other = refl
 
@@ -159,6 +162,7 @@ state_other S now (Publish f) p other apart = same_publish_refusal S now f p oth
 state_other S now (TagSet q t v) p other apart = ap unless_there (same_live S p q other (text_of_version v))
 state_other S now (TagRemove q t) p other apart = ap (λ o. tag_refusal (is_some o) t) (at_other p q other S.tags t)
 state_other S now (Withdraw q v) p other apart = absurd (true≢false (sym (ap not other) ∙ apart))
+state_other S now (WithdrawAll q) p other apart = absurd (true≢false (sym (ap not other) ∙ apart))
 state_other S now (Packument q) p other apart = ap unless_there (same_has_live S p q other)
 state_other S now (VersionDoc q asked) p other apart = ap unless_there (ap (lives (state_without S p) q) (same_asked S p q other asked) ∙ same_lives S p q other (asked_version S q asked))
 state_other S now (Archive q v) p other apart = ap unless_there (same_live S p q other (text_of_version v))
@@ -224,8 +228,49 @@ withdrawal_accepted S now who q v p other may =
     (ap (λ o. withdraw_refusal now o (is_depended (state_without S p) q v)) (same_published_at S p q other (text_of_version v))
     ∙ withdrawn_more now (published_at S q (text_of_version v)) (is_depended S q v) (is_depended (state_without S p) q v) (needed_more S p q v) (state_passed S now who (Withdraw q v) may))
 
+-- the same of all live versions
+
+any_more : {X : Type 0} (f g : X → Bool) → ((x : X) → f x ≡ true → g x ≡ true) → (xs : List X) → list_any f xs ≡ true → list_any g xs ≡ true
+any_more f g more [] h = h
+any_more f g more (x ∷ xs) h = by_first (f x) refl (any_more f g more xs) h
+  where
+    by_first : (b : Bool) → f x ≡ b → (list_any f xs ≡ true → list_any g xs ≡ true) → (b || list_any f xs) ≡ true → (g x || list_any g xs) ≡ true
+    by_first true e rest h = ap (λ c. c || list_any g xs) (more x e)
+    by_first false e rest h = or_right (g x) (list_any g xs) (rest h)
+
+whole_more : (now : ℕ) (live : List (Text × ℕ)) (needed less : Bool) → (less ≡ true → needed ≡ true) → withdraw_all_refusal now live needed ≡ None → withdraw_all_refusal now live less ≡ None
+whole_more now live needed less more may = by_reasons (is_empty live) (list_any (λ (e : Text × ℕ). is_too_old now e.1) live) less needed more may
+  where
+    by_reasons : (empty old less needed : Bool) → (less ≡ true → needed ≡ true) → refuse empty NotFound (refuse old TooLate (refuse needed Depended None)) ≡ None
+        → refuse empty NotFound (refuse old TooLate (refuse less Depended None)) ≡ None
+    by_reasons true old less needed more may = absurd cc
+    by_reasons false true less needed more may = absurd cc
+    by_reasons false false true true more may = may
+    by_reasons false false true false more may = absurd (true≢false (sym (more refl)))
+    by_reasons false false false needed more may = refl
+
+module _ (S : State) (p q : Text) (other : is q p ≡ false) where
+  pub same_live_since : live_since (state_without S p) q ≡ live_since S q
+  same_live_since = ap (map (λ (e : Text × Release). (e.0, e.1.at))) (of_other p q other S.live)
+
+  pub same_live_parts : versions_in (live_versions (state_without S p) q) ≡ versions_in (live_versions S q)
+  same_live_parts = ap (λ (es : List (Text × Release)). versions_in (keys es)) (of_other p q other S.live)
+
+  any_needed_more : is_any_depended (state_without S p) q ≡ true → is_any_depended S q ≡ true
+  any_needed_more h =
+      any_more (is_depended (state_without S p) q) (is_depended S q) (λ v. needed_more S p q v) (versions_in (live_versions S q))
+      (ap (list_any (is_depended (state_without S p) q)) (sym same_live_parts) ∙ h)
+
+  whole_accepted : (now : ℕ) (who : Caller) → refusal_by S now who (WithdrawAll q) ≡ None → refusal_by (state_without S p) now who (WithdrawAll q) ≡ None
+  whole_accepted now who may =
+      none_of_both _ _
+      (ap unless_allowed (permission_other S.access who (WithdrawAll q) p other) ∙ policy_passed S now who (WithdrawAll q) may)
+      (ap (λ live. withdraw_all_refusal now live (is_any_depended (state_without S p) q)) same_live_since
+      ∙ whole_more now (live_since S q) (is_any_depended S q) (is_any_depended (state_without S p) q) any_needed_more (state_passed S now who (WithdrawAll q) may))
+
 others_accepted : (S : State) (now : ℕ) (who : Caller) (what : Action) (p : Text) → concerns what p ≡ false → refusal_by S now who what ≡ None → refusal_by (state_without S p) now who what ≡ None
 others_accepted S now who (Withdraw q v) p other may = withdrawal_accepted S now who q v p other may
+others_accepted S now who (WithdrawAll q) p other may = whole_accepted S p q other now who may
 others_accepted S now who what p other may = refusal_other S now who what p other refl ∙ may
 
 pub others_are_accepted : OthersAreAccepted

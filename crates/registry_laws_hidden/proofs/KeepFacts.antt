@@ -1,8 +1,9 @@
 -- What a change of a map leaves of the entries whose keys pass a test.
-use Rattle.std.proofs.Common.{◌≡◌, Bool, true, false, cond, refl, sym, ap, ◌∙◌, true≢false, Ordering, Some, None, Option}
+use Rattle.std.proofs.Common.{◌≡◌, Bool, true, false, cond, not, filter, refl, sym, ap, ◌∙◌, true≢false, Ordering, Some, None, Option}
 use Rattle.registry_names.specs.Keys.{IsKey}
-use Rattle.registry_names.specs.Maps.{MapBy, at, put, erase, keep}
-use Rattle.registry_names.proofs.KeyFacts.{same_true}
+use Rattle.registry_names.specs.Maps.{MapBy, at, put, entries, erase, keep}
+use Rattle.registry_names.proofs.EntryFacts.{entries-keep}
+use Rattle.registry_names.proofs.KeyFacts.{same_sym, same_true}
 use Rattle.registry_names.proofs.MapFacts.{at-put, at-erase, at-keep, same_map}
 
 -- of two keys one passes a test alone
@@ -83,6 +84,17 @@ module _ {K X : Type 0} {cmp : K → K → Ordering} {same : K → K → Bool} (
       over : (b : Bool) (o : Option X) → cond b None (cond b (Some x) o) ≡ cond b None o
       over true o = refl
       over false o = refl
+
+  erase_kept : (p : K) → erase m p ≡ keep m (λ k. not (same k p))
+  erase_kept p = same_map key _ _ (λ k. at-erase key m p k ∙ ap (λ b. cond b None (at m k)) (same_sym key p k) ∙ other (same k p) (at m k) ∙ sym (at-keep key m (λ j. not (same j p)) k))
+    where
+      other : (b : Bool) (o : Option X) → cond b None o ≡ cond (not b) o None
+      other true o = refl
+      other false o = refl
+
+  -- the entries under the other keys
+  pub entries-erase : (p : K) → entries (erase m p) ≡ filter (λ (e : K × X). not (same e.0 p)) (entries m)
+  entries-erase p = ap entries (erase_kept p) ∙ entries-keep key m (λ k. not (same k p))
 
   pub erase_twice : (p : K) → erase (erase m p) p ≡ erase m p
   erase_twice p = same_map key _ _ (λ k. at-erase key (erase m p) p k ∙ ap (cond (same p k) None) (at-erase key m p k) ∙ over (same p k) (at m k) ∙ sym (at-erase key m p k))

@@ -13,7 +13,7 @@ use Rattle.registry_rules.specs.State.{State}
 use Rattle.registry_rules.specs.declared.reply.Reply.{Reply}
 use Rattle.registry_rules.specs.declared.request.Action.{Action}
 use Rattle.registry_rules.specs.declared.request.Action.TheVariants as command
-use Rattle.registry_rules.specs.declared.request.Action.TheVariants.{UserAdd, TokenAdd, TokenRemove, TokensRemove, OrgCreate, OrgSet, OrgRemove, TeamCreate, TeamDestroy, TeamAdd, TeamRemove, Revoke, SetAccess, OwnerAdd, OwnerRemove, Publish, TagSet, TagRemove, Withdraw, Deprecate, Packument, VersionDoc, Archive, Tags, Members, Teams, TeamMembers, TeamPackages, WhoAmI, Maintainers, Users, Organisations, Packages}
+use Rattle.registry_rules.specs.declared.request.Action.TheVariants.{UserAdd, TokenAdd, TokenRemove, TokensRemove, OrgCreate, OrgSet, OrgRemove, TeamCreate, TeamDestroy, TeamAdd, TeamRemove, Revoke, SetAccess, OwnerAdd, OwnerRemove, Publish, TagSet, TagRemove, Withdraw, WithdrawAll, Deprecate, Packument, VersionDoc, Archive, Tags, Members, Teams, TeamMembers, TeamPackages, WhoAmI, Maintainers, OrgPackages, MyPackages, Users, Organisations, Packages}
 use Rattle.registry_rules.specs.declared.request.Credential.{Credential}
 use Rattle.registry_rules.specs.declared.request.Request.{Request}
 use Rattle.registry_laws_history.specs.Answers.{answer, reply, reply_to, unless_refused}
@@ -73,6 +73,7 @@ accepted_reply S who (Publish f) = refl
 accepted_reply S who (TagSet q t v) = refl
 accepted_reply S who (TagRemove q t) = refl
 accepted_reply S who (Withdraw q v) = refl
+accepted_reply S who (WithdrawAll q) = refl
 accepted_reply S who (Deprecate q selector message) = refl
 accepted_reply S who (Packument q) = refl
 accepted_reply S who (VersionDoc q asked) = refl
@@ -84,6 +85,8 @@ accepted_reply S who (TeamMembers o t) = refl
 accepted_reply S who (TeamPackages o t) = refl
 accepted_reply S who WhoAmI = refl
 accepted_reply S who (Maintainers q) = refl
+accepted_reply S who (OrgPackages o) = refl
+accepted_reply S who MyPackages = refl
 accepted_reply S who Users = refl
 accepted_reply S who Organisations = refl
 accepted_reply S who Packages = refl

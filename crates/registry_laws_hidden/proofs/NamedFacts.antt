@@ -1,5 +1,5 @@
 -- A command that names a package leaves the registry without the package as it was.
-use Rattle.std.proofs.Common.{◌≡◌, ℕ, Bool, true, false, cond, not, ◌&&◌, ◌||◌, refl, sym, ap, ◌∙◌, true≢false, Some, None, Option, List}
+use Rattle.std.proofs.Common.{◌≡◌, ℕ, Bool, true, false, cond, not, ◌&&◌, ◌||◌, refl, sym, ap, ◌∙◌, true≢false, Some, None, Option, option_map, List}
 use Rattle.registry_names.specs.Greatest.{greatest}
 use Rattle.registry_names.specs.Keys.{Pair, Triple}
 use Rattle.registry_names.specs.Maps.{TextMap, PairMap, TripleMap, among, at, put, erase, keep}
@@ -18,13 +18,14 @@ use Rattle.registry_publish.specs.Form.{FormParts}
 use Rattle.registry_rules.specs.Actions.{names_package, version_of}
 use Rattle.registry_rules.specs.Changes.{release_of}
 use Rattle.registry_rules.specs.Effects.{step_by}
-use Rattle.registry_rules.specs.State.{State, Release, developers, has_maintainer, stands}
+use Rattle.registry_rules.specs.State.{State, Release, developers, has_maintainer, is_live, stands}
 use Rattle.registry_rules.specs.Withdrawals.{live_versions, others, selected, tags_of}
 use Rattle.registry_rules.specs.declared.request.Action.{Action}
 use Rattle.registry_rules.specs.declared.request.Action.TheVariants as command
-use Rattle.registry_rules.specs.declared.request.Action.TheVariants.{Revoke, SetAccess, OwnerAdd, OwnerRemove, Publish, TagSet, TagRemove, Withdraw, Deprecate}
+use Rattle.registry_rules.specs.declared.request.Action.TheVariants.{Revoke, SetAccess, OwnerAdd, OwnerRemove, Publish, TagSet, TagRemove, Withdraw, WithdrawAll, Deprecate}
 use Rattle.registry_rules.proofs.MadeFacts.{latest_put}
 use Rattle.registry_rules.proofs.PublishedFacts.{statuses_after, granted_first, grants_after, maintained_first, maintainers_after, status_of}
+use Rattle.registry_rules.proofs.WholeFacts.{moments_at, since_when, whole_left, whole_live, whole_spent, whole_tags}
 use Rattle.registry_rules.proofs.WithdrawnFacts.{at-freed, at-marked, freed_tags, freed_value, marked_all, marked_value}
 use Rattle.registry_laws_history.proofs.LeftFacts.{left_by, left_is, joined, taken}
 use Rattle.registry_laws_hidden.specs.Without.{of_others, state_without}
@@ -105,6 +106,18 @@ taken_gone S now p q v named (Some r) =
     let tags = freed_gone p q named S.tags (greatest (others (live_versions S q) v)) (tags_of S q v) in
     λ i. record (state_without S p) { live = live i; spent = spent i; tags = tags i }
 
+whole_gone : (S : State) (now : ℕ) (p q : Text) → is q p ≡ true → state_without (whole_left S now q) p ≡ state_without S p
+whole_gone S now p q named =
+    let T : State = whole_left S now q in
+    let live = keep_alike pair_key (other_pair p) T.live S.live (λ k passed.
+    whole_live S now q k.0 k.1 ∙ ap (λ b. cond b None (at S.live k)) (unlike p q named k.0 passed (is q k.0) refl)) in
+    let spent = keep_alike pair_key (other_pair p) T.spent S.spent (λ k passed.
+    whole_spent S now q k.0 k.1
+    ∙ ap (λ b. cond (b && is_live S q k.1) (option_map (moments_at now) (since_when S now q k.1)) (at S.spent k)) (unlike p q named k.0 passed (is q k.0) refl)) in
+    let tags = keep_alike pair_key (other_pair p) T.tags S.tags (λ k passed.
+    whole_tags S now q k.0 k.1 ∙ ap (λ b. cond b None (at S.tags k)) (unlike p q named k.0 passed (is q k.0) refl)) in
+    λ i. record (state_without S p) { live = live i; spent = spent i; tags = tags i }
+
 published_gone : (S : State) (now : ℕ) (who : Caller) (f : FormParts) (p : Text) → is f.name p ≡ true → state_without (left_by S now who (Publish f)) p ≡ state_without S p
 published_gone S now who f p named =
     let old = at S.access.statuses f.name in
@@ -131,6 +144,7 @@ left_gone S now who (Publish f) p named = published_gone S now who f p named
 left_gone S now who (TagSet q t v) p named = ap (λ m. record (state_without S p) { tags = m }) (put_gone p q named S.tags t (text_of_version v))
 left_gone S now who (TagRemove q t) p named = ap (λ m. record (state_without S p) { tags = m }) (erase_gone p q named S.tags t)
 left_gone S now who (Withdraw q v) p named = taken_gone S now p q (text_of_version v) named (at S.live (q, text_of_version v))
+left_gone S now who (WithdrawAll q) p named = whole_gone S now p q named
 left_gone S now who (Deprecate q selector message) p named =
     ap (λ m. record (state_without S p) { live = m }) (marked_gone p q named S.live message (selected (live_versions S q) selector))
 left_gone S now who _ p named = absurd (true≢false (sym named))

@@ -1,6 +1,6 @@
 -- A command that doesn't name a package makes of the registry without the package what it makes of
 -- the registry.
-use Rattle.std.proofs.Common.{◌≡◌, ℕ, Bool, true, false, cond, not, ◌&&◌, ◌||◌, refl, sym, ap, ap₂, ◌∙◌, Some, None, Option, List, is_some, filter}
+use Rattle.std.proofs.Common.{◌≡◌, ℕ, Bool, true, false, cond, not, ◌&&◌, ◌||◌, refl, sym, ap, ap₂, ◌∙◌, Some, None, Option, option_map, true≢false, List, is_some, filter}
 use Rattle.registry_names.specs.Greatest.{greatest}
 use Rattle.registry_names.specs.Maps.{TextMap, PairMap, TripleMap, among, at, put, erase, keep, keys, of}
 use Rattle.registry_names.specs.Names.{scope_of}
@@ -8,7 +8,7 @@ use Rattle.registry_names.specs.Tags.{latest}
 use Rattle.registry_names.specs.Texts.{Text, is}
 use Rattle.registry_names.specs.Versions.{text_of_version}
 use Rattle.registry_names.specs.declared.status.Status.{Status}
-use Rattle.registry_names.proofs.KeyFacts.{text_key, pair_key, triple_key}
+use Rattle.registry_names.proofs.KeyFacts.{text_key, pair_key, triple_key, same_true}
 use Rattle.registry_names.proofs.MapFacts.{at-erase_other, at-keep, same_map}
 use Rattle.registry_names.proofs.PartFacts.{same_part}
 use Rattle.registry_names.proofs.TextFacts.{is_sym}
@@ -22,13 +22,14 @@ use Rattle.registry_ranges.specs.Selectors.{Condition}
 use Rattle.registry_rules.specs.Actions.{names_package, version_of}
 use Rattle.registry_rules.specs.Changes.{release_of}
 use Rattle.registry_rules.specs.Effects.{new_status, step_by}
-use Rattle.registry_rules.specs.State.{State, Release, developers, has_maintainer, stands}
+use Rattle.registry_rules.specs.State.{State, Release, Withdrawal, developers, has_maintainer, is_live, stands}
 use Rattle.registry_rules.specs.Withdrawals.{live_versions, others, selected, tags_of}
 use Rattle.registry_rules.specs.declared.request.Action.{Action}
 use Rattle.registry_rules.specs.declared.request.Action.TheVariants as command
-use Rattle.registry_rules.specs.declared.request.Action.TheVariants.{TeamDestroy, Revoke, SetAccess, OwnerAdd, OwnerRemove, Publish, TagSet, TagRemove, Withdraw, Deprecate}
+use Rattle.registry_rules.specs.declared.request.Action.TheVariants.{TeamDestroy, Revoke, SetAccess, OwnerAdd, OwnerRemove, Publish, TagSet, TagRemove, Withdraw, WithdrawAll, Deprecate}
 use Rattle.registry_rules.proofs.MadeFacts.{latest_put}
 use Rattle.registry_rules.proofs.PublishedFacts.{access_after, statuses_after, granted_first, grants_after, maintained_first, maintainers_after}
+use Rattle.registry_rules.proofs.WholeFacts.{moments_at, since_when, whole_left, whole_live, whole_spent, whole_tags}
 use Rattle.registry_rules.proofs.WithdrawnFacts.{at-freed, at-marked, freed_tags, freed_value, marked_all, marked_value}
 use Rattle.registry_laws_history.proofs.LeftFacts.{left_by, left_is, joined, taken}
 use Rattle.registry_laws_hidden.specs.Without.{of_others, state_without}
@@ -154,6 +155,43 @@ taken_alike S now p q v other (Some r) =
     let tags = ap₂ (freed_tags (of_others S.tags p) q) next named ∙ freed_alike p q other S.tags (greatest (others (live_versions S q) v)) (tags_of S q v) in
     λ i. record (state_without S p) { live = live i; spent = spent i; tags = tags i }
 
+-- a package's entries go, and are kept or not
+gone_alike : {X : Type 0} (here stays : Bool) (old : Option X) → cond here None (cond stays old None) ≡ cond stays (cond here None old) None
+gone_alike true true old = refl
+gone_alike true false old = refl
+gone_alike false stays old = refl
+
+-- what was put is of another package
+put_alike : {X : Type 0} (here stays : Bool) (new old : Option X) → (here ≡ true → stays ≡ true) → cond here new (cond stays old None) ≡ cond stays (cond here new old) None
+put_alike true true new old kept = refl
+put_alike true false new old kept = absurd (true≢false (sym (kept refl)))
+put_alike false stays new old kept = refl
+
+first_of : (a b : Bool) → (a && b) ≡ true → a ≡ true
+first_of true b e = refl
+first_of false b e = e
+
+whole_alike : (S : State) (now : ℕ) (p q : Text) → is q p ≡ false → whole_left (state_without S p) now q ≡ state_without (whole_left S now q) p
+whole_alike S now p q other =
+    let R : State = state_without S p in
+    let T : State = whole_left S now q in
+    let lives = λ (u : Text). at_other p q other S.live u in
+    let live = same_map pair_key _ _ (λ k.
+    whole_live R now q k.0 k.1 ∙ ap (λ (o : Option Release). cond (is q k.0) None o) (at-keep pair_key S.live (other_pair p) k)
+    ∙ gone_alike (is q k.0) (other_pair p k) (at S.live k)
+    ∙ sym (at-keep pair_key T.live (other_pair p) k ∙ ap (λ (o : Option Release). cond (other_pair p k) o None) (whole_live S now q k.0 k.1))) in
+    let spent = same_map pair_key _ _ (λ k.
+    whole_spent R now q k.0 k.1
+    ∙ ap₂ (λ (o : Option Release) (old : Option Withdrawal). cond (is q k.0 && is_some o) (option_map (moments_at now) (option_map (λ (r : Release). r.at) o)) old) (lives k.1) (at-keep pair_key S.spent (other_pair p) k)
+    ∙ put_alike (is q k.0 && is_live S q k.1) (other_pair p k) (option_map (moments_at now) (since_when S now q k.1)) (at S.spent k)
+    (λ here. ap not (ap (λ r. is r p) (sym (same_true text_key q k.0 (first_of (is q k.0) (is_live S q k.1) here))) ∙ other))
+    ∙ sym (at-keep pair_key T.spent (other_pair p) k ∙ ap (λ (o : Option Withdrawal). cond (other_pair p k) o None) (whole_spent S now q k.0 k.1))) in
+    let tags = same_map pair_key _ _ (λ k.
+    whole_tags R now q k.0 k.1 ∙ ap (λ (o : Option Text). cond (is q k.0) None o) (at-keep pair_key S.tags (other_pair p) k)
+    ∙ gone_alike (is q k.0) (other_pair p k) (at S.tags k)
+    ∙ sym (at-keep pair_key T.tags (other_pair p) k ∙ ap (λ (o : Option Text). cond (other_pair p k) o None) (whole_tags S now q k.0 k.1))) in
+    λ i. record R { live = live i; spent = spent i; tags = tags i }
+
 deprecated_alike : (S : State) (p q message : Text) (selector : List (List Condition)) → is q p ≡ false
     → marked_all (of_others S.live p) q message (selected (live_versions (state_without S p) q) selector) ≡ of_others (marked_all S.live q message (selected (live_versions S q) selector)) p
 deprecated_alike S p q message selector other =
@@ -180,6 +218,7 @@ left_alike S now who (TagSet q t v) p other = ap (λ m. record (state_without S 
 left_alike S now who (TagRemove q t) p other = ap (λ m. record (state_without S p) { tags = m }) (pair_erased p q other S.tags t)
 left_alike S now who (Withdraw q v) p other =
     ap (taken (state_without S p) now q (text_of_version v)) (at_other p q other S.live (text_of_version v)) ∙ taken_alike S now p q (text_of_version v) other (at S.live (q, text_of_version v))
+left_alike S now who (WithdrawAll q) p other = whole_alike S now p q other
 left_alike S now who (Deprecate q selector message) p other = ap (λ m. record (state_without S p) { live = m }) (deprecated_alike S p q message selector other)
 left_alike S now who _ p other = refl
 

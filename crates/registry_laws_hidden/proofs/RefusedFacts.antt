@@ -29,7 +29,7 @@ use Rattle.registry_rules.specs.Refusals.{grant_refusal, is_scope, refuse, refus
 use Rattle.registry_rules.specs.State.{State, has_grant, has_team, is_published}
 use Rattle.registry_rules.specs.declared.request.Action.{Action}
 use Rattle.registry_rules.specs.declared.request.Action.TheVariants as command
-use Rattle.registry_rules.specs.declared.request.Action.TheVariants.{Revoke, SetAccess, OwnerAdd, OwnerRemove, Publish, TagSet, TagRemove, Withdraw, Deprecate, Packument, VersionDoc, Archive, Tags, Maintainers}
+use Rattle.registry_rules.specs.declared.request.Action.TheVariants.{Revoke, SetAccess, OwnerAdd, OwnerRemove, Publish, TagSet, TagRemove, Withdraw, WithdrawAll, Deprecate, Packument, VersionDoc, Archive, Tags, Maintainers}
 use Rattle.registry_laws_hidden.specs.Without.{state_without}
 use Rattle.registry_laws_hidden.proofs.AcceptedFacts.{same_role}
 use Rattle.registry_laws_hidden.proofs.KeepFacts.{at-unkept}
@@ -227,6 +227,8 @@ module _ (S : State) (now : ℕ) (who : Caller) (p o : Text) (sound : IsSound S.
       refused_both S (state_without S p) now who (TagRemove q t) (unread who) (unwritten S now who p nothing q here (state_refusal S now (TagRemove q t)) (state_refusal (state_without S p) now (TagRemove q t)))
   concerned_refused (Withdraw q v) here nothing stranger =
       refused_both S (state_without S p) now who (Withdraw q v) (unread who) (unwritten S now who p nothing q here (state_refusal S now (Withdraw q v)) (state_refusal (state_without S p) now (Withdraw q v)))
+  concerned_refused (WithdrawAll q) here nothing stranger =
+      refused_both S (state_without S p) now who (WithdrawAll q) (unread who) (unwritten S now who p nothing q here (state_refusal S now (WithdrawAll q)) (state_refusal (state_without S p) now (WithdrawAll q)))
   concerned_refused (Deprecate q selector message) here nothing stranger =
       refused_both S (state_without S p) now who (Deprecate q selector message) (unread who) (unwritten S now who p nothing q here (state_refusal S now (Deprecate q selector message)) (state_refusal (state_without S p) now (Deprecate q selector message)))
   concerned_refused (Packument q) here nothing stranger =

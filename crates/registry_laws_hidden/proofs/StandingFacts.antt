@@ -28,7 +28,7 @@ use Rattle.registry_rules.specs.Laws.{IsApart}
 use Rattle.registry_rules.specs.Refusals.{refusal_by, unless_allowed}
 use Rattle.registry_rules.specs.State.{State, developers, is_in_team}
 use Rattle.registry_rules.specs.declared.request.Action.{Action}
-use Rattle.registry_rules.specs.declared.request.Action.TheVariants.{OrgCreate, OrgSet, OrgRemove, TeamDestroy, TeamAdd, TeamRemove, Packument, VersionDoc, Archive, Tags}
+use Rattle.registry_rules.specs.declared.request.Action.TheVariants.{OrgCreate, OrgSet, OrgRemove, TeamDestroy, TeamAdd, TeamRemove, Packument, VersionDoc, Archive, Tags, Maintainers}
 use Rattle.registry_rules.proofs.AllowedFacts.{policy_passed}
 use Rattle.registry_rules.proofs.LawFacts.{commands_leave_other_packages}
 use Rattle.registry_laws_history.proofs.LeftFacts.{left_by, left_is, joined}
@@ -139,6 +139,7 @@ unnamed (Packument q) p other = refl
 unnamed (VersionDoc q asked) p other = refl
 unnamed (Archive q v) p other = refl
 unnamed (Tags q) p other = refl
+unnamed (Maintainers q) p other = refl
 unnamed _ p other = other
 
 role_in : (A B : Access) (who : Caller) (o : Text) (s : Option Text) → s ≡ Some o → role_of A who o ≡ role_of B who o → scope_role A who s ≡ scope_role B who s

@@ -18,11 +18,11 @@ use Rattle.registry_access.specs.declared.grant.Grant.{Grant}
 use Rattle.registry_access.specs.declared.levels.Level.TheVariants.{Nothing}
 use Rattle.registry_access.proofs.LevelFacts.{never_published}
 use Rattle.registry_rules.specs.Callers.{caller_of}
-use Rattle.registry_rules.specs.Refusals.{refusal_by, refusal_for}
+use Rattle.registry_rules.specs.Refusals.{refusal, refusal_by, refusal_for}
 use Rattle.registry_rules.specs.State.{State}
-use Rattle.registry_rules.specs.declared.reply.Reply.TheVariants.{Created, Done, Refused}
+use Rattle.registry_rules.specs.declared.reply.Reply.TheVariants.{Created, Refused}
 use Rattle.registry_rules.specs.declared.request.Action.{Action}
-use Rattle.registry_rules.specs.declared.request.Action.TheVariants.{Publish, Withdraw, Packages}
+use Rattle.registry_rules.specs.declared.request.Action.TheVariants.{Publish, Withdraw, WithdrawAll, Packages}
 use Rattle.registry_rules.specs.declared.request.Credential.{Credential}
 use Rattle.registry_rules.specs.declared.request.Credential.TheVariants as credential
 use Rattle.registry_rules.specs.declared.request.Request.{Request}
@@ -154,6 +154,7 @@ module _ (S : State) (who : Caller) (p : Text) (rests : Rests S) (nothing : leve
 -- why a request that shows the package is refused, but the list of all packages
 abbrev pub why_shown : Action → Refusal
 why_shown (Withdraw q v) = Depended
+why_shown (WithdrawAll q) = Depended
 why_shown _ = Denied A6
 
 left_of : (a : Bool) → (a || false) ≡ true → a ≡ true
@@ -162,6 +163,7 @@ left_of false e = e
 
 pub shown_is : (S : State) (now : ℕ) (who : Caller) (what : Action) (p : Text) → Rests S → level_in S.access who p ≡ Nothing → is_listed S who what p ≡ false → shows S now who what p ≡ true → refusal_by S now who what ≡ Some (why_shown what)
 shown_is S now who (Withdraw q v) p rests nothing unlisted shown = (kept_is S now who (Withdraw q v) p (left_of (is_kept_by S now who (Withdraw q v) p) shown)).0
+shown_is S now who (WithdrawAll q) p rests nothing unlisted shown = (kept_is S now who (WithdrawAll q) p (left_of (is_kept_by S now who (WithdrawAll q) p) shown)).0
 shown_is S now who (Publish f) p rests nothing unlisted shown = (taken_is S now who f p rests.sound (left_of (is_taken S who (Publish f) p) shown) nothing).0
 shown_is S now who Packages p rests nothing unlisted shown = absurd (true≢false (sym shown ∙ unlisted))
 shown_is S now who _ p rests nothing unlisted shown = absurd (true≢false (sym shown))
@@ -193,21 +195,16 @@ replies_are_alike h p r legal stranger hides = unheard (after h) p (histories_re
 
 -- ---- the two that show that it is there
 
-kept_done : (S : State) (now : ℕ) (who : Caller) (what : Action) (p : Text) → is_kept_by S now who what p ≡ true
-    → (unless_refused (refusal_by S now who what) (reply S who what) ≡ Refused Depended) × (unless_refused (refusal_by (state_without S p) now who what) (reply (state_without S p) who what) ≡ Done)
-kept_done S now who (Withdraw q v) p kept =
-    let both = kept_is S now who (Withdraw q v) p kept in
-    (ap (λ x. unless_refused x Done) both.0, ap (λ x. unless_refused x Done) both.1)
-kept_done S now who _ p kept = absurd (true≢false (sym kept))
-
 pub kept_is_depended : KeptIsDepended
 kept_is_depended h p r legal kept = by (caller_of (after h) r.who) refl kept
   where
-    by : (o : Option Caller) → caller_of (after h) r.who ≡ o → keeps_from (after h) r.at o r.what p ≡ true → (answer (after h) r ≡ Refused Depended) × (answer (state_without (after h) p) r ≡ Done)
+    by : (o : Option Caller) → caller_of (after h) r.who ≡ o → keeps_from (after h) r.at o r.what p ≡ true → (answer (after h) r ≡ Refused Depended) × (refusal (state_without (after h) p) r ≡ None)
     by None known kept = absurd (true≢false (sym kept))
     by (Some who) known kept =
-        let both = kept_done (after h) r.at who r.what p kept in
-        (answer_as (after h) r (Some who) known ∙ both.0, answer_as (state_without (after h) p) r (Some who) (same_caller (after h) p r.who ∙ known) ∙ both.1)
+        let both = kept_is (after h) r.at who r.what p kept in (
+          answer_as (after h) r (Some who) known ∙ ap (λ x. unless_refused x (reply (after h) who r.what)) both.0,
+          ap (λ c. refusal_for (state_without (after h) p) r.at c r.what) (same_caller (after h) p r.who ∙ known) ∙ both.1,
+        )
 
 taken_done : (S : State) (now : ℕ) (who : Caller) (what : Action) (p : Text) → Rests S → level_in S.access who p ≡ Nothing → is_taken S who what p ≡ true
     → (unless_refused (refusal_by S now who what) (reply S who what) ≡ Refused (Denied A6)) × (unless_refused (refusal_by (state_without S p) now who what) (reply (state_without S p) who what) ≡ Created)

@@ -9,9 +9,9 @@ use Rattle.registry_access.specs.declared.levels.Level.TheVariants.{Nothing}
 use Rattle.registry_rules.specs.Actions.{is_command, names_package}
 use Rattle.registry_rules.specs.Callers.{caller_of}
 use Rattle.registry_rules.specs.Effects.{step_by}
-use Rattle.registry_rules.specs.Refusals.{refusal_by}
+use Rattle.registry_rules.specs.Refusals.{refusal, refusal_by}
 use Rattle.registry_rules.specs.State.{State}
-use Rattle.registry_rules.specs.declared.reply.Reply.TheVariants.{Created, Done, Refused}
+use Rattle.registry_rules.specs.declared.reply.Reply.TheVariants.{Created, Refused}
 use Rattle.registry_rules.specs.declared.request.Action.{Action}
 use Rattle.registry_rules.specs.declared.request.Request.{Request}
 use Rattle.registry_laws_history.specs.Answers.{answer}
@@ -64,10 +64,11 @@ RestsAreAlike = (h : List Entry) (p : Text) (r : Request) → Legal h → IsStra
 
 -- ---- the two that show the package and nothing of it
 
--- A withdrawal that the package alone keeps from being done, whoever asks
+-- a withdrawal that the package alone keeps from being done, whoever asks: without the package
+-- nothing refuses it
 abbrev pub KeptIsDepended : Type 0
 KeptIsDepended = (h : List Entry) (p : Text) (r : Request) → Legal h → is_held (after h) r p ≡ true
-    → (answer (after h) r ≡ Refused Depended) × (answer (state_without (after h) p) r ≡ Done)
+    → (answer (after h) r ≡ Refused Depended) × (refusal (state_without (after h) p) r ≡ None)
 
 -- a publish of the package by a member of its scope who doesn't read it
 abbrev pub TakenIsDenied : Type 0

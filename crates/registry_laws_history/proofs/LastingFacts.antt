@@ -10,7 +10,7 @@ use Rattle.registry_access.specs.declared.caller.Caller.{Caller}
 use Rattle.registry_rules.specs.Callers.{caller_of}
 use Rattle.registry_rules.specs.State.{State, Release, Withdrawal}
 use Rattle.registry_rules.specs.declared.request.Action.{Action}
-use Rattle.registry_rules.specs.declared.request.Action.TheVariants.{Publish, Withdraw, Deprecate}
+use Rattle.registry_rules.specs.declared.request.Action.TheVariants.{Publish, Withdraw, WithdrawAll, Deprecate}
 use Rattle.registry_rules.specs.declared.request.Request.{Request}
 use Rattle.registry_laws_history.specs.History.{Entry, Legal, after}
 use Rattle.registry_laws_history.specs.Lasting.{IsSameRelease, Lasts, LivesOrWasWithdrawn, HistoriesLast, RunsLast}
@@ -84,12 +84,14 @@ lives_more : (now : ℕ) (who : Caller) (what : Action) (h : List Entry) → Leg
 lives_more now who (Publish f) h legal k old new is same =
     inl (new, unpublished (pair_is (f.name, text_of_version f.version) k) _ (recorded h k) new (never_again now who (Publish f) h legal (f.name, text_of_version f.version) k new refl is) is, same)
 lives_more now who (Withdraw p v) h legal k old new is same = taken_or_not (pair_is (p, text_of_version v) k) now (recorded h k) (last_withdrawal h k) old new is same
+lives_more now who (WithdrawAll p) h legal k old new is same = taken_or_not (is p k.0) now (recorded h k) (last_withdrawal h k) old new is same
 lives_more now who (Deprecate p conditions message) h legal k old new here same = noted_or_not (is p k.0 && chooses conditions k.1) message (recorded h k) (last_withdrawal h k) old new here same
 lives_more now who _ h legal k old new is same = inl (new, is, same)
 
 withdrawn_more : (now : ℕ) (who : Caller) (what : Action) (h : List Entry) → Legal h → (k : Pair) (w : Withdrawal)
     → last_withdrawal h k ≡ Some w → last_withdrawal (record { at = now; who = who; what = what } ∷ h) k ≡ Some w
 withdrawn_more now who (Withdraw p v) h legal k w is = still_withdrawn (pair_is (p, text_of_version v) k) now (recorded h k) (last_withdrawal h k) w is (unrecorded h legal k w is)
+withdrawn_more now who (WithdrawAll p) h legal k w is = still_withdrawn (is p k.0) now (recorded h k) (last_withdrawal h k) w is (unrecorded h legal k w is)
 withdrawn_more now who _ h legal k w is = is
 
 -- ---- many more

@@ -16,9 +16,10 @@ use Rattle.registry_rules.specs.State.{State, Release, Withdrawal, developers, t
 use Rattle.registry_rules.specs.Withdrawals.{live_versions, others, selected, tags_of}
 use Rattle.registry_rules.specs.declared.request.Action.{Action}
 use Rattle.registry_rules.specs.declared.request.Action.TheVariants as command
-use Rattle.registry_rules.specs.declared.request.Action.TheVariants.{TokensRemove, OrgSet, TeamAdd, SetAccess, OwnerAdd, Publish, TagSet, Withdraw, Deprecate}
+use Rattle.registry_rules.specs.declared.request.Action.TheVariants.{TokensRemove, OrgSet, TeamAdd, SetAccess, OwnerAdd, Publish, TagSet, Withdraw, WithdrawAll, Deprecate}
 use Rattle.registry_rules.proofs.MadeFacts.{grant_put, role_put, status_put, tag_put}
 use Rattle.registry_rules.proofs.TokenFacts.{ended_all, ended_is}
+use Rattle.registry_rules.proofs.WholeFacts.{whole_is, whole_left}
 use Rattle.registry_rules.proofs.WithdrawnFacts.{deprecated_is, freed_tags, marked_all, withdrawal_of, withdrawn_is}
 use Rattle.registry_rules.proofs.PublishedFacts.{after_publish, published_is, status_of}
 
@@ -62,6 +63,7 @@ left_by S now who (OwnerAdd p u) = record S { access = record S.access { maintai
 left_by S now who (Publish f) = after_publish S who f.name (version_of f) f.tag (release_of f now) (status_of S f) (stands S f.name latest || is f.tag latest)
 left_by S now who (TagSet p t v) = with_tag S p t (text_of_version v)
 left_by S now who (Withdraw p v) = taken S now p (text_of_version v) (at S.live (p, text_of_version v))
+left_by S now who (WithdrawAll p) = whole_left S now p
 left_by S now who (Deprecate p conditions message) = record S { live = marked_all S.live p message (selected (live_versions S p) conditions) }
 left_by S now who what = step_by S now who what
 
@@ -91,5 +93,6 @@ left_is S now who (OwnerAdd p u) = owner_left S p u (has_maintainer S p u)
 left_is S now who (Publish f) = published_is S who f now
 left_is S now who (TagSet p t v) = tag_put S p t (text_of_version v) (stands S p t) (λ there. there)
 left_is S now who (Withdraw p v) = taken_is S now p (text_of_version v) (at S.live (p, text_of_version v))
+left_is S now who (WithdrawAll p) = whole_is S now p
 left_is S now who (Deprecate p conditions message) = deprecated_is S p message (selected (live_versions S p) conditions)
 left_is S now who what = refl

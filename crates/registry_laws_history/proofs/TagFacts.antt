@@ -1,6 +1,6 @@
 -- The tags are the history's, and name live versions; `latest` exists exactly where a version
 -- lives.
-use Rattle.std.proofs.Common.{◌≡◌, ◌⊎◌, inl, inr, ℕ, Bool, true, false, cond, ◌&&◌, ◌||◌, List, [], ◌∷◌, refl, sym, ap, ◌∙◌, subst, true≢false, Some, None, Option, is_some, is_none}
+use Rattle.std.proofs.Common.{◌≡◌, ◌⊎◌, inl, inr, ℕ, Bool, true, false, cond, ◌&&◌, ◌||◌, List, [], ◌∷◌, refl, sym, ap, ◌∙◌, subst, true≢false, Some, None, Option, is_some, is_none, if◌then◌else◌}
 use Rattle.std.proofs.lemmas.Bool.{and_from, and_right}
 use Rattle.registry_names.specs.Greatest.{greatest}
 use Rattle.registry_names.specs.Tags.{latest}
@@ -17,9 +17,10 @@ use Rattle.registry_rules.specs.State.{State, Release, nothing, is_live, stands}
 use Rattle.registry_rules.specs.Refusals.{refusal_by}
 use Rattle.registry_rules.specs.Withdrawals.{live_versions, others, selected}
 use Rattle.registry_rules.specs.declared.request.Action.{Action}
-use Rattle.registry_rules.specs.declared.request.Action.TheVariants.{Publish, TagSet, TagRemove, Withdraw, Deprecate}
+use Rattle.registry_rules.specs.declared.request.Action.TheVariants.{Publish, TagSet, TagRemove, Withdraw, WithdrawAll, Deprecate}
 use Rattle.registry_access.specs.declared.caller.Caller.{Caller}
 use Rattle.registry_rules.proofs.AllowedFacts.{is_there, isnt_kept, state_passed}
+use Rattle.registry_rules.proofs.WholeFacts.{whole_left, whole_live, whole_tags}
 use Rattle.registry_rules.proofs.WithdrawnFacts.{at-marked, freed_gone, freed_latest, freed_names, freed_value}
 use Rattle.registry_laws_history.specs.History.{Entry, Legal, after}
 use Rattle.registry_laws_history.specs.Readings.{or_before, is_named, other_tag, latest_tag, remaining, HasTags, HasVersions}
@@ -159,6 +160,45 @@ tagged_taken now who q v h S (Some r) lived has versions =
           (λ here. greatest_stands (others (live_versions S q) w) x (among_others S.live q w x ∙ same p x here ∙ lives));
     }
 
+-- a list in which nothing is, is empty
+none_among : (xs : List Text) → ((u : Text) → among is xs u ≡ false) → xs ≡ []
+none_among [] none = refl
+none_among (x ∷ xs) none = absurd (true≢false (sym (ap (λ b. b || among is xs x) (is_self x)) ∙ none x))
+
+left_tag : (b : Bool) (old : Option Text) (v : Text) → cond b None old ≡ Some v → (b ≡ false) × (old ≡ Some v)
+left_tag true old v e = cc
+left_tag false old v e = (refl, e)
+
+left_live : (b : Bool) (old : Option Release) → is_some (cond b None old) ≡ true → (b ≡ false) × (is_some old ≡ true)
+left_live true old e = absurd (true≢false (sym e))
+left_live false old e = (refl, e)
+
+latest_whole : (here : Bool) (next old said : Option Text) → (here ≡ true → next ≡ None) → old ≡ said → cond here None old ≡ (if here then next else said)
+latest_whole true next old said none same = sym (none refl)
+latest_whole false next old said none same = same
+
+-- the withdrawal of all versions of a package
+tagged_whole : (now : ℕ) (who : Caller) (q : Text) (h : List Entry) (S : State) → Tagged h S
+    → HasVersions (record { at = now; who = who; what = WithdrawAll q } ∷ h) (whole_left S now q)
+    → Tagged (record { at = now; who = who; what = WithdrawAll q } ∷ h) (whole_left S now q)
+tagged_whole now who q h S has versions =
+    let grown : List Entry = record { at = now; who = who; what = WithdrawAll q } ∷ h in
+    let gone = λ (p : Text) (u : Text). whole_live S now q p u in
+    let none_left = λ (p : Text) (here : is q p ≡ true). none_among (remaining grown p)
+    (λ u. among_remaining grown p u ∙ sym (versions.live (p, u)) ∙ ap is_some (gone p u ∙ ap (λ b. cond b None (at S.live (p, u))) here)) in
+    let still = λ (p : Text) (u : Text) (other : is q p ≡ false). gone p u ∙ ap (λ b. cond b None (at S.live (p, u))) other in
+    record {
+      newest = λ p. whole_tags S now q p latest
+          ∙ latest_whole (is q p) (greatest (remaining grown p)) _ (latest_tag h p) (λ here. ap greatest (none_left p here)) (has.newest p);
+      other = λ p t apart. whole_tags S now q p t ∙ removed_after (is q p) _ _ (has.other p t apart);
+      named = λ p t v e.
+          let old = left_tag (is q p) (at S.tags (p, t)) v (sym (whole_tags S now q p t) ∙ e) in
+          ap is_some (still p v old.0) ∙ has.named p t v old.1;
+      stands = λ p v lives.
+          let old = left_live (is q p) (at S.live (p, v)) (sym (ap is_some (gone p v)) ∙ lives) in
+          ap is_some (whole_tags S now q p latest ∙ ap (λ b. cond b None (at S.tags (p, latest))) old.0) ∙ has.stands p v old.1;
+    }
+
 tagged_step : (now : ℕ) (who : Caller) (c : Action) (h : List Entry) (S : State) → Tagged h S → refusal_by S now who c ≡ None
     → HasVersions (record { at = now; who = who; what = c } ∷ h) (left_by S now who c)
     → Tagged (record { at = now; who = who; what = c } ∷ h) (left_by S now who c)
@@ -198,6 +238,7 @@ tagged_step now who (TagRemove q u) h S has ok versions =
     }
 tagged_step now who (Withdraw q v) h S has ok versions =
     tagged_taken now who q v h S (at S.live (q, text_of_version v)) (may_withdraw S now who q v ok) has versions
+tagged_step now who (WithdrawAll q) h S has ok versions = tagged_whole now who q h S has versions
 tagged_step now who (Deprecate q conditions message) h S has ok versions =
     let vs = selected (live_versions S q) conditions in
     let same = λ (p : Text) (v : Text). ap is_some (at-marked S.live q message vs p v) ∙ marked_stands (is q p && among is vs v) message (at S.live (p, v)) in

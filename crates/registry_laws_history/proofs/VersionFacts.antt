@@ -1,5 +1,6 @@
 -- The live versions are those ever published, each as its publish recorded it.
-use Rattle.std.proofs.Common.{◌≡◌, ℕ, Bool, true, false, cond, not, ◌&&◌, ◌||◌, List, [], ◌∷◌, refl, sym, ap, ap₂, ◌∙◌, subst, true≢false, Some, None, Option, is_some, if◌then◌else◌}
+use Rattle.std.proofs.Common.{◌≡◌, ℕ, Bool, true, false, cond, not, ◌&&◌, ◌||◌, List, [], ◌∷◌, ◌++◌, refl, sym, ap, ap₂, ◌∙◌, subst, true≢false, Some, None, Option, is_some, option_map, if◌then◌else◌}
+use Rattle.std.proofs.lemmas.List.Folds.{list_any-append}
 use Rattle.registry_names.specs.Keys.{Pair, pair_is}
 use Rattle.registry_names.specs.Maps.{among, at}
 use Rattle.registry_names.specs.Texts.{Text, is}
@@ -7,6 +8,7 @@ use Rattle.registry_names.specs.Versions.{VersionParts, text_of_version}
 use Rattle.registry_names.proofs.KeyFacts.{text_key, pair_key, same_true}
 use Rattle.registry_names.proofs.MapFacts.{at-empty, at-erase, at-put}
 use Rattle.registry_names.proofs.PartFacts.{any-part}
+use Rattle.registry_names.proofs.TextFacts.{is_sym}
 use Rattle.registry_access.specs.declared.caller.Caller.{Caller}
 use Rattle.registry_rules.specs.Actions.{version_of}
 use Rattle.registry_rules.specs.Changes.{release_of}
@@ -14,12 +16,13 @@ use Rattle.registry_rules.specs.Refusals.{refusal_by}
 use Rattle.registry_rules.specs.State.{State, Release, Withdrawal}
 use Rattle.registry_rules.specs.Withdrawals.{live_versions, selected, selects}
 use Rattle.registry_rules.specs.declared.request.Action.{Action}
-use Rattle.registry_rules.specs.declared.request.Action.TheVariants.{Publish, Withdraw, Deprecate}
+use Rattle.registry_rules.specs.declared.request.Action.TheVariants.{Publish, Withdraw, WithdrawAll, Deprecate}
 use Rattle.registry_laws_history.specs.History.{Entry, Legal, after}
-use Rattle.registry_laws_history.specs.Readings.{or_before, unless_ended, published, withdrawn, recorded, last_withdrawal, moments_if, noted, HasVersions, HasRecords}
+use Rattle.registry_laws_history.specs.Readings.{or_before, unless_ended, published, withdrawn, recorded, last_withdrawal, moments_if, noted, pairs_under, HasVersions, HasRecords}
 use Rattle.registry_rules.proofs.AllowedFacts.{state_passed}
 use Rattle.registry_laws_history.proofs.LeftFacts.{left_by, left_is, taken}
 use Rattle.registry_laws_history.proofs.PublishFacts.{publish_passes, may_withdraw, at-live}
+use Rattle.registry_rules.proofs.WholeFacts.{moments_at, whole_left, whole_live, whole_spent}
 use Rattle.registry_rules.proofs.WithdrawnFacts.{among_passing, at-marked, marked_value}
 
 -- something is at a key after a put
@@ -89,6 +92,82 @@ versions_taken now who p v h S (Some r) stood lives has =
       apart = λ k. ap₂ (λ a b. a && b) (gone k) (spent k) ∙ apart_withdrawn (pair_is k0 k) _ _ (has.apart k);
     }
 
+-- ---- all versions of a package are withdrawn; `here` says that the version is of this package
+
+among_under : (ks : List Pair) (p : Text) (k : Pair) → among pair_is (pairs_under ks p) k ≡ (is p k.0 && among pair_is ks k)
+among_under [] p k = none_passes (is p k.0)
+  where
+    none_passes : (b : Bool) → false ≡ (b && false)
+    none_passes true = refl
+    none_passes false = refl
+among_under (j ∷ js) p k =
+    by_test (is j.0 p) (pairs_under js p) ∙ ap (λ b. cond (is j.0 p) (pair_is j k || b) b) (among_under js p k)
+    ∙ first_or_more (pair_is j k) (is j.0 p) (is p k.0) (among pair_is js k) (λ e. is_sym j.0 p ∙ ap (λ (i : Pair). is p i.0) (same_true pair_key j k e))
+  where
+    by_test : (b : Bool) (rest : List Pair) → among pair_is (if b then j ∷ rest else rest) k ≡ cond b (pair_is j k || among pair_is rest k) (among pair_is rest k)
+    by_test true rest = refl
+    by_test false rest = refl
+
+    first_or_more : (this passed mine later : Bool) → (this ≡ true → passed ≡ mine) → cond passed (this || (mine && later)) (mine && later) ≡ (mine && (this || later))
+    first_or_more true true true later same = refl
+    first_or_more true true false later same = absurd (true≢false (same refl))
+    first_or_more true false true later same = absurd (true≢false (sym (same refl)))
+    first_or_more true false false later same = refl
+    first_or_more false true mine later same = refl
+    first_or_more false false mine later same = refl
+
+among_more : (ks js : List Pair) (k : Pair) → among pair_is (ks ++ js) k ≡ (among pair_is ks k || among pair_is js k)
+among_more ks js k = list_any-append (λ q. pair_is q k) ks js
+
+remains_none : (here live was gone : Bool) → live ≡ (was && not gone) → cond here false live ≡ (was && not ((here && was) || gone))
+remains_none true live true gone e = refl
+remains_none true live false gone e = refl
+remains_none false live was gone e = e
+
+spent_all : (here live spent was gone : Bool) → (live || spent) ≡ was → spent ≡ gone → ((here && live) || spent) ≡ ((here && was) || gone)
+spent_all true true spent was gone e f = ap (λ b. b || gone) e
+spent_all true false true was gone e f = ap (λ b. b || gone) e
+spent_all true false false was gone e f = ap₂ (λ a b. a || b) e f
+spent_all false live spent was gone e f = f
+
+together_all : (here live spent : Bool) → (cond here false live || ((here && live) || spent)) ≡ (live || spent)
+together_all true live spent = refl
+together_all false live spent = refl
+
+apart_all : (here live spent : Bool) → (live && spent) ≡ false → (cond here false live && ((here && live) || spent)) ≡ false
+apart_all true live spent e = refl
+apart_all false live spent e = e
+
+spent_stands : (here : Bool) (now : ℕ) (o : Option Release) (old : Option Withdrawal)
+    → is_some (cond (here && is_some o) (option_map (moments_at now) (option_map (λ (r : Release). r.at) o)) old) ≡ ((here && is_some o) || is_some old)
+spent_stands true now (Some r) old = refl
+spent_stands true now None old = refl
+spent_stands false now o old = refl
+
+here_alike : (here : Bool) (a b : Bool) → (here ≡ true → a ≡ b) → (here && a) ≡ (here && b)
+here_alike true a b same = same refl
+here_alike false a b same = refl
+
+versions_whole : (now : ℕ) (who : Caller) (p : Text) (h : List Entry) (S : State)
+    → HasVersions h S → HasVersions (record { at = now; who = who; what = WithdrawAll p } ∷ h) (whole_left S now p)
+versions_whole now who p h S has =
+    let was : Pair → Bool = λ k. among pair_is (published h) k in
+    let before : Pair → Bool = λ k. among pair_is (withdrawn h) k in
+    let lives : Pair → Bool = λ k. is_some (at S.live k) in
+    let stands : Pair → Bool = λ k. is_some (at S.spent k) in
+    let gone = λ (k : Pair). ap is_some (whole_live S now p k.0 k.1) ∙ erased_stands (is p k.0) (at S.live k) in
+    let spent = λ (k : Pair).
+    ap is_some (whole_spent S now p k.0 k.1) ∙ spent_stands (is p k.0) now (at S.live (p, k.1)) (at S.spent k)
+    ∙ ap (λ b. b || stands k) (here_alike (is p k.0) (is_some (at S.live (p, k.1))) (lives k) (λ e. ap (λ q. is_some (at S.live (q, k.1))) (same_true text_key p k.0 e))) in
+    let all_gone = λ (k : Pair). among_more (pairs_under (published h) p) (withdrawn h) k ∙ ap (λ b. b || before k) (among_under (published h) p k) in
+    record {
+      once = has.once;
+      live = λ k. gone k ∙ remains_none (is p k.0) (lives k) (was k) (before k) (has.live k) ∙ ap (λ b. was k && not b) (sym (all_gone k));
+      spent = λ k. spent k ∙ spent_all (is p k.0) (lives k) (stands k) (was k) (before k) (has.together k) (has.spent k) ∙ sym (all_gone k);
+      together = λ k. ap₂ (λ a b. a || b) (gone k) (spent k) ∙ together_all (is p k.0) (lives k) (stands k) ∙ has.together k;
+      apart = λ k. ap₂ (λ a b. a && b) (gone k) (spent k) ∙ apart_all (is p k.0) (lives k) (stands k) (has.apart k);
+    }
+
 pub marked_stands : (b : Bool) (message : Text) (old : Option Release) → is_some (cond b (marked_value message old) old) ≡ is_some old
 marked_stands true message (Some r) = refl
 marked_stands true message None = refl
@@ -110,6 +189,7 @@ versions_step now who (Publish f) h S has ok =
     }
 versions_step now who (Withdraw p v) h S has ok =
     versions_taken now who p v h S (at S.live (p, text_of_version v)) refl (may_withdraw S now who p v ok) has
+versions_step now who (WithdrawAll p) h S has ok = versions_whole now who p h S has
 versions_step now who (Deprecate p conditions message) h S has ok =
     let vs = selected (live_versions S p) conditions in
     let same = λ (k : Pair). ap is_some (at-marked S.live p message vs k.0 k.1) ∙ marked_stands (is p k.0 && among is vs k.1) message (at S.live k) in
@@ -178,6 +258,13 @@ records_taken now who p v h S (Some r) stood has =
           ∙ moments_after (pair_is k0 k) r now _ _ (recorded h k) (λ e. sym (has.records k) ∙ ap (at S.live) (sym (same_true pair_key k0 k e)) ∙ stood) (has.withdrawals k);
     }
 
+moments_whole : (here : Bool) (now : ℕ) (o said : Option Release) (old w : Option Withdrawal) → (here ≡ true → o ≡ said) → old ≡ w
+    → cond (here && is_some o) (option_map (moments_at now) (option_map (λ (r : Release). r.at) o)) old ≡ or_before (moments_if here now said) w
+moments_whole true now (Some r) said old w lived same = ap (λ (x : Option Release). or_before (moments_if true now x) w) (lived refl)
+moments_whole true now None said old w lived same = same ∙ ap (λ (x : Option Release). or_before (moments_if true now x) w) (lived refl)
+moments_whole false now o None old w lived same = same
+moments_whole false now o (Some x) old w lived same = same
+
 records_step : (now : ℕ) (who : Caller) (c : Action) (h : List Entry) (S : State) → HasRecords h S
     → HasRecords (record { at = now; who = who; what = c } ∷ h) (left_by S now who c)
 records_step now who (Publish f) h S has = record {
@@ -185,6 +272,11 @@ records_step now who (Publish f) h S has = record {
   withdrawals = has.withdrawals;
 }
 records_step now who (Withdraw p v) h S has = records_taken now who p v h S (at S.live (p, text_of_version v)) refl has
+records_step now who (WithdrawAll p) h S has = record {
+  records = λ k. whole_live S now p k.0 k.1 ∙ removed_after (is p k.0) _ _ (has.records k);
+  withdrawals = λ k. whole_spent S now p k.0 k.1
+      ∙ moments_whole (is p k.0) now (at S.live (p, k.1)) (recorded h k) (at S.spent k) (last_withdrawal h k) (λ e. ap (λ q. at S.live (q, k.1)) (same_true text_key p k.0 e) ∙ has.records k) (has.withdrawals k);
+}
 records_step now who (Deprecate p conditions message) h S has = record {
   records = λ k. at-marked S.live p message (selected (live_versions S p) conditions) k.0 k.1
       ∙ ap (λ b. cond (is p k.0 && b) (marked_value message (at S.live k)) (at S.live k)) (among_passing (selects conditions) (live_versions S p) k.1 ∙ ap (λ b. selects conditions k.1 && b) (any-part text_key S.live p k.1))

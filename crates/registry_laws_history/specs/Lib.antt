@@ -4,6 +4,7 @@ pub mod Apart
 pub mod Headline
 pub mod History
 pub mod Lasting
+pub mod Listed
 pub mod PackumentMoments
 pub mod Readings
 pub mod Runs

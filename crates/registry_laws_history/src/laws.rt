@@ -8,6 +8,7 @@ ghost use Rattle.registry_laws_history.specs.Apart.{ChangesOfOthers, StepsOfOthe
 ghost use Rattle.registry_laws_history.specs.Headline.{AddsAcceptedPublish, Headline};
 ghost use Rattle.registry_laws_history.specs.History.{Entry, Legal, after};
 ghost use Rattle.registry_laws_history.specs.Lasting.{HistoriesLast, RunsLast};
+ghost use Rattle.registry_laws_history.specs.Listed.{OrgPackagesAreRead, OwnPackagesAreRead};
 ghost use Rattle.registry_laws_history.specs.PackumentMoments.{CreatedAtFirst, ModifiedAtLast, TimeKeysRise};
 ghost use Rattle.registry_laws_history.specs.Runs.{Outcome, Ran, history};
 ghost use Rattle.registry_laws_history.specs.Says.{Says};
@@ -52,4 +53,12 @@ pub fn packuments_have_moments()
     ensures created { CreatedAtFirst }
     ensures modified { ModifiedAtLast }
     ensures keys { TimeKeysRise }
+{}
+
+/// Of an organisation a caller is listed exactly the packages of its scope that they read, each with
+/// their level on it. As their own they are listed exactly those that they read of the organisations
+/// whose members they are, and those without a scope that they maintain.
+pub fn lists_have_what_is_read()
+    ensures organisation { OrgPackagesAreRead }
+    ensures own { OwnPackagesAreRead }
 {}

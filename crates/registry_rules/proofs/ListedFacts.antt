@@ -1,5 +1,5 @@
 -- Lists that a loop goes through, one more at a time.
-use Rattle.std.proofs.Common.{◌≡◌, ℕ, ◌+◌, ◌<◌, Bool, true, false, not, List, [], ◌∷◌, ◌++◌, map, filter, take, length, Some, option_map, refl, sym, ap, ap₂, ◌∙◌, subst, if◌then◌else◌}
+use Rattle.std.proofs.Common.{◌≡◌, ℕ, ◌+◌, ◌<◌, Bool, true, false, not, List, [], ◌∷◌, ◌++◌, map, filter, take, length, nat_eq, None, Some, option_map, refl, sym, ap, ap₂, ◌∙◌, subst, if◌then◌else◌}
 use Rattle.std.proofs.lemmas.List.{take_more}
 use Rattle.std.proofs.lemmas.List.Elements.{filter-append}
 use Rattle.std.specs.Prelude.{slice_index_or, unwrap_or}
@@ -10,9 +10,15 @@ use Rattle.registry_names.specs.Versions.{VersionParts, IsVersionOf, precedence,
 use Rattle.registry_names.proofs.GreatestFacts.{greatest_push}
 use Rattle.registry_names.proofs.PrecedenceFacts.{text_precedence_agrees, version_reads}
 use Rattle.registry_ranges.specs.Selectors.{Condition, set_selects}
+use Rattle.std.specs.List.{list_any}
+use Rattle.registry_names.specs.declared.refusal.Refusal.TheVariants.{NotFound, TooLate, Depended}
+use Rattle.registry_ranges.proofs.RangeFacts.{list_any-map}
 use Rattle.registry_rules.specs.Changes.{PutDeprecation}
 use Rattle.registry_rules.specs.Effects.{deprecation}
-use Rattle.registry_rules.specs.Withdrawals.{better, others, selected, selects}
+use Rattle.registry_rules.specs.Facts.{since_of}
+use Rattle.registry_rules.specs.Refusals.{refuse, withdraw_all_refusal}
+use Rattle.registry_rules.specs.Withdrawals.{better, is_too_old, others, selected, selects}
+use Rattle.registry_rules.specs.declared.facts.LiveVersion.{LiveVersion}
 
 map_append : {X Y : Type 0} (f : X → Y) (xs ys : List X) → map f (xs ++ ys) ≡ map f xs ++ map f ys
 map_append f [] ys = refl
@@ -68,3 +74,12 @@ precedence_by_texts a b x y e f g h = sym (text_precedence_agrees (text_of_versi
 
 pub selects_by_text : (conditions : List (List Condition)) (t : Text) (v : VersionParts) → t ≡ text_of_version v → IsVersionOf t v → set_selects v conditions ≡ selects conditions (text_of_version v)
 selects_by_text conditions t v e form = ap (λ o. unwrap_or (option_map (λ parts. set_selects parts conditions) o) false) (sym (version_reads (text_of_version v) v (in_form t v e form)))
+
+-- ---- all versions of a package
+
+-- why they aren't all withdrawn, by what is said of the rows
+pub refused_whole : (now : ℕ) (live : List LiveVersion) (depended empty old : Bool) → empty ≡ nat_eq (length live) 0 → old ≡ list_any (λ (r : LiveVersion). is_too_old now r.published) live
+    → refuse empty NotFound (refuse old TooLate (refuse depended Depended None)) ≡ withdraw_all_refusal now (map since_of live) depended
+refused_whole now [] depended empty old e f = ap (λ b. refuse b NotFound (refuse old TooLate (refuse depended Depended None))) e
+refused_whole now (r ∷ rs) depended empty old e f =
+    ap₂ (λ a b. refuse a NotFound (refuse b TooLate (refuse depended Depended None))) e (f ∙ sym (list_any-map (λ (e : Text × ℕ). is_too_old now e.1) since_of (r ∷ rs)))

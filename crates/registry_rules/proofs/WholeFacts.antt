@@ -73,9 +73,12 @@ at-without_live m p (e ∷ es) q u =
     ∙ ap (λ (o : Option Release). cond (is p q && among is (keys es) u) None o) (at-erase pair_key m (p, e.0) (q, u))
     ∙ gone_joined (is p q) (is e.0 u) (among is (keys es) u) (at m (q, u))
 
--- each of these versions was published at its moment
+-- the version was published at its moment; and each of these
+abbrev IsSince : (Text → Option ℕ) → Text × ℕ → Type 0
+IsSince since e = since e.0 ≡ Some e.1
+
 abbrev AreSince : (Text → Option ℕ) → List (Text × ℕ) → Type 0
-AreSince since es = All (λ (e : Text × ℕ). since e.0 ≡ Some e.1) es
+AreSince since es = All (IsSince since) es
 
 module _ (now : ℕ) (p : Text) (since : Text → Option ℕ) where
   spent_joined : (e : Text × ℕ) (q u : Text) (later : Bool) (old : Option Withdrawal) → since e.0 ≡ Some e.1 → (here first : Bool) → is e.0 u ≡ first
@@ -89,9 +92,9 @@ module _ (now : ℕ) (p : Text) (since : Text → Option ℕ) where
       → at (with_spent m now p es) (q, u) ≡ cond (is p q && among is (keys es) u) (option_map (moments_at now) (since u)) (at m (q, u))
   at-with_spent m [] are q u = none_here (is p q) _ _
   at-with_spent m (e ∷ es) are q u =
-      at-with_spent (put m (p, e.0) (moments_at now e.1)) es (All-tail _ e es are) q u
+      at-with_spent (put m (p, e.0) (moments_at now e.1)) es (All-tail (IsSince since) e es are) q u
       ∙ ap (λ (o : Option Withdrawal). cond (is p q && among is (keys es) u) (option_map (moments_at now) (since u)) o) (at-put pair_key m (p, e.0) (moments_at now e.1) (q, u))
-      ∙ spent_joined e q u (among is (keys es) u) (at m (q, u)) (All-head _ e es are) (is p q) (is e.0 u) refl
+      ∙ spent_joined e q u (among is (keys es) u) (at m (q, u)) (All-head (IsSince since) e es are) (is p q) (is e.0 u) refl
 
 -- ---- all of it
 
@@ -116,9 +119,12 @@ module _ (S : State) (now : ℕ) (p : Text) where
   pub among_since : (u : Text) → among is (keys (live_since S p)) u ≡ is_live S p u
   among_since u = ap (λ l. among is l u) (keys_since (of S.live p)) ∙ any-part text_key S.live p u
 
-  since_each : (es : List (Text × Release)) → All (λ (e : Text × Release). at S.live (p, e.0) ≡ Some e.1) es → AreSince since_when (map (λ (e : Text × Release). (e.0, e.1.at)) es)
-  since_each [] all = All-nil (λ (e : Text × ℕ). since_when e.0 ≡ Some e.1)
-  since_each (e ∷ es) all = All-cons (λ (e : Text × ℕ). since_when e.0 ≡ Some e.1) (e.0, e.1.at) _ (ap (option_map (λ (r : Release). r.at)) (All-head _ e es all)) (since_each es (All-tail _ e es all))
+  abbrev LivesAs : Text × Release → Type 0
+  LivesAs e = at S.live (p, e.0) ≡ Some e.1
+
+  since_each : (es : List (Text × Release)) → All LivesAs es → AreSince since_when (map (λ (e : Text × Release). (e.0, e.1.at)) es)
+  since_each [] all = All-nil (IsSince since_when)
+  since_each (e ∷ es) all = All-cons (IsSince since_when) (e.0, e.1.at) (map (λ (x : Text × Release). (x.0, x.1.at)) es) (ap (option_map (λ (r : Release). r.at)) {y = Some e.1} (All-head LivesAs e es all)) (since_each es (All-tail LivesAs e es all))
 
   cond_stood : {X : Type 0} (b : Bool) (o : Option X) → cond (b && is_some o) None o ≡ cond b None o
   cond_stood true (Some x) = refl

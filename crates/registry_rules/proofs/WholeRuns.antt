@@ -1,25 +1,26 @@
 -- The withdrawal of all versions of a package is the run of the withdrawals of its live versions,
 -- and is refused as one of them is.
-use Rattle.std.proofs.Common.{◌≡◌, ◌≢◌, ℕ, ◌≤◌, Bool, true, false, cond, not, ◌&&◌, ◌||◌, All, List, [], ◌∷◌, ◌++◌, map, is_some, Option, Some, None, option_map, refl, sym, ap, ap₂, ◌∙◌, subst, true≢false}
+use Rattle.std.proofs.Common.{◌≡◌, ◌≢◌, ℕ, ◌≤◌, Bool, true, false, cond, not, ◌&&◌, ◌||◌, All, List, [], ◌∷◌, ◌++◌, map, is_some, Option, Some, None, option_map, refl, sym, ap, ap₂, ◌∙◌, subst, true≢false, Ordering, Less, Equal, Greater, is_lt, is_eq}
 use Rattle.std.proofs.lemmas.Bool.{and_parts, and_from}
 use Rattle.std.proofs.lemmas.List.Elements.{All-cons, All-head, All-nil, All-tail}
 use Rattle.std.proofs.lemmas.List.Folds.{list_any-append}
+use Rattle.std.specs.FinMap.Entries.{below_all}
 use Rattle.std.specs.List.{list_any}
 use Rattle.std.specs.Option.{option_or, option_to_list}
 use Rattle.std.specs.Prelude.{IsSome, IsTrue}
 use Rattle.registry_names.specs.Keys.{Pair, pair_is}
-use Rattle.registry_names.specs.Maps.{among, at, of}
+use Rattle.registry_names.specs.Maps.{among, at, keys, of, rises}
 use Rattle.registry_names.specs.Moments.{last_second}
 use Rattle.registry_names.specs.Precedence.{version_in}
-use Rattle.registry_names.specs.Texts.{Text, is}
+use Rattle.registry_names.specs.Texts.{Text, is, text_cmp}
 use Rattle.registry_names.specs.Versions.{IsVersionOf, VersionParts, text_of_version}
 use Rattle.registry_names.specs.declared.refusal.Refusal.{Refusal}
 use Rattle.registry_names.specs.declared.refusal.Refusal.TheVariants.{NotFound, TooLate, Depended}
 use Rattle.registry_names.proofs.KeyFacts.{text_key, pair_key, same_true, same_self}
 use Rattle.registry_names.proofs.MapFacts.{same_map}
-use Rattle.registry_names.proofs.PartFacts.{any-part}
+use Rattle.registry_names.proofs.PartFacts.{any-part, part_found, part_rises}
 use Rattle.registry_names.proofs.PrecedenceFacts.{version_reads}
-use Rattle.registry_names.proofs.TextFacts.{is_same, is_sym, is_true}
+use Rattle.registry_names.proofs.TextFacts.{is_same, is_sym, is_tie, is_true}
 use Rattle.registry_access.specs.Access.{Access}
 use Rattle.registry_access.specs.Policy.{may_write}
 use Rattle.registry_access.specs.Positions.{position_in}
@@ -27,7 +28,7 @@ use Rattle.registry_access.specs.declared.caller.Caller.{Caller}
 use Rattle.registry_ranges.proofs.RangeFacts.{list_any-map}
 use Rattle.registry_rules.specs.Effects.{step_by}
 use Rattle.registry_rules.specs.Kept.{IsKept}
-use Rattle.registry_rules.specs.Laws.{AreAccepted, AreTheLive, IsDependent, IsOnce, IsRefusedAsOne, SpendsVersion, WithdrawalsOfAllAreRefusedAsOne, WithdrawalsOfAllAreRuns, WithdrawalsOfAllSpend, WithdrawsAll, all_withdrawn}
+use Rattle.registry_rules.specs.Laws.{AreAccepted, AreTheLive, IsDependent, IsOnce, IsRefusedAsOne, LiveVersionsAreTheLive, SpendsVersion, WithdrawalsOfAllAreRefusedAsOne, WithdrawalsOfAllAreRuns, WithdrawalsOfAllSpend, WithdrawsAll, all_withdrawn}
 use Rattle.registry_rules.specs.Refusals.{refusal_by, refuse, state_refusal, unless_allowed, withdraw_refusal, withdraw_all_refusal}
 use Rattle.registry_rules.specs.State.{State, Release, Withdrawal, has_live, is_empty, is_live}
 use Rattle.registry_rules.specs.Withdrawals.{is_any_depended, is_depended, is_too_old, live_since, live_versions, versions_in}
@@ -56,20 +57,23 @@ some_same x y e = cc
 -- ---- the versions that texts spell
 
 module _ (test : VersionParts → Bool) where
+  or_right : (a b : Bool) → b ≡ true → (a || b) ≡ true
+  or_right true b e = refl
+  or_right false b e = e
+
+  first_passes : (s t : Text) (v : VersionParts) → version_in t ≡ Some v → test v ≡ true → s ≡ t → list_any test (option_to_list (version_in s)) ≡ true
+  first_passes s t v reads passed same = ap (λ o. list_any test (option_to_list o)) (ap version_in same ∙ reads) ∙ ap (λ b. b || false) passed
+
+  first_or_more : (s t : Text) (v : VersionParts) (rest more : Bool) → version_in t ≡ Some v → test v ≡ true → (rest ≡ true → more ≡ true) → (b : Bool) → is s t ≡ b → (b || rest) ≡ true
+      → (list_any test (option_to_list (version_in s)) || more) ≡ true
+  first_or_more s t v rest more reads passed later true same h = ap (λ b. b || more) (first_passes s t v reads passed (is_true s t same))
+  first_or_more s t v rest more reads passed later false same h = or_right (list_any test (option_to_list (version_in s))) more (later h)
+
   any_spelled : (ts : List Text) (t : Text) (v : VersionParts) → version_in t ≡ Some v → among is ts t ≡ true → test v ≡ true → list_any test (versions_in ts) ≡ true
   any_spelled [] t v reads here passed = absurd (true≢false (sym here))
-  any_spelled (s ∷ ss) t v reads here passed = list_any-append test (option_to_list (version_in s)) (versions_in ss) ∙ by_test (is s t) refl here
-    where
-      first_passes : s ≡ t → list_any test (option_to_list (version_in s)) ≡ true
-      first_passes same = ap (λ o. list_any test (option_to_list o)) (ap version_in same ∙ reads) ∙ ap (λ b. b || false) passed
-
-      or_right : (a b : Bool) → b ≡ true → (a || b) ≡ true
-      or_right true b e = refl
-      or_right false b e = e
-
-      by_test : (b : Bool) → is s t ≡ b → (b || among is ss t) ≡ true → (list_any test (option_to_list (version_in s)) || list_any test (versions_in ss)) ≡ true
-      by_test true same h = ap (λ b. b || list_any test (versions_in ss)) (first_passes (is_true s t same))
-      by_test false same h = or_right (list_any test (option_to_list (version_in s))) (list_any test (versions_in ss)) (any_spelled ss t v reads h passed)
+  any_spelled (s ∷ ss) t v reads here passed =
+      list_any-append test (option_to_list (version_in s)) (versions_in ss)
+      ∙ first_or_more s t v (among is ss t) (list_any test (versions_in ss)) reads passed (λ h. any_spelled ss t v reads h passed) (is s t) refl here
 
   -- one of the texts spells a version that passes
   record Spelled (ts : List Text) : Type 0 where
@@ -89,17 +93,73 @@ module _ (test : VersionParts → Bool) where
   first_spelled : (s : Text) (ss : List Text) (v : VersionParts) → version_in s ≡ Some v → test v ≡ true → Spelled (s ∷ ss)
   first_spelled s ss v reads passed = record { text = s; version = v; member = ap (λ b. b || among is ss s) (same_self text_key s); spells = reads; passed = passed }
 
+  by_passing : (s : Text) (ss : List Text) (v : VersionParts) (more : Bool) → version_in s ≡ Some v → (more ≡ true → Spelled ss) → (b : Bool) → test v ≡ b → ((b || false) || more) ≡ true → Spelled (s ∷ ss)
+  by_passing s ss v more reads later true passed e = first_spelled s ss v reads passed
+  by_passing s ss v more reads later false passed e = more_spelled s ss (later e)
+
+  by_version : (s : Text) (ss : List Text) (more : Bool) → (more ≡ true → Spelled ss) → (o : Option VersionParts) → version_in s ≡ o → (list_any test (option_to_list o) || more) ≡ true → Spelled (s ∷ ss)
+  by_version s ss more later None reads e = more_spelled s ss (later e)
+  by_version s ss more later (Some v) reads e = by_passing s ss v more reads later (test v) refl e
+
   spelled_any : (ts : List Text) → list_any test (versions_in ts) ≡ true → Spelled ts
   spelled_any [] h = absurd (true≢false (sym h))
-  spelled_any (s ∷ ss) h = by_version (version_in s) refl (sym (list_any-append test (option_to_list (version_in s)) (versions_in ss)) ∙ h)
-    where
-      by_test : (v : VersionParts) → version_in s ≡ Some v → (b : Bool) → test v ≡ b → ((b || false) || list_any test (versions_in ss)) ≡ true → Spelled (s ∷ ss)
-      by_test v reads true passed e = first_spelled s ss v reads passed
-      by_test v reads false passed e = more_spelled s ss (spelled_any ss e)
+  spelled_any (s ∷ ss) h =
+      by_version s ss (list_any test (versions_in ss)) (λ e. spelled_any ss e) (version_in s) refl (sym (list_any-append test (option_to_list (version_in s)) (versions_in ss)) ∙ h)
 
-      by_version : (o : Option VersionParts) → version_in s ≡ o → (list_any test (option_to_list o) || list_any test (versions_in ss)) ≡ true → Spelled (s ∷ ss)
-      by_version None reads e = more_spelled s ss (spelled_any ss e)
-      by_version (Some v) reads e = by_test v reads (test v) refl e
+-- ---- the live versions
+
+-- no text is below itself, and so none among those above it
+none_above : {X : Type 0} (k : Text) (es : List (Text × X)) → below_all text_cmp k es ≡ true → among is (keys es) k ≡ false
+none_above k [] low = refl
+none_above k (e ∷ es) low =
+    let both = and_parts (is_lt (text_cmp k e.0)) (below_all text_cmp k es) low in
+    ap₂ (λ a b. a || b) (is_sym e.0 k ∙ is_tie k e.0 ∙ untied (text_cmp k e.0) both.0) (none_above k es both.1)
+  where
+    untied : (o : Ordering) → is_lt o ≡ true → is_eq o ≡ false
+    untied Less e = refl
+    untied Equal e = sym e
+    untied Greater e = refl
+
+once_rising : {X : Type 0} (es : List (Text × X)) → rises text_cmp es ≡ true → IsOnce (keys es)
+once_rising [] up = tt
+once_rising (e ∷ es) up = let both = and_parts (below_all text_cmp e.0 es) (rises text_cmp es) up in (none_above e.0 es both.0, once_rising es both.1)
+
+module _ (S : State) (p : Text) (kept : IsKept S) where
+  abbrev Lives : Text × Release → Type 0
+  Lives e = at S.live (p, e.0) ≡ Some e.1
+
+  abbrev InForm : VersionParts → Type 0
+  InForm v = IsVersionOf (text_of_version v) v
+
+  -- what the text of a live version spells has this text
+  spelled_as : (e : Text × Release) → Lives e → (v : VersionParts) × (version_in e.0 ≡ Some v) × InForm v × (text_of_version v ≡ e.0)
+  spelled_as e lives =
+      let was = kept.live p e.0 e.1 lives in
+      (was.version, version_reads e.0 was.version was.is_version, subst (λ t. IsVersionOf t was.version) was.is_version.0 was.is_version, sym was.is_version.0)
+
+  texts_back : (es : List (Text × Release)) → All Lives es → map text_of_version (versions_in (keys es)) ≡ keys es
+  texts_back [] all = refl
+  texts_back (e ∷ es) all =
+      let v = spelled_as e (All-head Lives e es all) in
+      ap (λ o. map text_of_version (option_to_list o ++ versions_in (keys es))) v.1 ∙ ap₂ (λ t ts. t ∷ ts) v.3 (texts_back es (All-tail Lives e es all))
+
+  all_in_form : (es : List (Text × Release)) → All Lives es → All InForm (versions_in (keys es))
+  all_in_form [] all = All-nil InForm
+  all_in_form (e ∷ es) all =
+      let v = spelled_as e (All-head Lives e es all) in
+      subst (λ o. All InForm (option_to_list o ++ versions_in (keys es))) (sym v.1) (All-cons InForm v.0 (versions_in (keys es)) v.2 (all_in_form es (All-tail Lives e es all)))
+
+  pub are_the_live : AreTheLive S p (versions_in (live_versions S p))
+  are_the_live =
+      let texts = texts_back (of S.live p) (part_found text_key S.live p) in
+      record {
+        form = all_in_form (of S.live p) (part_found text_key S.live p);
+        once = subst IsOnce (sym texts) (once_rising (of S.live p) (part_rises text_cmp S.live p));
+        live = λ v. sym (any-part text_key S.live p v) ∙ ap (λ ts. among is ts v) (sym texts);
+      }
+
+pub live_versions_are_the_live : LiveVersionsAreTheLive
+live_versions_are_the_live S p kept = are_the_live S p kept
 
 -- ---- where the whole isn't refused
 
@@ -253,7 +313,7 @@ module _ (now : ℕ) (who : Caller) (p : Text) (moment : now ≤ last_second) wh
       let spent = spends S v may kept in
       let rest = ran T vs (left_kept S v may kept) (ap (λ A. unless_allowed (may_write who (position_in A who p))) spent.access ∙ policy)
       (all_may S v may kept vs once.0 (All-tail (MayGo S) v vs all)) once.1 in
-      let later = λ u. among is (map text_of_version vs) u in
+      let later : Text → Bool = λ u. among is (map text_of_version vs) u in
       record {
         accepted = (goes S v policy may, rest.accepted);
         kept = rest.kept;
@@ -401,7 +461,7 @@ module _ (S : State) (now : ℕ) (who : Caller) (p : Text) (kept : IsKept S) whe
   as_one : (why : Refusal) → IsTrue (has_live S p) → refusal_by S now who (WithdrawAll p) ≡ Some why → AsOne why
   as_one why lives h = by_policy denied refl h
     where
-      not_empty : (es : List (Text × Release)) → not (is_empty es) ≡ true → is_empty (map (λ (e : Text × Release). (e.0, e.1.at)) es) ≡ false
+      not_empty : (es : List (Text × Release)) → not (is_empty es) ≡ true → is_empty {X = Text × ℕ} (map (λ (e : Text × Release). (e.0, e.1.at)) es) ≡ false
       not_empty [] e = absurd (true≢false (sym e))
       not_empty (x ∷ xs) e = refl
 

@@ -27,7 +27,7 @@ use Rattle.registry_rules.specs.Kept.{IsKept, IsSound}
 use Rattle.registry_rules.specs.Permissions.{permission}
 use Rattle.registry_rules.specs.Refusals.{refusal_by, unless_allowed}
 use Rattle.registry_rules.specs.State.{State, Release, developers, has_live, has_other_owner, has_other_maintainer, is_live}
-use Rattle.registry_rules.specs.Withdrawals.{is_depended, live_versions, needs_in, others, selects}
+use Rattle.registry_rules.specs.Withdrawals.{is_depended, live_versions, needs_in, others, selects, versions_in}
 use Rattle.registry_ranges.specs.Comparators.{Allows}
 use Rattle.registry_ranges.specs.Grammar.{IsRangeText}
 use Rattle.registry_ranges.specs.Selectors.{Condition}
@@ -323,6 +323,10 @@ pub record AreTheLive (S : State) (p : Text) (vs : List VersionParts) : Type 0 w
   pub form : All (λ v. IsVersionOf (text_of_version v) v) vs
   pub once : IsOnce (map text_of_version vs)
   pub live : (v : Text) → is_live S p v ≡ among is (map text_of_version vs) v
+
+-- such are those in byte order
+abbrev pub LiveVersionsAreTheLive : Type 0
+LiveVersionsAreTheLive = (S : State) (p : Text) → IsKept S → AreTheLive S p (versions_in (live_versions S p))
 
 -- what is left when each of these versions is withdrawn, one after another
 abbrev pub all_withdrawn : State → ℕ → Caller → Text → List VersionParts → State

@@ -8,7 +8,6 @@ ghost use Rattle.registry_names.specs.Precedence.{text_precedence};
 ghost use Rattle.registry_names.specs.Tags.{latest};
 ghost use Rattle.registry_names.specs.Texts as texts;
 ghost use Rattle.registry_names.specs.Versions.{text_of_version};
-ghost use Rattle.registry_rules.specs.Changes as changed;
 ghost use Rattle.registry_rules.specs.Changes.{change_of};
 ghost use Rattle.registry_rules.specs.Effects as effects;
 ghost use Rattle.registry_rules.specs.Facts.{since_of};
@@ -129,32 +128,13 @@ pub(crate) fn withdrawal_of_all<'a>(
     ensures { IfOk result (λ changes. map change_of changes.items
         ≡ effects.withdrawal_of_all now.now name.now (map since_of live.now) tags.now) }
 {
-    let mut changes = all_dropped(alloc, name, tags)?;
+    let mut changes = all_freed(alloc, name, None, tags)?;
     for row in live {
         changes.push(Change::RetireVersion {
             package: name,
             version: &row.version,
             published: &row.published,
             withdrawn: now,
-        })?;
-    }
-    Ok(changes)
-}
-
-// Each of these tags goes.
-fn all_dropped<'a>(
-    alloc: Global,
-    name: &'a Name,
-    tags: &'a [Text],
-) -> Result<Changes<'a>, AllocError>
-    ensures { IfOk result (λ changes. map change_of changes.items
-        ≡ map (changed.DropTag name.now) tags.now) }
-{
-    let mut changes = Vec::new(alloc);
-    for tag in tags {
-        changes.push(Change::DropTag {
-            package: name,
-            tag: tag.as_str(),
         })?;
     }
     Ok(changes)
