@@ -32,7 +32,7 @@ mod within;
 
 pub use crate::document::version_text;
 pub use crate::head::PackHead;
-pub use crate::list::{Granted, List, Member, Overview, TokenCount, list_text};
+pub use crate::list::{Granted, List, Member, Overview, PackageLevel, TokenCount, list_text};
 pub use crate::moment::moment_text;
 pub use crate::opener::{Opener, Sent};
 pub use crate::packument::{VersionRow, packument_text};

@@ -20,6 +20,7 @@ use crate::maintainers::load_maintained;
 use crate::members::{load_role, load_user_organisations};
 use crate::packages::{ListedPackage, load_scope_statuses};
 use crate::standing::{load_granted, maintains};
+use crate::team_packages::reads;
 use crate::texts::read_back;
 use registry_access::{Caller, Level, Role, Standing, level_of};
 use registry_names::{Fault, Ident, Name, Status, Text};
@@ -121,7 +122,7 @@ fn written(alloc: Global, names: Vec<Text>) -> Result<Vec<PackageLevel>, Fault>
 fn has_scope(name: &Text) -> bool
     ensures { is_none (scope_of name.now) ≡ not result }
 {
-    name.as_str().as_bytes().first() == Some(&b'@')
+    name.as_str().as_bytes().first().is_some_and(|byte| *byte == b'@')
 }
 
 // Adds the packages of the scopes of these organisations that the caller reads.
@@ -210,7 +211,7 @@ fn with_levels<S: Alter>(
     let mut levels = Vec::new(alloc);
     for package in packages {
         let level = level_on(alloc, tx, caller, role, &package)?;
-        if level >= Level::Read {
+        if reads(level) {
             levels.push(PackageLevel {
                 name: package.name,
                 level,
