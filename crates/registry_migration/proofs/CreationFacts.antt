@@ -20,7 +20,7 @@ use Rattle.registry_tables.specs.Fresh.{first_tables, schema_after}
 use Rattle.registry_tables.specs.Schema as table
 use Rattle.registry_tables.specs.Schema.{schema, schema_2}
 use Rattle.registry_tables.proofs.ContentsFacts.{contents_depend}
-use Rattle.registry_tables.proofs.SchemaFacts.{means_archives, means_archives_index, means_needs, means_needs_index, means_held_index}
+use Rattle.registry_tables.proofs.SchemaFacts.{means_archives, means_archives_index, means_needs, means_needs_index, means_held_index, means_tokens_index, means_members_index, means_team_members_index, means_owners_index}
 use Rattle.registry_migration.specs.Older.{contents_1, contents_2, schema_1}
 
 -- what is stored where `held` is there, and no archives are
@@ -170,11 +170,36 @@ ranges_made old new form call = create_keeps schema_2 (get_or creation 17 []) (r
 ranges_index_made : (old new : Shown) → Ready (schema_after 18) old → Wrote (get_or creation 18 []) [] old new → HasCleanDisk new → Leaves (schema_after 19) contents (contents old.now.trees) new
 ranges_index_made old new form call = index_keeps (schema_after 18) (get_or creation 18 []) 17 table.need_ranges (record table.need_ranges_by_target { tree = 0 }) means_needs_index contents contents_depend old new (Ok call.0) form call.1
 
-held_index_made : (old new : Shown) → Ready (schema_after 19) old → Wrote (get_or creation 19 []) [] old new → HasCleanDisk new → Leaves schema contents (contents old.now.trees) new
+held_index_made : (old new : Shown) → Ready (schema_after 19) old → Wrote (get_or creation 19 []) [] old new → HasCleanDisk new → Leaves (schema_after 20) contents (contents old.now.trees) new
 held_index_made old new form call = index_keeps (schema_after 19) (get_or creation 19 []) 14 table.held (record table.held_by_archive { tree = 0 }) means_held_index contents contents_depend old new (Ok call.0) form call.1
 
+tokens_index_made : (old new : Shown) → Ready (schema_after 20) old → Wrote (get_or creation 20 []) [] old new → HasCleanDisk new → Leaves (schema_after 21) contents (contents old.now.trees) new
+tokens_index_made old new form call = index_keeps (schema_after 20) (get_or creation 20 []) 1 table.tokens (record table.tokens_by_user { tree = 0 }) means_tokens_index contents contents_depend old new (Ok call.0) form call.1
+
+members_index_made : (old new : Shown) → Ready (schema_after 21) old → Wrote (get_or creation 21 []) [] old new → HasCleanDisk new → Leaves (schema_after 22) contents (contents old.now.trees) new
+members_index_made old new form call = index_keeps (schema_after 21) (get_or creation 21 []) 3 table.members (record table.members_by_user { tree = 0 }) means_members_index contents contents_depend old new (Ok call.0) form call.1
+
+team_members_index_made : (old new : Shown) → Ready (schema_after 22) old → Wrote (get_or creation 22 []) [] old new → HasCleanDisk new → Leaves (schema_after 23) contents (contents old.now.trees) new
+team_members_index_made old new form call = index_keeps (schema_after 22) (get_or creation 22 []) 5 table.team_members (record table.team_members_by_user { tree = 0 }) means_team_members_index contents contents_depend old new (Ok call.0) form call.1
+
+owners_index_made : (old new : Shown) → Ready (schema_after 23) old → Wrote (get_or creation 23 []) [] old new → HasCleanDisk new → Leaves schema contents (contents old.now.trees) new
+owners_index_made old new form call = index_keeps (schema_after 23) (get_or creation 23 []) 8 table.owners (record table.owners_by_user { tree = 0 }) means_owners_index contents contents_depend old new (Ok call.0) form call.1
+
+pub user_indexes_added : (a b c d e : Shown) → Ready (schema_after 20) a → Wrote (get_or creation 20 []) [] a b → Wrote (get_or creation 21 []) [] b c → Wrote (get_or creation 22 []) [] c d → Wrote (get_or creation 23 []) [] d e → HasCleanDisk e
+    → Leaves schema contents (contents a.now.trees) e
+user_indexes_added a b c d e form one two three four clean =
+    let clean_d : HasCleanDisk d = omega (arith, four.1.survives.clean, clean) in
+    let clean_c : HasCleanDisk c = omega (arith, three.1.survives.clean, clean_d) in
+    let clean_b : HasCleanDisk b = omega (arith, two.1.survives.clean, clean_c) in
+    let first = tokens_index_made a b form one clean_b in
+    let second = members_index_made b c (λ _ _. first.ready) two clean_c in
+    let third = team_members_index_made c d (λ _ _. second.ready) three clean_d in
+    let fourth = owners_index_made d e (λ _ _. third.ready) four clean in
+    record { holds = fourth.holds ∙ third.holds ∙ second.holds ∙ first.holds; ready = fourth.ready; mode = fourth.mode }
+
+-- all but the last four
 pub ranges_added : (a b c d : Shown) → Ready schema_2 a → Wrote (get_or creation 17 []) [] a b → Wrote (get_or creation 18 []) [] b c → Wrote (get_or creation 19 []) [] c d → HasCleanDisk d
-    → Leaves schema contents (contents_2 a.now.trees) d
+    → Leaves (schema_after 20) contents (contents_2 a.now.trees) d
 ranges_added a b c d form one two three clean =
     let clean_c : HasCleanDisk c = omega (arith, three.1.survives.clean, clean) in
     let clean_b : HasCleanDisk b = omega (arith, two.1.survives.clean, clean_c) in
@@ -182,3 +207,7 @@ ranges_added a b c d form one two three clean =
     let second = ranges_index_made b c (λ _ _. first.ready) two clean_c in
     let third = held_index_made c d (λ _ _. second.ready) three clean in
     record { holds = third.holds ∙ second.holds ∙ first.holds; ready = third.ready; mode = third.mode }
+
+-- what they leave, and the last four after them
+pub leaves_then : (c : Contents) (b d : Shown) → Leaves (schema_after 20) contents c b → Leaves schema contents (contents b.now.trees) d → Leaves schema contents c d
+leaves_then c b d first last = record { holds = last.holds ∙ first.holds; ready = last.ready; mode = last.mode }

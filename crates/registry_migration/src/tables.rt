@@ -6,6 +6,7 @@ ghost use Rattle.registry_rows.specs.Frames.{Stays};
 ghost use Rattle.registry_rows.specs.Ready.{Leaves, Ready};
 ghost use Rattle.registry_tables.specs.Contents.{contents};
 ghost use Rattle.registry_tables.specs.Effects.{shown};
+ghost use Rattle.registry_tables.specs.Fresh.{schema_after};
 ghost use Rattle.registry_tables.specs.Schema.{schema, schema_2};
 ghost use Rattle.registry_migration.specs.Older.{contents_1, contents_2, contents_of, schema_1, schema_of};
 
@@ -46,7 +47,7 @@ fn add_archives<S: Alter>(tx: &mut Transaction<'_, S>) -> Result<(), Fault>
 }
 
 // Makes what schema 3 has and schema 2 lacks: the table of needs with their ranges, its index, and
-// the index by which the versions that have an archive are found.
+// the indexes on tables that schema 2 has too.
 fn add_ranges<S: Alter>(tx: &mut Transaction<'_, S>) -> Result<(), Fault>
     requires second { Ready schema_2 (shown S.Store tx.old) }
     ensures stays { Stays S.Store tx.old tx.new }
@@ -56,5 +57,21 @@ fn add_ranges<S: Alter>(tx: &mut Transaction<'_, S>) -> Result<(), Fault>
 {
     write(tx, TABLES[17], &[])?;
     write(tx, TABLES[18], &[])?;
-    write(tx, TABLES[19], &[])
+    write(tx, TABLES[19], &[])?;
+    add_user_indexes(tx)
+}
+
+// Makes the indexes by which the tokens, the organisations, the teams and the packages of a user are
+// found.
+fn add_user_indexes<S: Alter>(tx: &mut Transaction<'_, S>) -> Result<(), Fault>
+    requires lacking { Ready (schema_after 20) (shown S.Store tx.old) }
+    ensures stays { Stays S.Store tx.old tx.new }
+    ensures made { HasCleanDisk (shown S.Store tx.new) → OnOk result
+        (Leaves schema contents (contents (shown S.Store tx.old).now.trees)
+        (shown S.Store tx.new)) }
+{
+    write(tx, TABLES[20], &[])?;
+    write(tx, TABLES[21], &[])?;
+    write(tx, TABLES[22], &[])?;
+    write(tx, TABLES[23], &[])
 }

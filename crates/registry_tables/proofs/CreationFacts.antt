@@ -21,7 +21,7 @@ use Rattle.registry_tables.specs.Creation.{creation}
 use Rattle.registry_tables.specs.Effects.{HasNoTables, InForm, Makes, shown, stored_in}
 use Rattle.registry_tables.specs.Fresh.{HasMade, first_tables, fresh, no_contents, schema_after, schema_number, with_number}
 use Rattle.registry_tables.proofs.ContentsFacts.{contents_depend, no_rows}
-use Rattle.registry_tables.proofs.SchemaFacts.{AddsTable, adds, creation_length, means_archives, means_archives_index, means_needs, means_needs_index, means_held_index, users_exists}
+use Rattle.registry_tables.proofs.SchemaFacts.{AddsTable, adds, creation_length, means_archives, means_archives_index, means_needs, means_needs_index, means_held_index, means_tokens_index, means_members_index, means_team_members_index, means_owners_index, users_exists}
 
 add_first : (sql : List ℕ) → AddsTable 0 sql → (old new : State) (count : ℕ) → Ready no_tables old → Executed sql [] old new (Ok count) → HasCleanDisk new → Blank (first_tables 1) new
 add_first sql it old new count form call clean = inside (Blank (first_tables 1) new) no_tables sql [] old new (Ok count) form call clean (λ n ready ran on.
@@ -34,9 +34,7 @@ first_made n few =
     let archives : nat_lt 15 n ≡ false = le-ltb 15 n few in
     let archives_index : nat_lt 16 n ≡ false = le-ltb 16 n (omega (arith, few)) in
     let needs : nat_lt 17 n ≡ false = le-ltb 17 n (omega (arith, few)) in
-    let needs_index : nat_lt 18 n ≡ false = le-ltb 18 n (omega (arith, few)) in
-    let held_index : nat_lt 19 n ≡ false = le-ltb 19 n (omega (arith, few)) in
-    rw (archives, archives_index, needs, needs_index, held_index) refl
+    rw (archives, archives_index, needs) refl
 
 -- the text takes what the first so many made to what one more makes
 abbrev MakesNext : ℕ → Type 1
@@ -63,23 +61,39 @@ add_needs_index old new count made call clean = index_keeps_blank (schema_after 
 add_held_index : MakesNext 19
 add_held_index old new count made call clean = index_keeps_blank (schema_after 19) (get_or creation 19 []) 14 table.held (record table.held_by_archive { tree = 0 }) means_held_index old new (Ok count) made call clean
 
--- the texts after the first fifteen
-add_later : (n : ℕ) → 15 ≤ n → n < 20 → MakesNext n
-add_later n late few = elim (cases_lt n 17) [
-  | inl early ↦ elim (cases_lt n 16) [
-    | inl first ↦ let is : 15 ≡ n = omega (arith, late, first) in subst MakesNext is add_archives
-    | inr second ↦ let is : 16 ≡ n = omega (arith, second, early) in subst MakesNext is add_archives_index
-  ]
-  | inr later ↦ elim (cases_lt n 18) [
-    | inl third ↦ let is : 17 ≡ n = omega (arith, later, third) in subst MakesNext is add_needs
-    | inr fourth ↦ elim (cases_lt n 19) [
-      | inl needs ↦ let is : 18 ≡ n = omega (arith, fourth, needs) in subst MakesNext is add_needs_index
-      | inr last ↦ let is : 19 ≡ n = omega (arith, last, few) in subst MakesNext is add_held_index
-    ]
-  ]
+add_tokens_index : MakesNext 20
+add_tokens_index old new count made call clean = index_keeps_blank (schema_after 20) (get_or creation 20 []) 1 table.tokens (record table.tokens_by_user { tree = 0 }) means_tokens_index old new (Ok count) made call clean
+
+add_members_index : MakesNext 21
+add_members_index old new count made call clean = index_keeps_blank (schema_after 21) (get_or creation 21 []) 3 table.members (record table.members_by_user { tree = 0 }) means_members_index old new (Ok count) made call clean
+
+add_team_members_index : MakesNext 22
+add_team_members_index old new count made call clean = index_keeps_blank (schema_after 22) (get_or creation 22 []) 5 table.team_members (record table.team_members_by_user { tree = 0 }) means_team_members_index old new (Ok count) made call clean
+
+add_owners_index : MakesNext 23
+add_owners_index old new count made call clean = index_keeps_blank (schema_after 23) (get_or creation 23 []) 8 table.owners (record table.owners_by_user { tree = 0 }) means_owners_index old new (Ok count) made call clean
+
+-- what holds of a number and of all from the next on, holds from that number on
+from_here : (P : ℕ → Type 1) (k n : ℕ) → k ≤ n → P k → (suc k ≤ n → P n) → P n
+from_here P k n late here later = elim (cases_lt k n) [
+  | inl less ↦ later (omega (arith, less))
+  | inr last ↦ let is : k ≡ n = omega (arith, late, last) in subst P is here
 ]
 
-add_next : (n : ℕ) → n < 20 → MakesNext n
+-- the texts after the first fifteen
+add_later : (n : ℕ) → 15 ≤ n → n < 24 → MakesNext n
+add_later n late few =
+    from_here MakesNext 15 n late add_archives (λ l.
+        from_here MakesNext 16 n l add_archives_index (λ l.
+        from_here MakesNext 17 n l add_needs (λ l.
+        from_here MakesNext 18 n l add_needs_index (λ l.
+        from_here MakesNext 19 n l add_held_index (λ l.
+        from_here MakesNext 20 n l add_tokens_index (λ l.
+        from_here MakesNext 21 n l add_members_index (λ l.
+        from_here MakesNext 22 n l add_team_members_index (λ l.
+        from_here MakesNext 23 n l add_owners_index (λ l. absurd (omega (arith, l, few)))))))))))
+
+add_next : (n : ℕ) → n < 24 → MakesNext n
 add_next n few = elim (cases_lt n 15) [
   | inl early ↦ add_table n early
   | inr late ↦ add_later n late few
@@ -109,7 +123,7 @@ module _ {S : Type 0} (store : Ghosts S) where
   refuses_next (suc n) first old new idle refused call form = λ clean. refused (omega arith) form (omega (arith, call.1.survives.clean, clean))
 
   -- the number of the schema is put when all tables are there
-  pub numbered : {E : Type 0} (old new : Transaction S) (r : Result (Unit {0}) E) → HasMade store 20 old → (HasCleanDisk (shown store new) → HasCleanDisk (shown store old))
+  pub numbered : {E : Type 0} (old new : Transaction S) (r : Result (Unit {0}) E) → HasMade store 24 old → (HasCleanDisk (shown store new) → HasCleanDisk (shown store old))
       → (InForm store old → Makes store old new r (λ c. with_number c schema_number)) → HasCleanDisk (shown store new) → OnOk r (Leaves schema contents fresh (shown store new))
   numbered old new r made before put clean =
       let blank : Blank schema (shown store old) = made (before clean) in

@@ -67,7 +67,7 @@ list_means : MeansQuery schema list_text (select_where table.need_ranges (col 1 
 unfolding understood everything
 list_means = ((refl, (refl, refl)), refl)
 
-truth_is : (b : Bool) → is_true (from_truth (Some b)) ≡ b
+pub truth_is : (b : Bool) → is_true (from_truth (Some b)) ≡ b
 truth_is true = refl
 truth_is false = refl
 

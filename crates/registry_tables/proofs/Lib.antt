@@ -1,4 +1,5 @@
 pub mod AccessFacts
+pub mod AfterScopeFacts
 pub mod ArchiveFacts
 pub mod CatalogFacts
 pub mod ContentsFacts
@@ -6,11 +7,13 @@ pub mod CounterFacts
 pub mod CreationFacts
 pub mod DependentFacts
 pub mod EffectFacts
+pub mod FirstsFacts
 pub mod FoundFacts
 pub mod GrantFacts
 pub mod HeldNeedFacts
 pub mod JoinedFacts
 pub mod KeptArchiveFacts
+pub mod LevelFacts
 pub mod LinkedFacts
 pub mod LiveFacts
 pub mod MaintainerFacts
@@ -32,6 +35,7 @@ pub mod RetiredFacts
 pub mod ReviseFacts
 pub mod SchemaFacts
 pub mod ScopeFacts
+pub mod SortFacts
 pub mod SpentFacts
 pub mod StandingFacts
 pub mod StatusFacts

@@ -89,7 +89,7 @@ module _ {S : Type 0} (store : Ghosts S) where
   pub creation_understood : (old new : Transaction S) → IsMade store old new → Understands (shown store old) first_creation
   creation_understood old new made =
       let all = made.1 in
-      first_understood 19 old all.0 (subst (λ n. HasRun store n old all.0) creation_length all.1) (omega (arith, all.2.1.survives.clean, made.0))
+      first_understood 23 old all.0 (subst (λ n. HasRun store n old all.0) creation_length all.1) (omega (arith, all.2.1.survives.clean, made.0))
 
   pub users_refused : (old new : Transaction S) → HasUsersAlone (shown store old) → ¬ IsMade store old new
   users_refused old new alone made =

@@ -36,7 +36,7 @@ use Rattle.registry_tables.specs.Contents.{Contents, LiveVersion, contents}
 use Rattle.registry_tables.specs.Effects.{stored}
 use Rattle.registry_tables.specs.Schema as table
 use Rattle.registry_tables.specs.Schema.{schema}
-use Rattle.registry_tables.proofs.MappedFacts.{members_mapped, organisations_mapped, packages_mapped, versions_mapped}
+use Rattle.registry_tables.proofs.MappedFacts.{members_mapped, organisations_mapped, owners_mapped, packages_mapped, versions_mapped}
 use Rattle.registry_tables.proofs.ReferenceFacts.{told}
 
 -- a table whose first column refers to the key of another
@@ -74,6 +74,10 @@ module _ (s : State) (ready : IsReady schema s) where
   -- the package of which a version lives
   pub package_there : (p v : Text) (row : LiveVersion) → at (stored s).versions (p, v) ≡ Some row → is_some (at (stored s).packages p) ≡ true
   package_there = parent_there versions_mapped packages_mapped (codes "packages") NoAction (inl refl) to_packages s ready
+
+  -- the package that a user maintains
+  pub owned_there : (p u : Text) (mark : Unit {0}) → at (stored s).owners (p, u) ≡ Some mark → is_some (at (stored s).packages p) ≡ true
+  owned_there = parent_there owners_mapped packages_mapped (codes "packages") NoAction (inl refl) to_packages s ready
 
 -- a version was put where its package was
 pub version_has_package : (p v : Text) (row : LiveVersion) (c : Contents) (s : State) → Leaves schema contents (record c { versions = put c.versions (p, v) row }) s → is_some (at c.packages p) ≡ true

@@ -98,6 +98,22 @@ pub means_held_index : MeansIndex (schema_after 19) (get_or creation 19 []) 14 t
 unfolding understood everything creation
 means_held_index = record { command = (refl, (refl, refl)); text = refl; found = refl; defined = refl }
 
+pub means_tokens_index : MeansIndex (schema_after 20) (get_or creation 20 []) 1 table.tokens (record table.tokens_by_user { tree = 0 })
+unfolding understood everything creation
+means_tokens_index = record { command = (refl, (refl, refl)); text = refl; found = refl; defined = refl }
+
+pub means_members_index : MeansIndex (schema_after 21) (get_or creation 21 []) 3 table.members (record table.members_by_user { tree = 0 })
+unfolding understood everything creation
+means_members_index = record { command = (refl, (refl, refl)); text = refl; found = refl; defined = refl }
+
+pub means_team_members_index : MeansIndex (schema_after 22) (get_or creation 22 []) 5 table.team_members (record table.team_members_by_user { tree = 0 })
+unfolding understood everything creation
+means_team_members_index = record { command = (refl, (refl, refl)); text = refl; found = refl; defined = refl }
+
+pub means_owners_index : MeansIndex (schema_after 23) (get_or creation 23 []) 8 table.owners (record table.owners_by_user { tree = 0 })
+unfolding understood everything creation
+means_owners_index = record { command = (refl, (refl, refl)); text = refl; found = refl; defined = refl }
+
 -- the texts add tables one after another
 abbrev AddsAll : ℕ → List (List ℕ) → Type 0
 AddsAll n [] = Unit {0}
@@ -123,7 +139,7 @@ adds i within =
     let same : 0 + i ≡ i = omega arith in
     subst (λ sql. AddsTable i sql) (get_or-take 15 creation i [] within) (subst (λ k. AddsTable k (get_or (take 15 creation) i [])) same (each_adds (take 15 creation) 0 i all_add (omega (arith, long, within))))
 
-pub creation_length : length creation ≡ 20
+pub creation_length : length creation ≡ 24
 unfolding creation
 creation_length = refl
 

@@ -1,30 +1,45 @@
 -- What the statements on statuses make and show.
-use Rattle.std.proofs.Common.{◌≡◌, ℕ, List, [], ◌∷◌, map, Option, Some, None, option_map, slice_get, Ok, refl, sym, subst, ◌∙◌, codes}
+use Rattle.std.proofs.Common.{◌≡◌, ℕ, Bool, true, false, not, ◌&&◌, cond, drop, filter, Ordering, Less, Equal, Greater, is_lt, ap, ap₂, List, [], ◌∷◌, map, Option, Some, None, option_map, slice_get, Ok, refl, sym, subst, ◌∙◌, codes}
 use Rattle.sqlite.specs.declared.types.Value.TheVariants.{Null, Int, Text as Stored}
 use Rattle.sqlite.specs.Command.TheVariants.{Insert, Update, Select}
 use Rattle.sqlite.specs.Source.TheVariants.{Values}
 use Rattle.sqlite.specs.Listing.{understood}
 use Rattle.sqlite.specs.State.{State as Shown, HasCleanDisk}
 use Rattle.sqlite_tied.specs.Compute.{everything}
-use Rattle.sqlite_value.specs.Order.{Row}
-use Rattle.sqlite_sql.specs.Term.{Term, lit, col}
-use Rattle.registry_names.specs.Texts.{Text}
+use Rattle.sqlite.specs.declared.types.Value.{Value}
+use Rattle.sqlite_value.specs.Order.{Row, column, value_cmp}
+use Rattle.sqlite_value.specs.declared.keys.Collation.TheVariants.{Binary}
+use Rattle.sqlite_value.proofs.OrderLemmas.{value_cmp-Text}
+use Rattle.sqlite_sql.specs.declared.ops.BinaryOp.TheVariants.{Compare}
+use Rattle.sqlite_sql.specs.declared.ops.CompareOp.TheVariants.{Ge, Lt}
+use Rattle.sqlite_sql.specs.Ops.{binary, is_true}
+use Rattle.sqlite_rules.specs.Lists.{Has}
+use Rattle.sqlite_rules.proofs.ListLemmas.{all_has}
+use Rattle.std.specs.Ordering.{is_ge}
+use Rattle.sqlite_sql.specs.Term.{Term, lit, col, op2}
+use Rattle.registry_names.specs.Texts.{Text, text_cmp}
 use Rattle.registry_rows.specs.Frames.{Wrote}
-use Rattle.registry_rows.specs.Ready.{Ready, Leaves, Reads, Queried}
+use Rattle.registry_rows.specs.Ready.{IsReady, Ready, Leaves, Reads, Queried}
 use Rattle.registry_tables.specs.Overviews.{package_spelled}
 use Rattle.registry_tables.specs.Schema as table
 use Rattle.registry_tables.specs.Schema.{schema}
 use Rattle.registry_tables.specs.Contents.{access_of, contents}
 use Rattle.registry_tables.specs.Effects.{stored}
-use Rattle.registry_names.specs.Maps.{at, entries, put}
+use Rattle.registry_names.specs.Maps.{at, entries, put, seen}
 use Rattle.registry_names.specs.declared.status.Status.{Status}
 use Rattle.registry_names.proofs.KeyFacts.{text_key}
-use Rattle.registry_rows.specs.Statements.{Means, MeansQuery, scan, by_texts, in_order, select_where, set_terms}
+use Rattle.registry_rows.specs.Statements.{Means, MeansQuery, scan, by_texts, in_order, is_wanted, select_where, set_terms}
+use Rattle.registry_rows.specs.Columns.{text_in}
+use Rattle.registry_rows.specs.Rows.{key_of}
 use Rattle.registry_rows.proofs.StatementFacts.{insert_puts, insert_meets_none, update_revises}
-use Rattle.registry_rows.proofs.LookUpFacts.{select_all, select_finds, first_listed}
+use Rattle.registry_rows.proofs.KeyedFacts.{by_texts_given, texts_of}
+use Rattle.registry_rows.proofs.LookUpFacts.{select_all, select_finds, select_passes_by, first_listed}
+use Rattle.registry_rows.proofs.TextKeyFacts.{and_true, row_parts}
 use Rattle.registry_tables.specs.Changes.{amended}
 use Rattle.registry_tables.specs.Numbers.{status_number, status_of}
 use Rattle.registry_tables.specs.Spelled.{status_spelled}
+use Rattle.registry_tables.proofs.AfterScopeFacts.{is_between}
+use Rattle.registry_tables.proofs.DependentFacts.{truth_is}
 use Rattle.registry_tables.proofs.MappedFacts.{packages_mapped}
 use Rattle.registry_tables.proofs.ReadFacts.{at-read, entries-read}
 use Rattle.registry_tables.proofs.ReviseFacts.{revised}
@@ -97,3 +112,58 @@ pub statuses_listed : (old new : Shown) (rows : List Row) → Ready schema old �
 statuses_listed old new rows form call clean =
     let it = select_all packages_mapped list_text list_columns _ list_means package_spelled status_of (λ id vs. refl) old new rows form call clean in
     (it.0, it.1 ∙ sym (entries-read text_key (stored old).packages (λ _ n. status_of n)))
+
+-- ---- SELECT of the names between two
+
+abbrev between_text : List ℕ
+between_text = codes "SELECT name, status FROM packages WHERE name >= ?1 AND name < ?2 ORDER BY name"
+
+-- the name is not below the first parameter, and below the second
+abbrev between_wanted : List Term
+between_wanted = op2 (Compare Ge Binary) (col 1 1) (col 0 0) ∷ op2 (Compare Lt Binary) (col 1 1) (col 0 1) ∷ []
+
+between_means : MeansQuery schema between_text (select_where table.packages list_columns between_wanted (in_order 0 1) (codes "name" ∷ codes "status" ∷ []))
+unfolding understood everything
+between_means = ((refl, (refl, refl)), refl)
+
+not_below : (o : Ordering) → is_ge o ≡ not (is_lt o)
+not_below Less = refl
+not_below Equal = refl
+not_below Greater = refl
+
+-- SQL's >= and < on texts
+above_test : (s t : Text) → is_true (binary (Compare Ge Binary) (Stored s) (Stored t)) ≡ not (is_lt (text_cmp s t))
+unfolding binary
+above_test s t = truth_is (is_ge (value_cmp (Stored s) (Stored t))) ∙ not_below (value_cmp (Stored s) (Stored t)) ∙ ap (λ o. not (is_lt o)) (value_cmp-Text s t)
+
+below_test : (s t : Text) → is_true (binary (Compare Lt Binary) (Stored s) (Stored t)) ≡ is_lt (text_cmp s t)
+unfolding binary
+below_test s t = truth_is (is_lt (value_cmp (Stored s) (Stored t))) ∙ ap is_lt (value_cmp-Text s t)
+
+passes : (low high : Text) (s : Shown) → IsReady schema s → (r : Row) → Has (s.now.trees table.packages.tree) r → is_wanted between_wanted (Stored low ∷ Stored high ∷ []) r ≡ is_between low high (key_of 0 r)
+passes low high s ready r h =
+    let whole = row_parts r (all_has _ (s.now.trees table.packages.tree) r ((by_texts_given packages_mapped).keyed.rowids s ready).1 h) in
+    let text = texts_of packages_mapped s ready r h in
+    let name = text_in (column (drop 1 r) 0) in
+    ap (is_wanted between_wanted (Stored low ∷ Stored high ∷ [])) whole.1
+    ∙ ap₂ (λ a b. a && b) (ap (λ (v : Value). is_true (binary (Compare Ge Binary) v (Stored low))) text ∙ above_test name low)
+    (and_true _ ∙ ap (λ (v : Value). is_true (binary (Compare Lt Binary) v (Stored high))) text ∙ below_test name high)
+
+-- entries that pass a test of their keys, with their values read
+filter_seen : {X Y : Type 0} (test : Text → Bool) (g : X → Y) (es : List (Text × X)) → map (seen g) (filter (λ (e : Text × X). test e.0) es) ≡ filter (λ (e : Text × Y). test e.0) (map (seen g) es)
+filter_seen test g [] = refl
+filter_seen {X} {Y} test g (e ∷ es) = each (test e.0) ∙ ap (λ (l : List (Text × Y)). cond (test e.0) ((e.0, g e.1) ∷ l) l) (filter_seen test g es)
+  where
+    each : (b : Bool) → map (seen g) (cond b (e ∷ filter (λ (x : Text × X). test x.0) es) (filter (λ (x : Text × X). test x.0) es))
+        ≡ cond b ((e.0, g e.1) ∷ map (seen g) (filter (λ (x : Text × X). test x.0) es)) (map (seen g) (filter (λ (x : Text × X). test x.0) es))
+    each true = refl
+    each false = refl
+
+pub between_listed : (low high : Text) (old new : Shown) (rows : List Row) → Ready schema old → Queried between_text (Stored low ∷ Stored high ∷ []) old new rows → HasCleanDisk new
+    → Reads schema old new × (map package_spelled rows ≡ filter (λ (e : Text × Status). is_between low high e.0) (entries (access_of (stored old)).statuses))
+between_listed low high old new rows form call clean =
+    let it = select_passes_by (by_texts_given packages_mapped) between_text between_wanted list_columns _ between_means (Stored low ∷ Stored high ∷ []) (λ e. is_between low high e.0) package_spelled status_of (λ id vs _. refl) old new (passes low high old) rows form call clean in (
+      it.0,
+      it.1 ∙ filter_seen (is_between low high) status_of (entries (stored old).packages)
+          ∙ sym (ap (filter (λ (e : Text × Status). is_between low high e.0)) (entries-read text_key (stored old).packages (λ _ n. status_of n))),
+    )

@@ -23,4 +23,8 @@ creation =
     ∷ codes "CREATE TABLE need_ranges (package TEXT NOT NULL, version TEXT NOT NULL, target TEXT NOT NULL, range TEXT NOT NULL, PRIMARY KEY (package, version, target, range), FOREIGN KEY (package, version) REFERENCES versions ON DELETE CASCADE) STRICT"
     ∷ codes "CREATE INDEX need_ranges_by_target ON need_ranges (target, package, version, range)"
     ∷ codes "CREATE INDEX held_by_archive ON held (archive)"
+    ∷ codes "CREATE INDEX tokens_by_user ON tokens (user, digest)"
+    ∷ codes "CREATE INDEX members_by_user ON members (user, org)"
+    ∷ codes "CREATE INDEX team_members_by_user ON team_members (org, user, team)"
+    ∷ codes "CREATE INDEX owners_by_user ON owners (user, package)"
     ∷ []

@@ -1,5 +1,5 @@
 -- The tables as they are made, and what they hold then.
-use Rattle.std.specs.Prelude.{◌≡◌, ℕ, [], ◌∷◌, ◌++◌, None, map, take, codes, pos, nat_lt, if◌then◌else◌}
+use Rattle.std.specs.Prelude.{◌≡◌, ◌-◌, ℕ, [], ◌∷◌, ◌++◌, None, map, take, codes, pos, nat_lt, if◌then◌else◌}
 use Rattle.sqlite_schema.specs.declared.schema.Schema.{Schema}
 use Rattle.sqlite_trees.specs.declared.store.Store.{Ghosts}
 use Rattle.sqlite.specs.State.{HasCleanDisk}
@@ -8,7 +8,7 @@ use Rattle.registry_names.specs.Texts.{Text}
 use Rattle.registry_names.specs.Maps.{empty, put}
 use Rattle.registry_rows.specs.Tables.{key_index}
 use Rattle.registry_rows.specs.Ready.{Blank}
-use Rattle.registry_tables.specs.Schema.{keyed, need_ranges, need_ranges_by_target, schema, schema_2}
+use Rattle.registry_tables.specs.Schema.{keyed, last_indexes, need_ranges, schema, schema_2}
 use Rattle.registry_tables.specs.Contents.{Contents}
 use Rattle.registry_tables.specs.Effects.{shown}
 
@@ -17,16 +17,13 @@ abbrev pub first_tables : ℕ → Schema
 first_tables n = record { tables = take n keyed; indexes = map key_index (take n keyed); views = [] }
 
 -- what this many of the first texts make: 15 tables with such a key, then that of the archives
--- with the one that counts beside it, their index, the table of needs, its index, and the index of
--- the archives that versions have
+-- with the one that counts beside it, their index, the table of needs, and the last indexes
 abbrev pub schema_after : ℕ → Schema
 schema_after n =
-    if nat_lt 19 n then schema
-    else (if nat_lt 18 n then record schema { indexes = schema_2.indexes ++ key_index need_ranges ∷ need_ranges_by_target ∷ [] }
-    else (if nat_lt 17 n then record schema { indexes = schema_2.indexes ++ key_index need_ranges ∷ [] }
+    if nat_lt 17 n then record schema { indexes = schema_2.indexes ++ key_index need_ranges ∷ take (n - 18) last_indexes }
     else (if nat_lt 16 n then schema_2
     else (if nat_lt 15 n then record schema_2 { indexes = map key_index keyed }
-    else first_tables n))))
+    else first_tables n))
 
 -- where the number of the schema is, and which one it is
 abbrev pub schema_key : Text

@@ -6,6 +6,7 @@ pub mod Creation
 pub mod Effects
 pub mod Fresh
 pub mod Laws
+pub mod Levels
 pub mod Needs
 pub mod Numbers
 pub mod Opening

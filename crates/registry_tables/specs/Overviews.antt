@@ -1,11 +1,14 @@
 -- What all users and all packages are listed with.
-use Rattle.std.specs.Prelude.{List, length, map}
+use Rattle.std.specs.Prelude.{Bool, not, ◌&&◌, List, [], ◌∷◌, ◌++◌, filter, length, map}
+use Rattle.std.specs.Ordering.{is_lt}
 use Rattle.registry_names.specs.Maps.{at, entries, keys}
 use Rattle.registry_names.specs.Tags.{latest}
-use Rattle.registry_names.specs.Texts.{Text}
+use Rattle.registry_names.specs.Names.{scope_of}
+use Rattle.registry_names.specs.Texts.{Text, text_cmp}
 use Rattle.registry_names.specs.declared.status.Status.{Status}
 use Rattle.registry_packument.specs.declared.list.Overview.{Overview}
 use Rattle.registry_packument.specs.declared.list.TokenCount.{TokenCount}
+use Rattle.registry_rules.specs.Refusals.{is_scope}
 use Rattle.registry_rules.specs.State.{tokens_of}
 use Rattle.sqlite_value.specs.Order.{Row, column}
 use Rattle.registry_rows.specs.Columns.{int_in, text_in}
@@ -28,6 +31,14 @@ users_counted c = map (counted c) (keys (entries c.users))
 -- all packages that have a status, in byte order
 abbrev pub packages_viewed : Contents → List Overview
 packages_viewed c = map (viewed c) (entries (access_of c).statuses)
+
+-- not below `@o/`, and below `@o0`, as the byte 48 follows the slash
+abbrev pub is_after_scope : Text → Text → Bool
+is_after_scope o t = not (is_lt (text_cmp t (64 ∷ (o ++ 47 ∷ [])))) && is_lt (text_cmp t (64 ∷ (o ++ 48 ∷ [])))
+
+-- the packages of the scope of an organisation, each with its status, in byte order
+abbrev pub scope_statuses : Contents → Text → List (Text × Status)
+scope_statuses c o = filter (λ (e : Text × Status). is_scope o (scope_of e.0)) (entries (access_of c).statuses)
 
 -- a package and its status
 abbrev pub package_spelled : Row → Text × Status

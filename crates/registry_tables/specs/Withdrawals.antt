@@ -7,6 +7,8 @@ use Rattle.registry_names.specs.Texts.{Text, is}
 use Rattle.registry_names.specs.Maps.{PairMap, at, put, erase, keep, revise, entries}
 use Rattle.registry_rows.specs.KeyKinds.{NumberMap}
 use Rattle.registry_rows.specs.TextKeys.{Texts}
+use Rattle.registry_names.specs.Versions.{text_of_version}
+use Rattle.registry_rules.specs.declared.facts.LiveVersion.{LiveVersion as Listed}
 use Rattle.registry_tables.specs.Contents.{Archive, Contents, LiveVersion}
 
 -- ---- a withdrawal
@@ -53,6 +55,10 @@ is_foreign_need p k = is p k.1.1.0 && not (is p k.0)
 -- the ranges in which live versions of other packages need this one, one for each need
 abbrev pub ranges_on : Contents → Text → List Text
 ranges_on c p = map (λ (e : Texts 3 × Unit {0}). e.0.1.1.1) (filter (λ (e : Texts 3 × Unit {0}). is_foreign_need p e.0) (entries c.need_ranges))
+
+-- the text of a live version
+abbrev pub version_text : Listed → Text
+version_text v = text_of_version v.version
 
 -- ---- when a package's versions were withdrawn
 

@@ -15,6 +15,7 @@ mod dependents;
 mod grants;
 pub mod laws;
 mod maintainers;
+mod levels;
 mod members;
 mod meta;
 mod moments;
@@ -43,8 +44,9 @@ pub use crate::archives::{hold_archive, load_archive, store_archive};
 pub use crate::callers::load_caller;
 pub use crate::change::make;
 pub use crate::counters::counts_archives_alone;
-pub use crate::dependents::is_depended;
+pub use crate::dependents::{is_any_depended, is_depended};
 pub use crate::grants::{has_grant, load_grants};
+pub use crate::levels::{load_own_packages, load_scope_packages};
 pub use crate::maintainers::{has_other_maintainer, is_maintainer, load_maintainers};
 pub use crate::members::{has_other_owner, load_members, load_role};
 pub use crate::meta::opened;
@@ -64,7 +66,7 @@ pub use crate::teams::{has_team, load_teams};
 pub use crate::tokens::{load_token_user, load_user_tokens};
 pub use crate::users::{has_user, load_users};
 pub use crate::versions::{
-    DocumentRow, has_live, has_version, load_document, load_live, load_published, load_times,
+    DocumentRow, has_live, has_version, load_document, load_live, load_live_since, load_published, load_times,
     put_version,
 };
 pub use crate::walk::{LiveRows, VersionWalk, walk_versions};

@@ -9,6 +9,7 @@ ghost use Rattle.registry_rules.specs.State as spec;
 ghost use Rattle.registry_tables.specs.Changes.{IsFree};
 ghost use Rattle.registry_tables.specs.Contents.{registry_of};
 ghost use Rattle.registry_tables.specs.Effects.{InForm, Makes, OnlyWhere, Loads};
+ghost use Rattle.registry_tables.specs.Levels.{firsts_of};
 
 use crate::texts::texts_in;
 use registry_names::{Fault, Name, Text};
@@ -66,6 +67,25 @@ pub fn load_maintainers<S: Alter>(
         tx,
         "SELECT user FROM owners WHERE package = ?1 ORDER BY user",
         params![name.text()],
+    )?;
+    texts_in(alloc, &rows)
+}
+
+/// The packages that a user maintains, in byte order.
+pub(crate) fn load_maintained<S: Alter>(
+    alloc: Global,
+    tx: &mut Transaction<'_, S>,
+    user: &str,
+) -> Result<Vec<Text>, Fault>
+    requires in_form { InForm S.Store tx.old }
+    ensures stays { Stays S.Store tx.old tx.new }
+    ensures loads { Loads S.Store tx.old tx.new result
+        (λ packages c. packages.items ≡ firsts_of c.owners user.now) }
+{
+    let rows = read(
+        tx,
+        "SELECT package FROM owners WHERE user = ?1 ORDER BY package, user",
+        params![user],
     )?;
     texts_in(alloc, &rows)
 }

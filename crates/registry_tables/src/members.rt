@@ -11,10 +11,12 @@ ghost use Rattle.registry_rules.specs.State as spec;
 ghost use Rattle.registry_tables.specs.Changes.{IsFree, IsFreeUnless, amended, with_row};
 ghost use Rattle.registry_tables.specs.Contents.{access_of, registry_of};
 ghost use Rattle.registry_tables.specs.Effects.{InForm, Makes, OnlyWhere, Loads};
+ghost use Rattle.registry_tables.specs.Levels.{firsts_of};
 ghost use Rattle.registry_tables.specs.Numbers.{role_number};
 ghost use Rattle.registry_tables.specs.Spelled.{member_entry, member_spelled, role_spelled};
 ghost use Rattle.registry_tables.specs.Teams.{without_member};
 
+use crate::texts::texts_in;
 use registry_access::Role;
 use registry_names::{Fault, Text};
 use registry_packument::Member;
@@ -59,6 +61,25 @@ pub fn load_members<S: Alter>(
         params![organisation],
     )?;
     values_of_rows::<ListedMember>(alloc, &rows)
+}
+
+/// The organisations of which a user is a member, in byte order.
+pub(crate) fn load_user_organisations<S: Alter>(
+    alloc: Global,
+    tx: &mut Transaction<'_, S>,
+    user: &str,
+) -> Result<Vec<Text>, Fault>
+    requires in_form { InForm S.Store tx.old }
+    ensures stays { Stays S.Store tx.old tx.new }
+    ensures loads { Loads S.Store tx.old tx.new result
+        (λ organisations c. organisations.items ≡ firsts_of c.members user.now) }
+{
+    let rows = read(
+        tx,
+        "SELECT org FROM members WHERE user = ?1 ORDER BY org, user",
+        params![user],
+    )?;
+    texts_in(alloc, &rows)
 }
 
 /// Whether another member of the organisation than this user is an owner.

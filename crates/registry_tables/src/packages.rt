@@ -1,6 +1,7 @@
 //! All packages, each with what is listed of it.
 
-ghost use Rattle.std.specs.Prelude.{◌≡◌, map};
+ghost use Rattle.std.specs.Prelude.{◌≡◌, ◌∷◌, ◌++◌, IfOk, filter, map, true};
+ghost use Rattle.registry_names.specs.Idents.{is_ident};
 ghost use Rattle.registry_names.specs.Maps.{at, entries};
 ghost use Rattle.registry_names.specs.Tags.{latest};
 ghost use Rattle.registry_names.specs.Texts.{Text as Bytes};
@@ -8,16 +9,16 @@ ghost use Rattle.registry_names.specs.declared.status.Status.{Status as Readers}
 ghost use Rattle.registry_rows.specs.Frames.{Stays};
 ghost use Rattle.registry_tables.specs.Contents.{access_of};
 ghost use Rattle.registry_tables.specs.Effects.{InForm, Knows, Loads};
-ghost use Rattle.registry_tables.specs.Overviews.{package_entry, package_spelled, packages_viewed, viewed};
+ghost use Rattle.registry_tables.specs.Overviews.{is_after_scope, package_entry, package_spelled, packages_viewed, scope_statuses, viewed};
 
-use crate::statuses::status_of;
+use crate::statuses::{find_status, status_of};
 use crate::tags::load_tag;
 use crate::texts::read_back;
-use registry_names::{Fault, LATEST, Name, Status, Text};
+use registry_names::{Fault, Ident, LATEST, Name, Status, Text};
 use registry_packument::Overview;
 use registry_rows::{RowKind, read, values_of_rows};
-use sqlite::{Alter, Error, Row, Transaction};
-use std::alloc::Global;
+use sqlite::{Alter, Error, Row, Transaction, params};
+use std::alloc::{AllocError, Global};
 
 /// All packages that were published, now or once, in byte order, each with its status and the
 /// version that `latest` names.
@@ -53,6 +54,60 @@ fn load_statuses<S: Alter>(
 {
     let rows = read(tx, "SELECT name, status FROM packages ORDER BY name", &[])?;
     values_of_rows::<ListedPackage>(alloc, &rows)
+}
+
+/// The packages of an organisation's scope with their statuses, in byte order.
+pub(crate) fn load_scope_statuses<S: Alter>(
+    alloc: Global,
+    tx: &mut Transaction<'_, S>,
+    organisation: &Ident,
+) -> Result<Vec<ListedPackage>, Fault>
+    requires in_form { InForm S.Store tx.old }
+    ensures stays { Stays S.Store tx.old tx.new }
+    ensures loads { Loads S.Store tx.old tx.new result
+        (λ packages c. map package_entry packages.items ≡ scope_statuses c organisation.now) }
+{
+    let scope = scoped(alloc, organisation, "")?;
+    // A scope alone is no name of a package, and none is ever written.
+    if find_status(tx, scope.as_str())?.is_some() {
+        return Err(Fault::Database);
+    }
+    load_after_scope(alloc, tx, organisation)
+}
+
+// The packages whose names begin with `@organisation/`, with their statuses. They are those before
+// `@organisation0`, as the byte `0` follows the slash.
+fn load_after_scope<S: Alter>(
+    alloc: Global,
+    tx: &mut Transaction<'_, S>,
+    organisation: &Ident,
+) -> Result<Vec<ListedPackage>, Fault>
+    requires in_form { InForm S.Store tx.old }
+    ensures stays { Stays S.Store tx.old tx.new }
+    ensures loads { Loads S.Store tx.old tx.new result (λ packages c.
+        map package_entry packages.items
+        ≡ filter (λ (e : Bytes × Readers). is_after_scope organisation.now e.0)
+        (entries (access_of c).statuses)) }
+{
+    let first = scoped(alloc, organisation, "/")?;
+    let end = scoped(alloc, organisation, "0")?;
+    let rows = read(
+        tx,
+        "SELECT name, status FROM packages WHERE name >= ?1 AND name < ?2 ORDER BY name",
+        params![first.as_str(), end.as_str()],
+    )?;
+    values_of_rows::<ListedPackage>(alloc, &rows)
+}
+
+// The scope of an organisation, and a text after it.
+fn scoped(alloc: Global, organisation: &Ident, rest: &str) -> Result<Text, AllocError>
+    ensures { IfOk result (λ text. (text ≡ 64 ∷ (organisation.now ++ rest.now))
+        × (is_ident organisation.now ≡ true)) }
+{
+    let mut text = String::from_str(alloc, "@")?;
+    text.push_str(organisation.text())?;
+    text.push_str(rest)?;
+    Ok(Text::from(text))
 }
 
 impl RowKind for ListedPackage {

@@ -26,7 +26,7 @@ use sqlite::{Alter, Transaction};
 
 /// The texts that make the tables and the indexes, in their order. The first 14 make those of
 /// schema 1, the first 17 those of schema 2.
-pub const TABLES: [&str; 20] = [
+pub const TABLES: [&str; 24] = [
     "CREATE TABLE users (name TEXT NOT NULL, PRIMARY KEY (name)) STRICT",
     "CREATE TABLE tokens (digest BLOB NOT NULL, user TEXT NOT NULL, PRIMARY KEY (digest), FOREIGN KEY (user) REFERENCES users) STRICT",
     "CREATE TABLE orgs (name TEXT NOT NULL, PRIMARY KEY (name)) STRICT",
@@ -47,6 +47,10 @@ pub const TABLES: [&str; 20] = [
     "CREATE TABLE need_ranges (package TEXT NOT NULL, version TEXT NOT NULL, target TEXT NOT NULL, range TEXT NOT NULL, PRIMARY KEY (package, version, target, range), FOREIGN KEY (package, version) REFERENCES versions ON DELETE CASCADE) STRICT",
     "CREATE INDEX need_ranges_by_target ON need_ranges (target, package, version, range)",
     "CREATE INDEX held_by_archive ON held (archive)",
+    "CREATE INDEX tokens_by_user ON tokens (user, digest)",
+    "CREATE INDEX members_by_user ON members (user, org)",
+    "CREATE INDEX team_members_by_user ON team_members (org, user, team)",
+    "CREATE INDEX owners_by_user ON owners (user, package)",
 ];
 
 /// Makes the tables in a database that has none: all of them empty, except the number of the
@@ -66,7 +70,7 @@ pub fn create<S: Alter>(tx: &mut Transaction<'_, S>) -> Result<(), Fault>
 fn create_tables<S: Alter>(tx: &mut Transaction<'_, S>, texts: &[&str]) -> Result<(), Fault>
     requires texts { map (λ text. text.now) texts.now ≡ creation }
     ensures stays { Stays S.Store tx.old tx.new }
-    ensures made { HasNoTables S.Store tx.old → OnOk result (HasMade S.Store 20 tx.new) }
+    ensures made { HasNoTables S.Store tx.old → OnOk result (HasMade S.Store 24 tx.new) }
     ensures ran { OnOk result (HasRun S.Store (length creation) tx.old tx.new) }
     ensures refused { InForm S.Store tx.old → HasCleanDisk (shown S.Store tx.new) → IsErr result }
 {

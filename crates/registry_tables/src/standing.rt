@@ -89,8 +89,8 @@ fn load_scope_role<S: Alter>(
     }
 }
 
-// Whether the caller is a maintainer of the package.
-fn maintains<S: Alter>(
+/// Whether the caller is a maintainer of the package.
+pub(crate) fn maintains<S: Alter>(
     tx: &mut Transaction<'_, S>,
     caller: &Caller,
     name: &Name,
@@ -106,9 +106,9 @@ fn maintains<S: Alter>(
     }
 }
 
-// What the caller's teams are granted on the package, where their role in the organisation of its
-// scope alone doesn't let them write.
-fn load_granted<S: Alter>(
+/// What the caller's teams are granted on the package, where their role in the organisation of its
+/// scope alone doesn't let them write.
+pub(crate) fn load_granted<S: Alter>(
     alloc: Global,
     tx: &mut Transaction<'_, S>,
     caller: &Caller,

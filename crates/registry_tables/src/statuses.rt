@@ -24,10 +24,23 @@ pub fn load_status<S: Alter>(
     ensures loads { Loads S.Store tx.old tx.new result
         (λ status c. status ≡ at (access_of c).statuses name.now) }
 {
+    find_status(tx, name.text())
+}
+
+/// The status under a text. `None` where there is none.
+pub(crate) fn find_status<S: Alter>(
+    tx: &mut Transaction<'_, S>,
+    name: &str,
+) -> Result<Option<Status>, Fault>
+    requires in_form { InForm S.Store tx.old }
+    ensures stays { Stays S.Store tx.old tx.new }
+    ensures loads { Loads S.Store tx.old tx.new result
+        (λ status c. status ≡ at (access_of c).statuses name.now) }
+{
     let rows = read(
         tx,
         "SELECT status FROM packages WHERE name = ?1",
-        params![name.text()],
+        params![name],
     )?;
     value_of_first_row::<StatusRow>(&rows)
 }

@@ -72,7 +72,8 @@ fn is_read<S: Alter>(
     Ok(reads(level_of(&standing, caller)))
 }
 
-fn reads(level: Level) -> bool
+/// Whether who has this level reads a package.
+pub(crate) fn reads(level: Level) -> bool
     ensures { result ≡ levels.reads level }
 {
     level >= Level::Read

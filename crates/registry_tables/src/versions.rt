@@ -8,7 +8,8 @@ ghost use Rattle.registry_names.specs.Versions.{text_of_version};
 ghost use Rattle.registry_rows.specs.Frames.{Stays};
 ghost use Rattle.registry_rules.specs.Actions as actions;
 ghost use Rattle.registry_rules.specs.State as state;
-ghost use Rattle.registry_rules.specs.Withdrawals.{live_versions, published_at};
+ghost use Rattle.registry_rules.specs.Facts.{since_of};
+ghost use Rattle.registry_rules.specs.Withdrawals.{live_since, live_versions, published_at};
 ghost use Rattle.registry_tables.specs.Changes.{IsFree, IsNew, row_of, version_put};
 ghost use Rattle.registry_tables.specs.Contents.{live_of, registry_of};
 ghost use Rattle.registry_tables.specs.Effects.{InForm, Makes, OnlyWhere, Loads};
@@ -25,6 +26,7 @@ use registry_names::{Fault, Moment, Name, Text, Ver};
 use registry_packument::{VersionRow, VersionTime};
 use registry_publish::PublishForm;
 use registry_rows::{RowKind, read, value_of_first_row, values_of_rows, write};
+use registry_rules::LiveVersion;
 use sqlite::{Alter, Error, Row, Transaction, params};
 use std::alloc::Global;
 
@@ -148,6 +150,37 @@ pub fn load_times<S: Alter>(
         params![name.text()],
     )?;
     values_of_rows::<TimeRow>(alloc, &rows)
+}
+
+/// The live versions of a package, each with the moment of its publication, in byte order of their
+/// texts.
+pub fn load_live_since<S: Alter>(
+    alloc: Global,
+    tx: &mut Transaction<'_, S>,
+    name: &Name,
+) -> Result<Vec<LiveVersion>, Fault>
+    requires in_form { InForm S.Store tx.old }
+    ensures stays { Stays S.Store tx.old tx.new }
+    ensures loads { Loads S.Store tx.old tx.new result
+        (λ live c. map since_of live.items ≡ live_since (registry_of c) name.now) }
+{
+    let times = load_times(alloc, tx, name)?;
+    with_moments(alloc, &times)
+}
+
+// The versions of these texts, each with its moment.
+fn with_moments(alloc: Global, times: &[VersionTime]) -> Result<Vec<LiveVersion>, Fault>
+    ensures { IfOk result (λ live. map since_of live.items ≡ map time_entry times.now) }
+{
+    let mut live = Vec::new(alloc);
+    for time in times {
+        let version = read_back(Ver::parse(alloc, time.version.as_str()))?;
+        live.push(LiveVersion {
+            version,
+            published: time.published,
+        })?;
+    }
+    Ok(live)
 }
 
 /// What the document of a live version is made of.

@@ -34,7 +34,7 @@ loop-text-preserved g c =
 
 pub returns-clause-made : goal.returns-clause-made
 returns-clause-made g c none =
-    let all : c.loop-text.text-index ≡ 20 = omega (arith, as_many c.args.texts.now c.requires.texts, creation_length, c.loop-text.auto.text-index-end, c.loop-text-test.false) in
+    let all : c.loop-text.text-index ≡ 24 = omega (arith, as_many c.args.texts.now c.requires.texts, creation_length, c.loop-text.auto.text-index-end, c.loop-text-test.false) in
     subst (λ n. HasMade g.S.Store n c.loop-text.tx) all (c.loop-text.invariant.made (omega (arith, all)) none)
 
 pub returns-clause-refused : goal.returns-clause-refused

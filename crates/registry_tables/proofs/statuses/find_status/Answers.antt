@@ -5,11 +5,11 @@ use Rattle.std.proofs.lemmas.Result.{IfOk-weaker}
 use Rattle.registry_rows.proofs.QuietFacts.{read_stays}
 use Rattle.registry_tables.specs.Effects.{shown}
 use Rattle.registry_tables.proofs.StatusFacts.{status_found}
-use Rattle.registry_tables.proofs.statuses.load_status.Goals as goal
+use Rattle.registry_tables.proofs.statuses.find_status.Goals as goal
 
 pub returns : goal.returns
 returns g c =
-    let call = rw (c.params-to_sql.ensures, c.text.ensures.text) at c.in_ok-rows.ensures.shown in
+    let call = rw (c.params-to_sql.ensures) at c.in_ok-rows.ensures.shown in
     let it = status_found c.args.name.now (shown g.S.Store c.args.tx.now) (shown g.S.Store c.read.new.tx) _ c.requires.in_form call in
     record {
       stays = read_stays g.S.Store _ _ _ c.args.tx.now c.read.new.tx _ c.in_ok-rows.ensures.same_reference call (λ clean. (it clean).0);

@@ -1,0 +1,13 @@
+use Rattle.std.proofs.Common.{◌≡◌, ◌++◌, filter, length, map}
+use Rattle.std.specs.Prelude.{is_none}
+use Rattle.std.specs.Vec.Iter.{into_iter_items, into_iter_len}
+use Rattle.registry_names.specs.Names.{scope_of}
+use Rattle.registry_tables.specs.Levels.{writable}
+use Rattle.registry_tables.proofs.levels.written.Given as goal
+
+-- of the names so far there are those without a scope
+abbrev pub invariant-loop-name : goal.invariant-loop-name
+invariant-loop-name l = record {
+  told : l.packages.items ++ map writable (filter (λ p. is_none (scope_of p)) (into_iter_items l.name-iterator)) ≡ map writable (filter (λ p. is_none (scope_of p)) (into_iter_items l.initial.name-iterator));
+  remain : into_iter_len l.name-iterator ≡ length (into_iter_items l.name-iterator);
+}

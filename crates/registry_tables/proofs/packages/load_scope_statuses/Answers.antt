@@ -1,0 +1,26 @@
+use Rattle.std.proofs.Common.{◌∙◌, ap, arith, filter, sym}
+use Rattle.std.proofs.lemmas.Result.{IfOk-weaker}
+use Rattle.sqlite.specs.Effect.{Database}
+use Rattle.sqlite.specs.State.{HasCleanDisk}
+use Rattle.registry_names.specs.Maps.{entries}
+use Rattle.registry_names.specs.Texts.{Text}
+use Rattle.registry_names.specs.declared.status.Status.{Status}
+use Rattle.registry_tables.specs.Contents.{access_of, contents}
+use Rattle.registry_tables.specs.Effects.{shown, stored_in}
+use Rattle.registry_tables.specs.Overviews.{is_after_scope}
+use Rattle.registry_tables.proofs.AfterScopeFacts.{scope_found}
+use Rattle.registry_tables.proofs.EffectFacts.{reads_as_before, reads_nothing_new}
+use Rattle.registry_tables.proofs.packages.load_scope_statuses.Goals as goal
+
+pub returns-clause-loads : goal.returns-clause-loads
+returns-clause-loads g c clean =
+    let old = shown g.S.Store c.args.tx.now in
+    let asked = shown g.S.Store c.find_status.new.tx in
+    let were : HasCleanDisk asked = omega (arith, c.load_after_scope.ensures.stays.survives.clean, clean) in
+    let found = c.in_ok-find_status.ensures.loads were in
+    let o = c.args.organisation.now in
+    IfOk-weaker c.load_after_scope.result _ _ (λ packages it. (
+      reads_as_before old asked (shown g.S.Store c.load_after_scope.new.tx) found.0 (reads_nothing_new asked (shown g.S.Store c.load_after_scope.new.tx) it.0),
+      it.1 ∙ ap (λ (d : Database). filter (λ (e : Text × Status). is_after_scope o e.0) (entries (access_of (contents d.trees)).statuses)) found.0.same
+          ∙ scope_found (stored_in g.S.Store c.args.tx.now) o _ c.in_ok-find_status.field-0 (c.as_str.ensures.text ∙ c.in_ok-scope.ensures.0) c.in_ok-scope.ensures.1 found.1 (sym c.is_some.ensures ∙ c.if-branch.false),
+    )) (c.load_after_scope.ensures.loads clean)

@@ -1,0 +1,272 @@
+//! Packages that a caller reads, each with their level on it.
+
+ghost use Rattle.std.specs.Prelude.{◌≡◌, ◌++◌, IfOk, None, filter, is_none, map, not, true};
+ghost use Rattle.std.specs.List.{AllByRecursion};
+ghost use Rattle.registry_access.specs.Callers.{role_of};
+ghost use Rattle.registry_access.specs.Positions.{level_in};
+ghost use Rattle.registry_access.specs.declared.caller.Caller.TheVariants as asker;
+ghost use Rattle.registry_names.specs.Maps.{first_at, rises};
+ghost use Rattle.registry_names.specs.Names.{scope_of};
+ghost use Rattle.registry_names.specs.Texts.{Text as Bytes, is, text_cmp};
+ghost use Rattle.registry_rows.specs.Frames.{Stays};
+ghost use Rattle.registry_rules.specs.Refusals.{is_scope};
+ghost use Rattle.registry_rules.specs.State.{is_own};
+ghost use Rattle.registry_tables.specs.Contents.{access_of};
+ghost use Rattle.registry_tables.specs.Effects.{InForm, Knows, Loads};
+ghost use Rattle.registry_tables.specs.Levels.{IsListedFor, last_at, level_entry, levels_in, levels_on, listed_name, scopes_levels, unscoped_levels, writable};
+ghost use Rattle.registry_tables.specs.Teams.{AreTeamsSound};
+
+use crate::maintainers::load_maintained;
+use crate::members::{load_role, load_user_organisations};
+use crate::packages::{ListedPackage, load_scope_statuses};
+use crate::standing::{load_granted, maintains};
+use crate::team_packages::reads;
+use crate::texts::read_back;
+use registry_access::{Caller, Level, Role, Standing, level_of};
+use registry_names::{Fault, Ident, Name, Status, Text};
+use registry_packument::PackageLevel;
+use sqlite::{Alter, Transaction};
+use std::alloc::Global;
+use std::collections::BTreeMap;
+
+/// The packages of an organisation's scope that the caller reads, in byte order, each with their
+/// level on it.
+pub fn load_scope_packages<S: Alter>(
+    alloc: Global,
+    tx: &mut Transaction<'_, S>,
+    caller: &Caller,
+    organisation: &Ident,
+) -> Result<Vec<PackageLevel>, Fault>
+    requires in_form { InForm S.Store tx.old }
+    ensures stays { Stays S.Store tx.old tx.new }
+    ensures loads { Loads S.Store tx.old tx.new result (λ packages c. AreTeamsSound c
+        → packages.items
+        ≡ levels_in c caller.now (λ p. is_scope organisation.now (scope_of p))) }
+{
+    let packages = load_scope_statuses(alloc, tx, organisation)?;
+    let role = load_caller_role(tx, caller, organisation)?;
+    with_levels(alloc, tx, caller, role, packages)
+}
+
+/// The packages of the caller that they read, in byte order, each with their level on it: those
+/// without a scope that they maintain, and those of the organisations of which they are a member.
+pub fn load_own_packages<S: Alter>(
+    alloc: Global,
+    tx: &mut Transaction<'_, S>,
+    caller: &Caller,
+) -> Result<Vec<PackageLevel>, Fault>
+    requires in_form { InForm S.Store tx.old }
+    ensures stays { Stays S.Store tx.old tx.new }
+    ensures knows { Knows S.Store tx.old tx.new result (λ packages c. AreTeamsSound c
+        → packages.items
+        ≡ levels_in c caller.now (λ p. is_own (access_of c) caller.now p (scope_of p))) }
+{
+    match caller {
+        Caller::User(user) => load_user_packages(alloc, tx, caller, user),
+        Caller::Operator | Caller::Anonymous => Ok(Vec::new(alloc)),
+    }
+}
+
+// The same of a user.
+fn load_user_packages<S: Alter>(
+    alloc: Global,
+    tx: &mut Transaction<'_, S>,
+    caller: &Caller,
+    user: &Ident,
+) -> Result<Vec<PackageLevel>, Fault>
+    requires in_form { InForm S.Store tx.old }
+    requires user { caller.now ≡ asker.User user.now }
+    ensures stays { Stays S.Store tx.old tx.new }
+    ensures loads { Loads S.Store tx.old tx.new result (λ packages c. AreTeamsSound c
+        → packages.items
+        ≡ levels_in c caller.now (λ p. is_own (access_of c) caller.now p (scope_of p))) }
+{
+    let mut packages = load_unscoped(alloc, tx, user)?;
+    let organisations = load_user_organisations(alloc, tx, user.text())?;
+    add_scopes(alloc, tx, caller, organisations, &mut packages)?;
+    in_order(alloc, packages)
+}
+
+// The packages without a scope that a user maintains, in byte order.
+fn load_unscoped<S: Alter>(
+    alloc: Global,
+    tx: &mut Transaction<'_, S>,
+    user: &Ident,
+) -> Result<Vec<PackageLevel>, Fault>
+    requires in_form { InForm S.Store tx.old }
+    ensures stays { Stays S.Store tx.old tx.new }
+    ensures loads { Loads S.Store tx.old tx.new result
+        (λ packages c. packages.items ≡ unscoped_levels c user.now) }
+{
+    let names = load_maintained(alloc, tx, user.text())?;
+    written(alloc, names)
+}
+
+// Those of the names that have no scope, each with the level of who writes the package.
+fn written(alloc: Global, names: Vec<Text>) -> Result<Vec<PackageLevel>, Fault>
+    ensures { IfOk result (λ packages. packages.items
+        ≡ map writable (filter (λ p. is_none (scope_of p)) names.items)) }
+{
+    let mut packages = Vec::new(alloc);
+    for name in names {
+        if !has_scope(&name) {
+            packages.push(PackageLevel {
+                name,
+                level: Level::Write,
+            })?;
+        }
+    }
+    Ok(packages)
+}
+
+fn has_scope(name: &Text) -> bool
+    ensures { is_none (scope_of name.now) ≡ not result }
+{
+    name.as_str().as_bytes().first().is_some_and(|byte| *byte == b'@')
+}
+
+// Adds the packages of the scopes of these organisations that the caller reads.
+fn add_scopes<S: Alter>(
+    alloc: Global,
+    tx: &mut Transaction<'_, S>,
+    caller: &Caller,
+    organisations: Vec<Text>,
+    packages: &mut Vec<PackageLevel>,
+) -> Result<(), Fault>
+    requires in_form { InForm S.Store tx.old }
+    ensures stays { Stays S.Store tx.old tx.new }
+    ensures knows { Knows S.Store tx.old tx.new result (λ done c. AreTeamsSound c
+        → packages.new.items
+        ≡ packages.old.items ++ scopes_levels c caller.now organisations.items) }
+{
+    for organisation in organisations {
+        let organisation = read_back(Ident::parse(alloc, organisation.as_str()))?;
+        let mut scope = load_scope_packages(alloc, tx, caller, &organisation)?;
+        packages.append(&mut scope)?;
+    }
+    Ok(())
+}
+
+// The packages in byte order, each once, with the level that it has last.
+fn in_order(alloc: Global, packages: Vec<PackageLevel>) -> Result<Vec<PackageLevel>, Fault>
+    ensures rises { IfOk result (λ sorted. rises text_cmp (map level_entry sorted.items) ≡ true) }
+    ensures last { IfOk result (λ sorted. (q : Bytes)
+        → first_at is (map level_entry sorted.items) q
+        ≡ last_at (map level_entry packages.items) q None) }
+{
+    let mut levels = BTreeMap::new(alloc);
+    for package in packages {
+        let name = read_back(Name::parse(alloc, package.name.as_str()))?;
+        levels.insert(name, package.level)?;
+    }
+    listed(alloc, levels)
+}
+
+// The entries of a map, in their order.
+fn listed(alloc: Global, levels: BTreeMap<Name, Level>) -> Result<Vec<PackageLevel>, Fault>
+    ensures entries { IfOk result (λ packages. map level_entry packages.items ≡ levels.entries) }
+    ensures rises { IfOk result (λ packages. rises text_cmp (map level_entry packages.items)
+        ≡ true) }
+{
+    let mut packages = Vec::new(alloc);
+    for (name, level) in levels {
+        let name = Text::from_str(alloc, name.text())?;
+        packages.push(PackageLevel { name, level })?;
+    }
+    Ok(packages)
+}
+
+// The caller's role in an organisation, if they are a member of it.
+fn load_caller_role<S: Alter>(
+    tx: &mut Transaction<'_, S>,
+    caller: &Caller,
+    organisation: &Ident,
+) -> Result<Option<Role>, Fault>
+    requires in_form { InForm S.Store tx.old }
+    ensures stays { Stays S.Store tx.old tx.new }
+    ensures knows { Knows S.Store tx.old tx.new result
+        (λ role c. role ≡ role_of (access_of c) caller.now organisation.now) }
+{
+    match caller {
+        Caller::User(user) => load_role(tx, organisation.text(), user.text()),
+        Caller::Operator | Caller::Anonymous => Ok(None),
+    }
+}
+
+// Those of the packages that the caller reads, each with their level, where this is their role in
+// the organisation of each package's scope.
+fn with_levels<S: Alter>(
+    alloc: Global,
+    tx: &mut Transaction<'_, S>,
+    caller: &Caller,
+    role: Option<Role>,
+    packages: Vec<ListedPackage>,
+) -> Result<Vec<PackageLevel>, Fault>
+    requires in_form { InForm S.Store tx.old }
+    ensures stays { Stays S.Store tx.old tx.new }
+    ensures knows { Knows S.Store tx.old tx.new result (λ levels c. AreTeamsSound c
+        → AllByRecursion (IsListedFor c caller.now role) packages.items
+        → levels.items ≡ levels_on c caller.now (map listed_name packages.items)) }
+{
+    let mut levels = Vec::new(alloc);
+    for package in packages {
+        let level = level_on(alloc, tx, caller, role, &package)?;
+        if reads(level) {
+            levels.push(PackageLevel {
+                name: package.name,
+                level,
+            })?;
+        }
+    }
+    Ok(levels)
+}
+
+// The caller's level on a package, where this is their role in the organisation of its scope. An
+// owner or admin writes it, so nothing else is asked of them.
+fn level_on<S: Alter>(
+    alloc: Global,
+    tx: &mut Transaction<'_, S>,
+    caller: &Caller,
+    role: Option<Role>,
+    package: &ListedPackage,
+) -> Result<Level, Fault>
+    requires in_form { InForm S.Store tx.old }
+    ensures stays { Stays S.Store tx.old tx.new }
+    ensures knows { Knows S.Store tx.old tx.new result (λ level c. AreTeamsSound c
+        → IsListedFor c caller.now role package.now
+        → level ≡ level_in (access_of c) caller.now package.now.name) }
+{
+    if matches!(role, Some(Role::Owner | Role::Admin)) {
+        return Ok(Level::Write);
+    }
+    let name = read_back(Name::parse(alloc, package.name.as_str()))?;
+    load_level(alloc, tx, caller, role, &name, package.status)
+}
+
+// The same of a package of this name and status.
+fn load_level<S: Alter>(
+    alloc: Global,
+    tx: &mut Transaction<'_, S>,
+    caller: &Caller,
+    role: Option<Role>,
+    name: &Name,
+    status: Status,
+) -> Result<Level, Fault>
+    requires in_form { InForm S.Store tx.old }
+    ensures stays { Stays S.Store tx.old tx.new }
+    ensures knows { Knows S.Store tx.old tx.new result (λ level c. AreTeamsSound c
+        → IsListedFor c caller.now role (record { name = name.now; status = status })
+        → level ≡ level_in (access_of c) caller.now name.now) }
+{
+    let maintainer = maintains(tx, caller, name)?;
+    let grants = load_granted(alloc, tx, caller, name, role)?;
+    // The level doesn't depend on whether the organisation is there.
+    let standing = Standing {
+        organisation: true,
+        role,
+        status: Some(status),
+        maintainer,
+        grants,
+    };
+    Ok(level_of(&standing, caller))
+}
