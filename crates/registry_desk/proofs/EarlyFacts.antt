@@ -1,12 +1,13 @@
 -- What is refused early, and what was found otherwise.
-use Rattle.std.proofs.Common.{◌≡◌, ◌∙◌, ◌⊎◌, ◌&&◌, ◌||◌, ℕ, Bool, true, false, not, cond, if◌then◌else◌, List, [], ◌∷◌, filter, ap, inl, inr, refl, sym, subst, Option, Some, None, option_map, Result, Ok, Err, IfOk, IsOkAnd, MatchResult, unwrap_or}
+use Rattle.std.proofs.Common.{◌≡◌, ◌∙◌, ◌⊎◌, ◌&&◌, ◌||◌, ℕ, Bool, true, false, not, cond, if◌then◌else◌, List, [], ◌∷◌, filter, map, ap, inl, inr, refl, sym, subst, Option, Some, None, option_map, Result, Ok, Err, IfOk, IsOkAnd, MatchResult, unwrap_or}
 use Rattle.std.specs.List.{list_any}
 use Rattle.std.specs.Option.{option_or}
 use Rattle.registry_names.specs.Keys.{Pair}
-use Rattle.registry_names.specs.Maps.{at, entries, keep, keys}
+use Rattle.registry_names.specs.Maps.{at, entries, keep, keys, of}
 use Rattle.registry_names.specs.Texts.{Text, is}
 use Rattle.registry_names.specs.declared.refusal.Refusal.{Refusal}
-use Rattle.registry_names.specs.declared.refusal.Refusal.TheVariants.{TooLate, Depended}
+use Rattle.registry_names.specs.declared.refusal.Refusal.TheVariants.{NotFound, TooLate, Depended}
+use Rattle.registry_names.specs.declared.dist_tag.DistTag.{DistTag}
 use Rattle.registry_names.specs.declared.stop.Fault.{Fault}
 use Rattle.registry_access.specs.Access.{Access}
 use Rattle.registry_access.specs.Agreement.{SameOrganisation}
@@ -17,11 +18,12 @@ use Rattle.registry_access.specs.declared.ask.Ask.TheVariants as asks
 use Rattle.registry_access.specs.declared.caller.Caller.{Caller}
 use Rattle.registry_access.specs.declared.rows.AccessRows.{AccessRows}
 use Rattle.registry_rules.specs.Callers.{caller_of}
-use Rattle.registry_rules.specs.Facts.{AboutTells}
-use Rattle.registry_rules.specs.Refusals.{refuse, refusal, refusal_for, state_refusal, withdraw_refusal}
-use Rattle.registry_rules.specs.State.{State, Release}
-use Rattle.registry_rules.specs.Withdrawals.{is_depended, is_need_of, is_too_old, live_versions, needs_in, published_at}
+use Rattle.registry_rules.specs.Facts.{AboutTells, since_of}
+use Rattle.registry_rules.specs.Refusals.{refuse, refusal, refusal_for, state_refusal, withdraw_all_refusal, withdraw_refusal}
+use Rattle.registry_rules.specs.State.{State, Release, is_empty}
+use Rattle.registry_rules.specs.Withdrawals.{all_tags, is_any_depended, is_depended, is_need_of, is_too_old, live_since, live_versions, needs_in, published_at, versions_in}
 use Rattle.registry_rules.specs.declared.facts.About.{About}
+use Rattle.registry_rules.specs.declared.facts.LiveVersion.{LiveVersion}
 use Rattle.registry_rules.specs.declared.request.Action.{Action}
 use Rattle.registry_rules.specs.declared.request.Action.TheVariants as asked
 use Rattle.registry_rules.specs.declared.request.Request.{Request}
@@ -31,7 +33,9 @@ use Rattle.registry_names.proofs.KeyFacts.{pair_key, same_self, text_key}
 use Rattle.registry_names.proofs.MapFacts.{at-keep}
 use Rattle.registry_names.proofs.PartFacts.{same_part}
 use Rattle.registry_tables.specs.Contents.{Contents, registry_of}
+use Rattle.registry_tables.specs.Spelled.{tag_entry}
 use Rattle.registry_tables.specs.Teams.{AreTeamsSound}
+use Rattle.registry_tables.specs.Withdrawals.{version_text}
 use Rattle.registry_desk.specs.Early.{EarlyRefusalsStand, FoundTells, IsFound, TellsSome, asked_organisation, early_refusal}
 use Rattle.registry_desk.specs.declared.policy.Found.{Found}
 use Rattle.registry_desk.specs.declared.policy.Found.TheVariants as found
@@ -55,6 +59,7 @@ early_refusals_stand S now who (asked.OwnerRemove p u) why e = first_stays _ (st
 early_refusals_stand S now who (asked.Publish f) why e = first_stays _ (state_refusal S now (asked.Publish f)) why e
 early_refusals_stand S now who (asked.Deprecate p selector message) why e = first_stays _ (state_refusal S now (asked.Deprecate p selector message)) why e
 early_refusals_stand S now who (asked.Withdraw p v) why e = e
+early_refusals_stand S now who (asked.WithdrawAll p) why e = e
 early_refusals_stand S now who _ why e = absurd (subst IsNothing e tt)
 
 -- the request of a known caller is refused so
@@ -152,6 +157,51 @@ pub depended_is : (now : ℕ) (published : Option ℕ) (depended : Bool) → wit
 depended_is now None depended e needed = absurd cc
 depended_is now (Some at) depended e needed = ap (λ (b : Bool). refuse (is_too_old now at) TooLate (refuse b Depended None)) needed ∙ young_is_depended (is_too_old now at) e
 
+-- ---- a withdrawal of all
+
+-- why not all are withdrawn, by three reasons in turn
+abbrev by_reasons : Bool → Bool → Bool → Option Refusal
+by_reasons empty old needed = refuse empty NotFound (refuse old TooLate (refuse needed Depended None))
+
+late_all : (empty old needed : Bool) (why : Refusal) → by_reasons empty old false ≡ Some why → by_reasons empty old needed ≡ Some why
+late_all true old needed why e = e
+late_all false true needed why e = e
+late_all false false needed why e = absurd (subst IsNothing e tt)
+
+-- none lives, or one is too old, whoever needs them
+pub all_too_old : (now : ℕ) (live : List (Text × ℕ)) (needed : Bool) (why : Refusal) → withdraw_all_refusal now live false ≡ Some why → withdraw_all_refusal now live needed ≡ Some why
+all_too_old now live needed why e = late_all (is_empty live) (list_any (λ (x : Text × ℕ). is_too_old now x.1) live) needed why e
+
+young_all : (empty old : Bool) → by_reasons empty old false ≡ None → by_reasons empty old true ≡ Some Depended
+young_all true old e = absurd cc
+young_all false true e = absurd cc
+young_all false false e = refl
+
+-- they live and are young enough, and another package needs one
+pub all_depended : (now : ℕ) (live : List (Text × ℕ)) (needed : Bool) → withdraw_all_refusal now live false ≡ None → needed ≡ true → withdraw_all_refusal now live needed ≡ Some Depended
+all_depended now live needed e is_needed =
+    ap (withdraw_all_refusal now live) is_needed ∙ young_all (is_empty live) (list_any (λ (x : Text × ℕ). is_too_old now x.1) live) e
+
+keys_since : (rows : List LiveVersion) → keys (map since_of rows) ≡ map version_text rows
+keys_since [] = refl
+keys_since (r ∷ rs) = ap (λ l. version_text r ∷ l) (keys_since rs)
+
+since_keys : (es : List (Text × Release)) → keys (map (λ (e : Text × Release). (e.0, e.1.at)) es) ≡ keys es
+since_keys [] = refl
+since_keys (e ∷ es) = ap (λ l. e.0 ∷ l) (since_keys es)
+
+-- the rows of the live versions have their texts
+pub texts_since : (S : State) (p : Text) (rows : List LiveVersion) → map since_of rows ≡ live_since S p → map version_text rows ≡ live_versions S p
+texts_since S p rows are = sym (keys_since rows) ∙ ap keys are ∙ since_keys (of S.live p)
+
+tag_names : (tags : List DistTag) → map (λ (t : DistTag). t.tag) tags ≡ keys (map tag_entry tags)
+tag_names [] = refl
+tag_names (t ∷ ts) = ap (λ l. t.tag ∷ l) (tag_names ts)
+
+-- the names of a package's tags
+pub names_are : (S : State) (p : Text) (tags : List DistTag) (names : List Text) → names ≡ map (λ (t : DistTag). t.tag) tags → map tag_entry tags ≡ of S.tags p → names ≡ all_tags S p
+names_are S p tags names made listed = made ∙ tag_names tags ∙ ap keys listed
+
 -- ---- what nothing needs
 
 abbrev needs_it : Text → VersionParts → Pair × Release → Bool
@@ -174,11 +224,21 @@ module _ (S : State) (p : Text) where
   pub nothing_needs : (v : VersionParts) → is_depended alone p v ≡ false
   nothing_needs v = ap (list_any (needs_it p v)) (entries-keep pair_key S.live (λ k. is k.0 p)) ∙ none_of_its_own p v (entries S.live)
 
+  none_needed : (vs : List VersionParts) → list_any (is_depended alone p) vs ≡ false
+  none_needed [] = refl
+  none_needed (v ∷ vs) = ap (λ b. b || list_any (is_depended alone p) vs) (nothing_needs v) ∙ none_needed vs
+
+  pub nothing_needs_any : is_any_depended alone p ≡ false
+  nothing_needs_any = none_needed (versions_in (live_versions alone p))
+
   same_there : (v : Text) → at alone.live (p, v) ≡ at S.live (p, v)
   same_there v = at-keep pair_key S.live (λ k. is k.0 p) (p, v) ∙ ap (λ b. cond b (at S.live (p, v)) None) (same_self text_key p)
 
   pub same_moment : (v : Text) → published_at alone p v ≡ published_at S p v
   same_moment v = ap (option_map (λ (r : Release). r.at)) (same_there v)
+
+  pub same_since : live_since alone p ≡ live_since S p
+  same_since = ap (map (λ (e : Text × Release). (e.0, e.1.at))) (same_part text_key alone.live S.live p same_there)
 
   pub same_versions : live_versions alone p ≡ live_versions S p
   same_versions = ap keys (same_part text_key alone.live S.live p same_there)

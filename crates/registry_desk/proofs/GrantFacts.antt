@@ -18,14 +18,14 @@ use Rattle.registry_access.specs.declared.role.Role.{Role}
 use Rattle.registry_publish.specs.Form.{FormParts}
 use Rattle.registry_rules.specs.Actions.{version_of}
 use Rattle.registry_rules.specs.Callers.{caller_of}
-use Rattle.registry_rules.specs.Changes.{Change, AddVersion, DropGrant, DropTag, DropTeam, PutGrant, PutTag}
-use Rattle.registry_rules.specs.Effects.{deprecation, effects, effects_for, effects_of, ending, first_right, freed, joining, maintaining, membership, put_status, right_to, withdrawal}
+use Rattle.registry_rules.specs.Changes.{Change, AddVersion, DropGrant, DropTag, DropTeam, PutGrant, PutTag, RetireVersion}
+use Rattle.registry_rules.specs.Effects.{deprecation, effects, effects_for, effects_of, ending, first_right, freed, joining, maintaining, membership, put_status, right_to, withdrawal, withdrawal_of_all}
 use Rattle.registry_rules.specs.Refusals.{refusal, refusal_by, refusal_for}
 use Rattle.registry_rules.specs.State.{State, has_maintainer, has_team, is_in_team, is_published, tokens_of}
-use Rattle.registry_rules.specs.Withdrawals.{live_versions, others, published_at, selected, tags_of}
+use Rattle.registry_rules.specs.Withdrawals.{all_tags, live_since, live_versions, others, published_at, selected, tags_of}
 use Rattle.registry_rules.specs.declared.request.Action.{Action}
 use Rattle.registry_rules.specs.declared.request.Action.TheVariants as command
-use Rattle.registry_rules.specs.declared.request.Action.TheVariants.{OrgSet, TeamAdd, OwnerAdd, Publish, Withdraw, Deprecate}
+use Rattle.registry_rules.specs.declared.request.Action.TheVariants.{OrgSet, TeamAdd, OwnerAdd, Publish, Withdraw, WithdrawAll, Deprecate}
 use Rattle.registry_rules.specs.declared.request.Request.{Request}
 use Rattle.registry_rules.proofs.AllowedFacts.{may_grant, state_passed}
 use Rattle.registry_tables.specs.Changes.{all_stored, stored_by}
@@ -134,6 +134,13 @@ withdrawal_in_scope : (now : ℕ) (p v : Text) (since : Option ℕ) (live tags :
 withdrawal_in_scope now p v None live tags = tt
 withdrawal_in_scope now p v (Some published) live tags = both_in_scope _ _ (all_freed_in_scope p (greatest (others live v)) tags) (tt, tt)
 
+retired_in_scope : (now : ℕ) (p : Text) (live : List (Text × ℕ)) → AreInScope (map (λ (e : Text × ℕ). RetireVersion p e.0 e.1 now) live)
+retired_in_scope now p [] = tt
+retired_in_scope now p (e ∷ es) = (tt, retired_in_scope now p es)
+
+whole_in_scope : (now : ℕ) (p : Text) (live : List (Text × ℕ)) (tags : List Text) → AreInScope (withdrawal_of_all now p live tags)
+whole_in_scope now p live tags = both_in_scope (map (DropTag p) tags) _ (all_freed_in_scope p None tags) (retired_in_scope now p live)
+
 deprecation_in_scope : (p message : Text) (vs : List Text) → AreInScope (deprecation p message vs)
 deprecation_in_scope p message [] = tt
 deprecation_in_scope p message (v ∷ vs) = (tt, deprecation_in_scope p message vs)
@@ -149,6 +156,7 @@ effects_in_scope S now who (OrgSet o u role) may = membership_in_scope o u role 
 effects_in_scope S now who (TeamAdd o t u) may = joining_in_scope o t u (is_in_team S o t u)
 effects_in_scope S now who (OwnerAdd p u) may = maintaining_in_scope p u (has_maintainer S p u)
 effects_in_scope S now who (Withdraw p v) may = withdrawal_in_scope now p (text_of_version v) (published_at S p (text_of_version v)) (live_versions S p) (tags_of S p (text_of_version v))
+effects_in_scope S now who (WithdrawAll p) may = whole_in_scope now p (live_since S p) (all_tags S p)
 effects_in_scope S now who (Deprecate p selector message) may = deprecation_in_scope p message (selected (live_versions S p) selector)
 effects_in_scope S now who (command.UserAdd u) may = (tt, tt)
 effects_in_scope S now who (command.TokenAdd u digest) may = (tt, tt)

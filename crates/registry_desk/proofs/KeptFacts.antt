@@ -11,7 +11,7 @@ use Rattle.registry_rules.specs.Changes.{Change}
 use Rattle.registry_rules.specs.declared.reply.Reply.{Reply}
 use Rattle.registry_rules.specs.declared.reply.Reply.TheVariants.{Bytes, Doc, Refused}
 use Rattle.registry_rules.specs.declared.request.Action.{Action}
-use Rattle.registry_rules.specs.declared.request.Action.TheVariants.{Archive, Packument, TeamPackages}
+use Rattle.registry_rules.specs.declared.request.Action.TheVariants.{Archive, Packument, TeamPackages, OrgPackages, MyPackages}
 use Rattle.registry_tables.specs.Archives.{HeldAreStored}
 use Rattle.registry_tables.specs.Changes.{all_stored}
 use Rattle.registry_tables.specs.Contents.{Contents, registry_of}
@@ -38,6 +38,8 @@ left_no_more cs old new left = record {
 pub sound_for : (what : Action) (c : Contents) (caches : Caches) → AreTeamsSound c → AreAnswers c caches → IsSoundFor what c caches
 sound_for (Archive p v) c caches sound are = are.archives
 sound_for (TeamPackages o t) c caches sound are = sound
+sound_for (OrgPackages o) c caches sound are = sound
+sound_for MyPackages c caches sound are = sound
 sound_for _ c caches sound are = tt
 
 -- ---- what is kept of an answer

@@ -5,7 +5,7 @@ use Rattle.sqlite.proofs.StateLemmas.{survives_then}
 use Rattle.sqlite_trees.specs.Tree.{Trees}
 use Rattle.registry_rules.specs.State.{State}
 use Rattle.registry_rules.specs.declared.request.Action.{Action}
-use Rattle.registry_rules.specs.declared.request.Action.TheVariants.{Withdraw}
+use Rattle.registry_rules.specs.declared.request.Action.TheVariants.{Withdraw, WithdrawAll}
 use Rattle.registry_rules.specs.declared.request.Request.{Request}
 use Rattle.registry_tables.specs.Contents.{Contents}
 use Rattle.registry_tables.specs.Effects.{registry_in, stored}
@@ -24,6 +24,7 @@ use Rattle.registry_laws_history.proofs.RunFacts.{headline_from, ran_none, ran_p
 -- needs that are those of live versions are so for each request
 pub needs_for : (what : Action) (c : Contents) → HoldsNeeds c → NeedsFor what c
 needs_for (Withdraw p v) c holds = holds
+needs_for (WithdrawAll p) c holds = holds
 needs_for _ c holds = tt
 
 pub needs_for_each : (rs : List Request) (c : Contents) → HoldsNeeds c → NeedsForEach rs c
@@ -33,6 +34,7 @@ needs_for_each (r ∷ rs) c holds = (needs_for r.what c holds, needs_for_each rs
 -- where a withdrawal's needs stay, those for the request do
 needs_stay : (what : Action) (c d : Contents) → (HoldsNeeds c → HoldsNeeds d) → NeedsFor what c → NeedsFor what d
 needs_stay (Withdraw p v) c d stay needs = stay needs
+needs_stay (WithdrawAll p) c d stay needs = stay needs
 needs_stay _ c d stay needs = tt
 
 -- the first requests of a run, and the one after them

@@ -13,7 +13,7 @@ use Rattle.registry_rules.specs.State.{State, has_live}
 use Rattle.registry_rules.specs.declared.reply.Reply.{Reply}
 use Rattle.registry_rules.specs.declared.reply.Reply.TheVariants.{Bytes, Doc}
 use Rattle.registry_rules.specs.declared.request.Action.{Action}
-use Rattle.registry_rules.specs.declared.request.Action.TheVariants.{Archive, Packument, TeamPackages}
+use Rattle.registry_rules.specs.declared.request.Action.TheVariants.{Archive, Packument, TeamPackages, OrgPackages, MyPackages}
 use Rattle.registry_tables.specs.Contents.{Contents, registry_of}
 use Rattle.registry_tables.specs.Effects.{stored}
 use Rattle.registry_tables.specs.Teams.{AreTeamsSound}
@@ -178,10 +178,12 @@ KeepsAnswer what old new given = (still : Caches) × KeepNoMore old still × Kee
 -- ---- a request
 
 -- What is stored and kept is sound for an action: for an archive the archives that are kept, and
--- for what a team is granted the teams
+-- for what a team is granted, and for packages with levels, the teams
 abbrev pub IsSoundFor : Action → Contents → Caches → Type 0
 IsSoundFor (Archive p v) c caches = AreArchives c caches.archives
 IsSoundFor (TeamPackages o t) c caches = AreTeamsSound c
+IsSoundFor (OrgPackages o) c caches = AreTeamsSound c
+IsSoundFor MyPackages c caches = AreTeamsSound c
 IsSoundFor _ c caches = Unit {0}
 
 -- an archive that is answered is the version's

@@ -19,11 +19,11 @@ use Rattle.registry_access.specs.declared.rows.AccessRows.{AccessRows}
 use Rattle.registry_access.specs.declared.standing.Standing.{Standing}
 use Rattle.registry_rules.specs.Facts.{AboutTells}
 use Rattle.registry_rules.specs.Permissions.{permission}
-use Rattle.registry_rules.specs.Refusals.{refusal_by, unless_allowed, withdraw_refusal}
+use Rattle.registry_rules.specs.Refusals.{refusal_by, unless_allowed, withdraw_all_refusal, withdraw_refusal}
 use Rattle.registry_rules.specs.State.{State}
-use Rattle.registry_rules.specs.Withdrawals.{is_depended, published_at}
+use Rattle.registry_rules.specs.Withdrawals.{is_any_depended, is_depended, live_since, published_at}
 use Rattle.registry_rules.specs.declared.request.Action.{Action}
-use Rattle.registry_rules.specs.declared.request.Action.TheVariants.{TokensRemove, OrgSet, OrgRemove, OwnerRemove, Publish, Withdraw, Deprecate}
+use Rattle.registry_rules.specs.declared.request.Action.TheVariants.{TokensRemove, OrgSet, OrgRemove, OwnerRemove, Publish, Withdraw, WithdrawAll, Deprecate}
 use Rattle.registry_tables.specs.Contents.{Contents, registry_of}
 use Rattle.registry_desk.specs.Found.{NeedsFor}
 use Rattle.registry_desk.specs.declared.policy.Found.{Found}
@@ -34,7 +34,8 @@ abbrev pub denial : Access → Caller → Action → Option Refusal
 denial A who what = unless_allowed (permission A who what)
 
 -- Why an action is refused before what is costly to load is loaded. The policy is asked first of
--- each that needs something costly; of a withdrawal then all that refuses it
+-- each that needs something costly; of a withdrawal, of one version or of all, then all that refuses
+-- it
 abbrev pub early_refusal : State → ℕ → Caller → Action → Option Refusal
 early_refusal S now who (TokensRemove u) = denial S.access who (TokensRemove u)
 early_refusal S now who (OrgSet o u role) = denial S.access who (OrgSet o u role)
@@ -43,6 +44,8 @@ early_refusal S now who (OwnerRemove p u) = denial S.access who (OwnerRemove p u
 early_refusal S now who (Publish f) = denial S.access who (Publish f)
 early_refusal S now who (Withdraw p v) =
     option_or (denial S.access who (Withdraw p v)) (withdraw_refusal now (published_at S p (text_of_version v)) (is_depended S p v))
+early_refusal S now who (WithdrawAll p) =
+    option_or (denial S.access who (WithdrawAll p)) (withdraw_all_refusal now (live_since S p) (is_any_depended S p))
 early_refusal S now who (Deprecate p selector message) = denial S.access who (Deprecate p selector message)
 early_refusal S now who _ = None
 

@@ -3,6 +3,7 @@ use Rattle.std.specs.Prelude.{◌≡◌, true, Some, map, filter, option_map}
 use Rattle.registry_names.specs.Maps.{at, entries, keys, of, pairs_of, parts, seen}
 use Rattle.registry_names.specs.Texts.{Text}
 use Rattle.registry_names.specs.Versions.{text_of_version}
+use Rattle.registry_names.specs.Names.{scope_of}
 use Rattle.registry_names.specs.Tags.{latest}
 use Rattle.registry_access.specs.Levels.{reads}
 use Rattle.registry_access.specs.Positions.{level_in}
@@ -13,16 +14,17 @@ use Rattle.registry_packument.specs.declared.times.PackTimes.{PackTimes}
 use Rattle.registry_publish.specs.Form.{FormParts}
 use Rattle.registry_rules.specs.Actions.{is_command, version_of}
 use Rattle.registry_rules.specs.Callers.{caller_of}
-use Rattle.registry_rules.specs.State.{State, Release, has_grant, has_live, has_maintainer, has_other_maintainer, has_other_owner, has_team, has_user, is_in_team, is_live, is_member, is_published, is_spent, stands, tokens_of}
+use Rattle.registry_rules.specs.Refusals.{is_scope}
+use Rattle.registry_rules.specs.State.{State, Release, has_grant, has_live, has_maintainer, has_other_maintainer, has_other_owner, has_team, has_user, is_in_team, is_live, is_member, is_own, is_published, is_spent, stands, tokens_of}
 use Rattle.registry_rules.specs.Withdrawals.{last_withdrawal, live_versions}
 use Rattle.registry_rules.specs.declared.request.Action.{Action}
-use Rattle.registry_rules.specs.declared.request.Action.TheVariants.{TokensRemove, Deprecate, VersionDoc, Archive, Tags, Members, Teams, TeamMembers, TeamPackages, Withdraw, WhoAmI, Maintainers, Users, Organisations, Packages}
+use Rattle.registry_rules.specs.declared.request.Action.TheVariants.{TokensRemove, Deprecate, VersionDoc, Archive, Tags, Members, Teams, TeamMembers, TeamPackages, Withdraw, WithdrawAll, WhoAmI, Maintainers, OrgPackages, MyPackages, Users, Organisations, Packages}
 use Rattle.registry_rules.specs.declared.request.Request.{Request}
 use Rattle.registry_tables.specs.Contents.{Contents, registry_of}
 use Rattle.registry_tables.specs.Needs.{HoldsNeeds}
 use Rattle.registry_tables.specs.Spelled.{document, document_entry, member_entry, published, tag_entry}
 use Rattle.registry_tables.specs.Teams.{granted_entry}
-use Rattle.registry_laws_history.specs.Answers.{archive_in, asked_release, created_at, modified_at, overview, own_name, token_count}
+use Rattle.registry_laws_history.specs.Answers.{archive_in, asked_release, created_at, levels_in, modified_at, overview, own_name, token_count}
 use Rattle.registry_desk.specs.declared.grants.Grantable.{Grantable}
 use Rattle.registry_desk.specs.declared.maintainers.Leaver.{Leaver}
 use Rattle.registry_desk.specs.declared.maintainers.Newcomer.{Newcomer}
@@ -40,8 +42,8 @@ pub record AreTimesOf (times : PackTimes) (S : State) (p : Text) : Type 0 where
   pub modified : modified_at (of S.live p) (of S.spent p) ≡ Some times.modified
 
 -- The rows are those that answer the caller's action. `Nothing` answers a command, except that the
--- live versions answer a deprecation, and the tokens of a user their end; and no rows answer a query
--- for a packument
+-- live versions answer a deprecation and the withdrawal of all, and the tokens of a user their end;
+-- and no rows answer a query for a packument
 abbrev pub AreRowsOf : Rows → State → Caller → Action → Type 0
 AreRowsOf (rows.Document found) S who (VersionDoc p asked) = option_map document_entry found ≡ option_map document (asked_release S p asked)
 AreRowsOf (rows.KnownArchive archive) S who (Archive p v) = archive ≡ archive_in S p (text_of_version v)
@@ -57,10 +59,14 @@ AreRowsOf (rows.Names names) S who (Maintainers p) = names.items ≡ keys (of S.
 AreRowsOf (rows.Users users) S who Users = users.items ≡ map (token_count S) (keys (entries S.access.users))
 AreRowsOf (rows.Names names) S who Organisations = names.items ≡ keys (entries S.access.organisations)
 AreRowsOf (rows.Packages packages) S who Packages = packages.items ≡ map (overview S) (entries S.access.statuses)
+AreRowsOf (rows.Levels levels) S who (OrgPackages o) = levels.items ≡ levels_in S who (λ p. is_scope o (scope_of p))
+AreRowsOf (rows.Levels levels) S who MyPackages = levels.items ≡ levels_in S who (λ p. is_own S.access who p (scope_of p))
 AreRowsOf (rows.Digests digests) S who (TokensRemove u) = digests.items ≡ tokens_of S u
 AreRowsOf (rows.Live live) S who (Deprecate p selector message) = map text_of_version live.items ≡ live_versions S p
+AreRowsOf (rows.Live live) S who (WithdrawAll p) = map text_of_version live.items ≡ live_versions S p
 AreRowsOf rows.Nothing S who (TokensRemove u) = ⊥
 AreRowsOf rows.Nothing S who (Deprecate p selector message) = ⊥
+AreRowsOf rows.Nothing S who (WithdrawAll p) = ⊥
 AreRowsOf rows.Nothing S who what = is_command what ≡ true
 AreRowsOf _ S who _ = ⊥
 
@@ -72,6 +78,7 @@ IsCallerIn c r who = Some who ≡ caller_of (registry_of c) r.who
 -- versions
 abbrev pub NeedsFor : Action → Contents → Type 0
 NeedsFor (Withdraw p v) c = HoldsNeeds c
+NeedsFor (WithdrawAll p) c = HoldsNeeds c
 NeedsFor _ c = Unit {0}
 
 -- ---- parts of what decides

@@ -24,7 +24,7 @@ use crate::teams::{
     facts_about_team, facts_for_team_add, facts_for_team_create, facts_for_team_destroy,
     facts_for_team_remove,
 };
-use crate::withdrawals::{facts_for_deprecate, facts_for_withdraw};
+use crate::withdrawals::{facts_for_deprecate, facts_for_withdraw, facts_for_withdraw_all};
 use registry_access::Caller;
 use registry_names::Fault;
 use registry_rules::{Action, Request};
@@ -116,6 +116,9 @@ pub(crate) fn load_facts<S: Alter>(
         Action::Withdraw { package, version } => {
             facts_for_withdraw(alloc, tx, caller, package, version, &request.at)
         }
+        Action::WithdrawAll { package } => {
+            facts_for_withdraw_all(alloc, tx, caller, package, &request.at)
+        }
         Action::Deprecate { package, .. } => facts_for_deprecate(alloc, tx, caller, package),
         // Such a query doesn't come here: `queried` and `sent` answer it.
         Action::Packument { .. } => unreachable!(),
@@ -136,7 +139,11 @@ pub(crate) fn load_facts<S: Alter>(
         Action::Maintainers { package } => {
             facts_for_maintainers(alloc, tx, caller, package).map(Found::About)
         }
+        Action::OrgPackages { organisation } => {
+            facts_about_organisation(alloc, tx, caller, organisation).map(Found::About)
+        }
         Action::WhoAmI | Action::Users => facts_of_caller(tx).map(Found::About),
         Action::Organisations | Action::Packages => facts_of_caller(tx).map(Found::About),
+        Action::MyPackages => facts_of_caller(tx).map(Found::About),
     }
 }

@@ -131,6 +131,8 @@ pub(crate) fn facts_about_organisation<S: Alter>(
         AboutTells about (registry_of c) caller.now (asked.Members organisation.now)) }
     ensures teams { Loads S.Store tx.old tx.new result (λ about c.
         AboutTells about (registry_of c) caller.now (asked.Teams organisation.now)) }
+    ensures packages { Loads S.Store tx.old tx.new result (λ about c.
+        AboutTells about (registry_of c) caller.now (asked.OrgPackages organisation.now)) }
 {
     Ok(About::Organisation {
         rows: load_access(alloc, tx, caller, organisation.text())?,

@@ -53,14 +53,16 @@ pub(crate) fn reply_from_rows(alloc: Global, what: &Action, rows: Rows) -> Resul
         | Action::TagSet { .. }
         | Action::TagRemove { .. }
         | Action::Withdraw { .. } => Ok(Reply::Done),
-        Action::TokensRemove { .. } | Action::Deprecate { .. } | Action::Archive { .. } => {
-            reply_of(alloc, what, rows)
-        }
+        Action::TokensRemove { .. }
+        | Action::WithdrawAll { .. }
+        | Action::Deprecate { .. }
+        | Action::Archive { .. } => reply_of(alloc, what, rows),
         _ => doc(text_of(alloc, what, rows)?),
     }
 }
 
-// The reply to the end of a user's tokens, to a deprecation, and to a query for an archive.
+// The reply to the end of a user's tokens, to the withdrawal of all, to a deprecation, and to a query
+// for an archive.
 fn reply_of(alloc: Global, what: &Action, rows: Rows) -> Result<Reply, Fault>
     ensures is { IfOk result (λ told. (S : State) (who : Caller) → AreRowsOf rows S who what.now
         → told ≡ answers.reply S who what.now) }
@@ -73,6 +75,7 @@ fn reply_of(alloc: Global, what: &Action, rows: Rows) -> Result<Reply, Fault>
         (Action::Deprecate { selector, .. }, Rows::Live(live)) => {
             Ok(Reply::Count(count(selector, &live)))
         }
+        (Action::WithdrawAll { .. }, Rows::Live(live)) => Ok(Reply::Count(live.len() as u64)),
         (Action::Archive { .. }, Rows::Archive(Some(archive))) => bytes(alloc, archive),
         (Action::Archive { .. }, Rows::KnownArchive(archive)) => Ok(Reply::Bytes(archive)),
         _ => Err(Fault::Database),
@@ -110,6 +113,9 @@ fn text_of(alloc: Global, what: &Action, rows: Rows) -> Result<Text, Fault>
             Rows::Names(names),
         ) => list_text(alloc, &List::Names(names)),
         (Action::TeamPackages { .. }, Rows::Grants(granted)) => grants_of(alloc, granted),
+        (Action::OrgPackages { .. } | Action::MyPackages, Rows::Levels(levels)) => {
+            list_text(alloc, &List::Levels(levels))
+        }
         (Action::WhoAmI, Rows::OwnName(name)) => list_text(alloc, &List::Username(name)),
         (Action::Users, Rows::Users(users)) => list_text(alloc, &List::Users(users)),
         (Action::Packages, Rows::Packages(packages)) => {

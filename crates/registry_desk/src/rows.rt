@@ -24,13 +24,16 @@ use crate::cache::{Caches, cached_archive};
 use registry_access::Caller;
 use registry_cache::{BlobCache, Shared, SharedBlob, SharedText, TextCache};
 use registry_names::{Blob, DistTag, Fault, Ident, LATEST, Name, Text, Ver};
-use registry_packument::{Granted, Member, Overview, PackTimes, TokenCount, VersionTime};
+use registry_packument::{
+    Granted, Member, Overview, PackTimes, PackageLevel, TokenCount, VersionTime,
+};
 use registry_publish::TokenDigest;
 use registry_rules::{Action, Asked};
 use registry_tables::{
     DocumentRow, load_archive, load_document, load_last_withdrawal, load_live, load_maintainers,
-    load_members, load_organisations, load_packages, load_spent_publications, load_tag, load_tags,
-    load_team_packages, load_team_users, load_teams, load_user_tokens, load_users,
+    load_members, load_organisations, load_own_packages, load_packages, load_scope_packages,
+    load_spent_publications, load_tag, load_tags, load_team_packages, load_team_users, load_teams,
+    load_user_tokens, load_users,
 };
 use sqlite::{Alter, Transaction};
 use std::alloc::{AllocError, Global};
@@ -42,7 +45,8 @@ pub(crate) enum Rows {
     Nothing,
     /// Of the end of a user's tokens: their digests, in byte order.
     Digests(Vec<TokenDigest>),
-    /// Of a deprecation: the live versions, in byte order of their texts.
+    /// Of a deprecation, and of the withdrawal of all: the live versions, in byte order of their
+    /// texts.
     Live(Vec<Ver>),
     /// The manifest and the message of a version, if that lives.
     Document(Option<DocumentRow>),
@@ -59,6 +63,8 @@ pub(crate) enum Rows {
     Names(Vec<Text>),
     /// What a team is granted, in byte order of the packages: only of those that the caller reads.
     Grants(Vec<Granted>),
+    /// Packages that the caller reads, each with their level, in byte order.
+    Levels(Vec<PackageLevel>),
     /// The name of the user who asks.
     OwnName(Text),
     /// All users, in byte order.
@@ -103,6 +109,7 @@ pub(crate) fn rows_for<S: Alter>(
         | Action::Withdraw { .. } => Ok(Rows::Nothing),
         Action::TokensRemove { user } => token_rows(alloc, tx, user),
         Action::Deprecate { package, .. } => live_rows(alloc, tx, package),
+        Action::WithdrawAll { package } => live_rows(alloc, tx, package),
         // Such a query doesn't come here: `queried` and `sent` answer it.
         Action::Packument { .. } => unreachable!(),
         Action::VersionDoc { package, version } => document_row(tx, package, version),
@@ -120,6 +127,8 @@ pub(crate) fn rows_for<S: Alter>(
         }
         Action::WhoAmI => Ok(Rows::OwnName(own_name(alloc, caller)?)),
         Action::Maintainers { package } => maintainer_rows(alloc, tx, package),
+        Action::OrgPackages { organisation } => scope_rows(alloc, tx, caller, organisation),
+        Action::MyPackages => own_package_rows(alloc, tx, caller),
         Action::Users => user_rows(alloc, tx),
         Action::Organisations => organisation_rows(alloc, tx),
         Action::Packages => package_rows(alloc, tx),
@@ -147,6 +156,35 @@ fn maintainer_rows<S: Alter>(
         → AreRowsOf rows (registry_of c) who (asked.Maintainers name.now)) }
 {
     Ok(Rows::Names(load_maintainers(alloc, tx, name)?))
+}
+
+fn scope_rows<S: Alter>(
+    alloc: Global,
+    tx: &mut Transaction<'_, S>,
+    caller: &Caller,
+    organisation: &Ident,
+) -> Result<Rows, Fault>
+    requires in_form { InForm S.Store tx.old }
+    ensures stays { Stays S.Store tx.old tx.new }
+    ensures loads { Loads S.Store tx.old tx.new result (λ rows c. AreTeamsSound c → AreRowsOf rows
+        (registry_of c) caller.now (asked.OrgPackages organisation.now)) }
+{
+    let packages = load_scope_packages(alloc, tx, caller, organisation)?;
+    Ok(Rows::Levels(packages))
+}
+
+fn own_package_rows<S: Alter>(
+    alloc: Global,
+    tx: &mut Transaction<'_, S>,
+    caller: &Caller,
+) -> Result<Rows, Fault>
+    requires in_form { InForm S.Store tx.old }
+    ensures stays { Stays S.Store tx.old tx.new }
+    ensures knows { Knows S.Store tx.old tx.new result (λ rows c. AreTeamsSound c
+        → AreRowsOf rows (registry_of c) caller.now asked.MyPackages) }
+{
+    let packages = load_own_packages(alloc, tx, caller)?;
+    Ok(Rows::Levels(packages))
 }
 
 fn user_rows<S: Alter>(alloc: Global, tx: &mut Transaction<'_, S>) -> Result<Rows, Fault>
@@ -200,6 +238,8 @@ fn live_rows<S: Alter>(
     ensures loads { Loads S.Store tx.old tx.new result (λ rows c. (who : Caller)
         (selector : List (List Condition)) (message : SpecText)
         → AreRowsOf rows (registry_of c) who (asked.Deprecate name.now selector message)) }
+    ensures whole { Loads S.Store tx.old tx.new result (λ rows c. (who : Caller)
+        → AreRowsOf rows (registry_of c) who (asked.WithdrawAll name.now)) }
 {
     Ok(Rows::Live(load_live(alloc, tx, name)?))
 }

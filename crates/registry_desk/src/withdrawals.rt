@@ -1,15 +1,17 @@
 //! What decides a withdrawal and a deprecation.
 
-ghost use Rattle.std.specs.Prelude.{◌≡◌, ℕ, List, None, false};
+ghost use Rattle.std.specs.Prelude.{◌≡◌, ℕ, IfOk, List, None, false, map};
+ghost use Rattle.std.specs.List.{list_any};
 ghost use Rattle.registry_access.specs.declared.caller.Caller.{Caller as Asker};
 ghost use Rattle.registry_names.specs.Texts.{Text as SpecText};
 ghost use Rattle.registry_names.specs.Versions.{text_of_version};
 ghost use Rattle.registry_ranges.specs.Selectors.{Condition};
 ghost use Rattle.registry_rows.specs.Frames.{Stays};
 ghost use Rattle.registry_access.specs.RowsFor.{StandingTells};
-ghost use Rattle.registry_rules.specs.Refusals.{withdraw_refusal};
+ghost use Rattle.registry_rules.specs.Facts.{since_of};
+ghost use Rattle.registry_rules.specs.Refusals.{withdraw_all_refusal, withdraw_refusal};
 ghost use Rattle.registry_rules.specs.Withdrawals as withdrawals;
-ghost use Rattle.registry_rules.specs.Withdrawals.{published_at};
+ghost use Rattle.registry_rules.specs.Withdrawals.{all_tags, live_since, published_at};
 ghost use Rattle.registry_rules.specs.declared.request.Action.TheVariants as asked;
 ghost use Rattle.registry_tables.specs.Contents.{access_of, registry_of};
 ghost use Rattle.registry_tables.specs.Effects.{InForm, Loads};
@@ -18,11 +20,14 @@ ghost use Rattle.registry_desk.specs.Early.{FoundTells, IsFound, LetsWrite, deni
 
 use crate::policy::{Found, standing_if_allowed};
 use registry_access::{Ask, Caller, Standing};
-use registry_names::{Fault, Moment, Name, Refusal, Ver};
-use registry_rules::About;
-use registry_tables::{is_depended, load_live, load_published, load_version_tags};
+use registry_names::{DistTag, Fault, Moment, Name, Refusal, Text, Ver};
+use registry_rules::{About, LiveVersion};
+use registry_tables::{
+    is_any_depended, is_depended, load_live, load_live_since, load_published, load_tags,
+    load_version_tags,
+};
 use sqlite::{Alter, Transaction};
-use std::alloc::Global;
+use std::alloc::{AllocError, Global};
 
 /// Three days: an older version isn't withdrawn.
 const OLDEST: i64 = 259_200;
@@ -122,6 +127,126 @@ fn is_too_old(now: &Moment, published: &Moment) -> bool
     ensures { result ≡ withdrawals.is_too_old now.now published.now }
 {
     published.seconds() + OLDEST <= now.seconds()
+}
+
+/// Of a package of which all live versions are to be withdrawn, by a caller whom the policy allows
+/// it. Who needs them is determined by the needs that are stored.
+pub(crate) fn facts_for_withdraw_all<S: Alter>(
+    alloc: Global,
+    tx: &mut Transaction<'_, S>,
+    caller: &Caller,
+    name: &Name,
+    now: &Moment,
+) -> Result<Found, Fault>
+    requires in_form { InForm S.Store tx.old }
+    ensures stays { Stays S.Store tx.old tx.new }
+    ensures loads { Loads S.Store tx.old tx.new result (λ found c. AreTeamsSound c
+        → IsFound found c now.now caller.now (asked.WithdrawAll name.now)) }
+{
+    match standing_if_allowed(alloc, tx, caller, name, &Ask::Write(name))? {
+        Ok(standing) => facts_if_all_young(alloc, tx, standing, name, now),
+        Err(refusal) => Ok(Found::Refused(refusal)),
+    }
+}
+
+// The same where the policy allows it. The needs aren't asked for if no version lives, or one is too
+// old.
+fn facts_if_all_young<S: Alter>(
+    alloc: Global,
+    tx: &mut Transaction<'_, S>,
+    standing: Standing,
+    name: &Name,
+    now: &Moment,
+) -> Result<Found, Fault>
+    requires in_form { InForm S.Store tx.old }
+    requires allowed { LetsWrite standing }
+    ensures stays { Stays S.Store tx.old tx.new }
+    ensures loads { Loads S.Store tx.old tx.new result (λ found c. (who : Asker)
+        → denial (access_of c) who (asked.WithdrawAll name.now) ≡ None
+        → StandingTells standing (access_of c) who name.now
+        → IsFound found c now.now who (asked.WithdrawAll name.now)) }
+{
+    let live = load_live_since(alloc, tx, name)?;
+    match refusal_by_ages(&live, now) {
+        Some(refusal) => Ok(Found::Refused(refusal)),
+        None => facts_if_all_unneeded(alloc, tx, standing, live, name),
+    }
+}
+
+// The same where all are young enough. The tags aren't asked for if another package needs one.
+fn facts_if_all_unneeded<S: Alter>(
+    alloc: Global,
+    tx: &mut Transaction<'_, S>,
+    standing: Standing,
+    live: Vec<LiveVersion>,
+    name: &Name,
+) -> Result<Found, Fault>
+    requires in_form { InForm S.Store tx.old }
+    requires allowed { LetsWrite standing }
+    ensures stays { Stays S.Store tx.old tx.new }
+    ensures loads { Loads S.Store tx.old tx.new result (λ found c. (who : Asker) (at : ℕ)
+        → denial (access_of c) who (asked.WithdrawAll name.now) ≡ None
+        → withdraw_all_refusal at (map since_of live.items) false ≡ None
+        → map since_of live.items ≡ live_since (registry_of c) name.now
+        → StandingTells standing (access_of c) who name.now
+        → IsFound found c at who (asked.WithdrawAll name.now)) }
+{
+    if is_any_depended(alloc, tx, name, &live)? {
+        return Ok(Found::Refused(Refusal::Depended));
+    }
+    let tags = load_tag_names(alloc, tx, name)?;
+    Ok(Found::About(About::WithdrawAll {
+        standing,
+        depended: false,
+        tags,
+        live,
+    }))
+}
+
+// The tags of a package, in byte order.
+fn load_tag_names<S: Alter>(
+    alloc: Global,
+    tx: &mut Transaction<'_, S>,
+    name: &Name,
+) -> Result<Vec<Text>, Fault>
+    requires in_form { InForm S.Store tx.old }
+    ensures stays { Stays S.Store tx.old tx.new }
+    ensures loads { Loads S.Store tx.old tx.new result
+        (λ tags c. tags.items ≡ all_tags (registry_of c) name.now) }
+{
+    let tags = load_tags(alloc, tx, name)?;
+    Ok(names_of(alloc, tags)?)
+}
+
+// The names of these tags.
+fn names_of(alloc: Global, tags: Vec<DistTag>) -> Result<Vec<Text>, AllocError>
+    ensures { IfOk result (λ names. names.items ≡ map (λ t. t.tag) tags.items) }
+{
+    let mut names = Vec::new(alloc);
+    for DistTag { tag, version: _ } in tags {
+        names.push(tag)?;
+    }
+    Ok(names)
+}
+
+// Why not all live versions are withdrawn, whoever needs them: there is none, or one is older than
+// three days.
+fn refusal_by_ages(live: &[LiveVersion], now: &Moment) -> Option<Refusal>
+    ensures { result ≡ withdraw_all_refusal now.now (map since_of live.now) false }
+{
+    if live.is_empty() {
+        Some(Refusal::NotFound)
+    } else if has_too_old(live, now) {
+        Some(Refusal::TooLate)
+    } else {
+        None
+    }
+}
+
+fn has_too_old(live: &[LiveVersion], now: &Moment) -> bool
+    ensures { result ≡ list_any (λ r. withdrawals.is_too_old now.now r.published) live.now }
+{
+    live.iter().any(|row| is_too_old(now, &row.published))
 }
 
 /// Of versions that are to be deprecated, by a caller whom the policy allows it.

@@ -1,15 +1,14 @@
 -- Which packages the lists of packages with levels have.
-use Rattle.std.proofs.Common.{◌≡◌, ◌⊎◌, inl, inr, Bool, true, false, ◌&&◌, ◌||◌, List, [], ◌∷◌, map, filter, is_some, Option, Some, None, refl, sym, ap, ◌∙◌, true≢false, if◌then◌else◌}
+use Rattle.std.proofs.Common.{◌≡◌, inl, inr, Bool, true, false, ◌&&◌, ◌||◌, List, [], ◌∷◌, map, filter, is_some, Option, Some, None, refl, sym, ap, ◌∙◌, true≢false, if◌then◌else◌}
 use Rattle.std.proofs.lemmas.Bool.{and_parts, and_from}
-use Rattle.std.specs.Prelude.{IsSome, IsTrue}
-use Rattle.registry_names.specs.Maps.{among, at, entries, keys}
+use Rattle.std.specs.Prelude.{IsTrue}
+use Rattle.registry_names.specs.Maps.{among, entries, keys}
 use Rattle.registry_names.specs.Names.{scope_of}
 use Rattle.registry_names.specs.Texts.{Text, is}
 use Rattle.registry_names.proofs.EntryFacts.{among_keys}
 use Rattle.registry_names.proofs.KeyFacts.{text_key}
 use Rattle.registry_names.proofs.MapFacts.{at-entries}
 use Rattle.registry_names.proofs.TextFacts.{is_same, is_true}
-use Rattle.registry_access.specs.Callers.{is_maintainer, role_of}
 use Rattle.registry_access.specs.Levels.{reads}
 use Rattle.registry_access.specs.Positions.{level_in}
 use Rattle.registry_access.specs.declared.caller.Caller.{Caller}

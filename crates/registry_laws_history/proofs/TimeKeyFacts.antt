@@ -1,6 +1,6 @@
 -- The keys under `time` of a packument rise: a version begins with a digit, which is below the
 -- letters that `created` and `modified` begin with.
-use Rattle.std.proofs.Common.{◌≡◌, ◌<◌, ◌≤◌, ◌++◌, ℕ, true, cond, ◌==◌, List, [], ◌∷◌, length, map, Some, All, refl, sym, ap, ◌∙◌, arith, is_lt, Ordering, Less, Equal, Greater, nat_cmp}
+use Rattle.std.proofs.Common.{◌≡◌, ◌<◌, ◌≤◌, ◌++◌, ℕ, true, cond, ◌==◌, List, [], ◌∷◌, length, map, Some, All, refl, ap, arith, is_lt, Less, Equal, Greater, nat_cmp}
 use Rattle.std.specs.Prelude.{codes}
 use Rattle.std.specs.Fmt.{decimal}
 use Rattle.std.specs.FinMap.Entries.{below_all}
@@ -16,9 +16,8 @@ use Rattle.registry_names.specs.Versions.{IsVersion}
 use Rattle.registry_names.proofs.KeyFacts.{text_key}
 use Rattle.registry_names.proofs.PartFacts.{part_found, part_rises}
 use Rattle.registry_packument.specs.Heads.{time_entry}
-use Rattle.registry_rules.specs.Kept.{IsKept}
-use Rattle.registry_rules.specs.State.{State, Release}
-use Rattle.registry_laws_history.specs.Answers.{created_at, modified_at, version_time}
+use Rattle.registry_rules.specs.State.{Release}
+use Rattle.registry_laws_history.specs.Answers.{version_time}
 use Rattle.registry_laws_history.specs.PackumentMoments.{TimeKeysRise}
 
 -- ---- what begins with a digit is below what begins with a letter

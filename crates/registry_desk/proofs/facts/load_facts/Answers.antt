@@ -89,6 +89,10 @@ pub returns-in-Withdraw-clause-loads : goal.returns-in-Withdraw-clause-loads
 returns-in-Withdraw-clause-loads g c clean =
     found_some (Reads schema (shown g.S.Store c.args.tx.now) (shown g.S.Store c.facts_for_withdraw.new.tx)) (stored_in g.S.Store c.args.tx.now) c.args.request.now.at c.args.caller.now c.args.request.now.what (asked.Withdraw c.in-Withdraw.package c.in-Withdraw.version) c.facts_for_withdraw.result c.in-Withdraw.is (c.facts_for_withdraw.ensures.loads clean)
 
+pub returns-in-WithdrawAll-clause-loads : goal.returns-in-WithdrawAll-clause-loads
+returns-in-WithdrawAll-clause-loads g c clean =
+    found_some (Reads schema (shown g.S.Store c.args.tx.now) (shown g.S.Store c.facts_for_withdraw_all.new.tx)) (stored_in g.S.Store c.args.tx.now) c.args.request.now.at c.args.caller.now c.args.request.now.what (asked.WithdrawAll c.in-WithdrawAll.package) c.facts_for_withdraw_all.result c.in-WithdrawAll.is (c.facts_for_withdraw_all.ensures.loads clean)
+
 pub returns-in-Deprecate-clause-loads : goal.returns-in-Deprecate-clause-loads
 returns-in-Deprecate-clause-loads g c clean =
     found_so (Reads schema (shown g.S.Store c.args.tx.now) (shown g.S.Store c.facts_for_deprecate.new.tx)) (stored_in g.S.Store c.args.tx.now) c.args.request.now.at c.args.caller.now c.args.request.now.what (asked.Deprecate c.in-Deprecate.package c.in-Deprecate.selector c.in-Deprecate.message) c.facts_for_deprecate.result c.in-Deprecate.is (λ y told sound. told c.in-Deprecate.selector c.in-Deprecate.message c.args.request.now.at sound) (c.facts_for_deprecate.ensures.loads clean)
@@ -130,3 +134,13 @@ returns-in-Organisations-clause-loads g c clean =
     (λ x told sound. subst (λ (y : About). AboutTells y (registry_of (stored_in g.S.Store c.args.tx.now)) c.args.caller.now asked.Organisations) (sym told) tt)
     (λ x told sound. subst (λ (y : About). AboutTells y (registry_of (stored_in g.S.Store c.args.tx.now)) c.args.caller.now asked.Packages) (sym told) tt)
     (c.facts_of_caller-in-Organisations.ensures.loads clean) (c.facts_of_caller-in-Organisations.ensures.loads clean)
+
+pub returns-in-OrgPackages-clause-loads : goal.returns-in-OrgPackages-clause-loads
+returns-in-OrgPackages-clause-loads g c clean =
+    found_about (Reads schema (shown g.S.Store c.args.tx.now) (shown g.S.Store c.facts_about_organisation-in-OrgPackages.new.tx)) (stored_in g.S.Store c.args.tx.now) c.args.request.now.at c.args.caller.now c.args.request.now.what (asked.OrgPackages c.in-OrgPackages.organisation) c.facts_about_organisation-in-OrgPackages.result c.map-in-OrgPackages.result c.in-OrgPackages.is refl c.map-in-OrgPackages.ensures.cases (λ x told sound. told) (c.facts_about_organisation-in-OrgPackages.ensures.packages clean)
+
+pub returns-in-MyPackages-clause-loads : goal.returns-in-MyPackages-clause-loads
+returns-in-MyPackages-clause-loads g c clean =
+    found_about (Reads schema (shown g.S.Store c.args.tx.now) (shown g.S.Store c.facts_of_caller-in-MyPackages.new.tx)) (stored_in g.S.Store c.args.tx.now) c.args.request.now.at c.args.caller.now c.args.request.now.what asked.MyPackages c.facts_of_caller-in-MyPackages.result c.map-in-MyPackages.result c.in-MyPackages.is refl c.map-in-MyPackages.ensures.cases
+    (λ x told sound. subst (λ (y : About). AboutTells y (registry_of (stored_in g.S.Store c.args.tx.now)) c.args.caller.now asked.MyPackages) (sym told) tt)
+    (c.facts_of_caller-in-MyPackages.ensures.loads clean)

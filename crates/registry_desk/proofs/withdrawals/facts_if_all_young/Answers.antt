@@ -1,0 +1,53 @@
+use Rattle.std.proofs.Common.{◌≡◌, ◌∙◌, ℕ, map, arith, ap, false, sym, subst, Option, None}
+use Rattle.std.proofs.lemmas.Result.{IfOk-weaker}
+use Rattle.sqlite.specs.Effect.{Database}
+use Rattle.sqlite.specs.State.{HasCleanDisk}
+use Rattle.registry_access.specs.RowsFor.{StandingTells}
+use Rattle.registry_access.specs.declared.caller.Caller.{Caller}
+use Rattle.registry_rows.proofs.QuietFacts.{reads_then, stays_then}
+use Rattle.registry_rules.specs.Facts.{since_of}
+use Rattle.registry_rules.specs.Refusals.{withdraw_all_refusal}
+use Rattle.registry_rules.specs.Withdrawals.{live_since}
+use Rattle.registry_rules.specs.declared.request.Action.TheVariants as asked
+use Rattle.registry_tables.specs.Contents.{access_of, contents, registry_of}
+use Rattle.registry_tables.specs.Effects.{shown}
+use Rattle.registry_tables.specs.Schema.{schema}
+use Rattle.registry_desk.specs.Early.{IsFound, denial}
+use Rattle.registry_desk.proofs.EarlyFacts.{all_too_old, or_second}
+use Rattle.registry_desk.proofs.withdrawals.facts_if_all_young.Goals as goal
+
+pub facts_if_all_unneeded-requires : goal.facts_if_all_unneeded-requires
+facts_if_all_unneeded-requires g c = record { in_form = λ clean on. (c.in_ok-live.ensures.loads clean).0.ready; allowed = c.requires.allowed }
+
+pub returns-in-Some-clause-loads : goal.returns-in-Some-clause-loads
+returns-in-Some-clause-loads g c clean =
+    let S = registry_of (contents (shown g.S.Store c.args.tx.now).now.trees) in
+    let live = c.in_ok-live.ensures.loads clean in (
+      live.0,
+      λ who allowed stands. record {
+        tells = λ needs. or_second _ _ _ allowed
+            (all_too_old c.args.now.now (live_since S c.args.name.now) _ c.in-Some.refusal (ap (λ rows. withdraw_all_refusal c.args.now.now rows false) (sym live.1) ∙ sym c.refusal_by_ages.ensures ∙ c.in-Some.is));
+        some = tt;
+      },
+    )
+
+pub returns-in-None-clause-stays : goal.returns-in-None-clause-stays
+returns-in-None-clause-stays g c = stays_then g.S.Store c.args.tx.now c.load_live_since.new.tx c.facts_if_all_unneeded.new.tx c.load_live_since.ensures.stays c.facts_if_all_unneeded.ensures.stays
+
+pub returns-in-None-clause-loads : goal.returns-in-None-clause-loads
+returns-in-None-clause-loads g c clean =
+    let p = c.args.name.now in
+    let was = shown g.S.Store c.args.tx.now in
+    let one = shown g.S.Store c.load_live_since.new.tx in
+    let were : HasCleanDisk one = omega (arith, c.facts_if_all_unneeded.ensures.stays.survives.clean, clean) in
+    let live = c.in_ok-live.ensures.loads were in
+    let young = sym c.refusal_by_ages.ensures ∙ c.in-None.is in
+    IfOk-weaker c.facts_if_all_unneeded.result _ _
+    (λ found told. (
+      reads_then schema was one (shown g.S.Store c.facts_if_all_unneeded.new.tx) live.0 told.0,
+      λ who allowed stands.
+          subst (λ (d : Database). (who : Caller) (at : ℕ) → denial (access_of (contents d.trees)) who (asked.WithdrawAll p) ≡ None → withdraw_all_refusal at (map since_of c.in_ok-live.live.items) false ≡ None
+          → map since_of c.in_ok-live.live.items ≡ live_since (registry_of (contents d.trees)) p → StandingTells c.args.standing (access_of (contents d.trees)) who p → IsFound found (contents d.trees) at who (asked.WithdrawAll p))
+          live.0.same told.1 who c.args.now.now allowed young live.1 stands,
+    ))
+    (c.facts_if_all_unneeded.ensures.loads clean)
