@@ -21,7 +21,7 @@ use Rattle.registry_laws_history.specs.History.{Entry, Legal, after}
 use Rattle.registry_laws_history.specs.Runs.{IsAnswer, Outcome, accepts, enters, grown, next}
 use Rattle.registry_laws_history.proofs.RunFacts.{legal_grown}
 use Rattle.registry_laws_hidden.specs.Arrivals.{leaves_the_rest}
-use Rattle.registry_laws_hidden.specs.Concerns.{IsShownAlike, is_enumerated, is_held, is_kept_by, is_listed, is_shown, is_taken, keeps_from, shows, shows_to}
+use Rattle.registry_laws_hidden.specs.Concerns.{IsShownAlike, is_held, is_kept_by, is_listed, is_shown, is_taken, keeps_from, shows, shows_to}
 use Rattle.registry_laws_hidden.specs.Laws.{RestsAreAlike}
 use Rattle.registry_laws_hidden.specs.Levels.{IsStranger}
 use Rattle.registry_laws_hidden.specs.Runs.{DifferInPackage}

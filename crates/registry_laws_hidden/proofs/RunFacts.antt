@@ -1,6 +1,6 @@
 -- Two runs of the requests of one caller alone, after histories that differ in what named a package
 -- that they don't read.
-use Rattle.std.proofs.Common.{◌≡◌, ◌⊎◌, inl, inr, ℕ, Bool, true, false, ◌&&◌, if◌then◌else◌, refl, sym, ap, ap₂, ◌∙◌, subst, true≢false, Some, None, Option, Ok, Err, List, [], ◌∷◌, is_some}
+use Rattle.std.proofs.Common.{◌≡◌, ◌⊎◌, inl, inr, ℕ, Bool, true, false, ◌&&◌, ◌||◌, if◌then◌else◌, refl, sym, ap, ap₂, ◌∙◌, subst, true≢false, Some, None, Option, Ok, Err, List, [], ◌∷◌, is_some}
 use Rattle.std.proofs.lemmas.Bool.{and_parts}
 use Rattle.registry_names.specs.Maps.{at}
 use Rattle.registry_names.specs.Names.{scope_of}
@@ -24,7 +24,7 @@ use Rattle.registry_laws_history.specs.Answers.{answer}
 use Rattle.registry_laws_history.specs.History.{Entry, after}
 use Rattle.registry_laws_history.specs.Runs.{HaveOutcomes, Outcome, enters, next}
 use Rattle.registry_laws_history.proofs.RunFacts.{accepted}
-use Rattle.registry_laws_hidden.specs.Concerns.{IsShownAlike, is_enumerated, is_listed, is_shown, lists_to, shows, shows_to}
+use Rattle.registry_laws_hidden.specs.Concerns.{IsShownAlike, is_listed, is_shown, shows, shows_to}
 use Rattle.registry_laws_hidden.specs.Levels.{HasNoLevel}
 use Rattle.registry_laws_hidden.specs.Runs.{AreAlikeTo, DifferInPackage, IsTheirs, RunsAreAlike}
 use Rattle.registry_laws_hidden.specs.Without.{state_without}

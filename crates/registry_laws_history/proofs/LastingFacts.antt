@@ -84,14 +84,14 @@ lives_more : (now : ℕ) (who : Caller) (what : Action) (h : List Entry) → Leg
 lives_more now who (Publish f) h legal k old new is same =
     inl (new, unpublished (pair_is (f.name, text_of_version f.version) k) _ (recorded h k) new (never_again now who (Publish f) h legal (f.name, text_of_version f.version) k new refl is) is, same)
 lives_more now who (Withdraw p v) h legal k old new is same = taken_or_not (pair_is (p, text_of_version v) k) now (recorded h k) (last_withdrawal h k) old new is same
-lives_more now who (WithdrawAll p) h legal k old new is same = taken_or_not (is p k.0) now (recorded h k) (last_withdrawal h k) old new is same
+lives_more now who (WithdrawAll p) h legal k old new here same = taken_or_not (is p k.0) now (recorded h k) (last_withdrawal h k) old new here same
 lives_more now who (Deprecate p conditions message) h legal k old new here same = noted_or_not (is p k.0 && chooses conditions k.1) message (recorded h k) (last_withdrawal h k) old new here same
 lives_more now who _ h legal k old new is same = inl (new, is, same)
 
 withdrawn_more : (now : ℕ) (who : Caller) (what : Action) (h : List Entry) → Legal h → (k : Pair) (w : Withdrawal)
     → last_withdrawal h k ≡ Some w → last_withdrawal (record { at = now; who = who; what = what } ∷ h) k ≡ Some w
 withdrawn_more now who (Withdraw p v) h legal k w is = still_withdrawn (pair_is (p, text_of_version v) k) now (recorded h k) (last_withdrawal h k) w is (unrecorded h legal k w is)
-withdrawn_more now who (WithdrawAll p) h legal k w is = still_withdrawn (is p k.0) now (recorded h k) (last_withdrawal h k) w is (unrecorded h legal k w is)
+withdrawn_more now who (WithdrawAll p) h legal k w gone = still_withdrawn (is p k.0) now (recorded h k) (last_withdrawal h k) w gone (unrecorded h legal k w gone)
 withdrawn_more now who _ h legal k w is = is
 
 -- ---- many more

@@ -4,6 +4,7 @@ pub mod FreedFacts
 pub mod LastingFacts
 mod LegalFacts
 pub mod LeftFacts
+pub mod ListedFacts
 pub mod MomentFacts
 pub mod PublishFacts
 pub mod RunFacts

@@ -181,6 +181,7 @@ latest_whole false next old said none same = same
 tagged_whole : (now : ℕ) (who : Caller) (q : Text) (h : List Entry) (S : State) → Tagged h S
     → HasVersions (record { at = now; who = who; what = WithdrawAll q } ∷ h) (whole_left S now q)
     → Tagged (record { at = now; who = who; what = WithdrawAll q } ∷ h) (whole_left S now q)
+unfolding greatest
 tagged_whole now who q h S has versions =
     let grown : List Entry = record { at = now; who = who; what = WithdrawAll q } ∷ h in
     let gone = λ (p : Text) (u : Text). whole_live S now q p u in

@@ -1,11 +1,11 @@
 -- Who needs a version, in the words of ranges.
-use Rattle.std.proofs.Common.{◌≡◌, ◌≢◌, Bool, true, not, ◌&&◌, List, is_some, Option, Some, None, option_map, refl, sym, ap, ◌∙◌, inl, inr, true≢false}
+use Rattle.std.proofs.Common.{◌≡◌, Bool, true, not, ◌&&◌, List, is_some, Option, Some, None, option_map, refl, sym, ap, ◌∙◌, inl, inr, true≢false}
 use Rattle.std.specs.Prelude.{◌⊎◌, Any, unwrap_or}
 use Rattle.std.specs.List.{list_any}
 use Rattle.std.proofs.lemmas.Bool.{and_parts, and_from}
 use Rattle.std.proofs.lemmas.List.Folds.{Any-from_list_any, list_any-from_Any}
 use Rattle.registry_names.specs.Keys.{Pair}
-use Rattle.registry_names.specs.Maps.{at, entries}
+use Rattle.registry_names.specs.Maps.{entries}
 use Rattle.registry_names.specs.Texts.{Text, is}
 use Rattle.registry_names.specs.Versions.{VersionParts}
 use Rattle.registry_names.proofs.EntryFacts.{IsFoundIn, entries_rise, rows_found}

@@ -39,7 +39,7 @@ use Rattle.registry_rules.specs.declared.request.Action.TheVariants as asked
 use Rattle.registry_rules.specs.declared.request.Action.TheVariants.{UserAdd, TokenAdd, TokenRemove, TokensRemove, OrgCreate, OrgSet, OrgRemove, TeamCreate, TeamDestroy, TeamAdd, TeamRemove, Revoke, SetAccess, OwnerAdd, OwnerRemove, Publish, TagSet, TagRemove, Withdraw, WithdrawAll, Deprecate}
 use Rattle.registry_rules.proofs.MadeFacts.{grant_put, latest_put, role_put, status_put, tag_put}
 use Rattle.registry_rules.specs.Withdrawals.{all_tags, live_since, live_versions, others, selected, selects, tags_of}
-use Rattle.registry_rules.proofs.WholeFacts.{since_when, whole_is, whole_live, whole_left, whole_spent, whole_tags}
+use Rattle.registry_rules.proofs.WholeFacts.{whole_is, whole_live, whole_spent, whole_tags}
 use Rattle.registry_rules.proofs.WithdrawnFacts.{among_passing, among_where_names, apart_where_others, at-freed, at-marked, deprecated_is, freed_gone, freed_latest, marked_value, withdrawal_of, withdrawn_is}
 use Rattle.registry_rules.proofs.TokenFacts.{among_theirs, at-all_ended, ended_is, others_apart}
 use Rattle.registry_rules.proofs.PublishedFacts.{statuses_after, granted_first, grants_after, maintained_first, maintainers_after, status_of, after_publish, published_is}

@@ -1,5 +1,6 @@
 -- Lists that a loop goes through, one more at a time.
-use Rattle.std.proofs.Common.{◌≡◌, ℕ, ◌+◌, ◌<◌, Bool, true, false, not, List, [], ◌∷◌, ◌++◌, map, filter, take, length, nat_eq, None, Some, option_map, refl, sym, ap, ap₂, ◌∙◌, subst, if◌then◌else◌}
+use Rattle.std.proofs.Common.{◌≡◌, ℕ, ◌+◌, ◌<◌, Bool, true, false, not, List, [], ◌∷◌, ◌++◌, map, take, length, nat_eq, None, Some, option_map, refl, sym, ap, ap₂, ◌∙◌, subst, if◌then◌else◌}
+use Rattle.std.proofs.Math.Dec.{eqb-suc-zero}
 use Rattle.std.proofs.lemmas.List.{take_more}
 use Rattle.std.proofs.lemmas.List.Elements.{filter-append}
 use Rattle.std.specs.Prelude.{slice_index_or, unwrap_or}
@@ -82,4 +83,4 @@ pub refused_whole : (now : ℕ) (live : List LiveVersion) (depended empty old : 
     → refuse empty NotFound (refuse old TooLate (refuse depended Depended None)) ≡ withdraw_all_refusal now (map since_of live) depended
 refused_whole now [] depended empty old e f = ap (λ b. refuse b NotFound (refuse old TooLate (refuse depended Depended None))) e
 refused_whole now (r ∷ rs) depended empty old e f =
-    ap₂ (λ a b. refuse a NotFound (refuse b TooLate (refuse depended Depended None))) e (f ∙ sym (list_any-map (λ (e : Text × ℕ). is_too_old now e.1) since_of (r ∷ rs)))
+    ap₂ (λ a b. refuse a NotFound (refuse b TooLate (refuse depended Depended None))) (e ∙ eqb-suc-zero (length rs)) (f ∙ sym (list_any-map (λ (e : Text × ℕ). is_too_old now e.1) since_of (r ∷ rs)))

@@ -1,9 +1,7 @@
 -- What the withdrawal of all versions of a package leaves, each map by itself.
-use Rattle.std.proofs.Common.{◌≡◌, ◌≢◌, ℕ, ◌≤◌, Bool, true, false, cond, ◌&&◌, ◌||◌, All, List, [], ◌∷◌, ◌++◌, map, is_some, Option, Some, None, option_map, refl, sym, ap, ◌∙◌, subst, true≢false}
-use Rattle.std.proofs.lemmas.Bool.{and_parts}
+use Rattle.std.proofs.Common.{◌≡◌, ℕ, ◌≤◌, Bool, true, false, cond, ◌&&◌, ◌||◌, All, List, [], ◌∷◌, map, is_some, Option, Some, None, option_map, refl, sym, ap, ◌∙◌, subst, true≢false}
 use Rattle.std.proofs.lemmas.List.Elements.{All-cons, All-head, All-nil, All-tail}
-use Rattle.std.specs.Prelude.{IsSome, IsTrue}
-use Rattle.registry_names.specs.Keys.{Pair, pair_is}
+use Rattle.std.specs.Prelude.{IsTrue}
 use Rattle.registry_names.specs.Maps.{PairMap, among, at, put, erase, keys, of}
 use Rattle.registry_names.specs.Moments.{last_second}
 use Rattle.registry_names.specs.Tags.{latest}
@@ -16,7 +14,7 @@ use Rattle.registry_rules.specs.Effects.{withdrawal_of_all}
 use Rattle.registry_rules.specs.Kept.{IsKept, IsWithdrawalOf}
 use Rattle.registry_rules.specs.Operations.{retired, without_tag}
 use Rattle.registry_rules.specs.State.{State, Release, Withdrawal, is_live}
-use Rattle.registry_rules.specs.Withdrawals.{all_tags, live_since, live_versions}
+use Rattle.registry_rules.specs.Withdrawals.{all_tags, live_since}
 use Rattle.registry_rules.proofs.WithdrawnFacts.{made_then}
 
 -- one of the keys went first, and then the others

@@ -1,7 +1,7 @@
 -- The withdrawal of all versions of a package is the run of the withdrawals of its live versions,
 -- and is refused as one of them is.
 use Rattle.std.proofs.Common.{◌≡◌, ◌≢◌, ℕ, ◌≤◌, Bool, true, false, cond, not, ◌&&◌, ◌||◌, All, List, [], ◌∷◌, ◌++◌, map, is_some, Option, Some, None, option_map, refl, sym, ap, ap₂, ◌∙◌, subst, true≢false, Ordering, Less, Equal, Greater, is_lt, is_eq}
-use Rattle.std.proofs.lemmas.Bool.{and_parts, and_from}
+use Rattle.std.proofs.lemmas.Bool.{and_parts}
 use Rattle.std.proofs.lemmas.List.Elements.{All-cons, All-head, All-nil, All-tail}
 use Rattle.std.proofs.lemmas.List.Folds.{list_any-append}
 use Rattle.std.specs.FinMap.Entries.{below_all}
@@ -21,14 +21,13 @@ use Rattle.registry_names.proofs.MapFacts.{same_map}
 use Rattle.registry_names.proofs.PartFacts.{any-part, part_found, part_rises}
 use Rattle.registry_names.proofs.PrecedenceFacts.{version_reads}
 use Rattle.registry_names.proofs.TextFacts.{is_same, is_sym, is_tie, is_true}
-use Rattle.registry_access.specs.Access.{Access}
 use Rattle.registry_access.specs.Policy.{may_write}
 use Rattle.registry_access.specs.Positions.{position_in}
 use Rattle.registry_access.specs.declared.caller.Caller.{Caller}
 use Rattle.registry_ranges.proofs.RangeFacts.{list_any-map}
 use Rattle.registry_rules.specs.Effects.{step_by}
 use Rattle.registry_rules.specs.Kept.{IsKept}
-use Rattle.registry_rules.specs.Laws.{AreAccepted, AreTheLive, IsDependent, IsOnce, IsRefusedAsOne, LiveVersionsAreTheLive, SpendsVersion, WithdrawalsOfAllAreRefusedAsOne, WithdrawalsOfAllAreRuns, WithdrawalsOfAllSpend, WithdrawsAll, all_withdrawn}
+use Rattle.registry_rules.specs.Laws.{AreAccepted, AreTheLive, IsOnce, IsRefusedAsOne, LiveVersionsAreTheLive, SpendsVersion, WithdrawalsOfAllAreRefusedAsOne, WithdrawalsOfAllAreRuns, WithdrawalsOfAllSpend, WithdrawsAll, all_withdrawn}
 use Rattle.registry_rules.specs.Refusals.{refusal_by, refuse, state_refusal, unless_allowed, withdraw_refusal, withdraw_all_refusal}
 use Rattle.registry_rules.specs.State.{State, Release, Withdrawal, has_live, is_empty, is_live}
 use Rattle.registry_rules.specs.Withdrawals.{is_any_depended, is_depended, is_too_old, live_since, live_versions, versions_in}
@@ -37,7 +36,7 @@ use Rattle.registry_rules.proofs.AllowedFacts.{policy_passed, state_passed}
 use Rattle.registry_rules.proofs.DependentFacts.{needed_have_dependents}
 use Rattle.registry_rules.proofs.LawFacts.{withdrawals_free_tags, withdrawals_spend}
 use Rattle.registry_rules.proofs.OtherFacts.{any_of, of_any, unlike}
-use Rattle.registry_rules.proofs.WholeFacts.{gone_joined, here_or, moments_at, since_when, whole_is, whole_kept, whole_left, whole_live, whole_spent, whole_tags}
+use Rattle.registry_rules.proofs.WholeFacts.{gone_joined, here_or, moments_at, since_when, whole_is, whole_left, whole_live, whole_spent, whole_tags}
 use Rattle.registry_rules.proofs.WithdrawnKept.{withdrawal_kept}
 
 -- ---- states
@@ -449,7 +448,7 @@ module _ (S : State) (now : ℕ) (who : Caller) (p : Text) (kept : IsKept S) whe
       by_release None e = absurd (true≢false (sym found.member ∙ any-part text_key S.live p found.text ∙ ap is_some e))
       by_release (Some r) e =
           let was = kept.live p found.text r e in
-          let same : was.version ≡ found.version = some_same (sym (version_reads found.text was.version was.is_version) ∙ found.spells) in
+          let same : was.version ≡ found.version = some_same was.version found.version (sym (version_reads found.text was.version was.is_version) ∙ found.spells) in
           let form = subst (IsVersionOf found.text) same was.is_version in
           let lives = ap (λ t. at S.live (p, t)) (sym form.0) ∙ e in (
             found.version,

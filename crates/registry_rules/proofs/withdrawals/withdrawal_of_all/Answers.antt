@@ -1,5 +1,4 @@
 use Rattle.std.proofs.Common.{◌∙◌, ◌++◌, ◌∷◌, [], ap, map, take}
-use Rattle.registry_names.specs.Versions.{text_of_version}
 use Rattle.registry_rules.specs.Changes.{DropTag, RetireVersion, change_of}
 use Rattle.registry_rules.specs.Effects as effects
 use Rattle.registry_rules.specs.Facts.{since_of}
