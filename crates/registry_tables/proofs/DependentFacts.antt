@@ -1,8 +1,11 @@
 -- What the statement on the needs of a package shows, and who needs its versions.
-use Rattle.std.proofs.Common.{◌≡◌, ℕ, Bool, true, false, not, ◌&&◌, true≢false, List, [], ◌∷◌, drop, map, filter, Option, Some, None, is_some, option_map, Ordering, Less, Equal, Greater, is_eq, refl, sym, ap, ap₂, subst, ◌∙◌, codes}
+use Rattle.std.proofs.Common.{◌≡◌, ◌<◌, ◌+◌, ℕ, Bool, true, false, not, ◌&&◌, ◌||◌, true≢false, List, [], ◌∷◌, ◌++◌, append_assoc, length, take, drop, map, filter, Option, Some, None, is_some, option_map, Ordering, Less, Equal, Greater, is_eq, refl, sym, ap, ap₂, subst, ◌∙◌, codes}
 use Rattle.std.specs.List.{list_any}
 use Rattle.std.specs.Ordering.{is_ne}
-use Rattle.std.specs.Prelude.{option_and_then, unwrap_or}
+use Rattle.std.specs.Prelude.{option_and_then, slice_index_or, unwrap_or}
+use Rattle.std.specs.Option.{option_to_list}
+use Rattle.std.proofs.lemmas.List.{map-append, take-append-drop, take_more}
+use Rattle.std.proofs.lemmas.List.Folds.{list_any-append}
 use Rattle.std.proofs.lemmas.Bool.{and_from, and_parts}
 use Rattle.std.proofs.lemmas.Simd.{map-map}
 use Rattle.sqlite.specs.declared.types.Value.{Value}
@@ -22,7 +25,9 @@ use Rattle.sqlite_rules.proofs.ListLemmas.{all_has, has_filtered, has_kept}
 use Rattle.registry_names.specs.Keys.{Pair}
 use Rattle.registry_names.specs.Texts.{Text, is}
 use Rattle.registry_names.specs.Maps.{at, entries}
-use Rattle.registry_names.specs.Versions.{VersionParts}
+use Rattle.registry_names.specs.Precedence.{version_in}
+use Rattle.registry_names.specs.Versions.{IsVersionOf, VersionParts}
+use Rattle.registry_names.proofs.PrecedenceFacts.{version_reads}
 use Rattle.registry_names.proofs.EntryFacts.{entries_rise}
 use Rattle.registry_names.proofs.KeyFacts.{pair_key}
 use Rattle.registry_names.proofs.MapFacts.{at-entries}
@@ -31,7 +36,8 @@ use Rattle.registry_publish.specs.Needs.{needs_of}
 use Rattle.registry_publish.specs.declared.need.Need.{Need}
 use Rattle.registry_ranges.specs.Texts.{binds}
 use Rattle.registry_rules.specs.State.{Release}
-use Rattle.registry_rules.specs.Withdrawals.{is_depended, is_need_of, needs_in}
+use Rattle.registry_rules.specs.Withdrawals.{is_depended, is_need_of, needs_in, versions_in}
+use Rattle.registry_rules.specs.declared.facts.LiveVersion.{LiveVersion as Listed}
 use Rattle.registry_rows.specs.Columns.{text_in}
 use Rattle.registry_rows.specs.Ready.{IsReady, Ready, Reads, Queried}
 use Rattle.registry_rows.specs.Rows.{key_of}
@@ -49,7 +55,7 @@ use Rattle.registry_tables.specs.Needs.{HoldsNeeds, is_needed, names_if_any}
 use Rattle.registry_tables.specs.Schema as table
 use Rattle.registry_tables.specs.Schema.{schema}
 use Rattle.registry_tables.specs.Teams.{text_spelled}
-use Rattle.registry_tables.specs.Withdrawals.{is_foreign_need, ranges_on}
+use Rattle.registry_tables.specs.Withdrawals.{is_foreign_need, ranges_on, version_text}
 use Rattle.registry_tables.proofs.MappedFacts.{need_ranges_mapped}
 use Rattle.registry_tables.proofs.ReadFacts.{at-read}
 use Rattle.registry_tables.proofs.RetiredFacts.{any_where, where_any}
@@ -215,3 +221,34 @@ module _ (c : Contents) (h : HoldsNeeds c) (p : Text) (v : VersionParts) where
 
   pub ranges_tell : list_any binding (ranges_on c p) ≡ is_depended (registry_of c) p v
   ranges_tell = one_truth _ _ range_needs need_ranges
+
+-- ---- one version after another
+
+versions_joined : (xs ys : List Text) → versions_in (xs ++ ys) ≡ versions_in xs ++ versions_in ys
+versions_joined [] ys = refl
+versions_joined (x ∷ xs) ys = ap (λ vs. option_to_list (version_in x) ++ vs) (versions_joined xs ys) ∙ sym (append_assoc (option_to_list (version_in x)) (versions_in xs) (versions_in ys))
+
+module _ (test : VersionParts → Bool) (rows : List Listed) where
+  abbrev versions_of : List Listed → List VersionParts
+  versions_of rs = versions_in (map version_text rs)
+
+  joined : (xs ys : List Listed) → list_any test (versions_of (xs ++ ys)) ≡ (list_any test (versions_of xs) || list_any test (versions_of ys))
+  joined xs ys = ap (λ ts. list_any test (versions_in ts)) (map-append version_text xs ys) ∙ ap (list_any test) (versions_joined (map version_text xs) (map version_text ys)) ∙ list_any-append test (versions_of xs) (versions_of ys)
+
+  alone : (r : Listed) (t : Text) → t ≡ version_text r → IsVersionOf t r.version → list_any test (versions_of (r ∷ [])) ≡ test r.version
+  alone r t e form = ap (λ (o : Option VersionParts). list_any test (option_to_list o ++ [])) (version_reads (version_text r) r.version (subst (λ (x : Text). IsVersionOf x r.version) e form)) ∙ either (test r.version)
+    where
+      either : (b : Bool) → (b || false) ≡ b
+      either true = refl
+      either false = refl
+
+  -- one version more
+  pub one_more_bound : (i : ℕ) (d : Listed) (t : Text) → i < length rows → t ≡ version_text (slice_index_or rows i d) → IsVersionOf t (slice_index_or rows i d).version
+      → list_any test (versions_of (take (i + 1) rows)) ≡ (list_any test (versions_of (take i rows)) || test (slice_index_or rows i d).version)
+  one_more_bound i d t within e form =
+      ap (λ (rs : List Listed). list_any test (versions_of rs)) (take_more rows i d within) ∙ joined (take i rows) (slice_index_or rows i d ∷ [])
+      ∙ ap (λ b. list_any test (versions_of (take i rows)) || b) (alone (slice_index_or rows i d) t e form)
+
+  -- what holds of the first so many holds of all
+  pub some_bound : (n : ℕ) → list_any test (versions_of (take n rows)) ≡ true → list_any test (versions_of rows) ≡ true
+  some_bound n h = ap (λ (rs : List Listed). list_any test (versions_of rs)) (sym (take-append-drop n rows)) ∙ joined (take n rows) (drop n rows) ∙ ap (λ b. b || list_any test (versions_of (drop n rows))) h

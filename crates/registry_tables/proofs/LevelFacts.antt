@@ -1,5 +1,5 @@
 -- Packages with a caller's level on each: those of a scope, and those that are the caller's own.
-use Rattle.std.proofs.Common.{◌≡◌, ◌∙◌, ◌&&◌, ◌||◌, ℕ, Bool, true, false, not, cond, List, [], ◌∷◌, ◌++◌, filter, map, Option, Some, None, is_some, is_none, refl, sym, ap, ap₂, subst, true≢false, append_assoc, inl, inr, if◌then◌else◌}
+use Rattle.std.proofs.Common.{◌≡◌, ◌⊎◌, ◌∙◌, ◌&&◌, ◌||◌, ℕ, Bool, true, false, not, cond, List, [], ◌∷◌, ◌++◌, filter, map, Option, Some, None, is_some, is_none, refl, sym, ap, ap₂, subst, true≢false, append_assoc, inl, inr, if◌then◌else◌}
 use Rattle.std.specs.List.{AllByRecursion, flat_map, list_any}
 use Rattle.std.proofs.lemmas.Bool.{and_parts, cases_Bool, false_from_ne_true}
 use Rattle.std.proofs.lemmas.Simd.{map-map}
@@ -52,7 +52,7 @@ use Rattle.registry_names.proofs.KeyFacts.{pair_key}
 -- one test after another
 filtered_twice : {A : Type 0} (f g : A → Bool) (xs : List A) → filter g (filter f xs) ≡ filter (λ x. f x && g x) xs
 filtered_twice f g [] = refl
-filtered_twice {A} f g (x ∷ xs) = each (f x) (g x) ∙ ap (λ l. cond (f x && g x) (x ∷ l) l) (filtered_twice f g xs)
+filtered_twice {A} f g (x ∷ xs) = each (f x) (g x) refl ∙ ap (λ l. cond (f x && g x) (x ∷ l) l) (filtered_twice f g xs)
   where
     each : (a b : Bool) → g x ≡ b → filter g (cond a (x ∷ filter f xs) (filter f xs)) ≡ cond (a && b) (x ∷ filter g (filter f xs)) (filter g (filter f xs))
     each true b e = ap (λ c. cond c (x ∷ filter g (filter f xs)) (filter g (filter f xs))) e
@@ -168,20 +168,17 @@ among_filtered f [] q = none (f q)
     none : (b : Bool) → false ≡ (b && false)
     none true = refl
     none false = refl
-among_filtered f (p ∷ ps) q = each (f p) (is p q) refl refl
+among_filtered f (p ∷ ps) q = each (f p) (is p q) refl refl (among_filtered f ps q)
   where
-    either : (a b rest : Bool) → (a ≡ b) → (a && rest) ≡ (b && rest)
-    either a b rest e = ap (λ c. c && rest) e
-
     or_true : (b : Bool) → (b && true) ≡ b
     or_true true = refl
     or_true false = refl
 
-    each : (a b : Bool) → f p ≡ a → is p q ≡ b → among is (cond a (p ∷ filter f ps) (filter f ps)) q ≡ (f q && (b || among is ps q))
-    each true true fp same = ap (λ b. b || among is (filter f ps) q) same ∙ sym (or_true (f q) ∙ ap f (sym (text_is p q same)) ∙ fp)
-    each true false fp same = ap (λ b. b || among is (filter f ps) q) same ∙ among_filtered f ps q
-    each false true fp same = among_filtered f ps q ∙ ap (λ b. b && among is ps q) (ap f (sym (text_is p q same)) ∙ fp) ∙ sym (ap (λ b. b && true) (ap f (sym (text_is p q same)) ∙ fp))
-    each false false fp same = among_filtered f ps q
+    each : (a b : Bool) → f p ≡ a → is p q ≡ b → among is (filter f ps) q ≡ (f q && among is ps q) → among is (cond a (p ∷ filter f ps) (filter f ps)) q ≡ (f q && (b || among is ps q))
+    each true true fp same later = ap (λ b. b || among is (filter f ps) q) same ∙ sym (or_true (f q) ∙ ap f (sym (text_is p q same)) ∙ fp)
+    each true false fp same later = ap (λ b. b || among is (filter f ps) q) same ∙ later
+    each false true fp same later = later ∙ ap (λ b. b && among is ps q) (ap f (sym (text_is p q same)) ∙ fp) ∙ sym (ap (λ b. b && true) (ap f (sym (text_is p q same)) ∙ fp))
+    each false false fp same later = later
 
 among_flat : (g : Text → List Text) (os : List Text) (q : Text) → among is (flat_map g os) q ≡ list_any (λ o. among is (g o) q) os
 among_flat g [] q = refl
@@ -340,15 +337,14 @@ nothing_own : (c : Contents) (who : Caller) (ps : List Text) → ((p : Text) (sc
 nothing_own c who [] none = refl
 nothing_own c who (p ∷ ps) none = rw (none p (scope_of p)) (nothing_own c who ps none)
 
-pub others_own_none : (c : Contents) (who : Caller) → ((u : Text) → who ≡ User u → ⊥) → [] ≡ levels_in c who (λ p. is_own (access_of c) who p (scope_of p))
-others_own_none c Operator other = sym (ap (map (leveled c Operator)) (nothing_own c Operator (keys (entries (access_of c).statuses)) none))
-  where
-    none : (p : Text) (scope : Option Text) → is_own (access_of c) Operator p scope ≡ false
-    none p None = refl
-    none p (Some o) = refl
-others_own_none c (User u) other = absurd (other u refl)
-others_own_none c Anonymous other = sym (ap (map (leveled c Anonymous)) (nothing_own c Anonymous (keys (entries (access_of c).statuses)) none))
-  where
-    none : (p : Text) (scope : Option Text) → is_own (access_of c) Anonymous p scope ≡ false
-    none p None = refl
-    none p (Some o) = refl
+operators_none : (c : Contents) (p : Text) (scope : Option Text) → is_own (access_of c) Operator p scope ≡ false
+operators_none c p None = refl
+operators_none c p (Some o) = refl
+
+anonymous_none : (c : Contents) (p : Text) (scope : Option Text) → is_own (access_of c) Anonymous p scope ≡ false
+anonymous_none c p None = refl
+anonymous_none c p (Some o) = refl
+
+pub others_own_none : (c : Contents) (who : Caller) → (who ≡ Operator) ⊎ (who ≡ Anonymous) → [] ≡ levels_in c who (λ p. is_own (access_of c) who p (scope_of p))
+others_own_none c who (inl is) = subst (λ (who : Caller). [] ≡ levels_in c who (λ p. is_own (access_of c) who p (scope_of p))) (sym is) (sym (ap (map (leveled c Operator)) (nothing_own c Operator (keys (entries (access_of c).statuses)) (operators_none c))))
+others_own_none c who (inr is) = subst (λ (who : Caller). [] ≡ levels_in c who (λ p. is_own (access_of c) who p (scope_of p))) (sym is) (sym (ap (map (leveled c Anonymous)) (nothing_own c Anonymous (keys (entries (access_of c).statuses)) (anonymous_none c))))

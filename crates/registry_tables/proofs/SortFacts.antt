@@ -1,5 +1,5 @@
 -- Packages in the order of their names.
-use Rattle.std.proofs.Common.{◌≡◌, ◌∙◌, Bool, true, false, cond, ◌&&◌, List, [], ◌∷◌, ◌++◌, length, map, Option, Some, None, Less, is_eq, is_lt, refl, sym, ap, append_assoc}
+use Rattle.std.proofs.Common.{◌≡◌, ◌∙◌, Bool, true, false, cond, ◌&&◌, List, [], ◌∷◌, ◌++◌, length, map, Option, Some, None, Result, Ok, Err, IfOk, Less, is_eq, is_lt, refl, sym, ap, append_assoc}
 use Rattle.std.specs.List.{AllByRecursion}
 use Rattle.std.specs.List.Sorted.{IsStrictlySortedBy}
 use Rattle.std.specs.Map.{lookup, keys_of}
@@ -43,3 +43,8 @@ next_put old new p q put = put.0 q ∙ ap (λ b. cond b (Some p.level) (get text
 pub emptied : {X : Type 0} (xs : List X) → length xs ≡ 0 → xs ≡ []
 emptied [] h = refl
 emptied (x ∷ xs) h = absurd cc
+
+-- two things that hold of an answer
+pub both_ok : {X E : Type 0} (r : Result X E) (P Q : X → Type 0) → IfOk r P → IfOk r Q → IfOk r (λ x. P x × Q x)
+both_ok (Ok x) P Q p q = (p, q)
+both_ok (Err e) P Q p q = tt

@@ -209,11 +209,11 @@ fn with_levels<S: Alter>(
         → levels.items ≡ levels_on c caller.now (map listed_name packages.items)) }
 {
     let mut levels = Vec::new(alloc);
-    for package in packages {
-        let level = level_on(alloc, tx, caller, role, &package)?;
+    for listed in packages {
+        let level = level_on(alloc, tx, caller, role, &listed)?;
         if reads(level) {
             levels.push(PackageLevel {
-                name: package.name,
+                name: listed.name,
                 level,
             })?;
         }
@@ -228,19 +228,19 @@ fn level_on<S: Alter>(
     tx: &mut Transaction<'_, S>,
     caller: &Caller,
     role: Option<Role>,
-    package: &ListedPackage,
+    listed: &ListedPackage,
 ) -> Result<Level, Fault>
     requires in_form { InForm S.Store tx.old }
     ensures stays { Stays S.Store tx.old tx.new }
     ensures knows { Knows S.Store tx.old tx.new result (λ level c. AreTeamsSound c
-        → IsListedFor c caller.now role package.now
-        → level ≡ level_in (access_of c) caller.now package.now.name) }
+        → IsListedFor c caller.now role listed.now
+        → level ≡ level_in (access_of c) caller.now listed.now.name) }
 {
     if matches!(role, Some(Role::Owner | Role::Admin)) {
         return Ok(Level::Write);
     }
-    let name = read_back(Name::parse(alloc, package.name.as_str()))?;
-    load_level(alloc, tx, caller, role, &name, package.status)
+    let name = read_back(Name::parse(alloc, listed.name.as_str()))?;
+    load_level(alloc, tx, caller, role, &name, listed.status)
 }
 
 // The same of a package of this name and status.

@@ -22,5 +22,5 @@ returns-clause-loads g c clean =
     IfOk-weaker c.load_after_scope.result _ _ (λ packages it. (
       reads_as_before old asked (shown g.S.Store c.load_after_scope.new.tx) found.0 (reads_nothing_new asked (shown g.S.Store c.load_after_scope.new.tx) it.0),
       it.1 ∙ ap (λ (d : Database). filter (λ (e : Text × Status). is_after_scope o e.0) (entries (access_of (contents d.trees)).statuses)) found.0.same
-          ∙ scope_found (stored_in g.S.Store c.args.tx.now) o _ c.in_ok-find_status.field-0 (c.as_str.ensures.text ∙ c.in_ok-scope.ensures.0) c.in_ok-scope.ensures.1 found.1 (sym c.is_some.ensures ∙ c.if-branch.false),
+          ∙ scope_found (stored_in g.S.Store c.args.tx.now) o _ c.in_ok-find_status.field-0 (c.as_str.ensures.text ∙ c.in_ok-scope.ensures.0) c.in_ok-scope.ensures.1 found.1 (sym c.is_some.ensures ∙ c.if-is_some.false),
     )) (c.load_after_scope.ensures.loads clean)

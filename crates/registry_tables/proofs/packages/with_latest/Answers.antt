@@ -6,6 +6,7 @@ use Rattle.registry_rows.proofs.QuietFacts.{stays_then}
 use Rattle.registry_tables.specs.Contents.{contents}
 use Rattle.registry_tables.specs.Effects.{shown, stored_in}
 use Rattle.registry_tables.specs.Overviews.{package_entry, viewed}
+use Rattle.registry_tables.specs.declared.packages.ListedPackage.{ListedPackage}
 use Rattle.registry_tables.proofs.EffectFacts.{before_then, reads_nothing_new}
 use Rattle.registry_tables.proofs.OverviewFacts.{next_listed}
 use Rattle.registry_tables.proofs.packages.with_latest.Goals as goal
@@ -26,8 +27,8 @@ loop-listed-preserved g c =
           let stored = stored_in g.S.Store c.args.tx.now in
           let all = into_iter_items c.into_iter-listed-iterator.result in
           let next = into_iter_items c.next.new.self in
-          let is = subst (λ (d : Database). c.in_ok-row.row ≡ (λ p. viewed (contents d.trees) (package_entry p)) c.in-Some.listed) (at.invariant.kept were).same it.1 in
-          next_listed (λ p. viewed stored (package_entry p)) at.rows.items c.in_ok-row.row c.in-Some.listed next (into_iter_items at.listed-iterator) all _ steps is c.in_ok-push.ensures.items (at.invariant.told were);
+          let is = subst (λ (d : Database). c.in_ok-row.row ≡ viewed (contents d.trees) (package_entry c.in-Some.listed)) (at.invariant.kept were).same it.1 in
+          next_listed (λ (p : ListedPackage). viewed stored (package_entry p)) at.rows.items c.in_ok-row.row c.in-Some.listed next (into_iter_items at.listed-iterator) all _ steps is c.in_ok-push.ensures.items (at.invariant.told were);
       remain =
           let was = at.invariant.remain in
           let gone = c.in-Some.ensures.steps.1 in
