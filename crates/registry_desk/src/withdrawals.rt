@@ -223,8 +223,8 @@ fn names_of(alloc: Global, tags: Vec<DistTag>) -> Result<Vec<Text>, AllocError>
     ensures { IfOk result (λ names. names.items ≡ map (λ t. t.tag) tags.items) }
 {
     let mut names = Vec::new(alloc);
-    for DistTag { tag, version: _ } in tags {
-        names.push(tag)?;
+    for row in tags {
+        names.push(row.tag)?;
     }
     Ok(names)
 }
