@@ -84,14 +84,14 @@ from_here P k n late here later = elim (cases_lt k n) [
 add_later : (n : ℕ) → 15 ≤ n → n < 24 → MakesNext n
 add_later n late few =
     from_here MakesNext 15 n late add_archives (λ l.
-        from_here MakesNext 16 n l add_archives_index (λ l.
-        from_here MakesNext 17 n l add_needs (λ l.
-        from_here MakesNext 18 n l add_needs_index (λ l.
-        from_here MakesNext 19 n l add_held_index (λ l.
-        from_here MakesNext 20 n l add_tokens_index (λ l.
-        from_here MakesNext 21 n l add_members_index (λ l.
-        from_here MakesNext 22 n l add_team_members_index (λ l.
-        from_here MakesNext 23 n l add_owners_index (λ l. absurd (omega (arith, l, few)))))))))))
+    from_here MakesNext 16 n l add_archives_index (λ l.
+    from_here MakesNext 17 n l add_needs (λ l.
+    from_here MakesNext 18 n l add_needs_index (λ l.
+    from_here MakesNext 19 n l add_held_index (λ l.
+    from_here MakesNext 20 n l add_tokens_index (λ l.
+    from_here MakesNext 21 n l add_members_index (λ l.
+    from_here MakesNext 22 n l add_team_members_index (λ l.
+    from_here MakesNext 23 n l add_owners_index (λ l. absurd (omega (arith, l, few)))))))))))
 
 add_next : (n : ℕ) → n < 24 → MakesNext n
 add_next n few = elim (cases_lt n 15) [

@@ -78,8 +78,7 @@ module _ (c : Contents) (who : Caller) (role : Option Role) (o : Text) (ps : Lis
   pub listed_right : role ≡ role_of (access_of c) who o → AllByRecursion (IsListedFor c who role) ps
   listed_right is = all_from (IsListedFor c who role) ps (λ p h.
       let there : Has (scope_statuses c o) (p.name, p.status) = subst (λ (es : List (Text × Status)). Has es (p.name, p.status)) listed (map_has package_entry ps p h) in
-      let kept = has_filtered (λ (e : Text × Status). is_scope o (scope_of e.0)) (entries (access_of c).statuses) (p.name, p.status) there in
-      (
+      let kept = has_filtered (λ (e : Text × Status). is_scope o (scope_of e.0)) (entries (access_of c).statuses) (p.name, p.status) there in (
         at-entries text_key (access_of c).statuses p.name ∙ first_risen text_key p.name p.status (entries (access_of c).statuses) (entries_rise (access_of c).statuses) kept.0,
         is ∙ sym (ap (scope_role (access_of c) who) (scope_named o (scope_of p.name) kept.1)),
       ))
@@ -327,10 +326,10 @@ module _ (s : Shown) (ready : IsReady schema s) (u : Text) where
   own_levels gathered sorted are rise last =
       same_packages sorted (levels_in c (User u) (λ p. is_own (access_of c) (User u) p (scope_of p)))
       (same_rows text_key (map level_entry sorted) (map said own) rise own_rises (λ q.
-          last q
-          ∙ ap (λ (ps : List PackageLevel). last_at (map level_entry ps) q None) are
-          ∙ ap (λ (es : List (Text × Level)). last_at es q None) (mapped_more level_entry (unscoped_levels c u) (scopes_levels c (User u) organisations) ∙ ap₂ (λ a b. a ++ b) unscoped_said (scopes_said organisations) ∙ sym (mapped_more said unscoped (flat_map scoped organisations)))
-          ∙ last_said level (unscoped ++ flat_map scoped organisations) q None ∙ ap (λ b. cond b (Some (level q)) None) (gathered_among q) ∙ sym (first_said level own q)) ∙ sym own_said)
+      last q
+      ∙ ap (λ (ps : List PackageLevel). last_at (map level_entry ps) q None) are
+      ∙ ap (λ (es : List (Text × Level)). last_at es q None) (mapped_more level_entry (unscoped_levels c u) (scopes_levels c (User u) organisations) ∙ ap₂ (λ a b. a ++ b) unscoped_said (scopes_said organisations) ∙ sym (mapped_more said unscoped (flat_map scoped organisations)))
+      ∙ last_said level (unscoped ++ flat_map scoped organisations) q None ∙ ap (λ b. cond b (Some (level q)) None) (gathered_among q) ∙ sym (first_said level own q)) ∙ sym own_said)
 
 -- nobody else has any
 nothing_own : (c : Contents) (who : Caller) (ps : List Text) → ((p : Text) (scope : Option Text) → is_own (access_of c) who p scope ≡ false) → filter (λ p. is_own (access_of c) who p (scope_of p) && reads (level_in (access_of c) who p)) ps ≡ []

@@ -122,7 +122,10 @@ fn written(alloc: Global, names: Vec<Text>) -> Result<Vec<PackageLevel>, Fault>
 fn has_scope(name: &Text) -> bool
     ensures { is_none (scope_of name.now) ≡ not result }
 {
-    name.as_str().as_bytes().first().is_some_and(|byte| *byte == b'@')
+    name.as_str()
+        .as_bytes()
+        .first()
+        .is_some_and(|byte| *byte == b'@')
 }
 
 // Adds the packages of the scopes of these organisations that the caller reads.

@@ -14,8 +14,8 @@ mod counters;
 mod dependents;
 mod grants;
 pub mod laws;
-mod maintainers;
 mod levels;
+mod maintainers;
 mod members;
 mod meta;
 mod moments;
@@ -66,7 +66,7 @@ pub use crate::teams::{has_team, load_teams};
 pub use crate::tokens::{load_token_user, load_user_tokens};
 pub use crate::users::{has_user, load_users};
 pub use crate::versions::{
-    DocumentRow, has_live, has_version, load_document, load_live, load_live_since, load_published, load_times,
-    put_version,
+    DocumentRow, has_live, has_version, load_document, load_live, load_live_since, load_published,
+    load_times, put_version,
 };
 pub use crate::walk::{LiveRows, VersionWalk, walk_versions};

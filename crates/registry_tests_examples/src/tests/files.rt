@@ -143,7 +143,7 @@ static OTHERS: [(&str, Lies, &str); 12] = [
     ),
     (
         "the last index less is another schema",
-        Lies::Changed("DROP INDEX held_by_archive"),
+        Lies::Changed("DROP INDEX owners_by_user"),
         FOREIGN,
     ),
     (

@@ -37,9 +37,9 @@ loop-organisation-preserved g c =
           let were : HasCleanDisk was = omega (arith, c.load_scope_packages.ensures.stays.survives.clean, clean) in
           let told = subst (λ (d : Database). AreTeamsSound (contents d.trees) → c.in_ok-scope.scope.items ≡ levels_in (contents d.trees) who (λ p. is_scope c.in_ok-organisation.organisation (scope_of p))) (at.invariant.kept were).same (c.in_ok-scope.ensures.loads clean).1 in
           ap (λ (ps : List PackageLevel). ps ++ scopes_levels stored who next) c.in_ok-append.ensures.items
-              ∙ append_assoc at.packages.items c.in_ok-scope.scope.items (scopes_levels stored who next)
-              ∙ ap (λ (ps : List PackageLevel). at.packages.items ++ (ps ++ scopes_levels stored who next)) (told sound ∙ ap (λ (o : Text). levels_in stored who (λ p. is_scope o (scope_of p))) named)
-              ∙ sym (ap (λ (os : List Text). at.packages.items ++ scopes_levels stored who os) steps) ∙ at.invariant.told were sound;
+          ∙ append_assoc at.packages.items c.in_ok-scope.scope.items (scopes_levels stored who next)
+          ∙ ap (λ (ps : List PackageLevel). at.packages.items ++ (ps ++ scopes_levels stored who next)) (told sound ∙ ap (λ (o : Text). levels_in stored who (λ p. is_scope o (scope_of p))) named)
+          ∙ sym (ap (λ (os : List Text). at.packages.items ++ scopes_levels stored who os) steps) ∙ at.invariant.told were sound;
       remain =
           let was = at.invariant.remain in
           let gone = c.in-Some.ensures.steps.1 in

@@ -19,7 +19,7 @@ loop-package-preserved c =
     record {
       last = λ q.
           ap (last_at (map level_entry (into_iter_items c.next.new.self)) q) (next_put at.levels c.insert.new.self row q c.in_ok-insert.ensures.updates ∙ ap (λ (k : Text). cond (is k q) (Some row.level) (get text_cmp at.levels q)) named)
-              ∙ sym (ap (λ (ps : List PackageLevel). last_at (map level_entry ps) q (get text_cmp at.levels q)) steps) ∙ at.invariant.last q;
+          ∙ sym (ap (λ (ps : List PackageLevel). last_at (map level_entry ps) q (get text_cmp at.levels q)) steps) ∙ at.invariant.last q;
       remain =
           let was = at.invariant.remain in
           let gone = c.in-Some.ensures.steps.1 in
@@ -31,8 +31,8 @@ pub returns-clause-last : goal.returns-clause-last
 returns-clause-last c =
     let none : into_iter_items c.loop-package.package-iterator ≡ [] = emptied (into_iter_items c.loop-package.package-iterator) (sym c.loop-package.invariant.remain ∙ c.in-None.ensures.steps.0) in
     IfOk-weaker c.listed.result _ _ (λ sorted es q.
-        ap (λ (rows : List (Text × Level)). first_at is rows q) es ∙ sym (looked_up c.loop-package.levels.entries q)
-        ∙ sym (ap (λ (ps : List PackageLevel). last_at (map level_entry ps) q (get text_cmp c.loop-package.levels q)) none)
-        ∙ c.loop-package.invariant.last q
-        ∙ ap (λ (ps : List PackageLevel). last_at (map level_entry ps) q None) c.into_iter-package-iterator.ensures.into_iter_gives.0)
+    ap (λ (rows : List (Text × Level)). first_at is rows q) es ∙ sym (looked_up c.loop-package.levels.entries q)
+    ∙ sym (ap (λ (ps : List PackageLevel). last_at (map level_entry ps) q (get text_cmp c.loop-package.levels q)) none)
+    ∙ c.loop-package.invariant.last q
+    ∙ ap (λ (ps : List PackageLevel). last_at (map level_entry ps) q None) c.into_iter-package-iterator.ensures.into_iter_gives.0)
     c.listed.ensures.entries

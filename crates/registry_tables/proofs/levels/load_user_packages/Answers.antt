@@ -48,5 +48,5 @@ returns-clause-loads g c clean =
           let are : c.add_scopes.new.packages.items ≡ unscoped_levels stored u ++ scopes_levels stored (User u) (firsts_of stored.members u) =
           gathered ∙ ap₂ (λ (a b : List PackageLevel). a ++ b) unscoped.1 (ap (λ (d : Database). scopes_levels (contents d.trees) who os) read.same ∙ ap₂ (λ (w : Caller) (l : List Text). scopes_levels stored w l) c.requires.user named) in
           subst (λ (w : Caller). sorted.items ≡ levels_in stored w (λ p. is_own (access_of stored) w p (scope_of p))) (sym c.requires.user)
-              (own_levels old (c.requires.in_form at_old unscoped.0.was_open) u c.add_scopes.new.packages.items sorted.items are it.0 it.1),
+          (own_levels old (c.requires.in_form at_old unscoped.0.was_open) u c.add_scopes.new.packages.items sorted.items are it.0 it.1),
     )) (both_ok c.in_order.result _ _ c.in_order.ensures.rises c.in_order.ensures.last)

@@ -144,6 +144,10 @@ static CASES: [(&str, &[Step]); 20] = [
                 2,
             ),
             Step::Rows(
+                "SELECT name FROM sqlite_schema WHERE type = 'index' AND tbl_name = 'owners'",
+                2,
+            ),
+            Step::Rows(
                 "SELECT name FROM users UNION ALL SELECT user FROM tokens UNION ALL SELECT name FROM orgs UNION ALL SELECT org FROM members UNION ALL SELECT org FROM teams UNION ALL SELECT org FROM team_members UNION ALL SELECT name FROM packages UNION ALL SELECT org FROM grants UNION ALL SELECT package FROM owners UNION ALL SELECT package FROM versions UNION ALL SELECT package FROM spent UNION ALL SELECT package FROM tags UNION ALL SELECT package FROM needs UNION ALL SELECT name FROM meta UNION ALL SELECT package FROM need_ranges UNION ALL SELECT package FROM held UNION ALL SELECT integrity FROM archives",
                 1,
             ),
