@@ -1,4 +1,3 @@
-use Rattle.std.proofs.Common.{sym}
 use Rattle.registry_tables.specs.Contents.{contents, registry_of}
 use Rattle.registry_tables.specs.Effects.{shown}
 use Rattle.registry_desk.proofs.EarlyFacts.{names_are}
