@@ -1,4 +1,4 @@
-use Rattle.std.proofs.Common.{◌≡◌, ◌∙◌, ℕ, Bool, List, map, arith, ap, false, refl, sym}
+use Rattle.std.proofs.Common.{◌≡◌, ◌∙◌, Bool, List, map, arith, ap, false, refl, sym}
 use Rattle.std.specs.List.{list_any}
 use Rattle.sqlite.specs.Effect.{Database}
 use Rattle.sqlite.specs.State.{HasCleanDisk}

@@ -1,4 +1,4 @@
-use Rattle.std.proofs.Common.{◌≡◌, ◌∙◌, ℕ, map, arith, ap, false, sym, subst, List, Option, None}
+use Rattle.std.proofs.Common.{◌≡◌, ◌∙◌, ℕ, map, arith, ap, false, sym, subst, List, None}
 use Rattle.std.proofs.lemmas.Result.{IfOk-weaker}
 use Rattle.sqlite.specs.Effect.{Database}
 use Rattle.sqlite.specs.State.{HasCleanDisk}
