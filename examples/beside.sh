@@ -140,6 +140,7 @@ cat > "$work/commands" <<'END'
 --at 100 --as ann teams lab
 --at 100 --as bob publish BODY
 --at 100 --as bob publish BODY
+--at 100 --as bob publish MORE
 --at 100 --as bob publish NOTHING
 --at 100 --as bob publish BROKEN
 --at 100 publish BODY
@@ -152,6 +153,10 @@ cat > "$work/commands" <<'END'
 --at 100 --as bob tags @lab/kit
 --at 100 --as bob maintainers @lab/kit
 --at 100 maintainers @lab/kit
+--at 100 --as bob org-packages lab
+--at 100 --operator org-packages lab
+--at 100 --as bob my-packages
+--at 100 --operator my-packages
 --at 100 --operator packages
 --at 100 --as bob packages
 --at 100 --as bob tag-set @lab/kit next 1.0.0
@@ -169,7 +174,14 @@ cat > "$work/commands" <<'END'
 --at 100 --as ann access @lab/kit public
 --at 100 tags @lab/kit
 --at 100 --as ann owner-add @lab/kit bob
---at 100 --as bob withdraw @lab/kit 1.0.0
+--at 100 --as bob withdraw-all @lab/none
+--at 100 --as eve withdraw-all @lab/kit
+--at 259300 --as bob withdraw-all @lab/kit
+--at 100 --as bob withdraw-all @lab/kit
+--at 100 --as bob withdraw-all @lab/kit
+--at 100 --as bob publish BODY
+--at 86500 --as bob publish LAST
+--at 86500 --as bob withdraw @lab/kit 1.2.0
 --at 100 --as ann org-rm lab bob
 --at 100 --as ann --operator members lab
 --at 100 token-new ann
@@ -192,7 +204,9 @@ archive = os.urandom(200000)
 open(f'{sys.argv[1]}/kit.tgz', 'wb').write(archive)
 body = {'name': '@lab/kit', 'versions': {'1.0.0': {'name': '@lab/kit', 'version': '1.0.0'}},
         '_attachments': {'kit.tgz': {'data': base64.b64encode(archive).decode()}}}
-open(f'{sys.argv[1]}/body', 'w').write(json.dumps(body))
+for version, file in ('1.0.0', 'body'), ('1.1.0', 'more'), ('1.2.0', 'last'):
+    body['versions'] = {version: {'name': '@lab/kit', 'version': version}}
+    open(f'{sys.argv[1]}/{file}', 'w').write(json.dumps(body))
 open(f'{sys.argv[1]}/broken', 'w').write(json.dumps(body)[:-1])
 END
 
@@ -211,6 +225,8 @@ run_all() {
         for word in "$@"; do
             case $word in
             BODY) word=$work/body ;;
+            MORE) word=$work/more ;;
+            LAST) word=$work/last ;;
             BROKEN) word=$work/broken ;;
             NOTHING) word=$work/nothing ;;
             esac

@@ -117,6 +117,7 @@ def arguments(length):
     letters, numeral, ranges = 'a' * length, '1' * length, much('1||', length)
     yield 'the name of a package', ['tags', letters], 'refused: BadName'
     yield 'the name of an organisation', ['members', letters], 'refused: BadName'
+    yield 'the name of a package to be withdrawn', ['--as', 'bob', 'withdraw-all', letters], 'refused: BadName'
     yield 'who asks', ['--as', letters, 'members', 'lab'], 'refused: BadName'
     yield 'a token', ['--operator', 'token-add', 'bob', letters], 'refused: BadBody'
     yield 'a version', ['--as', 'bob', 'withdraw', 'kit', numeral], 'refused: BadVersion'

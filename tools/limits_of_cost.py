@@ -7,7 +7,7 @@ import threading
 
 from tries import *
 
-FEW, MANY, ROUNDS, SINGLE = 1_000, 10_000, 100, 2_000
+FEW, MANY, ROUNDS, LISTS, SINGLE = 1_000, 10_000, 100, 20, 2_000
 BODY, BODIES, STALLED = 4_194_304, 100, 20
 VERSIONS, LONG, READERS = 17, 4_100_000, 40
 
@@ -104,6 +104,28 @@ def refused_withdrawal(server):
     response, _ = client.ask('DELETE', WITHDRAWAL)
     want(body_of(response) == b'{"error":"Depended"}', f'it is answered by {response[:100]}')
     return lambda _: client.must(409, 'DELETE', WITHDRAWAL)
+
+
+def own_packages_growth(few, many):
+    """The processor time of the server for the lists of a user who maintains one package of many, and is
+    the only member of an organisation without one."""
+    among_few, among_many = in_turn(LISTS, own_packages(few), own_packages(many))
+    return want(among_many <= 1.5 * among_few,
+                f'{milliseconds(among_few)} and {milliseconds(among_many)} ms: {among_many / among_few:.1f} times as long')
+
+
+def own_packages(server):
+    """A call that asks for both lists, by commands beside the server."""
+    words = server.registry.words
+    for line in '--operator user-add ann', '--operator org-create pad ann', '--as bob owner-add p000000 ann':
+        words(*line.split())
+
+    def ask(_):
+        before = server.processor()
+        words('--as', 'ann', 'my-packages')
+        words('--as', 'ann', 'org-packages', 'pad')
+        return server.processor() - before
+    return ask
 
 
 def head_in_bytes(server):
@@ -258,7 +280,7 @@ def bodies_that_stall(server):
     return want(took < 15, f'a publish of {len(body)} bytes takes {took:.1f} s')
 
 
-LARGE = delete_by_nobody, thousand_deletes, depended, depended_growth
+LARGE = delete_by_nobody, thousand_deletes, depended, depended_growth, own_packages_growth
 ALONE = head_in_bytes, bodies_by_nobody, bodies_under_way, bodies_that_stall
 
 TRIES = [
@@ -269,6 +291,8 @@ TRIES = [
     Try('depended', 'a withdrawal refused as Depended among 10,000 such packages', 'under 5 ms, at the median', depended),
     Try('depended-growth', 'the same among 1,000 and among 10,000 that need other packages',
         'at most 1.5 times as long', depended_growth),
+    Try('own-packages-growth', 'the lists of a user who has one package, among 1,000 and among 10,000',
+        'at most 1.5 times as long', own_packages_growth),
     Try('head-in-bytes', 'processor time for single bytes of a head of 15,000 bytes',
         'at its end at most a quarter more than at its front', head_in_bytes),
     Try('bodies-by-nobody', 'resident memory after 100 refused bodies of 4 MiB with one byte more each',

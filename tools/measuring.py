@@ -103,6 +103,7 @@ class Server:
     says on standard error goes to `errors`."""
 
     def __init__(self, registry, options=(), errors=None):
+        self.registry = registry
         with socket.create_server(('127.0.0.1', 0)) as door:
             self.port = door.getsockname()[1]
         began = time.perf_counter()

@@ -12,7 +12,7 @@ use Rattle.registry_rules.specs.declared.request.Credential.TheVariants as crede
 use Rattle.registry_cli.specs.Lines.{argument_at, says_input}
 use Rattle.registry_cli.specs.Readings.{Reading, four, gives, one, read_then, reads_asked, reads_grant, reads_ident, reads_message, reads_name, reads_role, reads_selector, reads_status, reads_tag, reads_token, reads_version, three, two}
 use Rattle.registry_cli.specs.declared.action.Verb.{Verb}
-use Rattle.registry_cli.specs.declared.action.Verb.TheVariants.{UserAdd, TokenAdd, TokenRemove, TokensRemove, OrgCreate, OrgSet, OrgRemove, TeamCreate, TeamDestroy, TeamAdd, TeamRemove, Grant, Revoke, SetAccess, OwnerAdd, OwnerRemove, Publish, TagSet, TagRemove, Deprecate, Withdraw, Packument, VersionDoc, Archive, Tags, Members, Teams, TeamMembers, TeamPackages, WhoAmI, Maintainers, Users, Organisations, Packages}
+use Rattle.registry_cli.specs.declared.action.Verb.TheVariants.{UserAdd, TokenAdd, TokenRemove, TokensRemove, OrgCreate, OrgSet, OrgRemove, TeamCreate, TeamDestroy, TeamAdd, TeamRemove, Grant, Revoke, SetAccess, OwnerAdd, OwnerRemove, Publish, TagSet, TagRemove, Deprecate, Withdraw, WithdrawAll, Packument, VersionDoc, Archive, Tags, Maintainers, Members, Teams, TeamMembers, TeamPackages, OrgPackages, WhoAmI, MyPackages, Users, Organisations, Packages}
 use Rattle.registry_cli.specs.declared.meaning.Line.{Line}
 use Rattle.registry_cli.specs.declared.meaning.Who.{Who}
 use Rattle.registry_cli.specs.declared.meaning.Who.TheVariants as who
@@ -60,7 +60,8 @@ package_verb name =
     if bytes_eq name (codes "tag-rm") then Some TagRemove else (
     if bytes_eq name (codes "deprecate") then Some Deprecate else (
     if bytes_eq name (codes "withdraw") then Some Withdraw else (
-    None))))))))
+    if bytes_eq name (codes "withdraw-all") then Some WithdrawAll else (
+    None)))))))))
 
 -- that print something of the registry
 abbrev pub query_verb : Text → Option Verb
@@ -74,11 +75,13 @@ query_verb name =
     if bytes_eq name (codes "teams") then Some Teams else (
     if bytes_eq name (codes "team-members") then Some TeamMembers else (
     if bytes_eq name (codes "team-packages") then Some TeamPackages else (
+    if bytes_eq name (codes "org-packages") then Some OrgPackages else (
     if bytes_eq name (codes "whoami") then Some WhoAmI else (
+    if bytes_eq name (codes "my-packages") then Some MyPackages else (
     if bytes_eq name (codes "users") then Some Users else (
     if bytes_eq name (codes "organisations") then Some Organisations else (
     if bytes_eq name (codes "packages") then Some Packages else (
-    None)))))))))))))
+    None)))))))))))))))
 
 abbrev pub verb_of : Text → Option Verb
 verb_of name = option_or (organisation_verb name) (option_or (team_verb name) (option_or (package_verb name) (query_verb name)))
@@ -114,16 +117,19 @@ asked TagSet arguments body = read_then (three reads_name reads_tag reads_versio
 asked TagRemove arguments body = read_then (two reads_name reads_tag arguments) (λ p. gives (action.TagRemove p.0 p.1))
 asked Deprecate arguments body = read_then (three reads_name reads_selector reads_message arguments) (λ p. gives (action.Deprecate p.0 p.1 p.2))
 asked Withdraw arguments body = read_then (two reads_name reads_version arguments) (λ p. gives (action.Withdraw p.0 p.1))
+asked WithdrawAll arguments body = read_then (one reads_name arguments) (λ p. gives (action.WithdrawAll p))
 asked Packument arguments body = read_then (one reads_name arguments) (λ p. gives (action.Packument p))
 asked VersionDoc arguments body = read_then (two reads_name reads_asked arguments) (λ p. gives (action.VersionDoc p.0 p.1))
 asked Archive arguments body = read_then (two reads_name reads_version arguments) (λ p. gives (action.Archive p.0 p.1))
 asked Tags arguments body = read_then (one reads_name arguments) (λ p. gives (action.Tags p))
+asked Maintainers arguments body = read_then (one reads_name arguments) (λ p. gives (action.Maintainers p))
 asked Members arguments body = read_then (one reads_ident arguments) (λ p. gives (action.Members p))
 asked Teams arguments body = read_then (one reads_ident arguments) (λ p. gives (action.Teams p))
 asked TeamMembers arguments body = read_then (two reads_ident reads_ident arguments) (λ p. gives (action.TeamMembers p.0 p.1))
 asked TeamPackages arguments body = read_then (two reads_ident reads_ident arguments) (λ p. gives (action.TeamPackages p.0 p.1))
+asked OrgPackages arguments body = read_then (one reads_ident arguments) (λ p. gives (action.OrgPackages p))
 asked WhoAmI arguments body = gives action.WhoAmI
-asked Maintainers arguments body = read_then (one reads_name arguments) (λ p. gives (action.Maintainers p))
+asked MyPackages arguments body = gives action.MyPackages
 asked Users arguments body = gives action.Users
 asked Organisations arguments body = gives action.Organisations
 asked Packages arguments body = gives action.Packages

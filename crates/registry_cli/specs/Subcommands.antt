@@ -140,6 +140,7 @@ packages =
     ∷ (codes "tag-rm", name ∷ tag ∷ [])
     ∷ (codes "deprecate", name ∷ selector ∷ message ∷ [])
     ∷ (codes "withdraw", name ∷ version ∷ [])
+    ∷ (codes "withdraw-all", name ∷ [])
     ∷ []
 
 -- that print something of the registry
@@ -154,7 +155,9 @@ queries =
     ∷ (codes "teams", organisation ∷ [])
     ∷ (codes "team-members", organisation ∷ team ∷ [])
     ∷ (codes "team-packages", organisation ∷ team ∷ [])
+    ∷ (codes "org-packages", organisation ∷ [])
     ∷ (codes "whoami", [])
+    ∷ (codes "my-packages", [])
     ∷ (codes "users", [])
     ∷ (codes "organisations", [])
     ∷ (codes "packages", [])

@@ -39,16 +39,19 @@ pub(crate) enum Verb {
     TagRemove,
     Deprecate,
     Withdraw,
+    WithdrawAll,
     Packument,
     VersionDoc,
     Archive,
     Tags,
+    Maintainers,
     Members,
     Teams,
     TeamMembers,
     TeamPackages,
+    OrgPackages,
     WhoAmI,
-    Maintainers,
+    MyPackages,
     Users,
     Organisations,
     Packages,
@@ -141,6 +144,7 @@ fn package_verb(name: &str) -> Option<Verb>
         "tag-rm" => Some(Verb::TagRemove),
         "deprecate" => Some(Verb::Deprecate),
         "withdraw" => Some(Verb::Withdraw),
+        "withdraw-all" => Some(Verb::WithdrawAll),
         _ => None,
     }
 }
@@ -158,7 +162,9 @@ fn query_verb(name: &str) -> Option<Verb>
         "teams" => Some(Verb::Teams),
         "team-members" => Some(Verb::TeamMembers),
         "team-packages" => Some(Verb::TeamPackages),
+        "org-packages" => Some(Verb::OrgPackages),
         "whoami" => Some(Verb::WhoAmI),
+        "my-packages" => Some(Verb::MyPackages),
         "users" => Some(Verb::Users),
         "organisations" => Some(Verb::Organisations),
         "packages" => Some(Verb::Packages),
@@ -191,16 +197,19 @@ fn asked(alloc: Global, verb: Verb, arguments: &[Text], body: &[u8]) -> Result<A
         Verb::TagRemove => tag_remove(alloc, arguments),
         Verb::Deprecate => deprecate(alloc, arguments),
         Verb::Withdraw => withdraw(alloc, arguments),
+        Verb::WithdrawAll => withdraw_all(alloc, arguments),
         Verb::Packument => packument(alloc, arguments),
         Verb::VersionDoc => version_doc(alloc, arguments),
         Verb::Archive => archive(alloc, arguments),
         Verb::Tags => tags(alloc, arguments),
+        Verb::Maintainers => maintainers(alloc, arguments),
         Verb::Members => members(alloc, arguments),
         Verb::Teams => teams(alloc, arguments),
         Verb::TeamMembers => team_members(alloc, arguments),
         Verb::TeamPackages => team_packages(alloc, arguments),
+        Verb::OrgPackages => org_packages(alloc, arguments),
         Verb::WhoAmI => Ok(Action::WhoAmI),
-        Verb::Maintainers => maintainers(alloc, arguments),
+        Verb::MyPackages => Ok(Action::MyPackages),
         Verb::Users => Ok(Action::Users),
         Verb::Organisations => Ok(Action::Organisations),
         Verb::Packages => Ok(Action::Packages),
@@ -418,6 +427,13 @@ fn withdraw(alloc: Global, arguments: &[Text]) -> Result<Action, Stop>
     Ok(Action::Withdraw { package, version })
 }
 
+fn withdraw_all(alloc: Global, arguments: &[Text]) -> Result<Action, Stop>
+    ensures { spec.asked verbs.WithdrawAll arguments.now [] result }
+{
+    let package = one(alloc, arguments)?;
+    Ok(Action::WithdrawAll { package })
+}
+
 fn packument(alloc: Global, arguments: &[Text]) -> Result<Action, Stop>
     ensures { spec.asked verbs.Packument arguments.now [] result }
 {
@@ -479,4 +495,11 @@ fn team_packages(alloc: Global, arguments: &[Text]) -> Result<Action, Stop>
 {
     let (organisation, team) = two(alloc, arguments)?;
     Ok(Action::TeamPackages { organisation, team })
+}
+
+fn org_packages(alloc: Global, arguments: &[Text]) -> Result<Action, Stop>
+    ensures { spec.asked verbs.OrgPackages arguments.now [] result }
+{
+    let organisation = one(alloc, arguments)?;
+    Ok(Action::OrgPackages { organisation })
 }

@@ -29,7 +29,7 @@ const MORE: &str =
 // The argument of `clap` for a parameter.
 fn argument<'a>(alloc: Global, parameter: &Parameter) -> Arg<'a>
     ensures rule { rule_of result ≡ rule_of_parameter parameter.now }
-    ensures local { result.global ≡ false }
+    ensures not_global { result.global ≡ false }
 {
     let argument = Arg::new(alloc, parameter.id).help(parameter.help);
     match parameter.need {
@@ -52,11 +52,11 @@ fn argument<'a>(alloc: Global, parameter: &Parameter) -> Arg<'a>
 }
 
 fn with_argument<'a>(command: Command<'a>, argument: Arg<'a>) -> Result<Command<'a>, AllocError>
-    requires command { (out-Command command).has_globals ≡ false }
-    requires argument { argument.global ≡ false }
+    requires no_globals { (out-Command command).has_globals ≡ false }
+    requires not_global { argument.global ≡ false }
     ensures app { IfOk result (λ c. app_of c
         ≡ with_rule (app_of command.entry) (rule_of argument.entry)) }
-    ensures local { IfOk result (λ c. (out-Command c).has_globals ≡ false) }
+    ensures no_globals { IfOk result (λ c. (out-Command c).has_globals ≡ false) }
 {
     command.arg(argument)
 }
@@ -66,10 +66,10 @@ fn with_parameters<'a>(
     command: Command<'a>,
     parameters: &[Parameter],
 ) -> Result<Command<'a>, AllocError>
-    requires local { (out-Command command).has_globals ≡ false }
+    requires no_globals { (out-Command command).has_globals ≡ false }
     ensures app { IfOk result (λ c. app_of c
         ≡ with_rules (app_of command.entry) (map rule_of_parameter parameters.now)) }
-    ensures local { IfOk result (λ c. (out-Command c).has_globals ≡ false) }
+    ensures no_globals { IfOk result (λ c. (out-Command c).has_globals ≡ false) }
 {
     let mut command = command;
     for parameter in parameters {
@@ -81,7 +81,7 @@ fn with_parameters<'a>(
 fn subcommand<'a>(alloc: Global, row: &Subcommand) -> Result<Command<'a>, AllocError>
     ensures app { IfOk result (λ c. app_of c
         ≡ with_rules (new_app (row_of row.now).0) (row_of row.now).1) }
-    ensures local { IfOk result (λ c. (out-Command c).has_globals ≡ false) }
+    ensures no_globals { IfOk result (λ c. (out-Command c).has_globals ≡ false) }
 {
     let command = Command::new(alloc, row.name)
         .about(row.about)
@@ -94,10 +94,10 @@ fn with_subcommand<'a>(
     command: Command<'a>,
     row: &Subcommand,
 ) -> Result<Command<'a>, AllocError>
-    requires local { (out-Command command).has_globals ≡ false }
+    requires no_globals { (out-Command command).has_globals ≡ false }
     ensures app { IfOk result (λ c. app_of c
         ≡ with_subcommand (app_of command.entry) (spec.subcommand (row_of row.now))) }
-    ensures local { IfOk result (λ c. (out-Command c).has_globals ≡ false) }
+    ensures no_globals { IfOk result (λ c. (out-Command c).has_globals ≡ false) }
 {
     command.subcommand(subcommand(alloc, row)?)
 }
@@ -107,10 +107,10 @@ fn with_rows<'a>(
     command: Command<'a>,
     rows: &[Subcommand],
 ) -> Result<Command<'a>, AllocError>
-    requires local { (out-Command command).has_globals ≡ false }
+    requires no_globals { (out-Command command).has_globals ≡ false }
     ensures app { IfOk result (λ c. app_of c
         ≡ with_subcommands (app_of command.entry) (map row_of rows.now)) }
-    ensures local { IfOk result (λ c. (out-Command c).has_globals ≡ false) }
+    ensures no_globals { IfOk result (λ c. (out-Command c).has_globals ≡ false) }
 {
     let mut command = command;
     for row in rows {
@@ -124,10 +124,10 @@ fn with_groups<'a>(
     command: Command<'a>,
     groups: &[&[Subcommand]],
 ) -> Result<Command<'a>, AllocError>
-    requires local { (out-Command command).has_globals ≡ false }
+    requires no_globals { (out-Command command).has_globals ≡ false }
     ensures app { IfOk result (λ c. app_of c
         ≡ with_groups (app_of command.entry) (map rows_of_group groups.now)) }
-    ensures local { IfOk result (λ c. (out-Command c).has_globals ≡ false) }
+    ensures no_globals { IfOk result (λ c. (out-Command c).has_globals ≡ false) }
 {
     let mut command = command;
     for rows in groups {
@@ -138,10 +138,10 @@ fn with_groups<'a>(
 
 // The options that name the file and the user.
 fn with_names<'a>(alloc: Global, command: Command<'a>) -> Result<Command<'a>, AllocError>
-    requires local { (out-Command command).has_globals ≡ false }
+    requires no_globals { (out-Command command).has_globals ≡ false }
     ensures app { IfOk result (λ c. app_of c
         ≡ with_rule (with_rule (app_of command.entry) spec.db) spec.as_user) }
-    ensures local { IfOk result (λ c. (out-Command c).has_globals ≡ false) }
+    ensures no_globals { IfOk result (λ c. (out-Command c).has_globals ≡ false) }
 {
     let db = Arg::new(alloc, "PATH")
         .long("db")
@@ -154,10 +154,10 @@ fn with_names<'a>(alloc: Global, command: Command<'a>) -> Result<Command<'a>, Al
 
 // The flag of the operator, and the moment.
 fn with_moment<'a>(alloc: Global, command: Command<'a>) -> Result<Command<'a>, AllocError>
-    requires local { (out-Command command).has_globals ≡ false }
+    requires no_globals { (out-Command command).has_globals ≡ false }
     ensures app { IfOk result (λ c. app_of c
         ≡ with_rule (with_rule (app_of command.entry) spec.as_operator) spec.at_moment) }
-    ensures local { IfOk result (λ c. (out-Command c).has_globals ≡ false) }
+    ensures no_globals { IfOk result (λ c. (out-Command c).has_globals ≡ false) }
 {
     let operator = Arg::new(alloc, "operator")
         .long("operator")
@@ -174,7 +174,7 @@ fn with_moment<'a>(alloc: Global, command: Command<'a>) -> Result<Command<'a>, A
 // The command before its options.
 fn bare<'a>(alloc: Global) -> Result<Command<'a>, AllocError>
     ensures app { IfOk result (λ c. app_of c ≡ bare) }
-    ensures local { IfOk result (λ c. (out-Command c).has_globals ≡ false) }
+    ensures no_globals { IfOk result (λ c. (out-Command c).has_globals ≡ false) }
 {
     Command::new(alloc, "registry")
         .no_binary_name(true)
@@ -187,7 +187,7 @@ fn bare<'a>(alloc: Global) -> Result<Command<'a>, AllocError>
 
 fn with_options<'a>(alloc: Global) -> Result<Command<'a>, AllocError>
     ensures app { IfOk result (λ c. app_of c ≡ with_rules bare options) }
-    ensures local { IfOk result (λ c. (out-Command c).has_globals ≡ false) }
+    ensures no_globals { IfOk result (λ c. (out-Command c).has_globals ≡ false) }
 {
     with_moment(alloc, with_names(alloc, bare(alloc)?)?)
 }
@@ -195,7 +195,7 @@ fn with_options<'a>(alloc: Global) -> Result<Command<'a>, AllocError>
 /// The whole command of requests.
 pub(crate) fn registry<'a>(alloc: Global) -> Result<Command<'a>, AllocError>
     ensures app { IfOk result (λ c. app_of c ≡ spec.registry) }
-    ensures local { IfOk result (λ c. (out-Command c).has_globals ≡ false) }
+    ensures no_globals { IfOk result (λ c. (out-Command c).has_globals ≡ false) }
 {
     let groups = [organisations(), teams(), packages(), queries(), serving()];
     with_groups(alloc, with_options(alloc)?, groups.as_slice())
@@ -204,7 +204,7 @@ pub(crate) fn registry<'a>(alloc: Global) -> Result<Command<'a>, AllocError>
 /// The command of errands.
 pub(crate) fn admin_command<'a>(alloc: Global) -> Result<Command<'a>, AllocError>
     ensures app { IfOk result (λ c. app_of c ≡ admin_command) }
-    ensures local { IfOk result (λ c. (out-Command c).has_globals ≡ false) }
+    ensures no_globals { IfOk result (λ c. (out-Command c).has_globals ≡ false) }
 {
     with_rows(alloc, with_options(alloc)?, errands())
 }

@@ -265,7 +265,7 @@ static TEAMS: [Subcommand; 6] = [
     },
 ];
 
-static PACKAGES: [Subcommand; 8] = [
+static PACKAGES: [Subcommand; 9] = [
     Subcommand {
         name: "access",
         parameters: &[PACKAGE, STATUS],
@@ -314,9 +314,15 @@ static PACKAGES: [Subcommand; 8] = [
         about: "Withdraw a version within 72 hours, for good (who may write the package)",
         example: "Example: registry --as bob withdraw @lab/kit 1.0.0",
     },
+    Subcommand {
+        name: "withdraw-all",
+        parameters: &[PACKAGE],
+        about: "Withdraw all versions of a package, or none of them, for good (who may write it)",
+        example: "Example: registry --as bob withdraw-all @lab/kit",
+    },
 ];
 
-static QUERIES: [Subcommand; 13] = [
+static QUERIES: [Subcommand; 15] = [
     Subcommand {
         name: "packument",
         parameters: &[PACKAGE],
@@ -372,10 +378,22 @@ static QUERIES: [Subcommand; 13] = [
         example: "Example: registry --as bob team-packages lab ops",
     },
     Subcommand {
+        name: "org-packages",
+        parameters: &[ORGANISATION],
+        about: "Print which packages of an organisation one reads or writes (a member)",
+        example: "Example: registry --as bob org-packages lab",
+    },
+    Subcommand {
         name: "whoami",
         parameters: &[],
         about: "Print the name of the user who asks (a user)",
         example: "Example: registry --as bob whoami",
+    },
+    Subcommand {
+        name: "my-packages",
+        parameters: &[],
+        about: "Print which packages one maintains, or reads in one's organisations (a user)",
+        example: "Example: registry --as bob my-packages",
     },
     Subcommand {
         name: "users",

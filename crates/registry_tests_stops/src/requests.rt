@@ -2,7 +2,8 @@
 
 /// The commands: three users, three tokens (two of them end) and an organisation; four versions,
 /// two with the same archive and two that are withdrawn; one more that is withdrawn and never
-/// published again; a team that has a member and a grant when it is destroyed; and a deprecation.
+/// published again; a team that has a member and a grant when it is destroyed; a deprecation; and a
+/// package of which both versions are withdrawn at once.
 pub(crate) const COMMANDS: &str = r#"
 --at 0 --operator user-add ann
 --at 0 --operator user-add bob
@@ -29,6 +30,9 @@ token npm_bob_000000001 --at 100 tag-set @lab/kit beta 2.0.0-rc.1
 --at 104 --as ann grant lab ops @lab/kit read-only
 --at 105 --as ann team-destroy lab ops
 --at 106 --as bob deprecate @lab/kit 1.x old
+--at 107 --as eve publish tool 1.0.0 dG9vbA== latest {"base":"^1.0.0"}
+--at 107 --as eve publish tool 1.1.0 dG9vbHM= next {"base":"^1.0.0"}
+--at 108 --as eve withdraw-all tool
 "#;
 
 /// Queries of each kind, by several callers. They ask for the archive of each version.
@@ -50,6 +54,8 @@ token npm_bob_000000001 --at 200 tags @lab/kit
 --at 200 --as ann team-packages lab ops
 --at 200 --as eve whoami
 --at 200 --as bob maintainers @lab/kit
+--at 200 --as bob org-packages lab
+--at 200 --as bob my-packages
 --at 200 --operator users
 --at 200 --operator organisations
 --at 200 --operator packages

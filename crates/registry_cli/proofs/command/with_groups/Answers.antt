@@ -12,4 +12,4 @@ loop-rows-preserved c =
     let i = c.loop-rows.invariant in
     let none : Bor (List Subcommand) = record { ref_ptr = (0, 0); now = [] } in
     let rows : List (Text × List Rule) = rows_of_group (slice_index_or c.args.groups.now c.loop-rows.rows-index none) in
-    (c.in_ok-command.ensures.app ∙ ap (λ (a : App). with_subcommands a rows) i.0 ∙ sym (groups_more (app_of c.args.command) c.args.groups.now c.loop-rows.rows-index none c.loop-rows-test.true), c.in_ok-command.ensures.local)
+    (c.in_ok-command.ensures.app ∙ ap (λ (a : App). with_subcommands a rows) i.0 ∙ sym (groups_more (app_of c.args.command) c.args.groups.now c.loop-rows.rows-index none c.loop-rows-test.true), c.in_ok-command.ensures.no_globals)

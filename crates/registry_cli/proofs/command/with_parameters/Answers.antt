@@ -5,4 +5,4 @@ use Rattle.registry_cli.proofs.command.with_parameters.Goals as goal
 
 pub loop-parameter-preserved : goal.loop-parameter-preserved
 loop-parameter-preserved c = let i = c.loop-parameter.invariant in
-    (c.in_ok-command.ensures.app ∙ ap₂ with_rule i.0 c.argument.ensures.rule ∙ sym (rules_more (app_of c.args.command) c.args.parameters.now c.loop-parameter.parameter-index _ c.loop-parameter-test.true), c.in_ok-command.ensures.local)
+    (c.in_ok-command.ensures.app ∙ ap₂ with_rule i.0 c.argument.ensures.rule ∙ sym (rules_more (app_of c.args.command) c.args.parameters.now c.loop-parameter.parameter-index _ c.loop-parameter-test.true), c.in_ok-command.ensures.no_globals)

@@ -20,7 +20,7 @@ returns-in-Ok c =
     let rows_are : rows_of (found_of c.in-Ok.matches) ≡ matches_of registry words = has.0 ∙ ap (λ (a : App). matches_of a words) app_is in
     let found_is : subcommand_rows_of c.in-Ok.matches ≡ subcommand_of registry words = has.1 ∙ ap (λ (a : App). subcommand_of a words) app_is in
     let parsed = c.in-Ok.ensures.parsed in
-    let checked = (parsed.parsed (parsed.from.globals ∙ c.in_ok-registry.ensures.local)).checked in
+    let checked = (parsed.parsed (parsed.from.globals ∙ c.in_ok-registry.ensures.no_globals)).checked in
     let used = checked.subcommand (parsed.from.needs_subcommand ∙ ap (λ (a : App). a.top.subcommand_required) app_is) in
     let given : is_some (subcommand_rows_of c.in-Ok.matches) ≡ true = used_is _ used in
     record {
