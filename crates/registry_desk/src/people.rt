@@ -18,7 +18,7 @@ use registry_tables::{has_user, load_token_user, load_user_tokens};
 use sqlite::{Alter, Transaction};
 use std::alloc::Global;
 
-/// Of a user who is to be added.
+/// Loads what decides whether a user is added.
 pub(crate) fn facts_for_user_add<S: Alter>(
     tx: &mut Transaction<'_, S>,
     user: &Ident,
@@ -33,7 +33,7 @@ pub(crate) fn facts_for_user_add<S: Alter>(
     })
 }
 
-/// Of a token that is to be added.
+/// Loads what decides whether a token is added.
 pub(crate) fn facts_for_token_add<S: Alter>(
     alloc: Global,
     tx: &mut Transaction<'_, S>,
@@ -51,7 +51,7 @@ pub(crate) fn facts_for_token_add<S: Alter>(
     })
 }
 
-/// Of a token that is to end.
+/// Loads what decides whether a token is ended.
 pub(crate) fn facts_for_token_remove<S: Alter>(
     alloc: Global,
     tx: &mut Transaction<'_, S>,
@@ -67,7 +67,7 @@ pub(crate) fn facts_for_token_remove<S: Alter>(
     })
 }
 
-/// Of a user whose tokens are to end, by a caller whom the policy allows it.
+/// Loads what decides whether all tokens of a user are ended, if the policy allows it.
 pub(crate) fn facts_for_tokens_remove<S: Alter>(
     alloc: Global,
     tx: &mut Transaction<'_, S>,

@@ -37,11 +37,11 @@ use std::alloc::Global;
 /// The rows that answer an action.
 #[derive(Drop)]
 pub(crate) enum Rows {
-    /// Of a command that needs none.
+    /// None: a command needs none.
     Nothing,
-    /// Of the end of a user's tokens: their digests, in byte order.
+    /// The digests of a user's tokens, which end, in byte order.
     Digests(Vec<TokenDigest>),
-    /// Of a deprecation: the live versions, in byte order of their texts.
+    /// The live versions of a package whose versions are deprecated, in byte order of their texts.
     Live(Vec<Ver>),
     /// The manifest and the message of a version, if that lives.
     Document(Option<DocumentRow>),

@@ -27,8 +27,8 @@ use std::alloc::Global;
 /// Three days: an older version isn't withdrawn.
 const OLDEST: i64 = 259_200;
 
-/// Of a version that is to be withdrawn, by a caller whom the policy allows it. Who needs it is
-/// determined by the needs that are stored.
+/// Loads what decides a withdrawal, if the policy allows it. The stored needs say who needs the
+/// version.
 pub(crate) fn facts_for_withdraw<S: Alter>(
     alloc: Global,
     tx: &mut Transaction<'_, S>,
@@ -124,7 +124,7 @@ fn is_too_old(now: &Moment, published: &Moment) -> bool
     published.seconds() + OLDEST <= now.seconds()
 }
 
-/// Of versions that are to be deprecated, by a caller whom the policy allows it.
+/// Loads what decides a deprecation of versions, if the policy allows it.
 pub(crate) fn facts_for_deprecate<S: Alter>(
     alloc: Global,
     tx: &mut Transaction<'_, S>,
