@@ -21,8 +21,8 @@ impl Hold {
         Ok(Hold { stream })
     }
 
-    /// Asks the server whether it was held all the time, and is still. False where it isn't any more,
-    /// as after [`HOLD_LIMIT`](crate::HOLD_LIMIT), or it has ended.
+    /// Asks the server whether it was held all the time, and still is. False if it isn't, as after
+    /// [`HOLD_LIMIT`](crate::HOLD_LIMIT), or if the server has ended.
     ///
     /// `TimedOut` is returned where the server gives no answer for ten seconds; any other error is
     /// the system's.
