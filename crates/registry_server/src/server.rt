@@ -184,12 +184,12 @@ impl Server {
             self.patience(was_held)
         };
         self.look(patience, guests)?;
-        let most = patience + ROUND_TIME;
-        guests.attend(self.poll.registry(), timer.pass(most));
+        // Whoever reads from a held server doesn't make the hold longer.
+        guests.attend(self.poll.registry(), timer.pass(LOOK_TIME + ROUND_TIME));
         if was_held || guests.holds() {
             Ok(0)
         } else {
-            Ok(most)
+            Ok(patience + ROUND_TIME)
         }
     }
 
