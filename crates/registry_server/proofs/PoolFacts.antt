@@ -196,7 +196,7 @@ module _ {S : Type 0} (received sent : S → Option (List ℕ)) (has_none is_ful
   pub visits-none : (paused crowd : Bool) (now most : ℕ) (p : Place S) (M : D) (r : Option (List ℕ)) → (is_to_visit paused p && not (over M)) ≡ false → VisitsAt received sent has_none is_full has_more is_ended is_broken answers over paused crowd now most p p M M r r
   visits-none paused crowd now most p M r is = subst (λ (b : Bool). VisitsIf received sent has_none is_full has_more is_ended is_broken answers b (is_held_back crowd p) now most p p M M r r) (sym is) (record { place = refl; service = refl; unasked = refl })
 
-  -- the connection there paused is held back
+  -- the connection there is held back
   pub visits-waits : (paused crowd : Bool) (now most : ℕ) (p q : Place S) (M : D) (r : Option (List ℕ)) → (is_to_visit paused p && not (over M)) ≡ true → is_held_back crowd p ≡ true → q ≡ waiting_at now p
       → VisitsAt received sent has_none is_full has_more is_ended is_broken answers over paused crowd now most p q M M r r
   visits-waits paused crowd now most p q M r is held waits =

@@ -1,5 +1,5 @@
 -- Requests that begin as queries do are queries.
-use Rattle.std.proofs.Common.{◌≡◌, ◌≢◌, ◌<◌, ◌≤◌, ◌⊎◌, ◌++◌, ◌∷◌, ◌∙◌, ◌==◌, ◌&&◌, not, [], ℕ, Bool, true, false, List, Option, None, Some, IsSome, Ok, Err, append_assoc, bytes_eq, codes, drop, length, nat_eq, refl, ap, subst, sym, inl, inr, arith}
+use Rattle.std.proofs.Common.{◌≡◌, ◌≢◌, ◌<◌, ◌≤◌, ◌⊎◌, ◌++◌, ◌∷◌, ◌∙◌, ◌==◌, ◌&&◌, not, [], ℕ, Bool, true, false, List, Option, None, Some, IsSome, Result, Ok, Err, if◌then◌else◌, append_assoc, bytes_eq, codes, drop, length, nat_eq, refl, ap, subst, sym, inl, inr, arith}
 use Rattle.std.specs.Prelude.{option_and_then}
 use Rattle.std.specs.List.{starts_with}
 use Rattle.std.proofs.lemmas.Bool.{false≢true}
@@ -13,6 +13,7 @@ use Rattle.httparse.proofs.PieceLemmas.{Blank_deterministic}
 use Rattle.registry_names.specs.Texts.{Text}
 use Rattle.registry_names.specs.declared.method.Method.{Method}
 use Rattle.registry_names.specs.declared.method.Method.TheVariants.{Get, Other}
+use Rattle.registry_names.specs.declared.stop.Stop.{Stop}
 use Rattle.registry_wire.specs.Asked.{method_of}
 use Rattle.registry_wire.specs.Spelling.{HasRequest}
 use Rattle.registry_wire.specs.declared.wanted.Wanted.{Wanted}
@@ -93,7 +94,7 @@ no-route r is = absurd (cc)
 
 one-more : (e : Endpoint) (vs : Option Values) (later : Option Route) → asks_query e ≡ true → AreQueries later → AreQueries (or_later e vs later)
 one-more e None later is others = others
-one-more e (Some vs) later is others r same = let here : r.endpoint ≡ e = cc in ap asks_query here ∙ is
+one-more e (Some vs) later is others = λ r same. let here : r.endpoint ≡ e = cc in ap asks_query here ∙ is
 
 get-routes : (segments : List Text) → AreQueries (route_in table Get segments)
 get-routes segments =
@@ -117,7 +118,7 @@ reader-route m target reads = then-routes m reads (segments_of (path_of target))
 
 -- ---- the action
 
-gave : (a b : Action) → Ok a ≡ Ok b → is_command b ≡ false → is_command a ≡ false
+gave : (a b : Action) → ◌≡◌ {A = Result Action Stop} (Ok a) (Ok b) → is_command b ≡ false → is_command a ≡ false
 gave a b same is = let one : a ≡ b = cc in ap is_command one ∙ is
 
 action-query : (e : Endpoint) (v : Values) (body : Text) (what : Action) → asks_query e ≡ true → reads_action e v body (Ok what) → is_command what ≡ false
@@ -407,8 +408,8 @@ module _ {S : Type 0} (received sent : S → Option (List ℕ)) (has_none is_ful
   after-look : (M K N B : D) → AskQueries answers M K → AnswersAsBefore answers K N → AskQueries answers N B → IsQueried answers M B
   after-look M K N _ was before unasked = record { left = K; asked = was; before = before }
   after-look M K N _ was before (one_more P B r o asked is given) =
-      let then = after-look M K N P was before asked in
-      record { left = B; asked = one_more then.left B r o then.asked is (then.before r o B given); before = λ q p L x. x }
+      let so_far = after-look M K N P was before asked in
+      record { left = B; asked = one_more so_far.left B r o so_far.asked is (so_far.before r o B given); before = λ q p L x. x }
 
   look-again : (M K N : D) → IsQueried answers M K → AnswersAsBefore answers K N → IsQueried answers M N
   look-again M K N was looks = record { left = was.left; asked = was.asked; before = λ r o L x. was.before r o L (looks r o L x) }

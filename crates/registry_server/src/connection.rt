@@ -244,6 +244,7 @@ impl<S: Socket> Connection<S> {
         ensures none { IfOk result (λ flow. flow ≡ flows.Waits → S.has_none self.new.socket ≡ true) }
         ensures goes_on { IfOk result (λ flow. flow ≡ flows.Waits → self.new.is_over ≡ false) }
         ensures over { IfOk result (λ flow. flow ≡ flows.Ended → self.new.is_over ≡ true) }
+        ensures ends { IfOk result (λ flow. flow ≡ flows.Ended → S.is_ended self.new.socket ≡ true) }
         ensures last { IfOk result (λ flow. self.new.is_over ≡ true → flow ≡ flows.Ended) }
         ensures ended { OnOk result (self.new.is_over ≡ true → self.new.state ≡ self.old.state) }
         ensures not_ended { OnErr result (self.new.is_over ≡ false) }

@@ -1,5 +1,6 @@
-use Rattle.std.proofs.Common.{◌∙◌, ap, rules, sym}
+use Rattle.std.proofs.Common.{◌∙◌, ap, inl, inr, rules, sym}
 use Rattle.std.proofs.lemmas.Bool.{false≢true}
+use Rattle.registry_server.specs.ConnectionStates.{Pending}
 use Rattle.registry_server.specs.Phases.{receives}
 use Rattle.registry_server.specs.Queries.{queries}
 use Rattle.registry_server.proofs.QueryFacts.{first-little, first-unseen}
@@ -54,3 +55,13 @@ returns-in-Ok-Waits-clause-leaves g c = λ goes. little-received _ c.receive.new
 
 pub returns-in-Err-clause-leaves : goal.returns-in-Err-clause-leaves
 returns-in-Err-clause-leaves g c = λ goes. little-starved g.S.Socket.received g.S.Socket.sent _ _ _ c.starve.new.self c.starve.ensures.starves
+
+pub returns-in-Ok-Ended-clause-over : goal.returns-in-Ok-Ended-clause-over
+returns-in-Ok-Ended-clause-over g c over =
+    let received = c.in-Ok-Ended.ensures in
+    let is_over = received.over (search rules) in
+    let same = received.ended is_over in
+    inr (received.ends (search rules), is_over, record {
+      all_sent = ap (λ (p : Pending). p.outgoing) same ∙ received.may.all_sent;
+      none_left = inl (ap (λ (p : Pending). p.held) same ∙ received.idle c.requires);
+    })
