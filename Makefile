@@ -11,7 +11,7 @@ EVERY := 1
 JOBS := 1
 SECONDS := 600
 
-.PHONY: help demo quick try run build test check stories stops plants fmt npm front beside log socket kill files older limits large soak starve fuzz bench compare house examples kit
+.PHONY: help demo quick try run build test check stories stops plants fmt npm front beside log socket kill files older limits large soak starve fuzz bench compare house copy examples kit
 
 help:
 	@echo 'Build:'
@@ -48,6 +48,7 @@ help:
 	@echo '  make bench    measures how long requests and the reading of bodies take: 5 minutes'
 	@echo '  make compare  measures its speed beside nginx and SQLite: 15 minutes'
 	@echo '  make house    measures a registry of 10,000 packages: it needs 5 GB of disk'
+	@echo '  make copy     measures what clients notice of a copy of 1 GB: it needs 2 GB of disk'
 
 kit:
 ifeq ($(KIT),)
@@ -127,6 +128,9 @@ bench: out/registry
 
 house: out/registry
 	@tools/measure_house --program out/registry
+
+copy: out/registry
+	@tools/measure_copy --program out/registry
 
 # A test may take ten minutes, since the prover works beside it.
 test: kit examples

@@ -6,8 +6,8 @@ use std::io;
 use std::io::{ErrorKind, Read, Write};
 use std::os::unix::net::UnixStream;
 
-/// A server that is held: it answers nobody, and lets nobody in, until this is dropped, or for
-/// [`HOLD_LIMIT`](crate::HOLD_LIMIT) at most.
+/// A server that is held: it answers queries over HTTP, and all else waits, until this is dropped, or
+/// for [`HOLD_LIMIT`](crate::HOLD_LIMIT) at most. So its files stay as they are.
 #[derive(Drop)]
 pub struct Hold {
     stream: UnixStream,

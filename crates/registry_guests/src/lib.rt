@@ -6,7 +6,7 @@
 //! prints where it has the registry itself.
 //!
 //! Whoever may be a guest may also hold the server, so that the file and its log can be copied as
-//! they lie, or stop it. Neither asks the service anything.
+//! they lie while commands wait, or stop it. Neither asks the service anything.
 #![tactic(auto)]
 
 mod asking;

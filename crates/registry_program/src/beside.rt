@@ -128,8 +128,9 @@ fn print_two<W: ByteOut>(writer: &mut W, first: &[u8], second: &[u8]) -> Result<
     write_whole(writer, second)
 }
 
-/// Holds the server of the file at the path: it answers nobody until the returned value is dropped.
-/// `None` where no server is there, or it is about to end.
+/// Holds the server of the file at the path: until the returned value is dropped it answers queries
+/// over HTTP alone, and its files stay as they are. `None` where no server is there, or it is about to
+/// end.
 pub fn hold_server(rt: &HostRuntime, alloc: Global, path: &str) -> Result<Option<Hold>, Ending> {
     match hold(rt, alloc, path) {
         Ok(held) => Ok(held),
