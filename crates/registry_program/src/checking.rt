@@ -13,6 +13,7 @@ use crate::checking_beside::problems_beside;
 use crate::ending::{Ending, Failure, Obstacle};
 use crate::errands::{DONE, print_done};
 use crate::opening::{obstacle_left, require_file, unopened};
+use crate::progress::{Progress, Work};
 use crate::run::{obstacle_text, print_line};
 use registry_check::{Problem, Thing, check};
 use registry_desk::{Registry, Unopened, has_tables};
@@ -102,8 +103,14 @@ fn problems_at(rt: &HostRuntime, alloc: Global, path: &str) -> Result<Vec<Proble
 
 // What is wrong in a file that no other process has.
 fn problems_alone(rt: &HostRuntime, alloc: Global, path: &str) -> Result<Vec<Problem>, Ending> {
-    match Registry::open_from(rt, path, Unknown) {
-        Ok(registry) => problems_in(alloc, registry),
+    let opening = Progress::begin(rt, Work::Opening, path);
+    let opened = Registry::open_from(rt, path, Unknown);
+    drop(opening);
+    match opened {
+        Ok(registry) => {
+            let _checking = Progress::begin(rt, Work::Checking, path);
+            problems_in(alloc, registry)
+        }
         Err((Fault::Memory, _)) => Err(Ending::from(Fault::Memory)),
         Err((Fault::Database, Some(left))) => problems_left(alloc, left),
         Err((Fault::Database, None)) => Err(unopened(rt, path)),

@@ -15,6 +15,7 @@ use crate::ending::{Ending, Failure, Obstacle, Snag};
 use crate::held::{copy_files, new_file, snag, snagged, written};
 use crate::opening::{close_files, open, require_file, unclosed};
 use crate::parts::Names;
+use crate::progress::{Progress, ShownFile, Work};
 use registry_desk::Registry;
 use registry_guests::Hold;
 use sqlite::{Alter, Connection, FileStore, Files};
@@ -116,7 +117,10 @@ fn copy_beside(
 // Copies the registry in a file that no other process has.
 fn copy_alone(rt: &HostRuntime, path: &str, target: &mut File) -> Result<(), Ending> {
     match open(rt, path) {
-        Ok(registry) => copy_registry(registry, target),
+        Ok(registry) => {
+            let progress = Progress::begin(rt, Work::Copying, path);
+            copy_registry(registry, &mut ShownFile::new(target, progress))
+        }
         Err(ending) => Err(ending),
     }
 }
@@ -124,7 +128,7 @@ fn copy_alone(rt: &HostRuntime, path: &str, target: &mut File) -> Result<(), End
 // The files of the registry stay locked until they are copied.
 fn copy_registry<D: Disk + Drop>(
     registry: Registry<FileStore<D>>,
-    target: &mut File,
+    target: &mut ShownFile<'_>,
 ) -> Result<(), Ending> {
     match write_copy(registry, target) {
         Ok(files) => {
@@ -201,26 +205,41 @@ fn see_whole(
     checks: bool,
 ) -> Result<Vec<String>, Ending> {
     match open(rt, copy) {
-        Ok(registry) => see_inside(alloc, registry, checks),
+        Ok(registry) => see_inside(rt, alloc, copy, registry, checks),
         Err(Ending::Fault(Failure::Opening(Obstacle::Full))) => Err(snag(Snag::Full)),
         Err(Ending::Fault(Failure::Opening(_))) => Err(snag(Snag::Unreadable)),
         Err(ending) => Err(ending),
     }
 }
 
-/// Closes a copy that was opened, which copies its log into it. Returns a line for each thing that is
-/// wrong in it, if that is asked for.
+/// Closes a copy at the path that was opened, which copies its log into it. Returns a line for each
+/// thing that is wrong in it, if that is asked for.
 pub fn see_inside<D: Disk + Drop>(
+    rt: &HostRuntime,
     alloc: Global,
+    path: &str,
     registry: Registry<FileStore<D>>,
     checks: bool,
 ) -> Result<Vec<String>, Ending> {
     let mut conn = registry.release();
-    let found = wrong_in(alloc, &mut conn, checks);
+    let found = if checks {
+        let _progress = Progress::begin(rt, Work::Checking, path);
+        wrong_in(alloc, &mut conn)
+    } else {
+        Ok(Vec::new(alloc))
+    };
+    match close_copy(conn) {
+        Ok(()) => found,
+        Err(ending) => Err(ending),
+    }
+}
+
+/// Closes a database that was made of a copy, which copies its log into it.
+pub fn close_copy<D: Disk + Drop>(conn: Connection<FileStore<D>>) -> Result<(), Ending> {
     match conn.close_files() {
         Ok(files) => {
             drop(files);
-            found
+            Ok(())
         }
         Err((error, store)) => {
             drop(store);
@@ -229,21 +248,13 @@ pub fn see_inside<D: Disk + Drop>(
     }
 }
 
-// A line for each thing that is wrong, if that is asked for.
-fn wrong_in<S: Alter>(
-    alloc: Global,
-    conn: &mut Connection<S>,
-    checks: bool,
-) -> Result<Vec<String>, Ending>
+// A line for each thing that is wrong.
+fn wrong_in<S: Alter>(alloc: Global, conn: &mut Connection<S>) -> Result<Vec<String>, Ending>
     requires idle { conn.old.in_transaction ≡ false }
     requires ready { Ready tables.schema (state S.Store conn.old) }
 {
-    if checks {
-        let problems = problems_of(alloc, conn)?;
-        Ok(problem_lines(alloc, &problems)?)
-    } else {
-        Ok(Vec::new(alloc))
-    }
+    let problems = problems_of(alloc, conn)?;
+    Ok(problem_lines(alloc, &problems)?)
 }
 
 fn why_unclosed(ending: &Ending) -> Snag {

@@ -8,6 +8,7 @@ ghost use Rattle.registry_desk.specs.Resting.{Rests};
 
 use crate::beside::{TRIES, busy, is_busy, pause};
 use crate::ending::{Ending, Failure, Obstacle};
+use crate::progress::{Progress, Work};
 use registry_desk::{Registry, SCHEMA, Unopened};
 use registry_migration::older_schema;
 use registry_names::Fault;
@@ -21,6 +22,7 @@ use std::io::ErrorKind;
 
 /// The registry in the file at the path.
 pub fn open(rt: &HostRuntime, path: &str) -> Result<Registry<FileStore<File>>, Ending> {
+    let _progress = Progress::begin(rt, Work::Opening, path);
     match Registry::open(rt, path) {
         Ok(registry) => Ok(registry),
         Err(Fault::Memory) => Err(Ending::from(Fault::Memory)),
@@ -149,9 +151,9 @@ fn obstacle_met(met: Tally) -> Obstacle {
     }
 }
 
-// What keeps an open database from being a registry. A database that has nothing yet is that of a
-// registry that couldn't be written.
-fn obstacle_in<S: Alter>(alloc: Global, conn: &mut Connection<S>) -> Obstacle {
+/// What keeps an open database from being a registry. A database that has nothing yet is that of a
+/// registry that couldn't be written.
+pub fn obstacle_in<S: Alter>(alloc: Global, conn: &mut Connection<S>) -> Obstacle {
     if has_nothing(conn) {
         Obstacle::Unreachable
     } else if is_newer(conn) {

@@ -1,0 +1,255 @@
+//! Going back to a copy of a registry.
+
+ghost use Rattle.sqlite.specs.Files.{file_state};
+ghost use Rattle.registry_desk.specs.Adopted.{CanBeAdopted};
+
+use crate::beside::require_no_server;
+use crate::copying::{close_copy, see_inside};
+use crate::ending::{Ending, Failure, Obstacle, Snag};
+use crate::held::{copy_bytes, copy_files, log_of, new_file, snag, written};
+use crate::opening::{obstacle_in, open_obstacle};
+use crate::parts::Names;
+use crate::progress::{Progress, Work};
+use registry_desk::{Registry, has_tables};
+use registry_names::Fault;
+use sqlite::{Connection, FileStore, Files, Options, Unknown};
+use sqlite_disk::Disk;
+use std::alloc::Global;
+use std::fs;
+use std::fs::File;
+use std::io::ErrorKind;
+
+/// What the salts of a log are made of that is emptied before its file has its name. No other process
+/// has that log, so it needs no randomness.
+const SEED: u64 = 1;
+
+/// Makes the registry's file at the path, where none is yet, of a copy and of the copy's log, if it has
+/// one.
+///
+/// The file is made under the path with `-part`, opened to see that a registry is in it, and then gets
+/// its own name. Nothing is migrated. A line is returned for each thing that is wrong in it, if it is
+/// to be checked: then no file is made.
+///
+/// A fault is returned where a file already has the name at the path, or that name and `-wal`, `-part`
+/// or `-part-wal`; where a server listens there, or another process has the copy; where the copy isn't
+/// there, or holds no registry; where it is to be checked and has an older schema, or its schema is
+/// newer; and where the file can't be written. Then there is no file.
+pub fn restore(
+    rt: &HostRuntime,
+    alloc: Global,
+    path: &str,
+    copy: &str,
+    checks: bool,
+) -> Result<Vec<String>, Ending> {
+    match restore_to(rt, alloc, path, copy, checks) {
+        Err(Ending::Fault(Failure::Backup(snag))) => Err(Ending::Fault(Failure::Restore(snag))),
+        done => done,
+    }
+}
+
+fn restore_to(
+    rt: &HostRuntime,
+    alloc: Global,
+    path: &str,
+    copy: &str,
+    checks: bool,
+) -> Result<Vec<String>, Ending> {
+    let names = Names::of(alloc, path)?;
+    require_copy(rt, copy)?;
+    names.require_free(rt)?;
+    require_no_server(rt, alloc, path)?;
+    let part = new_file(rt, names.part.as_str())?;
+    let made = make_file(rt, alloc, copy, part, &names, checks);
+    names.forget_part(rt);
+    made
+}
+
+// A file that isn't empty has to be at the path of the copy.
+fn require_copy(rt: &HostRuntime, copy: &str) -> Result<(), Ending> {
+    match fs::metadata(rt, copy) {
+        Ok(found) if found.is_file() && found.len() > 0 => Ok(()),
+        Err(error) if error.kind() == ErrorKind::OutOfMemory => Err(Ending::from(Fault::Memory)),
+        _ => Err(snag(Snag::Missing)),
+    }
+}
+
+// Writes the part and looks into it. Where nothing is wrong it gets the name of the file.
+fn make_file(
+    rt: &HostRuntime,
+    alloc: Global,
+    copy: &str,
+    part: File,
+    names: &Names<'_>,
+    checks: bool,
+) -> Result<Vec<String>, Ending> {
+    let mut part = part;
+    fill(rt, alloc, copy, &mut part, names.part_log.as_str())?;
+    written(part.sync_all())?;
+    let lines = see_whole(rt, alloc, names.part.as_str(), checks)?;
+    if lines.is_empty() {
+        written(part.sync_all())?;
+        names.give_name(rt)?;
+    }
+    Ok(lines)
+}
+
+// Writes the copy to the part. A process that opens the copy makes a log beside it, if none is there:
+// so without a log nobody has the copy.
+fn fill(
+    rt: &HostRuntime,
+    alloc: Global,
+    copy: &str,
+    part: &mut File,
+    part_log: &str,
+) -> Result<(), Ending> {
+    let log = of_copy(log_of(rt, alloc, copy))?;
+    if has_file(rt, log.as_str())? {
+        return fill_locked(rt, alloc, copy, part, part_log);
+    }
+    of_copy(copy_bytes(rt, copy, part))?;
+    if has_file(rt, log.as_str())? {
+        return Err(snag(Snag::Busy));
+    }
+    Ok(())
+}
+
+fn has_file(rt: &HostRuntime, path: &str) -> Result<bool, Ending> {
+    match fs::symlink_metadata(rt, path) {
+        Ok(_) => Ok(true),
+        Err(error) => match error.kind() {
+            ErrorKind::NotFound => Ok(false),
+            ErrorKind::OutOfMemory => Err(Ending::from(Fault::Memory)),
+            _ => Err(snag(Snag::Missing)),
+        },
+    }
+}
+
+// Writes the copy and its log to the part and its log. No other process can open the copy meanwhile.
+fn fill_locked(
+    rt: &HostRuntime,
+    alloc: Global,
+    copy: &str,
+    part: &mut File,
+    part_log: &str,
+) -> Result<(), Ending> {
+    let files = match sqlite_std_file::open(rt, copy, Unknown) {
+        Ok(files) => files,
+        Err(error) => {
+            return Err(match open_obstacle(error) {
+                Some(obstacle) => snag(snag_of(obstacle)),
+                None => Ending::from(Fault::Memory),
+            });
+        }
+    };
+    let mut log = new_file(rt, part_log)?;
+    let copied = of_copy(copy_files(rt, alloc, copy, part, &mut log));
+    drop(files);
+    copied?;
+    written(log.sync_all())
+}
+
+// A fault of the copy, and not of the registry's file.
+fn of_copy<T>(done: Result<T, Ending>) -> Result<T, Ending> {
+    match done {
+        Err(Ending::Fault(Failure::Opening(obstacle))) => Err(snag(snag_of(obstacle))),
+        done => done,
+    }
+}
+
+// Why there is no file, where this keeps the copy from being opened.
+fn snag_of(obstacle: Obstacle) -> Snag {
+    match obstacle {
+        Obstacle::Missing | Obstacle::Unreachable | Obstacle::Barred => Snag::Missing,
+        Obstacle::Busy | Obstacle::Other => Snag::Busy,
+        Obstacle::Full => Snag::Full,
+        Obstacle::Foreign => Snag::Unreadable,
+        Obstacle::Newer => Snag::Newer,
+        Obstacle::Older => Snag::Older,
+    }
+}
+
+// Opens the part as a registry, and closes it again, which copies its log into it. Returns a line for
+// each thing that is wrong in it, if that is asked for.
+fn see_whole(
+    rt: &HostRuntime,
+    alloc: Global,
+    part: &str,
+    checks: bool,
+) -> Result<Vec<String>, Ending> {
+    match sqlite_std_file::open(rt, part, Unknown) {
+        Ok(files) => see_files(rt, alloc, part, files, checks),
+        Err(error) => match open_obstacle(error) {
+            Some(_) => Err(snag(Snag::Unwritable)),
+            None => Err(Ending::from(Fault::Memory)),
+        },
+    }
+}
+
+fn see_files<D: Disk + Drop>(
+    rt: &HostRuntime,
+    alloc: Global,
+    part: &str,
+    files: Files<D>,
+    checks: bool,
+) -> Result<Vec<String>, Ending> {
+    if !files.may_be_used() {
+        return Err(snag(Snag::Unreadable));
+    }
+    let opening = Progress::begin(rt, Work::Opening, part);
+    match Registry::connect(alloc, files, Options::new(SEED)) {
+        Ok(conn) => {
+            drop(opening);
+            see_tables(rt, alloc, part, conn, checks)
+        }
+        Err((Fault::Memory, _)) => Err(Ending::from(Fault::Memory)),
+        Err((Fault::Database, _)) => Err(snag(Snag::Unreadable)),
+    }
+}
+
+// Tables of today's schema are those of a registry that is opened. Others aren't touched.
+fn see_tables<D: Disk + Drop>(
+    rt: &HostRuntime,
+    alloc: Global,
+    part: &str,
+    conn: Connection<FileStore<D>>,
+    checks: bool,
+) -> Result<Vec<String>, Ending>
+    requires rises { CanBeAdopted (file_state conn) }
+{
+    match has_tables(alloc, &conn) {
+        Ok(true) => match Registry::adopt(alloc, conn) {
+            Ok(registry) => see_inside(rt, alloc, part, registry, checks),
+            Err((Fault::Memory, _)) => Err(Ending::from(Fault::Memory)),
+            Err((Fault::Database, conn)) => see_other(alloc, conn, checks),
+        },
+        Ok(false) => see_other(alloc, conn, checks),
+        Err(fault) => Err(Ending::from(fault)),
+    }
+}
+
+// A database that isn't a registry of today's schema. One of an older schema is closed as it is, if
+// nothing is to be checked.
+fn see_other<D: Disk + Drop>(
+    alloc: Global,
+    conn: Connection<FileStore<D>>,
+    checks: bool,
+) -> Result<Vec<String>, Ending> {
+    let mut conn = conn;
+    let obstacle = obstacle_in(alloc, &mut conn);
+    match close_copy(conn) {
+        Ok(()) => match obstacle {
+            Obstacle::Older if !checks => Ok(Vec::new(alloc)),
+            obstacle => Err(snag(snag_inside(obstacle))),
+        },
+        Err(ending) => Err(ending),
+    }
+}
+
+// The same where it is a database: one that holds nothing is no registry.
+fn snag_inside(obstacle: Obstacle) -> Snag {
+    match obstacle {
+        Obstacle::Newer => Snag::Newer,
+        Obstacle::Older => Snag::Older,
+        _ => Snag::Unreadable,
+    }
+}
