@@ -4,14 +4,15 @@
 #     examples/restore.sh [PROGRAM]
 #
 # PROGRAM is out/registry where it is left out. A copy is restored, alone and with a log beside it: the
-# file must have all that the copy had, and the copy stay as it was. Then it is tried what must not be
-# done: a file that is there, or a log alone, is overwritten; a copy that breaks a rule or is none comes in
-# place; a file is made for a server whose file was moved away, or of a copy that a process has. A full
-# disk and kills, one after another, must leave a whole file or none under the name. Last, a file of 36 MB
-# is copied and restored in a terminal, which must be told of it, and otherwise, where nothing may be. What can't be
-# had here is left out, and the script says so: the full disk needs root and mount, a broken rule and a
-# terminal python3. The status is 0 where all else came out. It takes two minutes, and needs base64 and
-# sha512sum.
+# file must have all that the copy had, and the copy stay as it was. So it is with a copy of an older
+# schema, and with one that another SQLite wrote anew and tools/rescue mended. Then it is tried what must
+# not be done: a file that is there, or a log alone, is overwritten; a copy that breaks a rule or is none
+# comes in place; a file is made for a server whose file was moved away, or of a copy that a process has.
+# A full disk and kills, one after another, must leave a whole file or none under the name. Last, a file
+# of 36 MB is checked, copied and restored in a terminal, which must be told of it, and otherwise, where
+# nothing may be. What can't be had here is left out, and the script says so: the full disk needs root and
+# mount; a broken rule, an older schema, another SQLite and a terminal need python3. The status is 0 where
+# all else came out. It takes two minutes, and needs base64 and sha512sum.
 set -eu
 
 top=$(cd "$(dirname "$0")/.." && pwd)
@@ -123,7 +124,7 @@ say 'a copy with a log beside it is restored with what the log has'
 # ---- what isn't
 
 db=$work/restored.db
-there='the file is there, or its -wal, -part or -part-wal'
+there="the registry's file is there, or its -wal, -part or -part-wal: move it away first"
 before=$(sha512sum < "$db")
 ends_so 3 "$there" restore "$copy"
 db=$copy
@@ -166,8 +167,43 @@ conn.close()' "$work/wrong.db"
     must "$db" restore --no-check "$work/wrong.db"
     ends_so 1 'wrong: package kit has a live version and no tag latest' check
     say 'a copy that breaks a rule is restored only with --no-check'
+
+    # Of schema 2. It is restored as it is, so that the program that wrote it opens it again; ours
+    # migrates it when it opens it.
+    cp "$copy" "$work/new.db"
+    PYTHONPATH=$top/tools python3 -B -c 'import sys
+from older_files import make_older
+make_older(sys.argv[1], sys.argv[2], 2)' "$work/new.db" "$work/older.db"
+    rm -f "$work/older.db-wal" "$work/older.db-shm"
+    older=$(sha512sum < "$work/older.db")
+    fresh of_an_older_one
+    ends_so 3 'the copy has an older schema: --no-check restores it as it is' restore "$work/older.db"
+    is_absent 'a copy of an older schema'
+    must "$db" restore --no-check "$work/older.db"
+    [ "$(sha512sum < "$work/older.db")" = "$older" ] || fail 'a copy of an older schema is another'
+    schema=$(python3 -c 'import sqlite3, sys
+print(*sqlite3.connect(f"file:{sys.argv[1]}?mode=ro", uri=True).execute("SELECT value FROM meta").fetchone())' "$db")
+    [ "$schema" = 2 ] || fail "the copy of schema 2 was migrated to $schema"
+    must "$db" check
+    has_all 'of an older schema'
+    say 'a copy of an older schema is restored as it is, only with --no-check'
+
+    # VACUUM writes the tables in another order.
+    cp "$copy" "$work/vacuumed.db"
+    python3 -c 'import sqlite3, sys
+conn = sqlite3.connect(sys.argv[1])
+conn.execute("VACUUM")
+conn.close()' "$work/vacuumed.db"
+    rm -f "$work/vacuumed.db-wal" "$work/vacuumed.db-shm"
+    fresh of_a_vacuumed_one
+    ends_so 3 'the copy holds no registry, or was changed by another hand' restore "$work/vacuumed.db"
+    is_absent 'a copy after VACUUM'
+    "$top/tools/rescue" "$work/vacuumed.db" "$work/rescued.db" || fail "tools/rescue ended with $?"
+    must "$db" restore "$work/rescued.db"
+    has_all 'a rescued copy'
+    say 'a copy after VACUUM is restored once tools/rescue has mended it'
 else
-    say 'left out: a copy that breaks a rule, which python3 makes'
+    say 'left out: copies that break a rule, of an older schema and after VACUUM, which python3 makes'
 fi
 
 # ---- beside a server
@@ -238,21 +274,30 @@ say "of $killed kills each left a whole file or none"
 
 # ---- what a terminal is told
 
+# Nothing is said where standard error is no terminal.
+is_silent() {
+    must "$@"
+    [ ! -s "$work/errors" ] || fail "$*: a file of 36 MB is told of elsewhere: $(cat "$work/errors")"
+}
+
 if command -v python3 > /dev/null; then
     long=$work/long.db
     must "$long" --operator user-add bob
     for number in 1 2 3 4 5 6 7 8 9 10 11 12; do publish "$long" "1.0.$number" 3000000; done
-    must "$long" backup --no-check "$work/long-copy.db"
-    [ ! -s "$work/errors" ] || fail "a file of 36 MB is told of elsewhere: $(cat "$work/errors")"
+    is_silent "$long" backup --no-check "$work/long-copy.db"
+    is_silent "$long" check
+    is_silent "$work/silent.db" restore "$work/long-copy.db"
     fresh told
-    python3 -c 'import os, pty, subprocess, sys
+    python3 -c 'import os, pty, subprocess, sys, time
 program, long, copy, db = sys.argv[1:]
 for words, wanted in (
+    ([long, "tags", "kit"], ["opening"]),
     ([long, "check"], ["opening", "checking"]),
     ([long, "backup", copy + "-2"], ["opening", "copying", "checking"]),
     ([db, "restore", copy], ["copying", "opening", "checking"]),
 ):
     ours, theirs = pty.openpty()
+    begun = time.monotonic()
     one = subprocess.Popen([program, "--db", *words], stdout=subprocess.PIPE, stderr=theirs)
     os.close(theirs)
     told = b""
@@ -266,14 +311,17 @@ for words, wanted in (
         told += piece
     os.close(ours)
     printed = one.stdout.read()
-    if one.wait() or not printed.startswith(b"{\"ok\":true"):
+    if one.wait() or not printed.startswith(b"{"):
         sys.exit(f"{words} ended with {one.returncode}")
+    lines = [line for line in told.split(b"\r") if line.strip()]
     for word in wanted:
-        if not any(line.startswith(word.encode()) and b" MB" in line for line in told.split(b"\r")):
+        if not any(line.startswith(word.encode()) and b" MB" in line for line in lines):
             sys.exit(f"{words} said {told} and not {word}")
+    if len(lines) > len(wanted) + 2 + 4 * (time.monotonic() - begun):
+        sys.exit(f"{words} said too much: {told}")
     if b"\n" in told or told.split(b"\r")[-1] or told.split(b"\r")[-2].strip():
         sys.exit(f"{words} left {told[-80:]}")' "$program" "$long" "$work/long-copy.db" "$db" || fail 'the terminal is not told'
-    say 'a terminal is told of a check, a copy and a restore of 36 MB, and nothing is left there'
+    say 'a terminal is told of an open, a check, a copy and a restore of 36 MB, and nothing is left there'
 else
     say 'left out: a terminal, which python3 makes'
 fi

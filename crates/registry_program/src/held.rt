@@ -1,7 +1,7 @@
 //! Copies of the files of a server that is held.
 
 use crate::ending::{Ending, Failure, Obstacle, Snag};
-use crate::progress::{Progress, ShownFile, Work};
+use crate::progress::{Progress, Shown, Work};
 use registry_names::Fault;
 use std::alloc::Global;
 use std::fs::{File, OpenOptions};
@@ -54,7 +54,7 @@ pub fn copy_bytes(rt: &HostRuntime, path: &str, target: &mut File) -> Result<(),
         Ok(file) => file,
         Err(error) => return Err(unread(&error)),
     };
-    let mut target = ShownFile::new(target, Progress::begin(rt, Work::Copying, path));
+    let mut target = Shown::new(target, Progress::begin(rt, Work::Copying, path));
     match io::copy(&mut source, &mut target) {
         Ok(_) => Ok(()),
         Err(error) => Err(snagged(&error)),

@@ -27,4 +27,5 @@ mod stopping;
 pub use crate::copying::write_copy;
 pub use crate::ending::{Ending, Failure, Obstacle, Snag, Trouble};
 pub use crate::registries::{InFiles, Registries, reply_of};
+pub use crate::restoring::settle_copy;
 pub use crate::run::{program, program_over, report};

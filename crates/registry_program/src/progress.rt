@@ -1,22 +1,19 @@
 //! What long work says of itself on a terminal.
 
 ghost use Rattle.std.specs.Prelude.{◌≡◌};
-ghost use Rattle.registry_program.specs.Terminals as spec;
 
-use std::fs::File;
-use std::io::Write;
-use std::os::unix::fs::{FileTypeExt, MetadataExt};
+use std::io::{IsTerminal, Write};
 use std::time::Instant;
 use std::{fs, io};
 
-/// The path of standard error.
-const ERRORS: &str = "/dev/stderr";
-
-/// A file of so many bytes takes a second or more to be opened or checked.
+/// To open or check a file of so many bytes takes about a second, or more.
 const LONG: u64 = 32_000_000;
 
-/// After so many seconds of work its line is shown, if its file is shorter.
-const PATIENCE: u64 = 1;
+/// After so many milliseconds of work a line is shown, if its file is shorter.
+const PATIENCE: u128 = 1_000;
+
+/// A line that is shown stays for at least so many milliseconds.
+const PAUSE: u128 = 250;
 
 /// The bytes of a megabyte.
 const MEGABYTE: u64 = 1_000_000;
@@ -45,46 +42,49 @@ impl Work {
     }
 }
 
-/// A line on the terminal that says what is done with how many bytes. It is removed when this is
-/// dropped.
+/// A line on the terminal that says what is done with a file of how many bytes. It is removed when this
+/// is dropped.
 ///
-/// Where standard error is no terminal, nothing is ever written. Nor is it where the work takes less
+/// Where standard error isn't a terminal, nothing is ever written. Nor is it where the work takes less
 /// than about a second.
 pub struct Progress {
     rt: HostRuntime,
     work: Work,
     // The bytes in all.
     bytes: u64,
-    // When it began. None where standard error is no terminal.
+    // When it began. None where standard error isn't a terminal.
     begun: Option<Instant>,
-    // How many percent are done, as far as that is shown.
+    // How many milliseconds after that the line may be written again.
+    next: u128,
+    // How many percent are done.
     percent: u64,
     is_shown: bool,
 }
 
 impl Progress {
-    /// What is begun with the file at the path. The line is shown now if the file is long.
+    /// What is begun with the file at the path. The line is shown at once if the file is long.
     pub fn begin(rt: &HostRuntime, work: Work, path: &str) -> Progress {
         let mut progress = Progress {
             rt: *rt,
             work,
             bytes: 0,
             begun: None,
+            next: PATIENCE,
             percent: 0,
             is_shown: false,
         };
-        if is_terminal(rt) {
+        if rt.stderr().is_terminal() {
             progress.begun = Instant::now(rt).ok();
             progress.bytes = length_at(rt, path);
         }
         if progress.begun.is_some() && progress.bytes >= LONG {
+            progress.next = PAUSE;
             progress.show();
         }
         progress
     }
 
-    /// So many bytes are done. They are shown in percent, once the line is shown or the work has taken
-    /// a second.
+    /// So many bytes are done. The line says how many percent that is, at most four times in a second.
     pub fn reach(&mut self, done: u64) {
         let Some(begun) = self.begun else {
             return;
@@ -93,9 +93,13 @@ impl Progress {
         if percent == self.percent {
             return;
         }
-        if self.is_shown || has_passed(&self.rt, begun) {
-            self.percent = percent;
-            self.show();
+        self.percent = percent;
+        if let Ok(passed) = begun.elapsed(&self.rt) {
+            let passed = passed.as_millis();
+            if passed >= self.next {
+                self.next = passed.saturating_add(PAUSE);
+                self.show();
+            }
         }
     }
 
@@ -121,19 +125,13 @@ impl Drop for Progress {
             work: _,
             bytes: _,
             begun: _,
+            next: _,
             percent: _,
             is_shown,
         } = self;
         if is_shown {
             let _ = rt.stderr().write_all(BLANK.as_bytes());
         }
-    }
-}
-
-fn has_passed(rt: &HostRuntime, begun: Instant) -> bool {
-    match begun.elapsed(rt) {
-        Ok(passed) => passed.as_secs() >= PATIENCE,
-        Err(_) => false,
     }
 }
 
@@ -144,50 +142,39 @@ fn length_at(rt: &HostRuntime, path: &str) -> u64 {
     }
 }
 
-// Whether standard error is a terminal.
-fn is_terminal(rt: &HostRuntime) -> bool {
-    match fs::metadata(rt, ERRORS) {
-        Ok(found) => found.file_type().is_char_device() && is_terminal_number(found.rdev()),
-        Err(_) => false,
-    }
-}
-
-// Whether a device with this number is a terminal.
-fn is_terminal_number(device: u64) -> bool
-    ensures { result ≡ spec.is_terminal device }
-{
-    let major = device / 0x100 % 0x1000;
-    device < 0x1000_0000_0000 && (major == 4 || major == 5 || 136 <= major && major <= 143)
-}
-
-/// A file that is written, and what its progress says of it.
+/// A writer, and what is shown of how much it has taken. It takes what the writer takes, and nothing
+/// else.
 #[derive(Drop)]
-pub struct ShownFile<'a> {
-    file: &'a mut File,
+pub struct Shown<W> {
+    writer: W,
     progress: Progress,
     done: u64,
 }
 
-impl<'a> ShownFile<'a> {
-    /// The file, of which nothing is written yet.
-    pub fn new(file: &'a mut File, progress: Progress) -> ShownFile<'a> {
-        ShownFile {
-            file,
+impl<W> Shown<W> {
+    /// The writer, which has taken nothing yet.
+    pub fn new(writer: W, progress: Progress) -> Shown<W>
+        ensures { result.writer ≡ writer }
+    {
+        Shown {
+            writer,
             progress,
             done: 0,
         }
     }
 }
 
-impl Write for ShownFile<'_> {
+impl<W: Write> Write for Shown<W> {
+    ghost contents = { λ s. W.contents s.writer };
+
     fn write(&mut self, bytes: &[u8]) -> io::Result<usize> {
-        let count = self.file.write(bytes)?;
+        let count = self.writer.write(bytes)?;
         self.done = self.done.saturating_add(count as u64);
         self.progress.reach(self.done);
         Ok(count)
     }
 
     fn flush(&mut self) -> io::Result<()> {
-        self.file.flush()
+        self.writer.flush()
     }
 }

@@ -1,19 +1,24 @@
 //! Going back to a copy of a registry.
 
-ghost use Rattle.sqlite.specs.Files.{file_state};
+ghost use Rattle.std.specs.Prelude.{IfOk, IsTrue};
+ghost use Rattle.sqlite.specs.Files.{IsOpened, file_state, image_of};
+ghost use Rattle.sqlite.specs.State.{HasCleanDisk};
+ghost use Rattle.sqlite_wal.specs.Reads.{AreClean};
 ghost use Rattle.registry_desk.specs.Adopted.{CanBeAdopted};
+ghost use Rattle.registry_program.specs.Copies.{HoldsSeen, IsRestored};
 
 use crate::beside::require_no_server;
 use crate::copying::{close_copy, see_inside};
 use crate::ending::{Ending, Failure, Obstacle, Snag};
-use crate::held::{copy_bytes, copy_files, log_of, new_file, snag, written};
-use crate::opening::{obstacle_in, open_obstacle};
+use crate::held::{copy_bytes, copy_files, log_of, new_file, snag, snagged, written};
+use crate::opening::{is_older, obstacle_in, obstacle_left, open_obstacle};
 use crate::parts::Names;
 use crate::progress::{Progress, Work};
-use registry_desk::{Registry, has_tables};
+use registry_desk::{Registry, Unopened, has_tables};
 use registry_names::Fault;
-use sqlite::{Connection, FileStore, Files, Options, Unknown};
+use sqlite::{Alter, Connection, FileStore, Files, Options, Unknown};
 use sqlite_disk::Disk;
+use sqlite_std_file::OpenError;
 use std::alloc::Global;
 use std::fs;
 use std::fs::File;
@@ -177,79 +182,110 @@ fn see_whole(
     checks: bool,
 ) -> Result<Vec<String>, Ending> {
     match sqlite_std_file::open(rt, part, Unknown) {
-        Ok(files) => see_files(rt, alloc, part, files, checks),
-        Err(error) => match open_obstacle(error) {
-            Some(_) => Err(snag(Snag::Unwritable)),
-            None => Err(Ending::from(Fault::Memory)),
-        },
+        Ok(files) => {
+            let (_files, lines) = settle_copy(rt, alloc, part, files, checks)?;
+            Ok(lines)
+        }
+        Err(OpenError::Io(error)) => Err(snagged(&error)),
+        Err(OpenError::OutOfMemory) => Err(Ending::from(Fault::Memory)),
+        Err(_) => Err(snag(Snag::Unwritable)),
     }
 }
 
-fn see_files<D: Disk + Drop>(
+/// Opens the registry in the files of a copy, and closes it again, which copies its log into its
+/// database file. Returns the files, and a line for each thing that is wrong in the registry, if that is
+/// asked for. The path is that of the database file, whose length is shown meanwhile.
+///
+/// The database file alone then holds the registry that an open finds in these files. One of an older
+/// schema is returned only where nothing is to be checked, and then it holds the database as it was. A
+/// fault is returned where they hold no registry, and where they can't be read or written.
+pub fn settle_copy<D: Disk + Drop>(
     rt: &HostRuntime,
     alloc: Global,
-    part: &str,
+    path: &str,
     files: Files<D>,
     checks: bool,
-) -> Result<Vec<String>, Ending> {
-    if !files.may_be_used() {
-        return Err(snag(Snag::Unreadable));
-    }
-    let opening = Progress::begin(rt, Work::Opening, part);
-    match Registry::connect(alloc, files, Options::new(SEED)) {
-        Ok(conn) => {
-            drop(opening);
-            see_tables(rt, alloc, part, conn, checks)
-        }
+) -> Result<(Files<D>, Vec<String>), Ending>
+    requires log { IsTrue (D.Disk.is_usable files.log) }
+    requires db { IsTrue (D.Disk.is_usable files.db) }
+    ensures restored { IfOk result (λ seen. AreClean D.Disk seen.0.log seen.0.db
+        → IsRestored (image_of D.Disk files) (D.Disk.seen seen.0.db)) }
+{
+    let opening = Progress::begin(rt, Work::Opening, path);
+    let opened = Registry::connect(alloc, files, Options::new(SEED));
+    drop(opening);
+    match opened {
+        Ok(conn) => see_tables(rt, alloc, path, conn, checks),
         Err((Fault::Memory, _)) => Err(Ending::from(Fault::Memory)),
-        Err((Fault::Database, _)) => Err(snag(Snag::Unreadable)),
+        Err((Fault::Database, left)) => {
+            Err(snag(snag_of(obstacle_left(alloc, Unopened::Files(left)))))
+        }
     }
 }
 
-// Tables of today's schema are those of a registry that is opened. Others aren't touched.
+// The same of a database that was opened. Tables of today's schema are those of a registry. Others
+// aren't touched.
 fn see_tables<D: Disk + Drop>(
     rt: &HostRuntime,
     alloc: Global,
-    part: &str,
+    path: &str,
     conn: Connection<FileStore<D>>,
     checks: bool,
-) -> Result<Vec<String>, Ending>
+) -> Result<(Files<D>, Vec<String>), Ending>
     requires rises { CanBeAdopted (file_state conn) }
+    ensures seen { IfOk result (λ seen. AreClean D.Disk seen.0.log seen.0.db
+        → HoldsSeen (file_state conn) (D.Disk.seen seen.0.db)) }
 {
     match has_tables(alloc, &conn) {
-        Ok(true) => match Registry::adopt(alloc, conn) {
-            Ok(registry) => see_inside(rt, alloc, part, registry, checks),
-            Err((Fault::Memory, _)) => Err(Ending::from(Fault::Memory)),
-            Err((Fault::Database, conn)) => see_other(alloc, conn, checks),
-        },
-        Ok(false) => see_other(alloc, conn, checks),
+        Ok(true) => see_registry(rt, alloc, path, conn, checks),
+        Ok(false) => see_older(alloc, conn, checks),
         Err(fault) => Err(Ending::from(fault)),
     }
 }
 
-// A database that isn't a registry of today's schema. One of an older schema is closed as it is, if
-// nothing is to be checked.
-fn see_other<D: Disk + Drop>(
+fn see_registry<D: Disk + Drop>(
+    rt: &HostRuntime,
+    alloc: Global,
+    path: &str,
+    conn: Connection<FileStore<D>>,
+    checks: bool,
+) -> Result<(Files<D>, Vec<String>), Ending>
+    requires rises { CanBeAdopted (file_state conn) }
+    ensures seen { IfOk result (λ seen. AreClean D.Disk seen.0.log seen.0.db
+        → HoldsSeen (file_state conn) (D.Disk.seen seen.0.db)) }
+{
+    match Registry::adopt(alloc, conn) {
+        Ok(registry) => see_inside(rt, alloc, path, registry, checks),
+        Err((Fault::Memory, _)) => Err(Ending::from(Fault::Memory)),
+        Err((Fault::Database, conn)) => Err(unseen(alloc, conn)),
+    }
+}
+
+// A database of an older schema is closed as it is, if nothing is to be checked.
+fn see_older<D: Disk + Drop>(
     alloc: Global,
     conn: Connection<FileStore<D>>,
     checks: bool,
-) -> Result<Vec<String>, Ending> {
-    let mut conn = conn;
-    let obstacle = obstacle_in(alloc, &mut conn);
+) -> Result<(Files<D>, Vec<String>), Ending>
+    ensures seen { IfOk result (λ seen. AreClean D.Disk seen.0.log seen.0.db
+        → HoldsSeen (file_state conn) (D.Disk.seen seen.0.db)) }
+{
+    if checks || !is_older(alloc, &conn) {
+        return Err(unseen(alloc, conn));
+    }
     match close_copy(conn) {
-        Ok(()) => match obstacle {
-            Obstacle::Older if !checks => Ok(Vec::new(alloc)),
-            obstacle => Err(snag(snag_inside(obstacle))),
-        },
+        Ok(files) => Ok((files, Vec::new(alloc))),
         Err(ending) => Err(ending),
     }
 }
 
-// The same where it is a database: one that holds nothing is no registry.
-fn snag_inside(obstacle: Obstacle) -> Snag {
-    match obstacle {
+// Why there is no file, where the copy holds this database, which is let go of. One that holds nothing
+// is no registry.
+fn unseen<S: Alter + Drop>(alloc: Global, conn: Connection<S>) -> Ending {
+    let mut conn = conn;
+    snag(match obstacle_in(alloc, &mut conn) {
         Obstacle::Newer => Snag::Newer,
         Obstacle::Older => Snag::Older,
         _ => Snag::Unreadable,
-    }
+    })
 }

@@ -155,7 +155,8 @@ fn snag_text(snag: Snag) -> &'static str {
 // Why no registry's file is made of a copy.
 fn restored_text(snag: Snag) -> &'static str {
     match snag {
-        Snag::Taken => "the file is there, or its -wal, -part or -part-wal",
+        Snag::Taken =>
+            "the registry's file is there, or its -wal, -part or -part-wal: move it away first",
         Snag::Full => "the disk is full",
         Snag::Unwritable => "the registry's file can't be written",
         Snag::Unreadable => "the copy holds no registry, or was changed by another hand",
