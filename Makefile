@@ -36,7 +36,7 @@ help:
 	@echo '  make socket   serves at a Unix socket: who may connect, takeovers, stops: ten seconds'
 	@echo '  make log      keeps a log of requests: moves it away, and fills its disk: half a minute'
 	@echo '  make kill     kills a server 500 times while versions are published: 6 minutes'
-	@echo '  make files    fills a disk, and opens files that hold no registry'
+	@echo '  make files    fills a disk, opens files that hold no registry, and restores copies'
 	@echo '  make older    migrates files of older schemas, and kills that at any moment: two minutes'
 	@echo '  make limits   tries the limits of connections, and hostile clients: 5 minutes'
 	@echo '  make large    sends two million bytes of each thing, which must be refused soon'
@@ -99,6 +99,7 @@ kill: out/registry
 
 files: out/registry
 	@examples/refused_files.sh out/registry
+	@examples/restore.sh out/registry
 
 older: out/registry
 	@tools/measure_older --program out/registry

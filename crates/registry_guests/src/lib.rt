@@ -44,7 +44,7 @@ pub use crate::guest_pool::{GUEST_COUNT, GuestPool};
 pub use crate::guest_socket::GuestSocket;
 pub use crate::held::Hold;
 pub use crate::holding::{hold, stop};
-pub use crate::identity::has_other_file;
+pub use crate::identity::{has_other_file, is_served};
 pub use crate::reading::{CommandMessage, read};
 pub use crate::turning::turn;
 pub use crate::unsent::Unsent;
