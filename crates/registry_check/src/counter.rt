@@ -122,9 +122,7 @@ fn count_in(rows: &[CountRow]) -> Option<i64>
 fn first_count(rows: &[CountRow]) -> Option<Option<i64>>
     ensures { result ≡ option_map (λ row. row.count) (find (λ row. row.is_archives) rows.now) }
 {
-    rows.iter()
-        .find(|row| row.is_archives)
-        .map(|row| row.count)
+    rows.iter().find(|row| row.is_archives).map(|row| row.count)
 }
 
 // Whether it is a number from 0 on, above which there is another for an archive.

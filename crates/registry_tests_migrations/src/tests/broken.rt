@@ -63,7 +63,7 @@ static ROWS: [&str; 23] = [
 ];
 
 /// What is done to it, in the order of the rules that are then broken.
-static CASES: [Case; 52] = [
+static CASES: [Case; 53] = [
     Case {
         change: "UPDATE users SET name = name",
         told: "",
@@ -267,6 +267,10 @@ static CASES: [Case; 52] = [
     Case {
         change: "INSERT INTO users VALUES (CAST(x'61ff' AS TEXT))",
         told: "row users 3 has a text that is not UTF-8",
+    },
+    Case {
+        change: "INSERT INTO users VALUES (CAST(x'ff' AS TEXT)); INSERT INTO tokens VALUES (x'00', CAST(x'ff' AS TEXT)); INSERT INTO orgs VALUES (CAST(x'ff' AS TEXT)); INSERT INTO members VALUES ('lab', CAST(x'ff' AS TEXT), 0); INSERT INTO teams VALUES ('lab', CAST(x'ff' AS TEXT)); INSERT INTO team_members VALUES ('lab', CAST(x'ff' AS TEXT), 'bob'); INSERT INTO packages VALUES (CAST(x'ff' AS TEXT), 1); INSERT INTO grants VALUES ('lab', 'developers', CAST(x'ff' AS TEXT), 1); INSERT INTO owners VALUES (CAST(x'ff' AS TEXT), 'ann'); INSERT INTO versions VALUES ('tool', CAST(x'ff' AS TEXT), 1, '', '', x''); INSERT INTO spent VALUES ('tool', CAST(x'ff' AS TEXT), 1, 2); INSERT INTO tags VALUES ('tool', CAST(x'ff' AS TEXT), '1.0.0'); INSERT INTO needs VALUES ('tool', '1.0.0', CAST(x'ff' AS TEXT)); INSERT INTO meta VALUES (CAST(x'ff' AS TEXT), 1); INSERT INTO held VALUES ('tool', CAST(x'ff' AS TEXT), 1); INSERT INTO archives (integrity, bytes) VALUES (CAST(x'ff' AS TEXT), x''); INSERT INTO need_ranges VALUES ('tool', '1.0.0', CAST(x'ff' AS TEXT), '1')",
+        told: "closed: row users 3 has a text that is not UTF-8; row tokens 2 has a text that is not UTF-8; row orgs 2 has a text that is not UTF-8; row members 3 has a text that is not UTF-8; row teams 2 has a text that is not UTF-8; row team_members 2 has a text that is not UTF-8; row packages 3 has a text that is not UTF-8; row grants 2 has a text that is not UTF-8; row owners 2 has a text that is not UTF-8; row versions 3 has a text that is not UTF-8; row spent 2 has a text that is not UTF-8; row tags 3 has a text that is not UTF-8; row needs 1 has a text that is not UTF-8; row meta 2 has a text that is not UTF-8; row held 3 has a text that is not UTF-8; row archives 3 has a text that is not UTF-8; row need_ranges 2 has a text that is not UTF-8",
     },
     Case {
         change: "UPDATE versions SET manifest = CAST(x'7b22c0227d' AS TEXT), deprecated = CAST(x'ff' AS TEXT) WHERE package = 'tool'; UPDATE tags SET tag = CAST(x'80' AS TEXT) WHERE package = 'tool'",

@@ -28,8 +28,8 @@ returns-then-is_empty-clause-loads g c clean =
     let texts = c.in_ok-unreadable.ensures.loads were in
     let none : (length (text_problems s0.now.trees) == 0) ≡ true = ap (λ (ps : List Problem). length ps == 0) (sym texts.1) ∙ sym c.is_empty.ensures ∙ c.if-is_empty.true in
     IfOk-weaker c.check_rules.result _ _ (λ found it.
-        let both = then_told s0 s1 s2 (λ (db : Trees). found.items ≡ problems (rows_at db) (contents db).archives) texts.0 it in
-        (both.0, both.1 ∙ told_rules (text_problems s0.now.trees) (problems (rows_at s0.now.trees) (contents s0.now.trees).archives) none)) (c.check_rules.ensures.loads clean)
+    let both = then_told s0 s1 s2 (λ (db : Trees). found.items ≡ problems (rows_at db) (contents db).archives) texts.0 it in
+    (both.0, both.1 ∙ told_rules (text_problems s0.now.trees) (problems (rows_at s0.now.trees) (contents s0.now.trees).archives) none)) (c.check_rules.ensures.loads clean)
 
 pub returns-then-is_empty-clause-met : goal.returns-then-is_empty-clause-met
 returns-then-is_empty-clause-met g c clean =
@@ -40,9 +40,9 @@ returns-then-is_empty-clause-met g c clean =
     let texts = c.in_ok-unreadable.ensures.loads were in
     let none : (length (text_problems s0.now.trees) == 0) ≡ true = ap (λ (ps : List Problem). length ps == 0) (sym texts.1) ∙ sym c.is_empty.ensures ∙ c.if-is_empty.true in
     IfOk-weaker c.check_rules.result _ _ (λ found it.
-        let both = then_told s0 s1 s2 (λ (db : Trees). found.items ≡ problems (rows_at db) (contents db).archives) texts.0 it in
-        let told : found.items ≡ problems_at s0.now.trees = both.1 ∙ told_rules (text_problems s0.now.trees) (problems (rows_at s0.now.trees) (contents s0.now.trees).archives) none in
-        (both.0, subst (λ (ps : List Problem). TellsRight ps s0.now.trees) (sym told) (none_means_right s0.now.trees))) (c.check_rules.ensures.loads clean)
+    let both = then_told s0 s1 s2 (λ (db : Trees). found.items ≡ problems (rows_at db) (contents db).archives) texts.0 it in
+    let told : found.items ≡ problems_at s0.now.trees = both.1 ∙ told_rules (text_problems s0.now.trees) (problems (rows_at s0.now.trees) (contents s0.now.trees).archives) none in
+    (both.0, subst (λ (ps : List Problem). TellsRight ps s0.now.trees) (sym told) (none_means_right s0.now.trees))) (c.check_rules.ensures.loads clean)
 
 pub returns-else-is_empty-clause-loads : goal.returns-else-is_empty-clause-loads
 returns-else-is_empty-clause-loads g c clean =
