@@ -16,7 +16,7 @@ use crate::errands::{DONE, print_done};
 use crate::opening::{obstacle_left, require_file, unopened};
 use crate::progress::{Progress, Work};
 use crate::run::{obstacle_text, print_line};
-use registry_check::{Problem, Thing, check};
+use registry_check::{Problem, TextTable, Thing, check};
 use registry_desk::{Registry, Unopened, has_tables};
 use registry_names::{Blob, ByteOut, Fault, Text};
 use sqlite::{Alter, Connection, FileStore, Unknown};
@@ -238,6 +238,8 @@ fn thing_text(alloc: Global, thing: &Thing) -> Result<String, AllocError> {
             version,
             target,
         } => target_text(alloc, package, version, target),
+        Thing::Counter => String::from_str(alloc, "table sqlite_sequence"),
+        Thing::Row { table, row } => row_text(alloc, *table, *row),
     }
 }
 
@@ -303,6 +305,11 @@ fn target_text(
 ) -> Result<String, AllocError> {
     let version = part(alloc, " of version ", version, package)?;
     joined(alloc, &["need ", target.as_str(), version.as_str()])
+}
+
+fn row_text(alloc: Global, table: TextTable, row: i64) -> Result<String, AllocError> {
+    let number = format!(in alloc; "row {row}")?;
+    joined(alloc, &[number.as_str(), " of table ", table.name()])
 }
 
 // The pieces, joined into one text.
