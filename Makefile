@@ -47,7 +47,7 @@ help:
 	@echo 'Measure the built program out/registry:'
 	@echo '  make bench    measures how long requests and the reading of bodies take: 5 minutes'
 	@echo '  make compare  measures its speed beside nginx and SQLite: 15 minutes'
-	@echo '  make house    measures a registry of 10,000 packages: it needs 5 GB of disk'
+	@echo '  make house    measures registries of up to 10,000 packages: it needs 10 GB of disk'
 	@echo '  make copy     measures what clients notice of a copy of 1 GB: it needs 2 GB of disk'
 
 kit:
