@@ -11,7 +11,7 @@ EVERY := 1
 JOBS := 1
 SECONDS := 600
 
-.PHONY: help demo quick try run build test check stories stops plants fmt npm front beside log socket kill files older limits large soak starve fuzz bench compare house examples kit
+.PHONY: help demo quick try run build test check stories stops plants fmt npm front beside log socket kill files older limits large soak starve fuzz bench compare house copy examples kit
 
 help:
 	@echo 'Build:'
@@ -36,7 +36,7 @@ help:
 	@echo '  make socket   serves at a Unix socket: who may connect, takeovers, stops: ten seconds'
 	@echo '  make log      keeps a log of requests: moves it away, and fills its disk: half a minute'
 	@echo '  make kill     kills a server 500 times while versions are published: 6 minutes'
-	@echo '  make files    fills a disk, and opens files that hold no registry'
+	@echo '  make files    fills a disk, opens files that hold no registry, and restores copies'
 	@echo '  make older    migrates files of older schemas, and kills that at any moment: two minutes'
 	@echo '  make limits   tries the limits of connections, and hostile clients: 5 minutes'
 	@echo '  make large    sends two million bytes of each thing, which must be refused soon'
@@ -47,7 +47,8 @@ help:
 	@echo 'Measure the built program out/registry:'
 	@echo '  make bench    measures how long requests and the reading of bodies take: 5 minutes'
 	@echo '  make compare  measures its speed beside nginx and SQLite: 15 minutes'
-	@echo '  make house    measures a registry of 10,000 packages: it needs 5 GB of disk'
+	@echo '  make house    measures registries of up to 10,000 packages: it needs 10 GB of disk'
+	@echo '  make copy     measures what clients notice of a copy of 1 GB: it needs 2 GB of disk'
 
 kit:
 ifeq ($(KIT),)
@@ -98,6 +99,7 @@ kill: out/registry
 
 files: out/registry
 	@examples/refused_files.sh out/registry
+	@examples/restore.sh out/registry
 
 older: out/registry
 	@tools/measure_older --program out/registry
@@ -127,6 +129,9 @@ bench: out/registry
 
 house: out/registry
 	@tools/measure_house --program out/registry
+
+copy: out/registry
+	@tools/measure_copy --program out/registry
 
 # A test may take ten minutes, since the prover works beside it.
 test: kit examples

@@ -750,14 +750,17 @@ backup.send_signal(signal.SIGCONT)
 print(backup.communicate(timeout=60)[0], backup.returncode)
 END
 halt() { python3 "$work/halt.py" kill "$program" "$db" "$1" > "$work/halted" 2>> "$work/said" && others=$(cat "$work/halted"); }
-is_silent() { ! curl -s -m 1 "http://127.0.0.1:$(port)/kit" > /dev/null; }
 answers() { curl -s -m 2 "http://127.0.0.1:$(port)/kit" > /dev/null; }
+# Whether a command of HTTP is answered in this many seconds.
+does() { curl -s -m "$1" -X PUT -d '"1.0.0"' "http://127.0.0.1:$(port)/-/package/kit/dist-tags/next" > /dev/null; }
 goes_on_after_a_killed_hold() {
     halt "$work/held.db" || return 1
-    is_silent || return 1
+    answers || return 1
+    ! does 1 || return 1
     kill -9 "$others"
     others=
     answers || return 1
+    does 2 || return 1
     [ ! -e "$work/held.db" ] && [ -e "$work/held.db-part" ] || return 1
     run one "$db" backup "$work/held.db"
     is one 3 'a file has the name of the copy' || return 1
@@ -765,7 +768,33 @@ goes_on_after_a_killed_hold() {
     run one "$db" backup "$work/held.db"
     is_copied one
 }
-try 'a server that is held answers nobody, and goes on at once where the command is killed' goes_on_after_a_killed_hold
+try 'a server that is held answers readers alone, and goes on at once where the command is killed' goes_on_after_a_killed_hold
+
+# Asks a server this many times over one connection, and prints the median time in milliseconds.
+cat > "$work/median.py" <<'END'
+import http.client, statistics, sys, time
+port, count = int(sys.argv[1]), int(sys.argv[2])
+server = http.client.HTTPConnection('127.0.0.1', port, timeout=5)
+times = []
+for _ in range(count):
+    begun = time.perf_counter()
+    server.request('GET', '/kit')
+    server.getresponse().read()
+    times.append(1000 * (time.perf_counter() - begun))
+print(round(statistics.median(times), 3))
+END
+reads_during_a_hold() {
+    before=$(python3 "$work/median.py" "$(port)" 500) || return 1
+    halt "$work/read.db" || return 1
+    files=$(cat "$db" "$db-wal" | cksum)
+    during=$(python3 "$work/median.py" "$(port)" 500) || return 1
+    [ "$files" = "$(cat "$db" "$db-wal" | cksum)" ] || return 1
+    kill -9 "$others"
+    others=
+    echo "    a reader: $before ms at the median, and $during ms during a hold"
+    python3 -c 'import sys; sys.exit(float(sys.argv[2]) > float(sys.argv[1]) + 10)' "$before" "$during"
+}
+try 'a reader waits no longer during a hold, and changes no file' reads_during_a_hold
 
 waits_for_a_hold() {
     halt "$work/second.db" || return 1

@@ -360,6 +360,12 @@ conn.close()'
 old, new = map(sqlite3.connect, sys.argv[1:])
 new.executescript("\n".join(old.iterdump()))
 new.close()'
+    is_rescued 'a copy without its indexes' 'import shutil, sqlite3, sys
+shutil.copy(*sys.argv[1:])
+conn = sqlite3.connect(sys.argv[2])
+for (name,) in conn.execute("SELECT name FROM sqlite_master WHERE type = \"index\" AND sql <> \"\"").fetchall():
+    conn.execute(f"DROP INDEX {name}")
+conn.close()'
     copy_says_what_is_wrong
 else
     say 'left out: files that another SQLite wrote anew, which python3 makes'

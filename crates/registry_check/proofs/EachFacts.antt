@@ -1,10 +1,10 @@
 -- What tests of all rows of a map say of its keys.
-use Rattle.std.proofs.Common.{◌≡◌, ◌∙◌, Bool, true, false, cond, ◌||◌, List, [], ◌∷◌, ◌++◌, find, is_some, refl, sym, ap, ap₂, subst, true≢false, Ordering, Some, None, Option, IsSome, All, if◌then◌else◌}
+use Rattle.std.proofs.Common.{◌≡◌, ◌∙◌, Bool, true, false, cond, ◌||◌, List, [], ◌∷◌, ◌++◌, map, find, is_some, refl, sym, ap, ap₂, subst, true≢false, Ordering, Some, None, Option, IsSome, All, if◌then◌else◌}
 use Rattle.std.specs.List.{AllByRecursion, list_all, list_any}
 use Rattle.std.proofs.lemmas.Bool.{and_from, and_parts, or_left, or_right}
 use Rattle.std.proofs.lemmas.List.Elements.{All-head, All-tail}
 use Rattle.registry_names.specs.Keys.{IsKey}
-use Rattle.registry_names.specs.Maps.{MapBy, at, entries, first_at}
+use Rattle.registry_names.specs.Maps.{MapBy, at, entries, first_at, seen}
 use Rattle.registry_names.proofs.KeyFacts.{same_true}
 use Rattle.registry_names.proofs.MapFacts.{at-entries}
 use Rattle.registry_names.proofs.EntryFacts.{IsFoundIn, among_keys, entries_rise, rows_found}
@@ -29,13 +29,13 @@ no_fault : (b : Bool) (p : Problem) → (if b then [] else p ∷ []) ≡ [] → 
 no_fault true p e = refl
 no_fault false p e = absurd cc
 
-none_broken : (thing : Thing) (tests : List Test) → broken thing tests ≡ [] → all_hold tests ≡ true
+pub none_broken : (thing : Thing) (tests : List Test) → broken thing tests ≡ [] → all_hold tests ≡ true
 none_broken thing [] e = refl
 none_broken thing (t ∷ tests) e =
     let it = nil_parts (fault_of thing t) (broken thing tests) e in
     and_from t.holds (all_hold tests) (no_fault t.holds (record { rule = t.rule; thing = thing }) it.0) (none_broken thing tests it.1)
 
-broken_none : (thing : Thing) (tests : List Test) → all_hold tests ≡ true → broken thing tests ≡ []
+pub broken_none : (thing : Thing) (tests : List Test) → all_hold tests ≡ true → broken thing tests ≡ []
 broken_none thing [] h = refl
 broken_none thing (t ∷ tests) h =
     let both = and_parts t.holds (all_hold tests) h in
@@ -54,7 +54,7 @@ module _ {E : Type 0} (thing : E → Thing) (tests : E → List Test) where
 
 -- ---- all rows of a map
 
-some_is : {X : Type 0} (x y : X) → Some x ≡ Some y → x ≡ y
+pub some_is : {X : Type 0} (x y : X) → Some x ≡ Some y → x ≡ y
 some_is x y e = cc
 
 pub value_of : {X : Type 0} (o : Option X) → IsSome o → (x : X) × (o ≡ Some x)
@@ -94,6 +94,28 @@ module _ {K X : Type 0} {cmp : K → K → Ordering} {same : K → K → Bool} (
   -- a row has the key where the map has a value at it
   pub has_at : (m : MapBy cmp X) (k : K) → has same (entries m) k ≡ is_some (at m k)
   has_at m k = any_mapped (λ q. same q k) (λ (e : K × X). e.0) (entries m) ∙ among_keys key (entries m) k ∙ ap is_some (sym (at-entries key m k))
+
+  -- also where rows show a part of their values
+  has_seen : {Y : Type 0} (g : X → Y) (es : List (K × X)) (k : K) → has same (map (seen g) es) k ≡ has same es k
+  has_seen g [] k = refl
+  has_seen g (e ∷ es) k = ap (λ b. same e.0 k || b) (has_seen g es k)
+
+  pub seen_at : {Y : Type 0} (g : X → Y) (m : MapBy cmp X) (k : K) → has same (map (seen g) (entries m)) k ≡ is_some (at m k)
+  seen_at g m k = has_seen g (entries m) k ∙ has_at m k
+
+  module _ {Y : Type 0} (g : X → Y) (thing : K × Y → Thing) (tests : K × Y → List Test) where
+    seen_problems : (es : List (K × X)) → problems_of thing tests (map (seen g) es) ≡ problems_of (λ e. thing (seen g e)) (λ e. tests (seen g e)) es
+    seen_problems [] = refl
+    seen_problems (e ∷ es) = ap (λ ps. broken (thing (seen g e)) (tests (seen g e)) ++ ps) (seen_problems es)
+
+    -- where no row is a problem that shows a part of the value, the rules hold of each key and that
+    -- part
+    pub none_means_seen : (m : MapBy cmp X) → problems_of thing tests (map (seen g) (entries m)) ≡ [] → (k : K) (x : X) → at m k ≡ Some x → all_hold (tests (k, g x)) ≡ true
+    none_means_seen m h = none_means m (λ e. thing (seen g e)) (λ e. tests (seen g e)) (sym (seen_problems (entries m)) ∙ h)
+
+    -- and the other way round
+    pub means_none_seen : (m : MapBy cmp X) → ((k : K) (x : X) → at m k ≡ Some x → all_hold (tests (k, g x)) ≡ true) → problems_of thing tests (map (seen g) (entries m)) ≡ []
+    means_none_seen m f = seen_problems (entries m) ∙ means_none m (λ e. thing (seen g e)) (λ e. tests (seen g e)) f
 
   -- ---- some row of a map
 

@@ -1,5 +1,6 @@
 -- A text is in form exactly where its test is true.
 use Rattle.std.proofs.Common.{◌≡◌, ◌∙◌, ℕ, suc, ℤ, pos, negsuc, ◌≤◌, ◌&&◌, Bool, true, false, true≢false, Option, Some, None, Result, Ok, Err, List, [], ◌∷◌, ◌++◌, length, drop, nat_le, is_some, refl, sym, ap, subst, arith, if◌then◌else◌}
+use Rattle.std.specs.Cmp.{both_ways}
 use Rattle.std.proofs.lemmas.Bool.{and_from, and_parts, le-leb, leb-true}
 use Rattle.semver.specs.Parse.{Parts, version_parts}
 use Rattle.semver.specs.declared.error.Error.{Error}
@@ -17,8 +18,14 @@ use Rattle.registry_names.proofs.NameFacts.{scope_of-name}
 use Rattle.registry_names.proofs.VersionFacts.{kept, not_kept, not_read}
 use Rattle.registry_publish.specs.Body.{is_manifest}
 use Rattle.registry_publish.specs.Form.{IsManifestText}
+use Rattle.registry_ranges.specs.declared.reader.Place.TheVariants.{Before}
+use Rattle.registry_ranges.specs.Grammar.{IsRangeText}
+use Rattle.registry_ranges.specs.Steps.{reading}
+use Rattle.registry_ranges.specs.Texts.{ranges_in}
+use Rattle.registry_ranges.specs.Values.{Ranges, parts_of}
+use Rattle.registry_ranges.proofs.ReadingFacts.{reading-sound, reads-value}
 use Rattle.registry_tables.specs.Numbers.{is_moment, seconds_of}
-use Rattle.registry_check.specs.Forms.{is_manifest_read, is_manifest_text, is_name, is_name_in, is_version, is_version_read, part_after}
+use Rattle.registry_check.specs.Forms.{is_manifest_read, is_manifest_text, is_name, is_name_in, is_range, is_version, is_version_read, part_after}
 
 -- ---- names
 
@@ -104,6 +111,23 @@ pub is_manifest_text_of : (name v : Text) (version : VersionParts) (t : Text) �
 is_manifest_text_of name v version t e (m, is_one, (text, back)) =
     ap (λ (x : Text). is_manifest_text name x t) e ∙ ap (is_manifest_read name (text_of_version version) t) back
     ∙ and_from _ _ is_one (ap (is t) (sym text) ∙ same_self text_key t)
+
+-- ---- ranges
+
+pub range_is : (t : Text) → is_range t ≡ true → IsRangeText t
+unfolding ranges_in
+range_is t h = each (ranges_in t) refl h
+  where
+    each : (o : Option Ranges) → ranges_in t ≡ o → is_some o ≡ true → IsRangeText t
+    each None e i = absurd (true≢false (sym i))
+    each (Some r) e i = let it = reading-sound t r e in (it.0, it.1, it.2)
+
+pub is_range_of : (t : Text) → IsRangeText t → is_range t ≡ true
+unfolding ranges_in
+is_range_of t h = let e : reading Before t ≡ Some (parts_of h.0) = reads-value t (parts_of h.0) (h.0, h.1, h.2, refl) in ap is_some e
+
+pub range_tested : (b : Bool) (t : Text) → (b ≡ true → IsRangeText t) → (IsRangeText t → b ≡ true) → b ≡ is_range t
+range_tested b t to from = both_ways _ _ (λ h. is_range_of t (to h)) (λ h. from (range_is t h))
 
 -- ---- moments
 

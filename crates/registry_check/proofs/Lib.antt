@@ -1,10 +1,15 @@
+mod CounterFacts
 mod EachFacts
 mod FormFacts
+mod FoundFacts
 mod LoadFacts
+mod NumberedFacts
 mod OrderFacts
 mod PremiseFacts
 mod QueryFacts
+mod ReadableFacts
 mod RightFacts
 mod ScopeFacts
 mod SearchFacts
 mod StepFacts
+mod TextQueryFacts

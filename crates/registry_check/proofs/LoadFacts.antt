@@ -1,5 +1,5 @@
 -- One look-up after another loads of what was stored at first.
-use Rattle.std.proofs.Common.{◌≡◌, ◌∙◌, ℕ, List, [], arith, map, inl, inr, false, true, subst, sym, true≢false}
+use Rattle.std.proofs.Common.{◌≡◌, ◌∙◌, ℕ, List, [], arith, map, refl, inl, inr, false, true, subst, sym, true≢false}
 use Rattle.sqlite_value.specs.Order.{Row}
 use Rattle.sqlite_trees.specs.Tree.{Trees}
 use Rattle.sqlite_trees.specs.declared.store.Store.{Ghosts}
@@ -12,7 +12,9 @@ use Rattle.registry_rows.proofs.QuietFacts.{read_stays, reads_then, stays_then}
 use Rattle.registry_tables.specs.Contents.{contents}
 use Rattle.registry_tables.specs.Effects.{shown}
 use Rattle.registry_tables.specs.Schema.{schema}
+use Rattle.registry_check.specs.Counter.{counter_entry, counter_in}
 use Rattle.registry_check.specs.Loaded.{AreAccounts, AreGrades, AreGroups, AreMarks, ArePackages, AreTables, AreTimes, AreVersions, Finds}
+use Rattle.registry_check.specs.declared.counter.Counter.{Counter}
 use Rattle.registry_check.specs.declared.tables.Accounts.{Accounts}
 use Rattle.registry_check.specs.declared.tables.Groups.{Groups}
 use Rattle.registry_check.specs.declared.tables.Grades.{Grades}
@@ -25,6 +27,21 @@ pub then_told : (a b c : Shown) (P : Trees → Type 0) → Reads schema a b → 
 then_told a b c P one two = (reads_then schema a b c one two.0, subst (λ (d : Database). P d.trees) one.same two.1)
 
 module _ {S : Type 0} (store : Ghosts S) where
+  -- a transaction stays by itself
+  pub stays_here : (tx : Transaction S) → Stays store tx tx
+  stays_here tx = record {
+    same_reference = refl;
+    committed = λ _. record { was_open = λ on. on; committed = λ on. refl };
+    survives = record {
+      clean = omega arith;
+      shield = λ s. s;
+      counts = omega arith;
+      limit = refl;
+      closes = λ _ on. inl on;
+      crash = λ _ db left. inl left;
+    };
+  }
+
   -- a call stays, and where the disk is clean, it read the tables and told this of them
   pub record Told (a b : Transaction S) (told : Trees → Type 0) : Type 0 where
     pub stays : Stays store a b
@@ -64,10 +81,10 @@ module _ {S : Type 0} (store : Ghosts S) where
     answered a b items ready same (inr it) = absurd (true≢false (sym it.1))
 
 -- the rows of all tables
-pub all_tables : (a : Accounts) (g : Groups) (p : Packages) (v : Versions) (m : Marks) (r : Grades) (t : Times) (db : Trees)
-    → AreAccounts a (contents db) → AreGroups g (contents db) → ArePackages p (contents db) → AreVersions v (contents db) → AreMarks m (contents db) → AreGrades r db → AreTimes t db
-    → AreTables (record { accounts = a; groups = g; packages = p; versions = v; marks = m; grades = r; times = t }) db
-all_tables a g p v m r t db accounts groups packages versions marks grades times = λ i. record {
+pub all_tables : (a : Accounts) (g : Groups) (p : Packages) (v : Versions) (m : Marks) (r : Grades) (t : Times) (n : Counter) (db : Trees)
+    → AreAccounts a (contents db) → AreGroups g (contents db) → ArePackages p (contents db) → AreVersions v (contents db) → AreMarks m (contents db) → AreGrades r db → AreTimes t db → counter_entry n ≡ counter_in (contents db)
+    → AreTables (record { accounts = a; groups = g; packages = p; versions = v; marks = m; grades = r; times = t; counter = n }) db
+all_tables a g p v m r t n db accounts groups packages versions marks grades times counter = λ i. record {
   users = accounts.users i;
   tokens = accounts.tokens i;
   organisations = accounts.organisations i;
@@ -88,4 +105,5 @@ all_tables a g p v m r t db accounts groups packages versions marks grades times
   levels = grades.levels i;
   moments = times.moments i;
   spent = times.spent i;
+  counter = counter i;
 }

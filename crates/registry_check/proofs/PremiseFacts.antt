@@ -31,8 +31,9 @@ use Rattle.registry_tables.specs.Needs.{HoldsNeeds, is_needed, names_if_any, nam
 use Rattle.registry_check.specs.Premises.{MeetsPremises, TellsPremises, rows_in}
 use Rattle.registry_check.specs.Problems as spec
 use Rattle.registry_check.specs.Problems.{archive_problems, grant_problems, held_problems, live_problems, maintainer_problems, member_problems, need_problems, organisation_problems, premise_problems, published_problems, team_member_problems, team_problems, token_problems}
+use Rattle.registry_check.specs.Rows.{integrities}
 use Rattle.registry_check.specs.Rules.{archive_tests, are_stored, grant_tests, has, has_maintainer, has_owner, held_tests, is_first, is_held, is_named, is_public, live_tests, maintainer_tests, member_tests, need_is, need_tests, numbered, organisation_tests, package_tests, team_member_tests, team_tests, token_tests}
-use Rattle.registry_check.proofs.EachFacts.{all_hold, any_at, at_any, first_passes, has_at, means_none, nil_parts, none_means, there, value_of}
+use Rattle.registry_check.proofs.EachFacts.{all_hold, any_at, at_any, first_passes, has_at, means_none, nil_parts, none_means, seen_at, there, value_of}
 
 -- ---- tests
 
@@ -66,7 +67,7 @@ public_else Restricted f = absurd (f refl)
 some_inside : {X : Type 0} (x y : X) → Some x ≡ Some y → x ≡ y
 some_inside x y e = cc
 
-nothing_there : (bytes : List ℕ) → (length bytes == 0) ≡ true → bytes ≡ []
+pub nothing_there : {X : Type 0} (bytes : List X) → (length bytes == 0) ≡ true → bytes ≡ []
 nothing_there [] h = refl
 nothing_there (b ∷ bytes) h = let none : suc (length bytes) ≡ 0 = eqb-true (length (b ∷ bytes)) 0 h in absurd (omega (arith, none))
 
@@ -118,9 +119,9 @@ all_stored test (need ∷ needs) f =
 module _ (c : Contents) where
   -- ---- where no row breaks a rule
 
-  module _ (none : premise_problems (rows_in c) ≡ []) where
-    versions : (token_problems (rows_in c) ++ organisation_problems (rows_in c) ++ member_problems (rows_in c) ++ team_problems (rows_in c) ++ team_member_problems (rows_in c) ++ published_problems (rows_in c) ++ grant_problems (rows_in c) ++ maintainer_problems (rows_in c) ++ live_problems (rows_in c) ≡ []) × ((need_problems (rows_in c) ≡ []) × ((held_problems (rows_in c) ≡ []) × (archive_problems (rows_in c) ≡ [])))
-    versions = nil_four (token_problems (rows_in c) ++ organisation_problems (rows_in c) ++ member_problems (rows_in c) ++ team_problems (rows_in c) ++ team_member_problems (rows_in c) ++ published_problems (rows_in c) ++ grant_problems (rows_in c) ++ maintainer_problems (rows_in c) ++ live_problems (rows_in c)) (need_problems (rows_in c)) (held_problems (rows_in c)) (archive_problems (rows_in c)) none
+  module _ (none : premise_problems (rows_in c) c.archives ≡ []) where
+    versions : (token_problems (rows_in c) ++ organisation_problems (rows_in c) ++ member_problems (rows_in c) ++ team_problems (rows_in c) ++ team_member_problems (rows_in c) ++ published_problems (rows_in c) ++ grant_problems (rows_in c) ++ maintainer_problems (rows_in c) ++ live_problems (rows_in c) ≡ []) × ((need_problems (rows_in c) ≡ []) × ((held_problems (rows_in c) ≡ []) × (archive_problems (rows_in c) c.archives ≡ [])))
+    versions = nil_four (token_problems (rows_in c) ++ organisation_problems (rows_in c) ++ member_problems (rows_in c) ++ team_problems (rows_in c) ++ team_member_problems (rows_in c) ++ published_problems (rows_in c) ++ grant_problems (rows_in c) ++ maintainer_problems (rows_in c) ++ live_problems (rows_in c)) (need_problems (rows_in c)) (held_problems (rows_in c)) (archive_problems (rows_in c) c.archives) none
 
     packages : (token_problems (rows_in c) ++ organisation_problems (rows_in c) ++ member_problems (rows_in c) ++ team_problems (rows_in c) ++ team_member_problems (rows_in c) ++ published_problems (rows_in c) ≡ []) × ((grant_problems (rows_in c) ≡ []) × ((maintainer_problems (rows_in c) ≡ []) × (live_problems (rows_in c) ≡ [])))
     packages = nil_four (token_problems (rows_in c) ++ organisation_problems (rows_in c) ++ member_problems (rows_in c) ++ team_problems (rows_in c) ++ team_member_problems (rows_in c) ++ published_problems (rows_in c)) (grant_problems (rows_in c)) (maintainer_problems (rows_in c)) (live_problems (rows_in c)) versions.0
@@ -176,12 +177,12 @@ module _ (c : Contents) where
     held_hold : (k : Pair) (v : ℤ) → at c.held k ≡ Some v → all_hold (held_tests (rows_in c) (k, v)) ≡ true
     held_hold = none_means pair_key c.held spec.held (held_tests (rows_in c)) versions.1.1.0
 
-    archives_hold : (n : ℤ) (a : Archive) → at c.archives n ≡ Some a → (is_held (rows_in c) n ≡ true) × ((is a.integrity (integrity_text a.bytes) ≡ true) × (is_first (rows_in c) n a ≡ true))
+    archives_hold : (n : ℤ) (a : Archive) → at c.archives n ≡ Some a → (is_held (rows_in c) n ≡ true) × ((is a.integrity (integrity_text a.bytes) ≡ true) × (is_first c.archives n a ≡ true))
     archives_hold n a h =
-        let all = none_means number_key c.archives spec.archive (archive_tests (rows_in c)) versions.1.1.1 n a h in
+        let all = none_means number_key c.archives spec.archive (archive_tests (rows_in c) c.archives) versions.1.1.1 n a h in
         let one = and_parts (is_held (rows_in c) n) _ all in
         let two = and_parts (is a.integrity (integrity_text a.bytes)) _ one.1 in
-        (one.0, (two.0, (and_parts (is_first (rows_in c) n a) true two.1).0))
+        (one.0, (two.0, (and_parts (is_first c.archives n a) true two.1).0))
 
     -- references
 
@@ -289,7 +290,7 @@ module _ (c : Contents) where
     held_lives : (k : Pair) (n : ℤ) → at c.held k ≡ Some n → (is_some (at c.versions k) ≡ true) × (is_some (at c.archives n) ≡ true)
     held_lives k n h =
         let one = and_parts (has pair_is (entries c.versions) k) _ (held_hold k n h) in
-        (sym (has_at pair_key c.versions k) ∙ one.0, sym (has_at number_key c.archives n) ∙ (and_parts (has int_eq (entries c.archives) n) true one.1).0)
+        (sym (has_at pair_key c.versions k) ∙ one.0, sym (seen_at number_key (λ (a : Archive). a.integrity) c.archives n) ∙ (and_parts (has int_eq (integrities c.archives) n) true one.1).0)
 
     archive_had : (n : ℤ) (a : Archive) → at c.archives n ≡ Some a → (k : Pair) × (at c.held k ≡ Some n)
     archive_had n a h =
@@ -414,12 +415,12 @@ module _ (c : Contents) where
     held_fine : held_problems (rows_in c) ≡ []
     held_fine = means_none pair_key c.held spec.held (held_tests (rows_in c)) (λ k n h.
         and_from _ _ (has_at pair_key c.versions k ∙ sym (met.archives.lives k) ∙ there _ n h)
-        (and_from _ true (has_at number_key c.archives n ∙ met.archives.stored k n h) refl))
+        (and_from _ true (seen_at number_key (λ (a : Archive). a.integrity) c.archives n ∙ met.archives.stored k n h) refl))
 
     held_there : (n : ℤ) (a : Archive) → at c.archives n ≡ Some a → is_held (rows_in c) n ≡ true
     held_there n a h = let it = met.archives.had n a h in at_any pair_key (λ (e : Pair × ℤ). int_eq e.1 n) c.held it.0 n it.1 (same_self number_key n)
 
-    first_there : (n : ℤ) (a : Archive) → at c.archives n ≡ Some a → is_first (rows_in c) n a ≡ true
+    first_there : (n : ℤ) (a : Archive) → at c.archives n ≡ Some a → is_first c.archives n a ≡ true
     first_there n a h =
         let like : ℤ × Archive → Bool = λ e. is_archive a.integrity a.bytes e.1 in
         let here = at_any number_key like c.archives n a h (and_from _ _ (same_self text_key a.integrity) (same_self text_key a.bytes)) in
@@ -428,18 +429,18 @@ module _ (c : Contents) where
         ap (λ o. numbered n (option_map (λ (e : ℤ × Archive). e.0) o)) it.1.1
         ∙ ap (λ (m : ℤ). int_eq m n) (met.archives.once it.0 n it.1.0 a it.1.2.0 h (sym bytes)) ∙ same_self number_key n
 
-    archives_fine : archive_problems (rows_in c) ≡ []
-    archives_fine = means_none number_key c.archives spec.archive (archive_tests (rows_in c)) (λ n a h.
+    archives_fine : archive_problems (rows_in c) c.archives ≡ []
+    archives_fine = means_none number_key c.archives spec.archive (archive_tests (rows_in c) c.archives) (λ n a h.
         and_from _ _ (held_there n a h) (and_from _ _ (ap (is a.integrity) (sym (met.archives.integrity n a h)) ∙ same_self text_key a.integrity) (and_from _ true (first_there n a h) refl)))
 
-    none_broken : premise_problems (rows_in c) ≡ []
+    none_broken : premise_problems (rows_in c) c.archives ≡ []
     none_broken =
-        four_nil (token_problems (rows_in c) ++ organisation_problems (rows_in c) ++ member_problems (rows_in c) ++ team_problems (rows_in c) ++ team_member_problems (rows_in c) ++ published_problems (rows_in c) ++ grant_problems (rows_in c) ++ maintainer_problems (rows_in c) ++ live_problems (rows_in c)) (need_problems (rows_in c)) (held_problems (rows_in c)) (archive_problems (rows_in c))
+        four_nil (token_problems (rows_in c) ++ organisation_problems (rows_in c) ++ member_problems (rows_in c) ++ team_problems (rows_in c) ++ team_member_problems (rows_in c) ++ published_problems (rows_in c) ++ grant_problems (rows_in c) ++ maintainer_problems (rows_in c) ++ live_problems (rows_in c)) (need_problems (rows_in c)) (held_problems (rows_in c)) (archive_problems (rows_in c) c.archives)
         (four_nil (token_problems (rows_in c) ++ organisation_problems (rows_in c) ++ member_problems (rows_in c) ++ team_problems (rows_in c) ++ team_member_problems (rows_in c) ++ published_problems (rows_in c)) (grant_problems (rows_in c)) (maintainer_problems (rows_in c)) (live_problems (rows_in c))
         (four_nil (token_problems (rows_in c) ++ organisation_problems (rows_in c) ++ member_problems (rows_in c)) (team_problems (rows_in c)) (team_member_problems (rows_in c)) (published_problems (rows_in c))
         (ap₂ (λ x y. x ++ y) (ap₂ (λ x y. x ++ y) tokens_fine organisations_fine) members_fine) teams_fine team_members_fine published_fine)
         grants_fine maintainers_fine live_fine) needs_fine held_fine archives_fine
 
 -- no row breaks a rule exactly where the premises hold
-pub none_means_premises : (c : Contents) → TellsPremises (premise_problems (rows_in c)) c
+pub none_means_premises : (c : Contents) → TellsPremises (premise_problems (rows_in c) c.archives) c
 none_means_premises c = (premises_hold c, none_broken c)

@@ -1,18 +1,19 @@
 -- What the queries show: each table's rows, in the order of its key.
 use Rattle.std.proofs.Common.{◌≡◌, ◌∙◌, ℕ, ℤ, List, [], ◌∷◌, map, refl, sym, codes}
+use Rattle.sqlite.specs.declared.types.Value.TheVariants.{Text as Stored}
 use Rattle.sqlite.specs.Listing.{understood}
 use Rattle.sqlite.specs.State.{State as Shown, HasCleanDisk}
 use Rattle.sqlite_tied.specs.Compute.{everything}
 use Rattle.sqlite_value.specs.Order.{Row}
 use Rattle.sqlite_sql.specs.Term.{Term, col}
 use Rattle.registry_names.specs.Maps.{entries}
-use Rattle.registry_names.specs.Texts.{Text}
+use Rattle.registry_names.specs.Texts.{Text, is}
 use Rattle.registry_names.proofs.KeyFacts.{pair_key, text_key, triple_key}
 use Rattle.registry_rows.specs.KeyKinds.{bytes, numbers}
 use Rattle.registry_rows.specs.Ready.{Queried, Reads, Ready}
-use Rattle.registry_rows.specs.Statements.{MeansQuery, in_order, select_where}
+use Rattle.registry_rows.specs.Statements.{MeansQuery, by_column, in_order, select_where}
 use Rattle.registry_rows.proofs.KeyedFacts.{by_bytes_given, by_number_given}
-use Rattle.registry_rows.proofs.LookUpFacts.{seen_as_is, select_all, select_all_by}
+use Rattle.registry_rows.proofs.LookUpFacts.{seen_as_is, select_all, select_all_by, select_has_by}
 use Rattle.registry_tables.specs.Contents.{Archive, LiveVersion, SpentVersion, access_of}
 use Rattle.registry_tables.specs.Effects.{stored}
 use Rattle.registry_tables.specs.Numbers.{grant_of, role_of, status_of}
@@ -21,7 +22,8 @@ use Rattle.registry_tables.specs.Schema.{schema}
 use Rattle.registry_tables.proofs.MappedFacts.{archives_numbered, grants_mapped, held_mapped, members_mapped, need_ranges_mapped, needs_mapped, organisations_mapped, owners_mapped, packages_mapped, spent_mapped, tags_mapped, team_members_mapped, teams_mapped, tokens_mapped, users_mapped, versions_mapped}
 use Rattle.registry_tables.proofs.ReadFacts.{entries-read}
 use Rattle.registry_check.specs.Numbers.{numbers_in}
-use Rattle.registry_check.specs.Spelled.{archive_spelled, grant_spelled, held_spelled, level_spelled, live_spelled, member_spelled, name_spelled, need_spelled, package_spelled, pair_spelled, role_spelled, spent_spelled, status_spelled, tag_spelled, token_spelled, triple_spelled}
+use Rattle.registry_check.specs.Rows.{integrities, likes_in}
+use Rattle.registry_check.specs.Spelled.{archive_spelled, grant_spelled, held_spelled, level_spelled, like_spelled, live_spelled, member_spelled, name_spelled, need_spelled, package_spelled, pair_spelled, role_spelled, spent_spelled, status_spelled, tag_spelled, token_spelled, triple_spelled}
 
 -- ---- users
 
@@ -230,19 +232,33 @@ held_listed old new rows form call clean =
 -- ---- archives
 
 abbrev archives_text : List ℕ
-archives_text = codes "SELECT id, integrity, bytes FROM archives ORDER BY id"
+archives_text = codes "SELECT id, integrity FROM archives ORDER BY id"
 
 abbrev archives_columns : List Term
-archives_columns = col 1 0 ∷ col 1 2 ∷ col 1 3 ∷ []
+archives_columns = col 1 0 ∷ col 1 2 ∷ []
 
-archives_means : MeansQuery schema archives_text (select_where table.archives archives_columns [] numbers.order (codes "id" ∷ codes "integrity" ∷ codes "bytes" ∷ []))
+archives_means : MeansQuery schema archives_text (select_where table.archives archives_columns [] numbers.order (codes "id" ∷ codes "integrity" ∷ []))
 unfolding understood everything
 archives_means = ((refl, (refl, refl)), refl)
 
-pub archives_listed : (old new : Shown) (rows : List Row) → Ready schema old → Queried archives_text [] old new rows → HasCleanDisk new → Reads schema old new × (map archive_spelled rows ≡ entries (stored old).archives)
-archives_listed old new rows form call clean =
-    let it = select_all_by (by_number_given archives_numbered) archives_text archives_columns _ archives_means archive_spelled (λ (v : Archive). v) (λ id vs. refl) old new rows form call clean in
-    (it.0, it.1 ∙ seen_as_is (entries (stored old).archives))
+pub archives_listed : (old new : Shown) (rows : List Row) → Ready schema old → Queried archives_text [] old new rows → HasCleanDisk new → Reads schema old new × (map archive_spelled rows ≡ integrities (stored old).archives)
+archives_listed old new rows form call clean = select_all_by (by_number_given archives_numbered) archives_text archives_columns _ archives_means archive_spelled (λ (a : Archive). a.integrity) (λ id vs. refl) old new rows form call clean
+
+-- ---- the archives of one integrity
+
+abbrev likes_text : List ℕ
+likes_text = codes "SELECT id, bytes FROM archives WHERE integrity = ?1 ORDER BY id"
+
+abbrev likes_columns : List Term
+likes_columns = col 1 0 ∷ col 1 3 ∷ []
+
+likes_means : MeansQuery schema likes_text (select_where table.archives likes_columns (by_column 1) numbers.order (codes "id" ∷ codes "bytes" ∷ []))
+unfolding understood everything
+likes_means = ((refl, (refl, refl)), refl)
+
+pub likes_listed : (integrity : Text) (old new : Shown) (rows : List Row) → Ready schema old → Queried likes_text (Stored integrity ∷ []) old new rows → HasCleanDisk new
+    → Reads schema old new × (map like_spelled rows ≡ likes_in integrity (stored old).archives)
+likes_listed integrity old new rows form call clean = select_has_by (by_number_given archives_numbered) 1 (Stored integrity) refl (λ (a : Archive). is integrity a.integrity) (λ vs. refl) likes_text likes_columns _ likes_means like_spelled (λ (a : Archive). a.bytes) (λ id vs. refl) old new rows form call clean
 
 -- ---- tags
 

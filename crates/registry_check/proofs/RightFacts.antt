@@ -1,13 +1,16 @@
 -- No row breaks a rule exactly where the registry is right.
-use Rattle.std.proofs.Common.{◌≡◌, ◌∙◌, ◌==◌, ℕ, ℤ, ◌≤◌, Bool, true, false, not, ◌&&◌, ◌||◌, List, [], ◌∷◌, ◌++◌, find, length, is_none, is_some, option_and_then, option_map, arith, refl, sym, ap, ap₂, subst, true≢false, Some, None, Option, IsSome, IsTrue, cond}
+use Rattle.std.proofs.Common.{◌≡◌, ◌∙◌, ◌==◌, ℕ, ℤ, ◌≤◌, ◌≤ℤ◌, Bool, true, false, not, ◌&&◌, ◌||◌, List, [], ◌∷◌, ◌++◌, map, find, length, is_none, is_some, option_and_then, option_map, arith, refl, sym, ap, ap₂, subst, true≢false, Some, None, Option, IsSome, IsTrue, T, cond}
+use Rattle.std.specs.Int.Signed.{le_z_yes}
 use Rattle.std.specs.Ordering.{int_eq}
+use Rattle.std.specs.Prelude.{int_le}
 use Rattle.std.proofs.lemmas.Bool.{and_from, and_parts, eqb-true, or_left, or_right}
 use Rattle.serde_json.specs.Data.{Data}
 use Rattle.serde_json.specs.Read.{read}
 use Rattle.sqlite_trees.specs.Tree.{Trees}
+use Rattle.sqlite_value.specs.Order.{Row}
 use Rattle.registry_names.specs.Idents.{is_ident}
 use Rattle.registry_names.specs.Keys.{IsKey, Pair, Triple, pair_is}
-use Rattle.registry_names.specs.Maps.{at, entries, first_at}
+use Rattle.registry_names.specs.Maps.{at, entries, first_at, seen}
 use Rattle.registry_names.specs.Messages.{is_message}
 use Rattle.registry_names.specs.Moments.{last_second}
 use Rattle.registry_names.specs.Names.{IsName, scope_of}
@@ -17,26 +20,33 @@ use Rattle.registry_names.specs.declared.status.Status.{Status}
 use Rattle.registry_names.proofs.KeyFacts.{pair_key, same_self, same_true, text_key, triple_key}
 use Rattle.registry_names.proofs.MapFacts.{at-entries}
 use Rattle.registry_publish.specs.Integrity.{has_integrity}
+use Rattle.registry_ranges.specs.Grammar.{IsRangeText}
 use Rattle.registry_rules.specs.Kept.{IsKept, IsReleaseOf, IsSpelled, IsTagOf, IsWithdrawalOf}
 use Rattle.registry_rules.specs.State.{Release, Withdrawal, is_live}
+use Rattle.registry_rows.specs.Counting.{counted}
 use Rattle.registry_rows.proofs.KeyedFacts.{number_key}
 use Rattle.registry_tables.specs.Contents.{Archive, Contents, LiveVersion, SpentVersion, access_of, as_withdrawal, contents, live_of, registry_of, with_bytes}
 use Rattle.registry_tables.specs.Numbers.{is_level, is_moment, is_role, is_status, seconds_of}
 use Rattle.registry_tables.specs.Ranges.{HasNumbersInRange}
 use Rattle.registry_tables.proofs.ReadFacts.{at-read, read_there}
 use Rattle.registry_tables.proofs.LiveFacts.{lives_as_row}
-use Rattle.registry_check.specs.FormRules.{has_live, has_scope_of, held_integrity, held_number, integrity_under, level_forms, maintainer_forms, moment_forms, organisation_forms, package_forms, role_forms, spent_forms, states_held, status_forms, tag_forms, target_forms, team_forms, token_forms, user_forms, version_forms}
-use Rattle.registry_check.specs.Forms.{is_manifest_text, is_name, is_version, states, states_in}
+use Rattle.registry_check.specs.Counter.{CountsArchives, count_of, is_count, is_counted}
+use Rattle.registry_check.specs.FormRules.{counter_forms, has_live, has_scope_of, held_integrity, held_number, integrity_under, level_forms, maintainer_forms, moment_forms, number_forms, organisation_forms, package_forms, role_forms, spent_forms, states_held, status_forms, tag_forms, target_forms, team_forms, token_forms, user_forms, version_forms}
+use Rattle.registry_check.specs.Forms.{is_manifest_text, is_name, is_range, is_version, states, states_in}
 use Rattle.registry_check.specs.Numbers.{Numbers, numbers_in}
 use Rattle.registry_check.specs.Premises.{MeetsPremises, rows_in}
 use Rattle.registry_check.specs.Problems as spec
-use Rattle.registry_check.specs.Problems.{level_problems, maintainer_form_problems, moment_problems, name_problems, number_problems, organisation_form_problems, package_form_problems, premise_problems, problems, role_problems, spent_problems, status_problems, tag_problems, target_problems, team_form_problems, token_form_problems, user_form_problems, version_form_problems}
-use Rattle.registry_check.specs.Right.{HoldsRight, IsRight, TellsRight, rows_at}
+use Rattle.registry_check.specs.Problems.{counted_problems, counter_problems, level_problems, maintainer_form_problems, moment_problems, name_problems, number_problems, organisation_form_problems, package_form_problems, premise_problems, problems, release_problems, role_problems, spent_problems, status_problems, tag_problems, target_problems, team_form_problems, token_form_problems, user_form_problems, version_form_problems}
+use Rattle.registry_check.specs.Right.{HoldsRight, IsRight, TellsRight, first_told, problems_at, rows_at}
+use Rattle.registry_check.specs.Readable.{text_problems}
 use Rattle.registry_check.specs.Rows.{Rows}
 use Rattle.registry_check.specs.Rules.{has}
-use Rattle.registry_check.proofs.EachFacts.{all_hold, any_at, at_any, has_at, means_none, nil_parts, none_means, there, value_of}
-use Rattle.registry_check.proofs.FormFacts.{in_time, is_manifest_text_of, is_name_of, is_version_of, manifest_text_is, name_is, version_is}
-use Rattle.registry_check.proofs.PremiseFacts.{none_means_premises}
+use Rattle.registry_check.specs.declared.problem.Problem.{Problem}
+use Rattle.registry_check.proofs.CounterFacts.{counted_whole}
+use Rattle.registry_check.proofs.EachFacts.{all_hold, any_at, at_any, broken_none, has_at, means_none, means_none_seen, nil_parts, none_broken as unbroken, none_means, none_means_seen, there, value_of}
+use Rattle.registry_check.proofs.FormFacts.{in_time, is_manifest_text_of, is_name_of, is_range_of, is_version_of, manifest_text_is, name_is, range_is, version_is}
+use Rattle.registry_check.proofs.PremiseFacts.{none_means_premises, nothing_there}
+use Rattle.registry_check.proofs.ReadableFacts.{none_readable, readable_none}
 
 -- ---- tests
 
@@ -58,6 +68,20 @@ gone : (b : Bool) → not b ≡ true → b ≡ false
 gone true h = absurd (true≢false (sym h))
 gone false h = refl
 
+no_true : (b : Bool) → (b ≡ true → ⊥) → not b ≡ true
+no_true true f = absurd (f refl)
+no_true false f = refl
+
+ordered : (a b : ℤ) → int_le a b ≡ true → a ≤ℤ b
+ordered a b h = le_z_yes (subst T (sym h) tt)
+
+order_of : (a b : ℤ) → a ≤ℤ b → int_le a b ≡ true
+order_of a b h = is_so (int_le a b) h.le
+  where
+    is_so : (x : Bool) → T x → x ≡ true
+    is_so true t = refl
+    is_so false t = absurd t
+
 never : (b : Bool) → false ≡ true → ⊥
 never b h = true≢false (sym h)
 
@@ -70,12 +94,12 @@ found_first {K} {X} same (e ∷ es) k = each (found_first same es k) (same e.0 k
     each next true = refl
     each next false = next
 
-found_integrity : (es : List (ℤ × Archive)) (n : ℤ) → option_map (λ (e : ℤ × Archive). e.1.integrity) (find (λ (e : ℤ × Archive). int_eq e.0 n) es) ≡ option_map (λ (a : Archive). a.integrity) (first_at int_eq es n)
+found_integrity : (es : List (ℤ × Archive)) (n : ℤ) → option_map (λ (e : ℤ × Text). e.1) (find (λ (e : ℤ × Text). int_eq e.0 n) (map (seen (λ (a : Archive). a.integrity)) es)) ≡ option_map (λ (a : Archive). a.integrity) (first_at int_eq es n)
 found_integrity [] n = refl
 found_integrity (e ∷ es) n = each (found_integrity es n) (int_eq e.0 n)
   where
-    each : (option_map (λ (e : ℤ × Archive). e.1.integrity) (find (λ (e : ℤ × Archive). int_eq e.0 n) es) ≡ option_map (λ (a : Archive). a.integrity) (first_at int_eq es n)) → (b : Bool) → option_map (λ (e : ℤ × Archive). e.1.integrity) (cond b (Some e) (find (λ (e : ℤ × Archive). int_eq e.0 n) es))
-        ≡ option_map (λ (a : Archive). a.integrity) (cond b (Some e.1) (first_at int_eq es n))
+    each : (option_map (λ (e : ℤ × Text). e.1) (find (λ (e : ℤ × Text). int_eq e.0 n) (map (seen (λ (a : Archive). a.integrity)) es)) ≡ option_map (λ (a : Archive). a.integrity) (first_at int_eq es n)) → (b : Bool)
+        → option_map (λ (e : ℤ × Text). e.1) (cond b (Some (e.0, e.1.integrity)) (find (λ (e : ℤ × Text). int_eq e.0 n) (map (seen (λ (a : Archive). a.integrity)) es))) ≡ option_map (λ (a : Archive). a.integrity) (cond b (Some e.1) (first_at int_eq es n))
     each next true = refl
     each next false = next
 
@@ -147,21 +171,27 @@ module _ (db : Trees) where
 
   -- ---- where no row breaks a rule
 
-  module _ (none : problems all ≡ []) where
-    releases : (number_problems all ≡ []) × ((version_form_problems all ≡ []) × ((spent_problems all ≡ []) × ((tag_problems all ≡ []) × (target_problems all ≡ []))))
-    releases = nil_five (number_problems all) (version_form_problems all) (spent_problems all) (tag_problems all) (target_problems all) none
+  module _ (none : problems all c.archives ≡ []) where
+    told : (release_problems all c.archives ++ counted_problems all ≡ []) × (counter_problems all ≡ [])
+    told = nil_parts (release_problems all c.archives ++ counted_problems all) (counter_problems all) none
 
-    numbers : (name_problems all ≡ []) × ((role_problems all ≡ []) × ((status_problems all ≡ []) × ((level_problems all ≡ []) × (moment_problems all ≡ []))))
-    numbers = nil_five (name_problems all) (role_problems all) (status_problems all) (level_problems all) (moment_problems all) releases.0
+    numbered : (release_problems all c.archives ≡ []) × (counted_problems all ≡ [])
+    numbered = nil_parts (release_problems all c.archives) (counted_problems all) told.0
 
-    names : (premise_problems all ++ user_form_problems all ++ token_form_problems all ≡ []) × ((organisation_form_problems all ≡ []) × ((team_form_problems all ≡ []) × ((package_form_problems all ≡ []) × (maintainer_form_problems all ≡ []))))
-    names = nil_five (premise_problems all ++ user_form_problems all ++ token_form_problems all) (organisation_form_problems all) (team_form_problems all) (package_form_problems all) (maintainer_form_problems all) numbers.0
+    releases : (number_problems all c.archives ≡ []) × ((version_form_problems all ≡ []) × ((spent_problems all ≡ []) × ((tag_problems all ≡ []) × (target_problems all ≡ []))))
+    releases = nil_five (number_problems all c.archives) (version_form_problems all) (spent_problems all) (tag_problems all) (target_problems all) numbered.0
 
-    accounts : (premise_problems all ++ user_form_problems all ≡ []) × (token_form_problems all ≡ [])
-    accounts = nil_parts (premise_problems all ++ user_form_problems all) (token_form_problems all) names.0
+    numbers : (name_problems all c.archives ≡ []) × ((role_problems all ≡ []) × ((status_problems all ≡ []) × ((level_problems all ≡ []) × (moment_problems all ≡ []))))
+    numbers = nil_five (name_problems all c.archives) (role_problems all) (status_problems all) (level_problems all) (moment_problems all) releases.0
 
-    first : (premise_problems all ≡ []) × (user_form_problems all ≡ [])
-    first = nil_parts (premise_problems all) (user_form_problems all) accounts.0
+    names : (premise_problems all c.archives ++ user_form_problems all ++ token_form_problems all ≡ []) × ((organisation_form_problems all ≡ []) × ((team_form_problems all ≡ []) × ((package_form_problems all ≡ []) × (maintainer_form_problems all ≡ []))))
+    names = nil_five (premise_problems all c.archives ++ user_form_problems all ++ token_form_problems all) (organisation_form_problems all) (team_form_problems all) (package_form_problems all) (maintainer_form_problems all) numbers.0
+
+    accounts : (premise_problems all c.archives ++ user_form_problems all ≡ []) × (token_form_problems all ≡ [])
+    accounts = nil_parts (premise_problems all c.archives ++ user_form_problems all) (token_form_problems all) names.0
+
+    first : (premise_problems all c.archives ≡ []) × (user_form_problems all ≡ [])
+    first = nil_parts (premise_problems all c.archives) (user_form_problems all) accounts.0
 
     -- what the rules say of each key and its value
 
@@ -270,7 +300,8 @@ module _ (db : Trees) where
     tag_of : (p t v : Text) → at c.tags (p, t) ≡ Some v → IsTagOf (registry_of c) p t v
     tag_of p t v h =
         let one = and_parts (is_tag t) _ (tags_hold (p, t) v h) in
-        let there_is : is_some (at c.versions (p, v)) ≡ true = sym (has_at pair_key c.versions (p, v)) ∙ (and_parts (has pair_is (entries c.versions) (p, v)) true one.1).0 in
+        let two = and_parts (not (is_range t)) _ one.1 in
+        let there_is : is_some (at c.versions (p, v)) ≡ true = sym (has_at pair_key c.versions (p, v)) ∙ (and_parts (has pair_is (entries c.versions) (p, v)) true two.1).0 in
         let row = value_of (at c.versions (p, v)) there_is in
         record { name = package_spelled p (package_there (p, v) row.0 row.1); tag = one.0; live = lives_as_row c (p, v) ∙ there_is }
 
@@ -331,6 +362,31 @@ module _ (db : Trees) where
         integrity_at c k ∙ ap (option_and_then (λ (n : ℤ). option_map (λ (x : Archive). x.integrity) (at c.archives n))) held ∙ ap (option_map (λ (x : Archive). x.integrity)) archive in
         sym (ap (states_in a.integrity) is_read) ∙ (sym (ap (λ o. states_held o release.manifest) integrity) ∙ four.0)
 
+    no_range : (p t : Text) → IsSome (at c.tags (p, t)) → ¬ (IsRangeText t)
+    no_range p t h is =
+        let value = value_of (at c.tags (p, t)) h in
+        let one = and_parts (is_tag t) _ (tags_hold (p, t) value.0 value.1) in
+        true≢false (sym (is_range_of t is) ∙ gone (is_range t) (and_parts (not (is_range t)) _ one.1).0)
+
+    counter_holds : ((length c.counters == 0) ≡ true) × (is_count (count_of c.last_archive) ≡ true)
+    counter_holds =
+        let both = and_parts (length c.counters == 0) _ (unbroken (spec.counter all.counter) (counter_forms all all.counter) told.1) in
+        (both.0, (and_parts (is_count (count_of c.last_archive)) true both.1).0)
+
+    number_counted : (n : ℤ) (a : Archive) → at c.archives n ≡ Some a → is_counted (count_of c.last_archive) n ≡ true
+    number_counted n a h = (and_parts (is_counted (count_of c.last_archive) n) true (none_means_seen number_key (λ (x : Archive). x.integrity) spec.number (number_forms all) c.archives numbered.1 n a h)).0
+
+    counts_right : CountsArchives c
+    counts_right = record {
+      alone = nothing_there c.counters counter_holds.0;
+      count = counter_holds.1;
+      highest = λ n a h. within (count_of c.last_archive) refl counter_holds.1 n (number_counted n a h);
+    }
+      where
+        within : (o : Option ℤ) → count_of c.last_archive ≡ o → is_count o ≡ true → (n : ℤ) → is_counted (count_of c.last_archive) n ≡ true → n ≤ℤ counted c.last_archive
+        within None e is n h = absurd (true≢false (sym is))
+        within (Some m) e is n h = subst (λ (z : ℤ). n ≤ℤ z) (sym (counted_whole c.last_archive m e)) (ordered n m (ap (λ o. is_counted o n) (sym e) ∙ h))
+
     none_unused : (k : Triple) → at c.needs k ≡ None
     none_unused k = each (at c.needs k) refl
       where
@@ -338,12 +394,12 @@ module _ (db : Trees) where
         each None e = e
         each (Some v) e = absurd (true≢false (sym (and_parts false true (targets_hold k v e)).0))
 
-    right_holds : IsRight db
-    right_holds = record { premises = premises_hold; kept = all_kept; numbers = in_range; scopes = scope_there; unscoped = owner_unscoped; stated = stated_there; unused = none_unused }
+    right_holds : HoldsRight c
+    right_holds = record { premises = premises_hold; kept = all_kept; numbers = in_range; scopes = scope_there; unscoped = owner_unscoped; stated = stated_there; ranges = no_range; unused = none_unused; counts = counts_right }
 
   -- ---- where the registry is right
 
-  module _ (right : IsRight db) where
+  module _ (right : HoldsRight c) where
     users_fine : user_form_problems all ≡ []
     users_fine = means_none text_key c.users spec.user (user_forms all) (λ u v h. and_from _ true (right.kept.spelled.users u (there _ v h)) refl)
 
@@ -424,27 +480,58 @@ module _ (db : Trees) where
     tags_fine : tag_problems all ≡ []
     tags_fine = means_none pair_key c.tags spec.tag (tag_forms all) (λ k v h.
         let it = right.kept.tags k.0 k.1 v h in
-        and_from _ _ it.tag (and_from _ true (has_at pair_key c.versions (k.0, v) ∙ sym (lives_as_row c (k.0, v)) ∙ it.live) refl))
+        and_from _ _ it.tag (and_from _ _ (no_true (is_range k.1) (λ is. right.ranges k.0 k.1 (there _ v h) (range_is k.1 is))) (and_from _ true (has_at pair_key c.versions (k.0, v) ∙ sym (lives_as_row c (k.0, v)) ∙ it.live) refl)))
 
     targets_fine : target_problems all ≡ []
     targets_fine = means_none triple_key c.needs spec.target (target_forms all) (λ k v h. absurd (no_value v (sym (right.unused k) ∙ h)))
 
-    premises_fine : premise_problems all ≡ []
+    counted_fine : counted_problems all ≡ []
+    counted_fine = means_none_seen number_key (λ (x : Archive). x.integrity) spec.number (number_forms all) c.archives (λ n a h. and_from _ true (below (count_of c.last_archive) refl n (right.counts.highest n a h)) refl)
+      where
+        below : (o : Option ℤ) → count_of c.last_archive ≡ o → (n : ℤ) → n ≤ℤ counted c.last_archive → is_counted o n ≡ true
+        below None e n h = refl
+        below (Some m) e n h = order_of n m (subst (λ (z : ℤ). n ≤ℤ z) (counted_whole c.last_archive m e) h)
+
+    counter_fine : counter_problems all ≡ []
+    counter_fine = broken_none (spec.counter all.counter) (counter_forms all all.counter) (and_from _ _ (ap (λ (rows : List Row). length rows == 0) right.counts.alone) (and_from _ true right.counts.count refl))
+
+    premises_fine : premise_problems all c.archives ≡ []
     premises_fine = (none_means_premises c).1 right.premises
 
-    names_fine : name_problems all ≡ []
+    names_fine : name_problems all c.archives ≡ []
     names_fine =
-        five_nil (premise_problems all ++ user_form_problems all ++ token_form_problems all) (organisation_form_problems all) (team_form_problems all) (package_form_problems all) (maintainer_form_problems all)
-        (nil_two (premise_problems all ++ user_form_problems all) (token_form_problems all) (nil_two (premise_problems all) (user_form_problems all) premises_fine users_fine) tokens_fine)
+        five_nil (premise_problems all c.archives ++ user_form_problems all ++ token_form_problems all) (organisation_form_problems all) (team_form_problems all) (package_form_problems all) (maintainer_form_problems all)
+        (nil_two (premise_problems all c.archives ++ user_form_problems all) (token_form_problems all) (nil_two (premise_problems all c.archives) (user_form_problems all) premises_fine users_fine) tokens_fine)
         organisations_fine teams_fine packages_fine maintainers_fine
 
-    numbers_fine : number_problems all ≡ []
-    numbers_fine = five_nil (name_problems all) (role_problems all) (status_problems all) (level_problems all) (moment_problems all) names_fine roles_fine statuses_fine levels_fine moments_fine
+    numbers_fine : number_problems all c.archives ≡ []
+    numbers_fine = five_nil (name_problems all c.archives) (role_problems all) (status_problems all) (level_problems all) (moment_problems all) names_fine roles_fine statuses_fine levels_fine moments_fine
 
-    none_broken : problems all ≡ []
-    none_broken =
-        five_nil (number_problems all) (version_form_problems all) (spent_problems all) (tag_problems all) (target_problems all) numbers_fine versions_fine spent_fine tags_fine targets_fine
+    releases_fine : release_problems all c.archives ≡ []
+    releases_fine =
+        five_nil (number_problems all c.archives) (version_form_problems all) (spent_problems all) (tag_problems all) (target_problems all) numbers_fine versions_fine spent_fine tags_fine targets_fine
+
+    none_broken : problems all c.archives ≡ []
+    none_broken = nil_two (release_problems all c.archives ++ counted_problems all) (counter_problems all) (nil_two (release_problems all c.archives) (counted_problems all) releases_fine counted_fine) counter_fine
+
+-- ---- of texts and of rules
+
+told_none : (ps qs : List Problem) → first_told ps qs ≡ [] → (ps ≡ []) × (qs ≡ [])
+told_none [] qs h = (refl, h)
+told_none (p ∷ ps) qs h = absurd cc
+
+-- where a text isn't UTF-8, such rows are told
+pub told_texts : (ps qs : List Problem) → (length ps == 0) ≡ false → ps ≡ first_told ps qs
+told_texts [] qs h = absurd (true≢false h)
+told_texts (p ∷ ps) qs h = refl
+
+-- and else what breaks the other rules
+pub told_rules : (ps qs : List Problem) → (length ps == 0) ≡ true → qs ≡ first_told ps qs
+told_rules ps qs h = ap (λ (none : List Problem). first_told none qs) (sym (nothing_there ps h))
 
 -- no row breaks a rule exactly where the registry is right
-pub none_means_right : (db : Trees) → TellsRight (problems (rows_at db)) db
-none_means_right db = (right_holds db, none_broken db)
+pub none_means_right : (db : Trees) → TellsRight (problems_at db) db
+none_means_right db = (
+  λ h. let both = told_none (text_problems db) (problems (rows_at db) (contents db).archives) h in record { texts = none_readable db both.0; holds = right_holds db both.1 },
+  λ right. ap₂ first_told (readable_none db right.texts) (none_broken db right.holds),
+)

@@ -10,13 +10,14 @@ use Rattle.registry_names.specs.Names.{scope_of}
 use Rattle.registry_names.specs.Tags.{is_tag, latest}
 use Rattle.registry_names.specs.Texts.{Text, is}
 use Rattle.registry_names.specs.declared.status.Status.{Status}
-use Rattle.registry_tables.specs.Contents.{Archive, LiveVersion}
+use Rattle.registry_tables.specs.Contents.{LiveVersion}
 use Rattle.registry_tables.specs.Numbers.{is_level, is_moment, is_role, is_status}
-use Rattle.registry_check.specs.Forms.{is_manifest_text, is_name, is_version, states}
+use Rattle.registry_check.specs.Counter.{is_count, is_counted}
+use Rattle.registry_check.specs.Forms.{is_manifest_text, is_name, is_range, is_version, states}
 use Rattle.registry_check.specs.Rows.{Rows}
 use Rattle.registry_check.specs.Rules.{has, test}
 use Rattle.registry_check.specs.declared.problem.Test.{Test}
-use Rattle.registry_check.specs.declared.rule.Rule.TheVariants.{HasDigest, HasLatest, HasLevel, HasManifest, HasMessage, HasMoment, HasPackage, HasRole, HasScope, HasStated, HasStatus, IsGone, IsSpelled, IsUnscoped, IsUnused, NamesLive}
+use Rattle.registry_check.specs.declared.rule.Rule.TheVariants.{CountsAlone, HasCount, HasDigest, HasLatest, HasLevel, HasManifest, HasMessage, HasMoment, HasPackage, HasRole, HasScope, HasStated, HasStatus, IsCounted, IsGone, IsNoRange, IsSpelled, IsUnscoped, IsUnused, NamesLive}
 
 -- ---- names
 
@@ -72,7 +73,7 @@ held_number R k = option_map (λ (e : Pair × ℤ). e.1) (find (λ (e : Pair × 
 
 -- the integrity stored with the archive of this number
 abbrev pub integrity_under : Rows → ℤ → Option Text
-integrity_under R n = option_map (λ (e : ℤ × Archive). e.1.integrity) (find (λ (e : ℤ × Archive). int_eq e.0 n) R.archives)
+integrity_under R n = option_map (λ (e : ℤ × Text). e.1) (find (λ (e : ℤ × Text). int_eq e.0 n) R.archives)
 
 -- the integrity stored with the archive that the version has
 abbrev pub held_integrity : Rows → Pair → Option Text
@@ -91,7 +92,19 @@ abbrev pub spent_forms : Rows → Pair × (ℤ × ℤ) → List Test
 spent_forms R (k, v) = test HasPackage (has is R.packages k.0) ∷ test IsSpelled (is_version k.1) ∷ test IsGone (not (has pair_is R.live k)) ∷ test HasMoment (is_moment v.0 && is_moment v.1) ∷ []
 
 abbrev pub tag_forms : Rows → Pair × Text → List Test
-tag_forms R (k, v) = test IsSpelled (is_tag k.1) ∷ test NamesLive (has pair_is R.live (k.0, v)) ∷ []
+tag_forms R (k, v) = test IsSpelled (is_tag k.1) ∷ test IsNoRange (not (is_range k.1)) ∷ test NamesLive (has pair_is R.live (k.0, v)) ∷ []
+
+-- ---- numbers of archives
+
+-- the number was counted
+abbrev pub number_forms : Rows → ℤ × Text → List Test
+number_forms R (k, v) = test IsCounted (is_counted R.counter.1 k) ∷ []
+
+-- nothing else is counted, and the count goes on
+abbrev pub counter_forms : Rows → Bool × Option ℤ → List Test
+counter_forms R (alone, count) = test CountsAlone alone ∷ test HasCount (is_count count) ∷ []
+
+-- ---- what an older schema had
 
 -- no row of `needs` is right
 abbrev pub target_forms : Rows → Triple × Unit {0} → List Test

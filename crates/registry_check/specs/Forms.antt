@@ -1,6 +1,6 @@
 -- Whether texts are in form. Each of these holds exactly where the relation of the same
--- name does: `IsName`, `IsVersion` and `IsManifestText`.
-use Rattle.std.specs.Prelude.{◌≡◌, ℕ, suc, Bool, true, false, ◌&&◌, nat_le, List, ◌∷◌, ◌++◌, length, drop, Option, Some, None, Result, Ok, Err}
+-- name does: `IsName`, `IsVersion`, `IsRangeText` and `IsManifestText`.
+use Rattle.std.specs.Prelude.{◌≡◌, ℕ, suc, Bool, true, false, ◌&&◌, nat_le, List, ◌∷◌, ◌++◌, length, drop, Option, Some, None, is_some, Result, Ok, Err}
 use Rattle.semver.specs.Parse.{Parts, version_parts}
 use Rattle.semver.specs.declared.error.Error.{Error}
 use Rattle.serde_json.specs.Data.{Data}
@@ -13,6 +13,7 @@ use Rattle.registry_names.specs.VersionReading.{in_profile}
 use Rattle.registry_names.specs.Versions.{longest_version}
 use Rattle.registry_publish.specs.Body.{is_manifest}
 use Rattle.registry_publish.specs.Integrity.{has_integrity}
+use Rattle.registry_ranges.specs.Texts.{ranges_in}
 
 -- ---- texts
 
@@ -37,6 +38,10 @@ is_version_read (Err e) = false
 -- the text is a version
 abbrev pub is_version : Text → Bool
 is_version t = nat_le (length t) longest_version && is_version_read (version_parts t)
+
+-- the text is a range of versions
+abbrev pub is_range : Text → Bool
+is_range t = is_some (ranges_in t)
 
 -- the value is a manifest of this name and version, and the text is how it is written
 abbrev pub is_manifest_read : Text → Text → Text → Option Data → Bool

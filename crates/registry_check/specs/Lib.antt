@@ -1,9 +1,11 @@
+pub mod Counter
 pub mod FormRules
 pub mod Forms
 pub mod Loaded
 pub mod Numbers
 pub mod Premises
 pub mod Problems
+pub mod Readable
 pub mod Right
 pub mod Rows
 pub mod Rules

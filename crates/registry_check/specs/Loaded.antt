@@ -14,7 +14,7 @@ use Rattle.registry_tables.specs.Effects.{shown}
 use Rattle.registry_tables.specs.Schema.{schema}
 use Rattle.registry_check.specs.Numbers.{numbers_in}
 use Rattle.registry_check.specs.Right.{rows_at}
-use Rattle.registry_check.specs.Rows.{archive_entry, held_entry, level_entry, live_entry, moment_entry, need_entry, role_entry, rows_of, spent_entry, status_entry, tag_entry, target_entry, token_entry, user_entry}
+use Rattle.registry_check.specs.Rows.{archive_entry, held_entry, integrities, level_entry, live_entry, moment_entry, need_entry, role_entry, rows_of, spent_entry, status_entry, tag_entry, target_entry, token_entry, user_entry}
 use Rattle.registry_check.specs.declared.tables.Accounts.{Accounts}
 use Rattle.registry_check.specs.declared.tables.Groups.{Groups}
 use Rattle.registry_check.specs.declared.tables.Grades.{Grades}
@@ -52,7 +52,7 @@ pub record AreVersions (versions : Versions) (c : Contents) : Type 0 where
   pub live : map live_entry versions.live.items ≡ entries c.versions
   pub needs : map need_entry versions.needs.items ≡ entries c.need_ranges
   pub held : map held_entry versions.held.items ≡ entries c.held
-  pub archives : map archive_entry versions.archives.items ≡ entries c.archives
+  pub archives : map archive_entry versions.archives.items ≡ integrities c.archives
 
 pub record AreMarks (marks : Marks) (c : Contents) : Type 0 where
   pub tags : map tag_entry marks.tags.items ≡ entries c.tags

@@ -6,8 +6,9 @@ use Rattle.registry_tables.specs.Archives.{HoldsArchives}
 use Rattle.registry_tables.specs.Contents.{Contents, access_of}
 use Rattle.registry_tables.specs.Needs.{HoldsNeeds}
 use Rattle.registry_tables.specs.Teams.{GrantsInScope}
+use Rattle.registry_check.specs.Counter.{counter_in}
 use Rattle.registry_check.specs.Numbers.{numbers_in}
-use Rattle.registry_check.specs.Rows.{Rows}
+use Rattle.registry_check.specs.Rows.{Rows, integrities}
 use Rattle.registry_check.specs.declared.problem.Problem.{Problem}
 
 -- the rows of everything that is stored, in the order of their keys
@@ -25,7 +26,7 @@ rows_in c = record {
   live = entries c.versions;
   needs = entries c.need_ranges;
   held = entries c.held;
-  archives = entries c.archives;
+  archives = integrities c.archives;
   tags = entries c.tags;
   targets = entries c.needs;
   roles = entries (numbers_in c).roles;
@@ -33,6 +34,7 @@ rows_in c = record {
   levels = entries (numbers_in c).levels;
   moments = entries (numbers_in c).moments;
   spent = entries (numbers_in c).spent;
+  counter = counter_in c;
 }
 
 -- References hold, and what each organisation and each package needs is there; each grant is on a

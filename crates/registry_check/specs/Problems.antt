@@ -1,14 +1,16 @@
 -- What breaks a rule: for each row, each rule that is tried on it and doesn't hold.
-use Rattle.std.specs.Prelude.{ℤ, List, [], ◌∷◌, ◌++◌, if◌then◌else◌}
+use Rattle.std.specs.Prelude.{ℤ, Bool, Option, List, [], ◌∷◌, ◌++◌, if◌then◌else◌}
 use Rattle.std.specs.List.{flat_map}
 use Rattle.registry_names.specs.Keys.{Pair, Triple}
+use Rattle.registry_names.specs.Maps.{entries}
 use Rattle.registry_names.specs.Texts.{Text}
 use Rattle.registry_names.specs.declared.status.Status.{Status}
 use Rattle.registry_access.specs.declared.grant.Grant.{Grant}
 use Rattle.registry_access.specs.declared.role.Role.{Role}
+use Rattle.registry_rows.specs.KeyKinds.{NumberMap}
 use Rattle.registry_tables.specs.Contents.{Archive, LiveVersion}
-use Rattle.registry_check.specs.FormRules.{level_forms, maintainer_forms, moment_forms, organisation_forms, package_forms, role_forms, spent_forms, status_forms, tag_forms, target_forms, team_forms, token_forms, user_forms, version_forms}
-use Rattle.registry_check.specs.Rows.{NeedKey, Rows}
+use Rattle.registry_check.specs.FormRules.{counter_forms, level_forms, maintainer_forms, moment_forms, number_forms, organisation_forms, package_forms, role_forms, spent_forms, status_forms, tag_forms, target_forms, team_forms, token_forms, user_forms, version_forms}
+use Rattle.registry_check.specs.Rows.{Found, NeedKey, Rows}
 use Rattle.registry_check.specs.Rules.{token_tests, organisation_tests, member_tests, team_tests, team_member_tests, package_tests, grant_tests, maintainer_tests, live_tests, need_tests, held_tests, archive_tests}
 use Rattle.registry_check.specs.declared.problem.Problem.{Problem}
 use Rattle.registry_check.specs.declared.problem.Test.{Test}
@@ -65,6 +67,9 @@ held e = thing.Held e.0.0 e.0.1
 abbrev pub archive : ℤ × Archive → Thing
 archive e = thing.Archive e.0
 
+abbrev pub found : Found → Thing
+found e = thing.Archive e.0
+
 abbrev pub user : Text × Unit {0} → Thing
 user e = thing.User e.0
 
@@ -88,6 +93,12 @@ tag e = thing.Tag e.0.0 e.0.1
 
 abbrev pub target : Triple × Unit {0} → Thing
 target e = thing.Target e.0.0 e.0.1.0 e.0.1.1
+
+abbrev pub number : ℤ × Text → Thing
+number e = thing.Archive e.0
+
+abbrev pub counter : Bool × Option ℤ → Thing
+counter e = thing.Counter
 
 -- ---- the problems of each table
 
@@ -124,13 +135,17 @@ need_problems R = problems_of need (need_tests R) R.needs
 abbrev pub held_problems : Rows → List Problem
 held_problems R = problems_of held (held_tests R) R.held
 
-abbrev pub archive_problems : Rows → List Problem
-archive_problems R = problems_of archive (archive_tests R) R.archives
+abbrev pub archive_problems : Rows → NumberMap Archive → List Problem
+archive_problems R A = problems_of archive (archive_tests R A) (entries A)
 
--- of references, needs and archives
-abbrev pub premise_problems : Rows → List Problem
-premise_problems R = token_problems R ++ organisation_problems R ++ member_problems R ++ team_problems R ++ team_member_problems R
-    ++ published_problems R ++ grant_problems R ++ maintainer_problems R ++ live_problems R ++ need_problems R ++ held_problems R ++ archive_problems R
+-- of references and needs
+abbrev pub reference_problems : Rows → List Problem
+reference_problems R = token_problems R ++ organisation_problems R ++ member_problems R ++ team_problems R ++ team_member_problems R
+    ++ published_problems R ++ grant_problems R ++ maintainer_problems R ++ live_problems R ++ need_problems R ++ held_problems R
+
+-- and of archives. `A` is all of them, with their bytes
+abbrev pub premise_problems : Rows → NumberMap Archive → List Problem
+premise_problems R A = reference_problems R ++ archive_problems R A
 
 -- ---- the problems of form of each table
 
@@ -176,16 +191,26 @@ tag_problems R = problems_of tag (tag_forms R) R.tags
 abbrev pub target_problems : Rows → List Problem
 target_problems R = problems_of target (target_forms R) R.targets
 
+abbrev pub counted_problems : Rows → List Problem
+counted_problems R = problems_of number (number_forms R) R.archives
+
+abbrev pub counter_problems : Rows → List Problem
+counter_problems R = broken (counter R.counter) (counter_forms R R.counter)
+
 -- ---- of one subject after another
 
 -- and after those before, of names
-abbrev pub name_problems : Rows → List Problem
-name_problems R = premise_problems R ++ user_form_problems R ++ token_form_problems R ++ organisation_form_problems R ++ team_form_problems R ++ package_form_problems R ++ maintainer_form_problems R
+abbrev pub name_problems : Rows → NumberMap Archive → List Problem
+name_problems R A = premise_problems R A ++ user_form_problems R ++ token_form_problems R ++ organisation_form_problems R ++ team_form_problems R ++ package_form_problems R ++ maintainer_form_problems R
 
 -- of numbers
-abbrev pub number_problems : Rows → List Problem
-number_problems R = name_problems R ++ role_problems R ++ status_problems R ++ level_problems R ++ moment_problems R
+abbrev pub number_problems : Rows → NumberMap Archive → List Problem
+number_problems R A = name_problems R A ++ role_problems R ++ status_problems R ++ level_problems R ++ moment_problems R
 
--- of versions and tags: all of them
-abbrev pub problems : Rows → List Problem
-problems R = number_problems R ++ version_form_problems R ++ spent_problems R ++ tag_problems R ++ target_problems R
+-- of versions and tags
+abbrev pub release_problems : Rows → NumberMap Archive → List Problem
+release_problems R A = number_problems R A ++ version_form_problems R ++ spent_problems R ++ tag_problems R ++ target_problems R
+
+-- of what is counted: all of them
+abbrev pub problems : Rows → NumberMap Archive → List Problem
+problems R A = release_problems R A ++ counted_problems R ++ counter_problems R

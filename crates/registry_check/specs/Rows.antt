@@ -1,14 +1,21 @@
 -- The rows of the tables as contracts see them: each a key with its value, in the order of the keys.
-use Rattle.std.specs.Prelude.{ℤ, List, map}
+use Rattle.std.specs.Prelude.{ℕ, ℤ, Bool, List, Option, find, map, option_map}
+use Rattle.std.specs.List.{filter}
+use Rattle.std.specs.Ordering.{int_eq}
 use Rattle.registry_names.specs.Keys.{Pair, Triple}
-use Rattle.registry_names.specs.Texts.{Text}
+use Rattle.registry_names.specs.Texts.{Text, is}
 use Rattle.registry_names.specs.declared.status.Status.{Status}
 use Rattle.registry_access.specs.RowMaps.{organisation_entry, member_entry, team_entry, team_member_entry, grant_entry, package_entry, maintainer_entry}
 use Rattle.registry_access.specs.declared.grant.Grant.{Grant}
 use Rattle.registry_access.specs.declared.role.Role.{Role}
+use Rattle.registry_names.specs.Maps.{entries, seen}
+use Rattle.registry_rows.specs.KeyKinds.{NumberMap}
 use Rattle.registry_tables.specs.Contents.{Archive, LiveVersion}
+use Rattle.registry_check.specs.Counter.{counter_entry}
 use Rattle.registry_check.specs.declared.tables.ArchiveRow.{ArchiveRow}
+use Rattle.registry_check.specs.declared.tables.FoundArchive.{FoundArchive}
 use Rattle.registry_check.specs.declared.tables.HeldRow.{HeldRow}
+use Rattle.registry_check.specs.declared.tables.LikeRow.{LikeRow}
 use Rattle.registry_check.specs.declared.tables.LiveRow.{LiveRow}
 use Rattle.registry_check.specs.declared.tables.NeedRow.{NeedRow}
 use Rattle.registry_check.specs.declared.tables.LevelRow.{LevelRow}
@@ -47,7 +54,8 @@ pub record Rows : Type 0 where
   pub needs : List (NeedKey × Unit {0})
   -- the number of the archive that a version has, under package and version
   pub held : List (Pair × ℤ)
-  pub archives : List (ℤ × Archive)
+  -- the integrity that is stored with an archive, under its number
+  pub archives : List (ℤ × Text)
   -- the version that a tag names, under package and tag
   pub tags : List (Pair × Text)
   -- package, version and target of the table `needs`
@@ -60,6 +68,8 @@ pub record Rows : Type 0 where
   pub moments : List (Pair × ℤ)
   -- the numbers of those at which a withdrawn version was published and withdrawn
   pub spent : List (Pair × (ℤ × ℤ))
+  -- whether nothing but archives is counted, and the count
+  pub counter : Bool × Option ℤ
 
 -- ---- the key and the value of each row
 
@@ -78,8 +88,32 @@ need_entry r = ((r.package, (r.version, (r.target, r.range))), tt)
 abbrev pub held_entry : HeldRow → Pair × ℤ
 held_entry r = ((r.package, r.version), r.archive)
 
-abbrev pub archive_entry : ArchiveRow → ℤ × Archive
-archive_entry r = (r.number, record { integrity = r.integrity; bytes = r.bytes })
+abbrev pub archive_entry : ArchiveRow → ℤ × Text
+archive_entry r = (r.number, r.integrity)
+
+-- the integrity that is stored with an archive, the one of its bytes, and the number of the first
+-- archive that is equal to it
+abbrev pub Found : Type 0
+Found = ℤ × (Text × (Text × Option ℤ))
+
+abbrev pub found_entry : FoundArchive → Found
+found_entry r = (r.number, (r.integrity, (r.hashed, r.first)))
+
+-- the number and the bytes of an archive
+abbrev pub like_entry : LikeRow → ℤ × List ℕ
+like_entry r = (r.number, r.bytes)
+
+-- the bytes of the archive with this number
+abbrev pub bytes_under : ℤ → List (ℤ × List ℕ) → Option (List ℕ)
+bytes_under n es = option_map (λ (e : ℤ × List ℕ). e.1) (find (λ (e : ℤ × List ℕ). int_eq e.0 n) es)
+
+-- the archives of this integrity: their numbers and bytes, in the order of the numbers
+abbrev pub likes_in : Text → NumberMap Archive → List (ℤ × List ℕ)
+likes_in integrity m = map (seen (λ (a : Archive). a.bytes)) (filter (λ (e : ℤ × Archive). is integrity e.1.integrity) (entries m))
+
+-- the integrities of archives, in the order of their numbers
+abbrev pub integrities : NumberMap Archive → List (ℤ × Text)
+integrities m = map (seen (λ (a : Archive). a.integrity)) (entries m)
 
 abbrev pub tag_entry : TagRow → Pair × Text
 tag_entry r = ((r.package, r.tag), r.version)
@@ -124,4 +158,5 @@ rows_of t = record {
   levels = map level_entry t.grades.levels.items;
   moments = map moment_entry t.times.moments.items;
   spent = map spent_entry t.times.spent.items;
+  counter = counter_entry t.counter;
 }

@@ -1,6 +1,6 @@
 -- The rules: for each kind of row, which rules a row keeps among all rows. `R` is all rows, and the
 -- row is a key `k` with a value `v`.
-use Rattle.std.specs.Prelude.{◌==◌, ℤ, Bool, true, false, not, ◌&&◌, ◌||◌, List, [], ◌∷◌, Option, Some, None, is_none, length, find, option_map}
+use Rattle.std.specs.Prelude.{◌==◌, ℤ, Bool, true, false, not, ◌&&◌, ◌||◌, List, [], ◌∷◌, Option, Some, None, is_none, length}
 use Rattle.std.specs.List.{list_any, list_all}
 use Rattle.std.specs.Ordering.{int_eq}
 use Rattle.registry_names.specs.Keys.{Pair, Triple, pair_is, triple_is, both}
@@ -16,10 +16,11 @@ use Rattle.registry_publish.specs.Needs.{needs_of}
 use Rattle.registry_publish.specs.declared.need.Need.{Need}
 use Rattle.registry_rules.specs.Refusals.{is_scope}
 use Rattle.registry_rules.specs.State.{developers}
-use Rattle.registry_tables.specs.Archives.{is_archive}
+use Rattle.registry_rows.specs.KeyKinds.{NumberMap}
+use Rattle.registry_tables.specs.Archives.{number_of}
 use Rattle.registry_tables.specs.Contents.{Archive, LiveVersion}
 use Rattle.registry_tables.specs.Needs.{names_if_any}
-use Rattle.registry_check.specs.Rows.{NeedKey, Rows}
+use Rattle.registry_check.specs.Rows.{Found, NeedKey, Rows}
 use Rattle.registry_check.specs.declared.problem.Test.{Test}
 use Rattle.registry_check.specs.declared.rule.Rule.{Rule}
 use Rattle.registry_check.specs.declared.rule.Rule.TheVariants.{HasUser, HasOrganisation, HasTeam, HasPackage, HasOwner, HasFirstTeam, IsMember, IsPublic, HasMaintainer, IsInScope, IsNamed, HasNeeds, HasArchive, IsBare, Lives, IsStored, IsHeld, HasIntegrity, IsFirst}
@@ -110,9 +111,21 @@ abbrev pub numbered : ℤ → Option ℤ → Bool
 numbered n None = false
 numbered n (Some m) = int_eq m n
 
--- of the rows with this integrity and these bytes, the first has this number
-abbrev pub is_first : Rows → ℤ → Archive → Bool
-is_first R n v = numbered n (option_map (λ (e : ℤ × Archive). e.0) (find (λ (e : ℤ × Archive). is_archive v.integrity v.bytes e.1) R.archives))
+-- the number of the first archive with this integrity and these bytes
+abbrev pub first_number : NumberMap Archive → Archive → Option ℤ
+first_number A v = number_of v.integrity v.bytes A
 
-abbrev pub archive_tests : Rows → ℤ × Archive → List Test
-archive_tests R (k, v) = test IsHeld (is_held R k) ∷ test HasIntegrity (is v.integrity (integrity_text v.bytes)) ∷ test IsFirst (is_first R k v) ∷ []
+-- the first with its integrity and its bytes has this number
+abbrev pub is_first : NumberMap Archive → ℤ → Archive → Bool
+is_first A n v = numbered n (first_number A v)
+
+-- of what was found of an archive
+abbrev pub found_tests : Rows → Found → List Test
+found_tests R (k, (integrity, (hashed, first))) = test IsHeld (is_held R k) ∷ test HasIntegrity (is integrity hashed) ∷ test IsFirst (numbered k first) ∷ []
+
+-- what there is to find of an archive. `A` is all of them
+abbrev pub found_in : NumberMap Archive → ℤ × Archive → Found
+found_in A (k, v) = (k, (v.integrity, (integrity_text v.bytes, first_number A v)))
+
+abbrev pub archive_tests : Rows → NumberMap Archive → ℤ × Archive → List Test
+archive_tests R A e = found_tests R (found_in A e)

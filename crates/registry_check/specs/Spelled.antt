@@ -1,5 +1,5 @@
 -- How the key and the value of a row of each table are spelled, column by column.
-use Rattle.std.specs.Prelude.{ℤ}
+use Rattle.std.specs.Prelude.{ℕ, ℤ, List}
 use Rattle.sqlite_value.specs.Order.{Row, column}
 use Rattle.registry_names.specs.Keys.{Pair, Triple}
 use Rattle.registry_names.specs.Texts.{Text}
@@ -7,7 +7,7 @@ use Rattle.registry_names.specs.declared.status.Status.{Status}
 use Rattle.registry_access.specs.declared.grant.Grant.{Grant}
 use Rattle.registry_access.specs.declared.role.Role.{Role}
 use Rattle.registry_rows.specs.Columns.{blob_in, int_in, text_in}
-use Rattle.registry_tables.specs.Contents.{Archive, LiveVersion, version_in}
+use Rattle.registry_tables.specs.Contents.{LiveVersion, version_in}
 use Rattle.registry_tables.specs.Numbers.{grant_of, role_of, status_of}
 use Rattle.registry_check.specs.Rows.{NeedKey}
 
@@ -41,8 +41,12 @@ need_spelled r = ((text_in (column r 0), (text_in (column r 1), (text_in (column
 abbrev pub held_spelled : Row → Pair × ℤ
 held_spelled r = ((text_in (column r 0), text_in (column r 1)), int_in (column r 2))
 
-abbrev pub archive_spelled : Row → ℤ × Archive
-archive_spelled r = (int_in (column r 0), record { integrity = text_in (column r 1); bytes = blob_in (column r 2) })
+abbrev pub archive_spelled : Row → ℤ × Text
+archive_spelled r = (int_in (column r 0), text_in (column r 1))
+
+-- the number and the bytes of an archive
+abbrev pub like_spelled : Row → ℤ × List ℕ
+like_spelled r = (int_in (column r 0), blob_in (column r 1))
 
 abbrev pub tag_spelled : Row → Pair × Text
 tag_spelled r = ((text_in (column r 0), text_in (column r 1)), text_in (column r 2))

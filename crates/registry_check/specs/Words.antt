@@ -2,7 +2,7 @@
 use Rattle.std.specs.Prelude.{codes}
 use Rattle.registry_names.specs.Texts.{Text}
 use Rattle.registry_check.specs.declared.rule.Rule.{Rule}
-use Rattle.registry_check.specs.declared.rule.Rule.TheVariants.{HasUser, HasOrganisation, HasTeam, HasPackage, HasOwner, HasFirstTeam, IsMember, IsPublic, HasMaintainer, IsInScope, IsNamed, HasNeeds, HasArchive, IsBare, Lives, IsStored, IsHeld, HasIntegrity, IsFirst, IsSpelled, HasDigest, HasRole, HasStatus, HasLevel, HasMoment, HasScope, HasLatest, IsUnscoped, HasManifest, HasStated, HasMessage, IsGone, NamesLive, IsUnused}
+use Rattle.registry_check.specs.declared.rule.Rule.TheVariants.{HasUser, HasOrganisation, HasTeam, HasPackage, HasOwner, HasFirstTeam, IsMember, IsPublic, HasMaintainer, IsInScope, IsNamed, HasNeeds, HasArchive, IsBare, Lives, IsStored, IsHeld, HasIntegrity, IsFirst, IsSpelled, HasDigest, HasRole, HasStatus, HasLevel, HasMoment, HasScope, HasLatest, IsUnscoped, HasManifest, HasStated, HasMessage, IsGone, NamesLive, IsUnused, IsNoRange, IsCounted, CountsAlone, HasCount, IsReadable}
 
 abbrev pub rule_text : Rule → Text
 rule_text HasUser = codes "names a user who is not there"
@@ -39,3 +39,8 @@ rule_text HasMessage = codes "has a message that is too long"
 rule_text IsGone = codes "is withdrawn and lives"
 rule_text NamesLive = codes "names a version that does not live"
 rule_text IsUnused = codes "is in a table that stays empty"
+rule_text IsNoRange = codes "is a range of versions"
+rule_text IsCounted = codes "has a number above the count"
+rule_text CountsAlone = codes "counts something else than archives"
+rule_text HasCount = codes "has a count out of range"
+rule_text IsReadable = codes "has a text that is not UTF-8"

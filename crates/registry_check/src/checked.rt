@@ -53,8 +53,8 @@ pub(crate) fn push_problems<K: Checked>(
     Ok(())
 }
 
-// Adds the rules that don't hold for a row.
-fn push_broken<K: Checked>(
+/// Adds the rules that don't hold for a row.
+pub(crate) fn push_broken<K: Checked>(
     alloc: Global,
     problems: &mut Vec<Problem>,
     row: &K::Row,

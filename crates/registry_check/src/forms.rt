@@ -9,6 +9,7 @@ ghost use Rattle.registry_check.specs.Forms as spec;
 
 use crate::search::is_number;
 use registry_names::{Fault, Ident, Message, Moment, Name, Stop, TagText, Ver};
+use registry_ranges::is_range;
 use std::alloc::Global;
 
 /// Whether it is the name of a user, an organisation or a team.
@@ -53,6 +54,13 @@ pub(crate) fn is_tag(alloc: Global, text: &str) -> Result<bool, Fault>
         Err(Stop::Refused(_)) => Ok(false),
         Err(Stop::Fault(fault)) => Err(fault),
     }
+}
+
+/// Whether it is a range of versions.
+pub(crate) fn is_range_text(text: &str) -> bool
+    ensures { result ≡ spec.is_range text.now }
+{
+    is_range(text)
 }
 
 /// Whether it is short enough for the message of a deprecation.

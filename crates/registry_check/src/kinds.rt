@@ -1,21 +1,21 @@
 //! How the rows of each table are read.
 
-ghost use Rattle.std.specs.Prelude.{◌≡◌, ℤ};
+ghost use Rattle.std.specs.Prelude.{◌≡◌, ℕ, ℤ, List};
 ghost use Rattle.registry_access.specs.RowMaps.{grant_entry, maintainer_entry, member_entry, organisation_entry, package_entry, team_entry, team_member_entry};
 ghost use Rattle.registry_access.specs.declared.grant.Grant.{Grant as Right};
 ghost use Rattle.registry_access.specs.declared.role.Role.{Role as Rank};
 ghost use Rattle.registry_names.specs.Keys.{Pair, Triple};
 ghost use Rattle.registry_names.specs.Texts.{Text as Bytes};
 ghost use Rattle.registry_names.specs.declared.status.Status.{Status as Readers};
-ghost use Rattle.registry_tables.specs.Contents.{Archive, LiveVersion};
+ghost use Rattle.registry_tables.specs.Contents.{LiveVersion};
 ghost use Rattle.registry_tables.specs.Numbers as numbers;
-ghost use Rattle.registry_check.specs.Rows.{NeedKey, archive_entry, held_entry, live_entry, need_entry, token_entry, user_entry};
-ghost use Rattle.registry_check.specs.Spelled.{archive_spelled, grant_spelled, held_spelled, live_spelled, member_spelled, name_spelled, need_spelled, package_spelled, pair_spelled, token_spelled, triple_spelled};
+ghost use Rattle.registry_check.specs.Rows.{NeedKey, archive_entry, held_entry, like_entry, live_entry, need_entry, token_entry, user_entry};
+ghost use Rattle.registry_check.specs.Spelled.{archive_spelled, grant_spelled, held_spelled, like_spelled, live_spelled, member_spelled, name_spelled, need_spelled, package_spelled, pair_spelled, token_spelled, triple_spelled};
 
-use crate::archives::{Archives, Held};
+use crate::archives::{Archives, Held, Likes};
 use crate::packages::{Grants, Maintainers, Published};
 use crate::people::{Members, Organisations, TeamMembers, Teams, Tokens, Users};
-use crate::tables::{ArchiveRow, HeldRow, LiveRow, NeedRow, TokenRow};
+use crate::tables::{ArchiveRow, HeldRow, LikeRow, LiveRow, NeedRow, TokenRow};
 use crate::versions::{Live, Needs};
 use registry_access::{
     Grant, GrantRow, MaintainerRow, MemberRow, PackageRow, Role, TeamMemberRow, TeamRow,
@@ -269,7 +269,7 @@ impl RowKind for Held {
 impl RowKind for Archives {
     type Value = ArchiveRow;
 
-    ghost Seen = { ℤ × Archive };
+    ghost Seen = { ℤ × Bytes };
 
     ghost seen = { archive_entry };
 
@@ -278,10 +278,27 @@ impl RowKind for Archives {
     fn read(row: &Row) -> Result<ArchiveRow, Error> {
         let number = row.get(0)?;
         let integrity: String = row.get(1)?;
-        let bytes: Vec<u8> = row.get(2)?;
         Ok(ArchiveRow {
             number,
             integrity: Text::from(integrity),
+        })
+    }
+}
+
+impl RowKind for Likes {
+    type Value = LikeRow;
+
+    ghost Seen = { ℤ × List ℕ };
+
+    ghost seen = { like_entry };
+
+    ghost spelled = { like_spelled };
+
+    fn read(row: &Row) -> Result<LikeRow, Error> {
+        let number = row.get(0)?;
+        let bytes: Vec<u8> = row.get(1)?;
+        Ok(LikeRow {
+            number,
             bytes: Blob::from(bytes),
         })
     }

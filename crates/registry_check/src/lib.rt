@@ -8,6 +8,7 @@
 
 mod archives;
 mod checked;
+mod counter;
 mod forms;
 mod keys;
 mod kinds;
@@ -25,9 +26,11 @@ mod rule;
 mod scope;
 mod search;
 mod tables;
+mod texts;
 mod versions;
 mod whole;
 
 pub use crate::problem::{Problem, Thing};
 pub use crate::rule::Rule;
+pub use crate::texts::TextTable;
 pub use crate::whole::check;

@@ -3,9 +3,11 @@
 ghost use Rattle.std.specs.Prelude.{◌≡◌, IfOk, IsErr, map};
 ghost use Rattle.registry_rows.specs.Frames.{Stays};
 ghost use Rattle.registry_tables.specs.Effects.{InForm, Loads};
+ghost use Rattle.registry_check.specs.Counter.{counter_entry, counter_in};
 ghost use Rattle.registry_check.specs.Loaded.{AreAccounts, AreGrades, AreGroups, AreMarks, ArePackages, AreTables, AreTimes, AreVersions, Finds, Tells};
 
 use crate::archives::{Archives, Held};
+use crate::counter::{Counter, Counts, counter_of};
 use crate::numbers::{Levels, Moments, Roles, Statuses};
 use crate::packages::{Grants, Maintainers, Published};
 use crate::people::{Members, Organisations, TeamMembers, Teams, Tokens, Users};
@@ -36,6 +38,7 @@ pub(crate) fn load_tables<S: Alter>(
     let marks = load_marks(alloc, tx)?;
     let grades = load_grades(alloc, tx)?;
     let times = load_times(alloc, tx)?;
+    let counter = load_counter(alloc, tx)?;
     Ok(Tables {
         accounts,
         groups,
@@ -44,6 +47,7 @@ pub(crate) fn load_tables<S: Alter>(
         marks,
         grades,
         times,
+        counter,
     })
 }
 
@@ -119,7 +123,7 @@ fn load_versions<S: Alter>(alloc: Global, tx: &mut Transaction<'_, S>) -> Result
     let archives = load::<Archives, S>(
         alloc,
         tx,
-        "SELECT id, integrity, bytes FROM archives ORDER BY id",
+        "SELECT id, integrity FROM archives ORDER BY id",
     )?;
     Versions::new(alloc, live, needs, held, archives)
 }
@@ -183,8 +187,22 @@ fn load_times<S: Alter>(alloc: Global, tx: &mut Transaction<'_, S>) -> Result<Ti
     Ok(Times { moments, spent })
 }
 
-// The rows that a query returns, as values of this kind.
-fn load<K: RowKind, S: Alter>(
+fn load_counter<S: Alter>(alloc: Global, tx: &mut Transaction<'_, S>) -> Result<Counter, Fault>
+    requires in_form { InForm S.Store tx.old }
+    ensures stays { Stays S.Store tx.old tx.new }
+    ensures loads { Loads S.Store tx.old tx.new result
+        (λ counter c. counter_entry counter ≡ counter_in c) }
+{
+    let rows = load::<Counts, S>(
+        alloc,
+        tx,
+        "SELECT rowid, name, seq FROM sqlite_sequence ORDER BY rowid",
+    )?;
+    Ok(counter_of(&rows))
+}
+
+/// The rows that a query returns, as values of this kind.
+pub(crate) fn load<K: RowKind, S: Alter>(
     alloc: Global,
     tx: &mut Transaction<'_, S>,
     text: &str,

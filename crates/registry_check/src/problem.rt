@@ -1,6 +1,7 @@
 //! What breaks a rule.
 
 use crate::rule::Rule;
+use crate::texts::TextTable;
 use registry_names::{Blob, Text};
 
 /// A thing that a row of a table is about.
@@ -117,6 +118,15 @@ pub enum Thing {
         version: Text,
         /// The package that it needs.
         target: Text,
+    },
+    /// The table `sqlite_sequence`, in which SQLite counts the numbers of archives.
+    Counter,
+    /// A row of a table, by its rowid.
+    Row {
+        /// The table.
+        table: TextTable,
+        /// The rowid.
+        row: i64,
     },
 }
 

@@ -12,7 +12,7 @@ ghost use Rattle.registry_check.specs.Rows.{live_entry, rows_of, spent_entry, ta
 ghost use Rattle.registry_check.specs.Spelled.{spent_spelled, tag_spelled, triple_spelled};
 
 use crate::checked::Checked;
-use crate::forms::{is_message, is_moment, is_tag, is_version};
+use crate::forms::{is_message, is_moment, is_range_text, is_tag, is_version};
 use crate::manifest::{is_manifest_text, states};
 use crate::people::copied;
 use crate::problem::{Test, Thing};
@@ -187,6 +187,10 @@ impl Checked for Tags {
             Test {
                 rule: Rule::IsSpelled,
                 holds: is_spelled
+            },
+            Test {
+                rule: Rule::IsNoRange,
+                holds: !is_range_text(row.tag.as_str())
             },
             Test {
                 rule: Rule::NamesLive,

@@ -76,6 +76,16 @@ pub enum Rule {
     NamesLive,
     /// The table `needs` has no row.
     IsUnused,
+    /// A tag is no range of versions.
+    IsNoRange,
+    /// The number of an archive isn't above the count.
+    IsCounted,
+    /// Nothing but archives is counted.
+    CountsAlone,
+    /// The count is a whole number from 0 on, and a higher one can be given.
+    HasCount,
+    /// Each text of a row is UTF-8.
+    IsReadable,
 }
 
 impl Rule {
@@ -118,6 +128,11 @@ impl Rule {
             Rule::IsGone => "is withdrawn and lives",
             Rule::NamesLive => "names a version that does not live",
             Rule::IsUnused => "is in a table that stays empty",
+            Rule::IsNoRange => "is a range of versions",
+            Rule::IsCounted => "has a number above the count",
+            Rule::CountsAlone => "counts something else than archives",
+            Rule::HasCount => "has a count out of range",
+            Rule::IsReadable => "has a text that is not UTF-8",
         }
     }
 }

@@ -4,15 +4,14 @@
 //! the rows that begin so stand together. Which numbers of archives are held is found in a list of
 //! these numbers of its own.
 
-ghost use Rattle.std.specs.Prelude.{◌≡◌, ◌&&◌, Some, find, option_map};
+ghost use Rattle.std.specs.Prelude.{◌≡◌, Some, option_map};
 ghost use Rattle.std.specs.List.{list_any};
 ghost use Rattle.std.specs.Ordering.{int_eq};
 ghost use Rattle.registry_access.specs.Levels as levels;
 ghost use Rattle.registry_names.specs.Keys.{pair_is};
 ghost use Rattle.registry_names.specs.Texts as texts;
-ghost use Rattle.registry_tables.specs.Archives.{is_archive};
 ghost use Rattle.registry_check.specs.FormRules as forms;
-ghost use Rattle.registry_check.specs.Rows.{archive_entry, rows_of};
+ghost use Rattle.registry_check.specs.Rows.{rows_of};
 ghost use Rattle.registry_check.specs.Rules as spec;
 ghost use Rattle.registry_check.specs.Rules.{has, need_is};
 
@@ -22,20 +21,6 @@ use crate::tables::{ArchiveRow, HeldRow, Tables};
 use registry_access::{MemberRow, Role};
 use registry_names::Text;
 use registry_publish::Need;
-
-#[tactic(auto, unfolding(registry_names::specs::Texts::is))]
-fn is(stored: &Text, asked: &str) -> bool
-    ensures { result ≡ texts.is stored.now asked.now }
-{
-    stored.as_str() == asked
-}
-
-#[tactic(auto, unfolding(registry_names::specs::Texts::is))]
-fn is_bytes(stored: &[u8], asked: &[u8]) -> bool
-    ensures { result ≡ texts.is stored.now asked.now }
-{
-    stored == asked
-}
 
 fn is_owner(role: Role) -> bool
     ensures { result ≡ levels.is_owner (Some role) }
@@ -54,25 +39,6 @@ fn any_owner(rows: &[MemberRow]) -> bool
     ensures { result ≡ list_any (λ r. levels.is_owner (Some r.role)) rows.now }
 {
     rows.iter().any(|row| is_owner(row.role))
-}
-
-// The number of the first of these archives that has the integrity and the bytes of this one.
-fn first_like(rows: &[ArchiveRow], archive: &ArchiveRow) -> Option<i64>
-    ensures { result ≡ option_map (λ r. r.number)
-        (find (λ r. is_archive archive.now.integrity archive.now.bytes (archive_entry r).1) rows.now) }
-{
-    rows.iter()
-        .find(|row| is_same(archive, row))
-        .map(|row| row.number)
-}
-
-// Whether both have the same integrity and the same bytes.
-fn is_same(archive: &ArchiveRow, other: &ArchiveRow) -> bool
-    ensures { result
-        ≡ is_archive archive.now.integrity archive.now.bytes (archive_entry other.now).1 }
-{
-    is(&archive.integrity, other.integrity.as_str())
-        && is_bytes(archive.bytes.as_slice(), other.bytes.as_slice())
 }
 
 fn archive_in(row: Option<&HeldRow>) -> Option<i64>
@@ -181,26 +147,6 @@ impl Tables {
             &self.versions.needs,
             |row| compare_need(row, name, version, target, range),
         )
-    }
-
-    // The number of the first archive that has the integrity and the bytes of this one.
-    fn first_number(&self, archive: &ArchiveRow) -> Option<i64>
-        ensures { result ≡ option_map (λ e. e.0)
-            (find (λ e. is_archive archive.now.integrity archive.now.bytes e.1)
-            (rows_of self.now).archives) }
-    {
-        first_like(&self.versions.archives, archive)
-    }
-
-    /// Whether no archive before this one is equal to it.
-    pub(crate) fn is_first(&self, archive: &ArchiveRow) -> bool
-        ensures { result ≡ spec.is_first (rows_of self.now) archive.now.number
-            (archive_entry archive.now).1 }
-    {
-        match self.first_number(archive) {
-            Some(number) => is_number(number, archive.number),
-            None => false,
-        }
     }
 
     pub(crate) fn has_tag(&self, name: &str, tag: &str) -> bool

@@ -9,6 +9,7 @@ ghost use Rattle.registry_names.specs.Keys.{pair_cmp};
 ghost use Rattle.registry_names.specs.Texts.{text_cmp};
 ghost use Rattle.registry_rows.specs.TextKeys.{texts_cmp};
 
+use crate::counter::Counter;
 use crate::keys::held_numbers;
 use crate::order::in_order;
 use registry_access::{GrantRow, MaintainerRow, MemberRow, PackageRow, TeamMemberRow, TeamRow};
@@ -65,15 +66,35 @@ pub(crate) struct HeldRow {
     pub(crate) archive: i64,
 }
 
-/// An archive.
+/// An archive, without its bytes.
 #[derive(Drop)]
 pub(crate) struct ArchiveRow {
     /// Its number.
     pub(crate) number: i64,
-    /// Its integrity.
+    /// The integrity that is stored with it.
     pub(crate) integrity: Text,
+}
+
+/// An archive among those of one integrity.
+#[derive(Drop)]
+pub(crate) struct LikeRow {
+    /// Its number.
+    pub(crate) number: i64,
     /// Its bytes.
     pub(crate) bytes: Blob,
+}
+
+/// What was found of an archive.
+#[derive(Drop)]
+pub(crate) struct FoundArchive {
+    /// Its number.
+    pub(crate) number: i64,
+    /// The integrity that is stored with it.
+    pub(crate) integrity: Text,
+    /// The integrity of its bytes.
+    pub(crate) hashed: Text,
+    /// The number of the first archive with the same integrity and the same bytes.
+    pub(crate) first: Option<i64>,
 }
 
 /// A tag of a package.
@@ -351,4 +372,6 @@ pub(crate) struct Tables {
     pub(crate) grades: Grades,
     /// The numbers of moments.
     pub(crate) times: Times,
+    /// What is counted.
+    pub(crate) counter: Counter,
 }

@@ -2,14 +2,17 @@
 
 ghost use Rattle.std.specs.Prelude.{◌≡◌, ◌++◌, IfOk, OnOk};
 ghost use Rattle.registry_rows.specs.Frames.{Stays};
+ghost use Rattle.registry_rows.specs.KeyKinds.{NumberMap};
+ghost use Rattle.registry_tables.specs.Contents.{Archive, contents};
 ghost use Rattle.registry_tables.specs.Effects.{InForm};
 ghost use Rattle.registry_check.specs.Loaded.{Tells};
 ghost use Rattle.registry_check.specs.Problems as spec;
-ghost use Rattle.registry_check.specs.Right.{AreProblems, TellsRight};
+ghost use Rattle.registry_check.specs.Right.{AreProblems, TellsRight, rows_at};
 ghost use Rattle.registry_check.specs.Rows.{rows_of};
 
-use crate::archives::{Archives, Held};
-use crate::checked::push_problems;
+use crate::archives::{Held, push_archives};
+use crate::checked::{push_broken, push_problems};
+use crate::counter::{Counters, Numbers};
 use crate::loads::load_tables;
 use crate::names::{
     MaintainerForms, OrganisationForms, PackageForms, TeamForms, TokenForms, UserForms,
@@ -20,6 +23,7 @@ use crate::people::{Members, Organisations, TeamMembers, Teams, Tokens};
 use crate::problem::Problem;
 use crate::releases::{Tags, Targets, VersionForms, Withdrawn};
 use crate::tables::Tables;
+use crate::texts::text_problems;
 use crate::versions::{Live, Needs};
 use registry_names::Fault;
 use sqlite::{Alter, Transaction};
@@ -27,33 +31,64 @@ use std::alloc::Global;
 
 /// Tries all rules on everything that is stored, and returns what breaks one: first the rules of
 /// references, needs and archives, and then those of form, each in the order of the tables and of
-/// their keys.
+/// their keys. Where a text isn't UTF-8, it returns the rows with such texts alone, since no other
+/// rule can be tried on them.
 ///
-/// There is no problem exactly where the registry is right (`IsRight` of its specification): everything holds
-/// that the promises of a request suppose of the tables. Nothing is changed. A fault says nothing
-/// about what is stored.
+/// There is no problem exactly where the registry is right (`IsRight` of its specification):
+/// everything holds that the promises of a request suppose of the tables. Nothing is changed. A fault
+/// says nothing about what is stored.
+///
+/// All rows are held at once but for the bytes of archives, of which only those of one integrity are.
 pub fn check<S: Alter>(alloc: Global, tx: &mut Transaction<'_, S>) -> Result<Vec<Problem>, Fault>
     requires in_form { InForm S.Store tx.old }
     ensures stays { Stays S.Store tx.old tx.new }
     ensures loads { Tells S.Store tx.old tx.new result (λ found db. AreProblems found.items db) }
     ensures met { Tells S.Store tx.old tx.new result (λ found db. TellsRight found.items db) }
 {
-    let tables = load_tables(alloc, tx)?;
-    problems_in(alloc, &tables)
+    let unreadable = text_problems(alloc, tx)?;
+    if unreadable.is_empty() {
+        check_rules(alloc, tx)
+    } else {
+        Ok(unreadable)
+    }
 }
 
-// What breaks a rule in these tables.
-fn problems_in(alloc: Global, all: &Tables) -> Result<Vec<Problem>, Fault>
-    ensures { IfOk result (λ problems. problems.items ≡ spec.problems (rows_of all.now)) }
+// What breaks a rule where each text can be read.
+fn check_rules<S: Alter>(alloc: Global, tx: &mut Transaction<'_, S>) -> Result<Vec<Problem>, Fault>
+    requires in_form { InForm S.Store tx.old }
+    ensures stays { Stays S.Store tx.old tx.new }
+    ensures loads { Tells S.Store tx.old tx.new result
+        (λ found db. found.items ≡ spec.problems (rows_at db) (contents db).archives) }
+{
+    let tables = load_tables(alloc, tx)?;
+    let mut problems = reference_problems(alloc, &tables)?;
+    push_archives(alloc, &mut problems, tx, &tables.versions.archives, &tables)?;
+    push_forms(alloc, &mut problems, &tables)?;
+    Ok(problems)
+}
+
+// What breaks a rule of references or needs.
+fn reference_problems(alloc: Global, all: &Tables) -> Result<Vec<Problem>, Fault>
+    ensures { IfOk result
+        (λ problems. problems.items ≡ spec.reference_problems (rows_of all.now)) }
 {
     let mut problems = Vec::new(alloc);
     push_people(alloc, &mut problems, all)?;
     push_packages(alloc, &mut problems, all)?;
     push_versions(alloc, &mut problems, all)?;
-    push_names(alloc, &mut problems, all)?;
-    push_numbers(alloc, &mut problems, all)?;
-    push_releases(alloc, &mut problems, all)?;
     Ok(problems)
+}
+
+// Adds what breaks a rule of form to what breaks the other rules.
+fn push_forms(alloc: Global, problems: &mut Vec<Problem>, all: &Tables) -> Result<(), Fault>
+    ensures { OnOk result ((archives : NumberMap Archive)
+        → problems.old.items ≡ spec.premise_problems (rows_of all.now) archives
+        → problems.new.items ≡ spec.problems (rows_of all.now) archives) }
+{
+    push_names(alloc, problems, all)?;
+    push_numbers(alloc, problems, all)?;
+    push_releases(alloc, problems, all)?;
+    push_counts(alloc, problems, all)
 }
 
 fn push_people(alloc: Global, problems: &mut Vec<Problem>, all: &Tables) -> Result<(), Fault>
@@ -82,13 +117,11 @@ fn push_packages(alloc: Global, problems: &mut Vec<Problem>, all: &Tables) -> Re
 fn push_versions(alloc: Global, problems: &mut Vec<Problem>, all: &Tables) -> Result<(), Fault>
     ensures { OnOk result (problems.new.items
         ≡ problems.old.items ++ spec.live_problems (rows_of all.now)
-        ++ spec.need_problems (rows_of all.now) ++ spec.held_problems (rows_of all.now)
-        ++ spec.archive_problems (rows_of all.now)) }
+        ++ spec.need_problems (rows_of all.now) ++ spec.held_problems (rows_of all.now)) }
 {
     push_problems::<Live>(alloc, problems, &all.versions.live, all)?;
     push_problems::<Needs>(alloc, problems, &all.versions.needs, all)?;
-    push_problems::<Held>(alloc, problems, &all.versions.held, all)?;
-    push_problems::<Archives>(alloc, problems, &all.versions.archives, all)
+    push_problems::<Held>(alloc, problems, &all.versions.held, all)
 }
 
 fn push_names(alloc: Global, problems: &mut Vec<Problem>, all: &Tables) -> Result<(), Fault>
@@ -130,4 +163,13 @@ fn push_releases(alloc: Global, problems: &mut Vec<Problem>, all: &Tables) -> Re
     push_problems::<Withdrawn>(alloc, problems, &all.times.spent, all)?;
     push_problems::<Tags>(alloc, problems, &all.marks.tags, all)?;
     push_problems::<Targets>(alloc, problems, &all.marks.targets, all)
+}
+
+fn push_counts(alloc: Global, problems: &mut Vec<Problem>, all: &Tables) -> Result<(), Fault>
+    ensures { OnOk result (problems.new.items
+        ≡ problems.old.items ++ spec.counted_problems (rows_of all.now)
+        ++ spec.counter_problems (rows_of all.now)) }
+{
+    push_problems::<Numbers>(alloc, problems, &all.versions.archives, all)?;
+    push_broken::<Counters>(alloc, problems, &all.counter, all)
 }

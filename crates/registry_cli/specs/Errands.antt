@@ -14,7 +14,7 @@ use Rattle.registry_cli.specs.Asked.{reads_line}
 use Rattle.registry_cli.specs.Lines.{at_in, has_both, has_flag, line_of, value_in, who_in}
 use Rattle.registry_cli.specs.Subcommands.{bare, connections, flag, number, numbers, option, options, registry, required, user, with_rules, with_subcommands}
 use Rattle.registry_cli.specs.declared.errands.Errand.{Errand}
-use Rattle.registry_cli.specs.declared.errands.Errand.TheVariants.{TokenNew, Check, Backup, Stop, Serve}
+use Rattle.registry_cli.specs.declared.errands.Errand.TheVariants.{TokenNew, Check, Backup, Restore, Stop, Serve}
 use Rattle.registry_cli.specs.declared.errands.NewToken.{NewToken}
 use Rattle.registry_cli.specs.declared.errands.Serving.{Serving}
 use Rattle.registry_cli.specs.declared.meaning.Line.{Line}
@@ -40,7 +40,7 @@ abbrev pub log : Rule
 log = option (codes "LOG") (codes "log")
 
 abbrev pub errands : List (Text × List Rule)
-errands = (codes "token-new", user ∷ []) ∷ (codes "check", []) ∷ (codes "backup", no_check ∷ copy ∷ []) ∷ (codes "stop", []) ∷ (codes "serve", port_beside ∷ socket ∷ connections ∷ log ∷ []) ∷ []
+errands = (codes "token-new", user ∷ []) ∷ (codes "check", []) ∷ (codes "backup", no_check ∷ copy ∷ []) ∷ (codes "restore", no_check ∷ copy ∷ []) ∷ (codes "stop", []) ∷ (codes "serve", port_beside ∷ socket ∷ connections ∷ log ∷ []) ∷ []
 
 -- the options are those of requests
 abbrev pub admin_command : App
@@ -63,6 +63,9 @@ is_checked found = not (has_flag found (codes "no-check"))
 
 abbrev pub backup : List Row → List Row → Option Errand
 backup rows found = Some (Backup (db_in rows) (value_in found (codes "COPY")) (is_checked found))
+
+abbrev pub restore : List Row → List Row → Option Errand
+restore rows found = Some (Restore (db_in rows) (value_in found (codes "COPY")) (is_checked found))
 
 abbrev pub stop : List Row → Option Errand
 stop rows = Some (Stop (db_in rows))
@@ -88,9 +91,10 @@ errand_called who rows name found =
     if bytes_eq name (codes "token-new") then new_token who rows found else (
     if bytes_eq name (codes "check") then check rows else (
     if bytes_eq name (codes "backup") then backup rows found else (
+    if bytes_eq name (codes "restore") then restore rows found else (
     if bytes_eq name (codes "stop") then stop rows else (
     if bytes_eq name (codes "serve") then serve who rows found else (
-    None)))))
+    None))))))
 
 abbrev pub errand_by : Who → List Row → Option (Text × List Row) → Option Errand
 errand_by who rows None = None

@@ -24,7 +24,7 @@ const ABOUT: &str = "registry 0.1.0, a private npm-compatible package registry";
 
 /// The end of the help: an example, and the commands that ask for no request.
 const MORE: &str =
-    "Example: registry --db registry.db --operator user-add ann\n\nFor whoever runs it there are token-new, check, backup and stop, too: registry check --help";
+    "Example: registry --db registry.db --operator user-add ann\n\nFor whoever runs it there are token-new, check, backup, restore and stop, too: registry check --help";
 
 // The argument of `clap` for a parameter.
 fn argument<'a>(alloc: Global, parameter: &Parameter) -> Arg<'a>

@@ -45,6 +45,15 @@ pub enum Errand {
         /// Whether what the copy holds is checked.
         checks: bool,
     },
+    /// A file that is made of a copy.
+    Restore {
+        /// The path of the file that is to keep the registry.
+        db: Text,
+        /// The path of the copy.
+        copy: Text,
+        /// Whether what the copy holds is checked.
+        checks: bool,
+    },
     /// The end of the server that has a file.
     Stop {
         /// The path of the file that keeps the registry.
@@ -322,6 +331,7 @@ fn errand_called(
         "token-new" => new_token(alloc, matches, who, found),
         "check" => check(alloc, matches),
         "backup" => backup(alloc, matches, found),
+        "restore" => restore(alloc, matches, found),
         "stop" => stop(alloc, matches),
         "serve" => serve(alloc, matches, who, found),
         _ => Ok(None),
@@ -364,6 +374,22 @@ fn backup(
     Ok(Some(Errand::Backup {
         db: Text::from_str(alloc, value(matches, "PATH"))?,
         copy: Text::from_str(alloc, value(found, "COPY"))?,
+        checks: is_checked(found),
+    }))
+}
+
+fn restore(
+    alloc: Global,
+    matches: &ArgMatches<'_>,
+    found: &ArgMatches<'_>,
+) -> Result<Option<Errand>, AllocError>
+    ensures { IfOk result (λ e. e ≡ spec.restore (rows_of (found_of matches.now))
+        (rows_of (found_of found.now))) }
+{
+    let copy = value(found, "COPY");
+    Ok(Some(Errand::Restore {
+        db: Text::from_str(alloc, value(matches, "PATH"))?,
+        copy: Text::from_str(alloc, copy)?,
         checks: is_checked(found),
     }))
 }

@@ -449,7 +449,13 @@ const NO_CHECK: Parameter = Parameter {
     need: Need::Flag { option: "no-check" },
 };
 
-static ERRANDS: [Subcommand; 5] = [
+const RESTORED: Parameter = Parameter {
+    id: "COPY",
+    help: "The path of a copy, which stays as it is",
+    need: Need::Required,
+};
+
+static ERRANDS: [Subcommand; 6] = [
     Subcommand {
         name: "token-new",
         parameters: &[USER],
@@ -467,6 +473,12 @@ static ERRANDS: [Subcommand; 5] = [
         parameters: &[NO_CHECK, COPY],
         about: "Copy the file, and check the copy",
         example: "Example: registry --db registry.db backup copy.db",
+    },
+    Subcommand {
+        name: "restore",
+        parameters: &[NO_CHECK, RESTORED],
+        about: "Make the file of a copy, where no file is yet",
+        example: "Example: registry --db registry.db restore copy.db",
     },
     Subcommand {
         name: "stop",

@@ -15,7 +15,7 @@ use registry_tables::{has_grant, has_team, load_access, load_status};
 use sqlite::{Alter, Transaction};
 use std::alloc::Global;
 
-/// Of a grant that is to be given.
+/// Loads what decides whether a team is granted a package.
 pub(crate) fn facts_for_grant<S: Alter>(
     alloc: Global,
     tx: &mut Transaction<'_, S>,
@@ -66,7 +66,7 @@ fn find_grantable<S: Alter>(
     })
 }
 
-/// Of a grant that is to be taken.
+/// Loads what decides whether a grant is taken back.
 pub(crate) fn facts_for_revoke<S: Alter>(
     alloc: Global,
     tx: &mut Transaction<'_, S>,

@@ -18,7 +18,7 @@ use registry_tables::{has_other_maintainer, has_user, is_maintainer, load_standi
 use sqlite::{Alter, Transaction};
 use std::alloc::Global;
 
-/// Of a user who is to be a maintainer.
+/// Loads what decides whether a user becomes a maintainer.
 pub(crate) fn facts_for_owner_add<S: Alter>(
     alloc: Global,
     tx: &mut Transaction<'_, S>,
@@ -63,7 +63,7 @@ fn find_newcomer<S: Alter>(
     })
 }
 
-/// Of a maintainer who is to be removed, by a caller whom the policy allows it.
+/// Loads what decides whether a maintainer is removed, if the policy allows it.
 pub(crate) fn facts_for_owner_remove<S: Alter>(
     alloc: Global,
     tx: &mut Transaction<'_, S>,

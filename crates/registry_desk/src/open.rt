@@ -236,12 +236,13 @@ impl<S: Alter> Registry<S> {
     ///
     /// `Database` is answered where the connection is inside a transaction, where the database has
     /// the tables of another schema or another number of ours, counts in `sqlite_sequence` for more
-    /// than the archives, grants a team something on a package of another scope, has a number out of
-    /// range for a role, a status, a grant or a moment, or fails; `Memory` where there is no room to
-    /// read it. A connection that a fault of the disk has shut gives no registry, but one of the two.
-    /// A fault hands the connection back. It shows what it showed, so that it can be adopted again, and a crash leaves what was
-    /// committed before and nothing else, unless a fault of the disk has shut it. Then a crash leaves
-    /// that or all that was made of it: a fresh registry, or the migrated one.
+    /// than the archives, grants a team something on a package of another scope, has a number out
+    /// of range for a role, a status, a grant or a moment, or fails; `Memory` where there is no
+    /// room to read it. A connection that a fault of the disk has shut gives no registry, but one
+    /// of the two. A fault hands the connection back. It shows what it showed, so it can be adopted
+    /// again, and a crash leaves what was committed before and nothing else, unless a fault of the
+    /// disk has shut it. Then a crash leaves that or all that was made of it: a fresh registry, or
+    /// the migrated one.
     ///
     /// A step limit of the connection stays: what would take more steps is answered by a fault, here
     /// and in each request to the registry.

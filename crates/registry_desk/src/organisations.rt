@@ -19,7 +19,7 @@ use registry_tables::{has_organisation, has_other_owner, has_user, load_access, 
 use sqlite::{Alter, Transaction};
 use std::alloc::Global;
 
-/// Of an organisation that is to be created.
+/// Loads what decides whether an organisation is created.
 pub(crate) fn facts_for_org_create<S: Alter>(
     tx: &mut Transaction<'_, S>,
     organisation: &Ident,
@@ -36,7 +36,7 @@ pub(crate) fn facts_for_org_create<S: Alter>(
     })
 }
 
-/// Of a role that a user is to have in an organisation, by a caller whom the policy allows it.
+/// Loads what decides whether a user gets a role in an organisation, if the policy allows it.
 pub(crate) fn facts_for_org_set<S: Alter>(
     alloc: Global,
     tx: &mut Transaction<'_, S>,
@@ -90,7 +90,7 @@ fn find_candidate<S: Alter>(
     })
 }
 
-/// Of a member who is to leave an organisation, by a caller whom the policy allows it.
+/// Loads what decides whether a member is removed from an organisation, if the policy allows it.
 pub(crate) fn facts_for_org_remove<S: Alter>(
     alloc: Global,
     tx: &mut Transaction<'_, S>,
@@ -118,7 +118,7 @@ pub(crate) fn facts_for_org_remove<S: Alter>(
     }))
 }
 
-/// Of a query about an organisation.
+/// Loads what decides a query about an organisation.
 pub(crate) fn facts_about_organisation<S: Alter>(
     alloc: Global,
     tx: &mut Transaction<'_, S>,

@@ -25,7 +25,7 @@ use registry_tables::{
 use sqlite::{Alter, Transaction};
 use std::alloc::Global;
 
-/// Of a status that is to be set.
+/// Loads what decides whether a status is set.
 pub(crate) fn facts_for_set_access<S: Alter>(
     alloc: Global,
     tx: &mut Transaction<'_, S>,
@@ -43,7 +43,7 @@ pub(crate) fn facts_for_set_access<S: Alter>(
     })
 }
 
-/// Of a query for the maintainers of a package.
+/// Loads what decides a query for the maintainers of a package.
 pub(crate) fn facts_for_maintainers<S: Alter>(
     alloc: Global,
     tx: &mut Transaction<'_, S>,
@@ -60,7 +60,7 @@ pub(crate) fn facts_for_maintainers<S: Alter>(
     })
 }
 
-/// Of a publish, by a caller whom the policy allows it.
+/// Loads what decides a publish, if the policy allows it.
 pub(crate) fn facts_for_publish<S: Alter>(
     alloc: Global,
     tx: &mut Transaction<'_, S>,
@@ -169,7 +169,7 @@ fn has_some<S: Alter>(
     }
 }
 
-/// Of a tag that is to name a version.
+/// Loads what decides whether a tag is set.
 pub(crate) fn facts_for_tag_set<S: Alter>(
     alloc: Global,
     tx: &mut Transaction<'_, S>,
@@ -191,7 +191,7 @@ pub(crate) fn facts_for_tag_set<S: Alter>(
     })
 }
 
-/// Of a tag that is to go.
+/// Loads what decides whether a tag is removed.
 pub(crate) fn facts_for_tag_remove<S: Alter>(
     alloc: Global,
     tx: &mut Transaction<'_, S>,
@@ -210,7 +210,7 @@ pub(crate) fn facts_for_tag_remove<S: Alter>(
     })
 }
 
-/// Of a query for the tags of a package.
+/// Loads what decides a query for the tags of a package.
 pub(crate) fn facts_about_package<S: Alter>(
     alloc: Global,
     tx: &mut Transaction<'_, S>,
@@ -228,7 +228,7 @@ pub(crate) fn facts_about_package<S: Alter>(
     })
 }
 
-/// Of a query for the document of a version.
+/// Loads what decides a query for the document of a version.
 pub(crate) fn facts_about_document<S: Alter>(
     alloc: Global,
     tx: &mut Transaction<'_, S>,
@@ -280,7 +280,7 @@ fn latest_lives<S: Alter>(tx: &mut Transaction<'_, S>, name: &Name) -> Result<bo
     }
 }
 
-/// Of a query for the archive of a version.
+/// Loads what decides a query for the archive of a version.
 pub(crate) fn facts_about_archive<S: Alter>(
     alloc: Global,
     tx: &mut Transaction<'_, S>,

@@ -18,7 +18,7 @@ use registry_tables::{has_user, load_token_user, load_user_tokens};
 use sqlite::{Alter, Transaction};
 use std::alloc::Global;
 
-/// Of a user who is to be added.
+/// Loads what decides whether a user is added.
 pub(crate) fn facts_for_user_add<S: Alter>(
     tx: &mut Transaction<'_, S>,
     user: &Ident,
@@ -33,8 +33,8 @@ pub(crate) fn facts_for_user_add<S: Alter>(
     })
 }
 
-/// Of an action that is decided by who asks alone. A user of no name is looked for, so that what is
-/// answered comes of an open registry.
+/// Loads what decides an action that depends on its caller alone: nothing. The look-up of a user
+/// without a name fails where the registry is shut, so that such an action fails, too.
 pub(crate) fn facts_of_caller<S: Alter>(tx: &mut Transaction<'_, S>) -> Result<About, Fault>
     requires in_form { InForm S.Store tx.old }
     ensures stays { Stays S.Store tx.old tx.new }
@@ -44,7 +44,7 @@ pub(crate) fn facts_of_caller<S: Alter>(tx: &mut Transaction<'_, S>) -> Result<A
     Ok(About::Nothing)
 }
 
-/// Of a token that is to be added.
+/// Loads what decides whether a token is added.
 pub(crate) fn facts_for_token_add<S: Alter>(
     alloc: Global,
     tx: &mut Transaction<'_, S>,
@@ -62,7 +62,7 @@ pub(crate) fn facts_for_token_add<S: Alter>(
     })
 }
 
-/// Of a token that is to end.
+/// Loads what decides whether a token is ended.
 pub(crate) fn facts_for_token_remove<S: Alter>(
     alloc: Global,
     tx: &mut Transaction<'_, S>,
@@ -78,7 +78,7 @@ pub(crate) fn facts_for_token_remove<S: Alter>(
     })
 }
 
-/// Of a user whose tokens are to end, by a caller whom the policy allows it.
+/// Loads what decides whether all tokens of a user are ended, if the policy allows it.
 pub(crate) fn facts_for_tokens_remove<S: Alter>(
     alloc: Global,
     tx: &mut Transaction<'_, S>,

@@ -41,8 +41,9 @@ const PROBE: &str = "COMMIT";
 
 /// A registry of packages, over any store that keeps its tables. Contracts see the connection.
 ///
-/// Between requests it has no transaction, its tables are in form, each grant is on a package of its
-/// organisation's scope, and all that it sees was committed. A fault of the disk may shut it for good: then every request is answered by a fault.
+/// Between requests it has no transaction, its tables are in form, each grant is on a package of
+/// its organisation's scope, and all that it sees was committed. A fault of the disk may shut it
+/// for good; then every request is answered by a fault.
 ///
 /// It keeps the texts of the packuments that were asked for last, and the archives. Between requests
 /// each is the packument of its package, of which a version lives, or the archive of its version, by
@@ -73,7 +74,7 @@ impl<S: Alter> Model for Registry<S> {
 }
 
 impl Registry<MemStore> {
-    /// A new registry in memory, or a fault. Of a new one nothing was asked yet.
+    /// A new registry in memory, or a fault. Nothing was asked of a new one yet.
     pub fn in_memory(alloc: Global) -> Result<Registry<MemStore>, Fault>
         ensures fresh { IfOk result (λ r. stored (state over_memory r) ≡ fresh) }
         ensures empty { IfOk result (λ r. registry_in (state over_memory r) ≡ nothing) }

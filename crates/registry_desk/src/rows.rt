@@ -41,11 +41,11 @@ use std::alloc::{AllocError, Global};
 /// The rows that answer an action.
 #[derive(Drop)]
 pub(crate) enum Rows {
-    /// Of a command that needs none.
+    /// None: a command needs none.
     Nothing,
-    /// Of the end of a user's tokens: their digests, in byte order.
+    /// The digests of a user's tokens, which end, in byte order.
     Digests(Vec<TokenDigest>),
-    /// Of a deprecation, and of the withdrawal of all: the live versions, in byte order of their
+    /// The live versions of a package that are deprecated, or all withdrawn, in byte order of their
     /// texts.
     Live(Vec<Ver>),
     /// The manifest and the message of a version, if that lives.

@@ -15,7 +15,7 @@ use registry_tables::{has_team, is_in_team, load_access, load_role};
 use sqlite::{Alter, Transaction};
 use std::alloc::Global;
 
-/// Of a team that is to be created.
+/// Loads what decides whether a team is created.
 pub(crate) fn facts_for_team_create<S: Alter>(
     alloc: Global,
     tx: &mut Transaction<'_, S>,
@@ -34,7 +34,7 @@ pub(crate) fn facts_for_team_create<S: Alter>(
     })
 }
 
-/// Of a team that is to be destroyed.
+/// Loads what decides whether a team is destroyed.
 pub(crate) fn facts_for_team_destroy<S: Alter>(
     alloc: Global,
     tx: &mut Transaction<'_, S>,
@@ -53,7 +53,7 @@ pub(crate) fn facts_for_team_destroy<S: Alter>(
     })
 }
 
-/// Of a member who is to be in a team.
+/// Loads what decides whether a member is put into a team.
 pub(crate) fn facts_for_team_add<S: Alter>(
     alloc: Global,
     tx: &mut Transaction<'_, S>,
@@ -77,7 +77,7 @@ pub(crate) fn facts_for_team_add<S: Alter>(
     })
 }
 
-/// Of a member who is to leave a team.
+/// Loads what decides whether a member is taken out of a team.
 pub(crate) fn facts_for_team_remove<S: Alter>(
     alloc: Global,
     tx: &mut Transaction<'_, S>,
@@ -126,7 +126,7 @@ fn find_place<S: Alter>(
     })
 }
 
-/// Of a query about a team.
+/// Loads what decides a query about a team.
 pub(crate) fn facts_about_team<S: Alter>(
     alloc: Global,
     tx: &mut Transaction<'_, S>,

@@ -32,8 +32,8 @@ use std::alloc::{AllocError, Global};
 /// Three days: an older version isn't withdrawn.
 const OLDEST: i64 = 259_200;
 
-/// Of a version that is to be withdrawn, by a caller whom the policy allows it. Who needs it is
-/// determined by the needs that are stored.
+/// Loads what decides a withdrawal, if the policy allows it. The stored needs say who needs the
+/// version.
 pub(crate) fn facts_for_withdraw<S: Alter>(
     alloc: Global,
     tx: &mut Transaction<'_, S>,
@@ -129,8 +129,7 @@ fn is_too_old(now: &Moment, published: &Moment) -> bool
     published.seconds() + OLDEST <= now.seconds()
 }
 
-/// Of a package of which all live versions are to be withdrawn, by a caller whom the policy allows
-/// it. Who needs them is determined by the needs that are stored.
+/// Loads what decides the withdrawal of all live versions of a package, if the policy allows it.
 pub(crate) fn facts_for_withdraw_all<S: Alter>(
     alloc: Global,
     tx: &mut Transaction<'_, S>,
@@ -249,7 +248,7 @@ fn has_too_old(live: &[LiveVersion], now: &Moment) -> bool
     live.iter().any(|row| is_too_old(now, &row.published))
 }
 
-/// Of versions that are to be deprecated, by a caller whom the policy allows it.
+/// Loads what decides a deprecation of versions, if the policy allows it.
 pub(crate) fn facts_for_deprecate<S: Alter>(
     alloc: Global,
     tx: &mut Transaction<'_, S>,

@@ -1,8 +1,8 @@
 //! A guest's side: asking a server of the registry's file.
 //!
-//! The server says first that it is ready. A command that gives up before has sent nothing. From then on
-//! its connection stays open until it is answered: where it gives up or is ended that closes, and what
-//! it asked isn't begun any more.
+//! The server says first that it is ready. A command that gives up before has sent nothing. From
+//! then on its connection stays open until it is answered. If the command gives up or is ended, the
+//! connection closes, and what it asked isn't begun.
 
 use crate::folder::{COMMAND_SOCKET, folder_of, is_trusted, path_in};
 use crate::guest_socket::READY;

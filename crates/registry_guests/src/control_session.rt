@@ -12,7 +12,7 @@ pub const SILENCE_LIMIT: u64 = 5_000;
 /// The byte by which a connection asks to hold the server. It comes back once that holds.
 pub(crate) const HOLD: u8 = b'h';
 
-/// The byte by which a connection asks whether it holds the server still. It comes back where it does.
+/// The byte by which a connection asks whether it still holds the server. It comes back if it does.
 pub(crate) const KEPT: u8 = b'k';
 
 /// The byte by which a connection asks the server to end. Its connection ends when the program does.

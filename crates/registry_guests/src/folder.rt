@@ -21,8 +21,8 @@ pub(crate) const CONTROL_SOCKET: &str = "control";
 /// What says which file the server has open.
 pub(crate) const IDENTITY: &str = "file";
 
-/// The folder of the sockets of a server of a file. It lies beside the file, also where the path is that
-/// of a link to it.
+/// The folder of the sockets of a server of a file. It lies beside the file, even if the path is a
+/// link to it.
 ///
 /// An error is the system's.
 pub fn folder_of<R: Files + Alloc>(rt: &R, alloc: Global, file: &str) -> io::Result<String> {

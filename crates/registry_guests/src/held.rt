@@ -6,8 +6,8 @@ use std::io;
 use std::io::{ErrorKind, Read, Write};
 use std::os::unix::net::UnixStream;
 
-/// A server that is held: it answers nobody, and lets nobody in, until this is dropped, or for
-/// [`HOLD_LIMIT`](crate::HOLD_LIMIT) at most.
+/// A server that is held: it answers queries over HTTP, and all else waits, until this is dropped, or
+/// for [`HOLD_LIMIT`](crate::HOLD_LIMIT) at most. So its files stay as they are.
 #[derive(Drop)]
 pub struct Hold {
     stream: UnixStream,
@@ -21,8 +21,8 @@ impl Hold {
         Ok(Hold { stream })
     }
 
-    /// Asks the server whether it was held all the time, and is still. False where it isn't any more,
-    /// as after [`HOLD_LIMIT`](crate::HOLD_LIMIT), or it has ended.
+    /// Asks the server whether it was held all the time, and still is. False if it isn't, as after
+    /// [`HOLD_LIMIT`](crate::HOLD_LIMIT), or if the server has ended.
     ///
     /// `TimedOut` is returned where the server gives no answer for ten seconds; any other error is
     /// the system's.

@@ -59,6 +59,15 @@ pub fn has_other_file<R: Files + Net + Alloc>(
     if is_open_there(rt, alloc, folder.as_str(), file)? {
         return Ok(false);
     }
+    is_served(rt, alloc, file)
+}
+
+/// Whether a server listens at the file's path, whatever file it has open, and whether or not a file is
+/// there.
+///
+/// An error is the system's.
+pub fn is_served<R: Files + Net + Alloc>(rt: &R, alloc: Global, file: &str) -> io::Result<bool> {
+    let folder = folder_of(rt, alloc, file)?;
     let socket = path_in(alloc, folder.as_str(), COMMAND_SOCKET)?;
     Ok(connect_at(rt, socket.as_str())?.is_some())
 }

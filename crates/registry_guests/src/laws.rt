@@ -10,11 +10,11 @@ ghost use Rattle.registry_server.specs.Worlds.{VisitsLead};
 use registry_server::Socket;
 use registry_service::Service;
 
-/// A guest is answered once. Before it is, all that was received of it is held, and nothing was sent
-/// to it but that the server is ready. Where its turn is taken it is still there, and its message is
-/// all that was received of it: the turn of one that has gone before is never taken.
-/// From then on what was sent to it, and what isn't yet, is that one answer. In no other visit of it
-/// the service or the clock is asked.
+/// A guest is answered once. Before it is, all that was received of it is held, and nothing was
+/// sent to it but that the server is ready. Where its turn is taken it is still there, and its
+/// message is all that was received of it: the turn of one that has gone before is never taken.
+/// From then on what was sent to it, and what isn't yet, is that one answer. No other visit of it
+/// asks the service or the clock.
 pub fn guests_are_answered_once<S: Socket, D: Service>()
     ensures { AnswersOnce S.received S.sent D.answers S.has_none }
 {}

@@ -6,7 +6,7 @@
 //! prints where it has the registry itself.
 //!
 //! Whoever may be a guest may also hold the server, so that the file and its log can be copied as
-//! they lie, or stop it. Neither asks the service anything.
+//! they lie while commands wait, or stop it. Neither asks the service anything.
 #![tactic(auto)]
 
 mod asking;
@@ -44,7 +44,7 @@ pub use crate::guest_pool::{GUEST_COUNT, GuestPool};
 pub use crate::guest_socket::GuestSocket;
 pub use crate::held::Hold;
 pub use crate::holding::{hold, stop};
-pub use crate::identity::has_other_file;
+pub use crate::identity::{has_other_file, is_served};
 pub use crate::reading::{CommandMessage, read};
 pub use crate::turning::turn;
 pub use crate::unsent::Unsent;

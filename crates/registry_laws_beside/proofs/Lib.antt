@@ -1,2 +1,3 @@
 mod BesideFacts
+mod HeldFacts
 mod UnseenFacts

@@ -3,6 +3,7 @@
 
 ghost use Rattle.registry_http.specs.Services.{shown};
 ghost use Rattle.registry_laws_beside.specs.Beside.{LogRunsBeside, TurnsRunBeside};
+ghost use Rattle.registry_laws_beside.specs.Held.{HoldsLeaveStored, QueriesLeaveStored};
 ghost use Rattle.registry_laws_beside.specs.Unseen.{CommandsPrintTheSame, ConnectionsAreAnsweredTheSame, WorldsAreSuch};
 
 use sqlite::Alter;
@@ -40,4 +41,13 @@ pub fn unread_packages_change_nothing_that_is_told<S: Alter>()
     ensures worlds { WorldsAreSuch (shown S.Store) }
     ensures connections { ConnectionsAreAnsweredTheSame (shown S.Store) }
     ensures commands { CommandsPrintTheSame (shown S.Store) }
+{}
+
+/// While its server is held, a registry keeps what it stores. After any number of queries an open
+/// registry holds what it held before them (`queries`). A hold asks it queries alone
+/// (`held_servers_ask_queries` of `registry_server`): so whatever is answered first after a hold is
+/// answered by a registry that holds what was held before it (`holds`).
+pub fn held_servers_leave_what_is_stored<S: Alter>()
+    ensures queries { QueriesLeaveStored (shown S.Store) }
+    ensures holds { HoldsLeaveStored (shown S.Store) }
 {}

@@ -47,8 +47,8 @@ pub struct Entry<'a> {
 impl Entry<'_> {
     /// Its line: the moment, the user, the method or `command`, the target, the status, the length
     /// and the time in milliseconds, with a space between them and a newline at the end. `-` stands
-    /// for what isn't known, and `***` for every part of a target that may be a token. Of a target at
-    /// most 512 bytes are put, and `...` stands for the others.
+    /// for what isn't known, and `***` for every part of a target that may be a token. At most 512
+    /// bytes of a target are put, and `...` stands for the others.
     ///
     /// `Memory` is returned where no memory is left.
     pub fn line(&self, alloc: Global) -> Result<Vec<u8>, Fault>

@@ -10,7 +10,7 @@ pub fn lines_have_seven_columns()
     ensures single { LinesAreSingle }
 {}
 
-/// Of no target more than 515 bytes are put: 512 of what is shown, and what says that it is cut.
+/// At most 515 bytes of a target are put: 512 of what is shown, and what says that it is cut.
 pub fn targets_are_short()
     ensures { TargetsAreShort }
 {}

@@ -23,7 +23,7 @@ use std::alloc::Global;
 pub enum Older {
     /// Schema 1: fourteen tables. An archive is in the row of its version.
     First,
-    /// Schema 2: archives have a table of their own. Of a need only the target is known.
+    /// Schema 2: archives have a table of their own. Only the target of a need is known.
     Second,
 }
 

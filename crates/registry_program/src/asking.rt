@@ -2,6 +2,7 @@
 
 use crate::beside::{TRIES, ask_server, busy, is_busy, pause, require_no_other};
 use crate::ending::Ending;
+use crate::progress::{Progress, Work};
 use crate::registries::Registries;
 use registry_names::Text;
 use registry_rules::{Reply, Request};
@@ -45,6 +46,7 @@ pub fn answer_to<R: Registries>(
         body,
     } = question;
     require_no_other(rt, alloc, path)?;
+    let _opening = Progress::begin(rt, Work::Opening, path);
     for _ in 0..TRIES {
         let reply = registries.reply(rt, alloc, path, request);
         if !is_busy(&reply) {

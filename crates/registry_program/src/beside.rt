@@ -2,8 +2,8 @@
 
 use crate::ending::{Ending, Failure, Obstacle, Trouble};
 use registry_guests::{
-    CommandReply, Hold, ask, connect_to_server, fits, has_other_file, hold, parse_reply, stop,
-    write,
+    CommandReply, Hold, ask, connect_to_server, fits, has_other_file, hold, is_served, parse_reply,
+    stop, write,
 };
 use registry_names::{ByteOut, Fault, Text, WriteFailed, write_whole};
 use std::alloc::Global;
@@ -37,6 +37,15 @@ pub fn is_busy<T>(done: &Result<T, Ending>) -> bool {
 /// So whatever answers is the file at the path or its server.
 pub fn require_no_other(rt: &HostRuntime, alloc: Global, path: &str) -> Result<(), Ending> {
     match has_other_file(rt, alloc, path) {
+        Ok(false) => Ok(()),
+        Ok(true) => Err(other_file()),
+        Err(error) => Err(barred(&error)),
+    }
+}
+
+/// No server listens at the path, whatever file it has open. No file is there.
+pub fn require_no_server(rt: &HostRuntime, alloc: Global, path: &str) -> Result<(), Ending> {
+    match is_served(rt, alloc, path) {
         Ok(false) => Ok(()),
         Ok(true) => Err(other_file()),
         Err(error) => Err(barred(&error)),
@@ -128,8 +137,9 @@ fn print_two<W: ByteOut>(writer: &mut W, first: &[u8], second: &[u8]) -> Result<
     write_whole(writer, second)
 }
 
-/// Holds the server of the file at the path: it answers nobody until the returned value is dropped.
-/// `None` where no server is there, or it is about to end.
+/// Holds the server of the file at the path: until the returned value is dropped it answers queries
+/// over HTTP alone, and its files stay as they are. `None` where no server is there, or it is about to
+/// end.
 pub fn hold_server(rt: &HostRuntime, alloc: Global, path: &str) -> Result<Option<Hold>, Ending> {
     match hold(rt, alloc, path) {
         Ok(held) => Ok(held),

@@ -7,14 +7,16 @@ ghost use Rattle.registry_check.specs.Right.{TellsRight};
 ghost use Rattle.registry_rows.specs.Ready.{Ready};
 ghost use Rattle.registry_tables.specs.Schema as tables;
 ghost use Rattle.registry_desk.specs.Adopted.{CanBeAdopted, CanBeAdoptedAgain};
+ghost use Rattle.registry_program.specs.Copies.{StaysCommitted};
 
 use crate::beside::{TRIES, busy, hold_server, is_busy, pause, require_no_other};
 use crate::checking_beside::problems_beside;
 use crate::ending::{Ending, Failure, Obstacle};
 use crate::errands::{DONE, print_done};
 use crate::opening::{obstacle_left, require_file, unopened};
+use crate::progress::{Progress, Work};
 use crate::run::{obstacle_text, print_line};
-use registry_check::{Problem, Thing, check};
+use registry_check::{Problem, TextTable, Thing, check};
 use registry_desk::{Registry, Unopened, has_tables};
 use registry_names::{Blob, ByteOut, Fault, Text};
 use sqlite::{Alter, Connection, FileStore, Unknown};
@@ -87,6 +89,7 @@ pub fn print_wrong<O: ByteOut, E: ByteOut>(
 fn problems_at(rt: &HostRuntime, alloc: Global, path: &str) -> Result<Vec<Problem>, Ending> {
     require_file(rt, path)?;
     require_no_other(rt, alloc, path)?;
+    let _opening = Progress::begin(rt, Work::Opening, path);
     for _ in 0..TRIES {
         let found = problems_alone(rt, alloc, path);
         if !is_busy(&found) {
@@ -103,7 +106,10 @@ fn problems_at(rt: &HostRuntime, alloc: Global, path: &str) -> Result<Vec<Proble
 // What is wrong in a file that no other process has.
 fn problems_alone(rt: &HostRuntime, alloc: Global, path: &str) -> Result<Vec<Problem>, Ending> {
     match Registry::open_from(rt, path, Unknown) {
-        Ok(registry) => problems_in(alloc, registry),
+        Ok(registry) => {
+            let _checking = Progress::begin(rt, Work::Checking, path);
+            problems_in(alloc, registry)
+        }
         Err((Fault::Memory, _)) => Err(Ending::from(Fault::Memory)),
         Err((Fault::Database, Some(left))) => problems_left(alloc, left),
         Err((Fault::Database, None)) => Err(unopened(rt, path)),
@@ -175,12 +181,13 @@ fn problems_within<S: Alter + Drop>(
 }
 
 /// What is wrong in the tables of a connection that is between requests. Nothing is wrong exactly
-/// where everything holds that the promises suppose.
+/// where everything holds that the promises suppose. What is committed stays.
 pub fn problems_of<S: Alter>(alloc: Global, conn: &mut Connection<S>) -> Result<Vec<Problem>, Fault>
     requires idle { conn.old.in_transaction ≡ false }
     requires ready { Ready tables.schema (state S.Store conn.old) }
-    ensures { HasCleanDisk (state S.Store conn.new)
+    ensures right { HasCleanDisk (state S.Store conn.new)
         → IfOk result (λ found. TellsRight found.items (state S.Store conn.old).now.trees) }
+    ensures still { StaysCommitted (state S.Store conn.old) (state S.Store conn.new) }
 {
     let mut tx = conn.transaction();
     let problems = check(alloc, &mut tx);
@@ -231,6 +238,8 @@ fn thing_text(alloc: Global, thing: &Thing) -> Result<String, AllocError> {
             version,
             target,
         } => target_text(alloc, package, version, target),
+        Thing::Counter => String::from_str(alloc, "table sqlite_sequence"),
+        Thing::Row { table, row } => row_text(alloc, *table, *row),
     }
 }
 
@@ -296,6 +305,11 @@ fn target_text(
 ) -> Result<String, AllocError> {
     let version = part(alloc, " of version ", version, package)?;
     joined(alloc, &["need ", target.as_str(), version.as_str()])
+}
+
+fn row_text(alloc: Global, table: TextTable, row: i64) -> Result<String, AllocError> {
+    let number = format!(in alloc; "row {row}")?;
+    joined(alloc, &[number.as_str(), " of table ", table.name()])
 }
 
 // The pieces, joined into one text.

@@ -5,6 +5,7 @@ use crate::checking::{problems_in, problems_left};
 use crate::ending::{Ending, Snag};
 use crate::held::{copy_files, new_file, snag};
 use crate::opening::open_obstacle;
+use crate::progress::{Progress, Work};
 use registry_check::Problem;
 use registry_desk::Registry;
 use registry_guests::{Hold, folder_of};
@@ -39,7 +40,10 @@ pub fn problems_beside(
     let kept = require_held(&mut held);
     drop(held);
     match (files, kept) {
-        (Ok(files), Ok(())) => problems_in_files(alloc, files),
+        (Ok(files), Ok(())) => {
+            let _progress = Progress::begin(rt, Work::Checking, path);
+            problems_in_files(alloc, files)
+        }
         (Err(ending), Ok(())) => Err(ending),
         (_, Err(ending)) => Err(ending),
     }

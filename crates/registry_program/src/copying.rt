@@ -2,19 +2,21 @@
 
 ghost use Rattle.std.specs.Prelude.{◌≡◌, false, IfOk, IsTrue, OnOk};
 ghost use Rattle.std.specs.Io.KnownBytes.{Appends};
+ghost use Rattle.sqlite.specs.Closing.{IsCopied};
 ghost use Rattle.sqlite.specs.Files.{file_state};
 ghost use Rattle.sqlite.specs.Held.{state};
 ghost use Rattle.sqlite_wal.specs.Reads.{AreClean};
 ghost use Rattle.registry_rows.specs.Ready.{Ready};
 ghost use Rattle.registry_tables.specs.Schema as tables;
-ghost use Rattle.registry_program.specs.Copies.{IsCopy};
+ghost use Rattle.registry_program.specs.Copies.{IsCopy, IsHeld, StaysCommitted};
 
 use crate::beside::{TRIES, busy, hold_server, is_busy, pause, require_held, require_no_other};
 use crate::checking::{problem_lines, problems_of};
 use crate::ending::{Ending, Failure, Obstacle, Snag};
 use crate::held::{copy_files, new_file, snag, snagged, written};
-use crate::opening::{close_files, open, require_file, unclosed};
+use crate::opening::{close_files, open, open_once, require_file, unclosed};
 use crate::parts::Names;
+use crate::progress::{Progress, Shown, Work};
 use registry_desk::Registry;
 use registry_guests::Hold;
 use sqlite::{Alter, Connection, FileStore, Files};
@@ -83,6 +85,7 @@ fn fill(
     part: &mut File,
     part_log: &str,
 ) -> Result<(), Ending> {
+    let _opening = Progress::begin(rt, Work::Opening, path);
     for _ in 0..TRIES {
         let done = copy_alone(rt, path, part);
         if !is_busy(&done) {
@@ -115,16 +118,19 @@ fn copy_beside(
 
 // Copies the registry in a file that no other process has.
 fn copy_alone(rt: &HostRuntime, path: &str, target: &mut File) -> Result<(), Ending> {
-    match open(rt, path) {
-        Ok(registry) => copy_registry(registry, target),
+    match open_once(rt, path) {
+        Ok(registry) => {
+            let progress = Progress::begin(rt, Work::Copying, path);
+            copy_registry(registry, &mut Shown::new(target, progress))
+        }
         Err(ending) => Err(ending),
     }
 }
 
 // The files of the registry stay locked until they are copied.
-fn copy_registry<D: Disk + Drop>(
+fn copy_registry<D: Disk + Drop, W: Write>(
     registry: Registry<FileStore<D>>,
-    target: &mut File,
+    target: &mut W,
 ) -> Result<(), Ending> {
     match write_copy(registry, target) {
         Ok(files) => {
@@ -201,27 +207,45 @@ fn see_whole(
     checks: bool,
 ) -> Result<Vec<String>, Ending> {
     match open(rt, copy) {
-        Ok(registry) => see_inside(alloc, registry, checks),
+        Ok(registry) => {
+            let (_files, lines) = see_inside(rt, alloc, copy, registry, checks)?;
+            Ok(lines)
+        }
         Err(Ending::Fault(Failure::Opening(Obstacle::Full))) => Err(snag(Snag::Full)),
         Err(Ending::Fault(Failure::Opening(_))) => Err(snag(Snag::Unreadable)),
         Err(ending) => Err(ending),
     }
 }
 
-/// Closes a copy that was opened, which copies its log into it. Returns a line for each thing that is
-/// wrong in it, if that is asked for.
+/// Closes a copy at the path that was opened, which copies its log into its database file. Returns the
+/// files, and a line for each thing that is wrong in the copy, if that is asked for.
+///
+/// The database file then holds the registry alone.
 pub fn see_inside<D: Disk + Drop>(
+    rt: &HostRuntime,
     alloc: Global,
+    path: &str,
     registry: Registry<FileStore<D>>,
     checks: bool,
-) -> Result<Vec<String>, Ending> {
+) -> Result<(Files<D>, Vec<String>), Ending>
+    ensures whole { IfOk result (λ seen. AreClean D.Disk seen.0.log seen.0.db
+        → IsHeld (file_state registry) (D.Disk.seen seen.0.db)) }
+{
     let mut conn = registry.release();
-    let found = wrong_in(alloc, &mut conn, checks);
+    let lines = lines_in(rt, alloc, path, &mut conn, checks);
+    match close_copy(conn) {
+        Ok(files) => Ok((files, lines?)),
+        Err(ending) => Err(ending),
+    }
+}
+
+/// Closes a database that was made of a copy, which copies its log into its file.
+pub fn close_copy<D: Disk + Drop>(conn: Connection<FileStore<D>>) -> Result<Files<D>, Ending>
+    ensures copied { IfOk result (λ files. AreClean D.Disk files.log files.db
+        → IsCopied conn files) }
+{
     match conn.close_files() {
-        Ok(files) => {
-            drop(files);
-            found
-        }
+        Ok(files) => Ok(files),
         Err((error, store)) => {
             drop(store);
             Err(snag(why_unclosed(&unclosed(error))))
@@ -229,21 +253,34 @@ pub fn see_inside<D: Disk + Drop>(
     }
 }
 
-// A line for each thing that is wrong, if that is asked for.
-fn wrong_in<S: Alter>(
+// A line for each thing that is wrong in a registry, if that is asked for. What is committed stays.
+fn lines_in<S: Alter>(
+    rt: &HostRuntime,
     alloc: Global,
+    path: &str,
     conn: &mut Connection<S>,
     checks: bool,
 ) -> Result<Vec<String>, Ending>
     requires idle { conn.old.in_transaction ≡ false }
     requires ready { Ready tables.schema (state S.Store conn.old) }
+    ensures still { StaysCommitted (state S.Store conn.old) (state S.Store conn.new) }
 {
     if checks {
-        let problems = problems_of(alloc, conn)?;
-        Ok(problem_lines(alloc, &problems)?)
+        let _checking = Progress::begin(rt, Work::Checking, path);
+        wrong_in(alloc, conn)
     } else {
         Ok(Vec::new(alloc))
     }
+}
+
+// A line for each thing that is wrong.
+fn wrong_in<S: Alter>(alloc: Global, conn: &mut Connection<S>) -> Result<Vec<String>, Ending>
+    requires idle { conn.old.in_transaction ≡ false }
+    requires ready { Ready tables.schema (state S.Store conn.old) }
+    ensures still { StaysCommitted (state S.Store conn.old) (state S.Store conn.new) }
+{
+    let problems = problems_of(alloc, conn)?;
+    Ok(problem_lines(alloc, &problems)?)
 }
 
 fn why_unclosed(ending: &Ending) -> Snag {

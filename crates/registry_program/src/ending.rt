@@ -37,8 +37,10 @@ pub enum Failure {
     Socket(Blockage),
     /// A file that the arguments name.
     File,
-    /// The copy that the arguments name.
+    /// The copy that the arguments name, which can't be made.
     Backup(Snag),
+    /// The registry's file, which can't be made of a copy.
+    Restore(Snag),
     /// Standard output.
     Write,
 }
@@ -71,7 +73,7 @@ pub enum Blockage {
     Unmade,
 }
 
-/// Why there is no copy.
+/// Why there is no copy, or no file that is made of one.
 #[derive(Clone, Copy)]
 pub enum Snag {
     /// A file has its name already, or the name of its log or of its part.
@@ -82,6 +84,14 @@ pub enum Snag {
     Unwritable,
     /// What was written doesn't open.
     Unreadable,
+    /// The copy that is to be restored isn't there, is empty, or can't be opened.
+    Missing,
+    /// Another process has it.
+    Busy,
+    /// A newer program wrote it.
+    Newer,
+    /// It has an older schema, and is to be checked.
+    Older,
 }
 
 /// Why the registry's file can't be opened.

@@ -7,6 +7,7 @@ use crate::commands::{ask_line, given_alone};
 use crate::copying::back_up;
 use crate::ending::{Ending, Failure};
 use crate::registries::Registries;
+use crate::restoring::restore;
 use crate::serving::serve_beside;
 use crate::stopping::stop;
 use registry_cli::{Errand, NewToken, TOKEN_BYTES, print_token, token_of};
@@ -17,11 +18,11 @@ use std::random::RandomSource;
 /// What is printed for an errand that was done.
 pub const DONE: &str = "{\"ok\":true}\n";
 
-/// What is printed for a copy that was made, and in which nothing is wrong.
+/// What is printed for a copy or a file that was made, and in which nothing is wrong.
 const CHECKED: &str = "{\"ok\":true,\"checked\":true}\n";
 
-/// Runs an errand, prints its result, and gives the exit status. A check, a copy and the end of a
-/// server always concern the file at the path, whatever `registries` are. Where a server has the
+/// Runs an errand, prints its result, and gives the exit status. All but a token always concern the
+/// file at the path, whatever `registries` are. Where a server has the
 /// file, the server is asked to add a token, and held while its files are copied.
 pub fn run_errand<R: Registries, O: ByteOut, E: ByteOut>(
     rt: &HostRuntime,
@@ -38,6 +39,10 @@ pub fn run_errand<R: Registries, O: ByteOut, E: ByteOut>(
             let wrong = back_up(rt, alloc, db.as_str(), copy.as_str(), checks)?;
             print_wrong(&wrong, done_of(checks), output, errors)
         }
+        Errand::Restore { db, copy, checks } => {
+            let wrong = restore(rt, alloc, db.as_str(), copy.as_str(), checks)?;
+            print_wrong(&wrong, done_of(checks), output, errors)
+        }
         Errand::Stop { db } => {
             stop(rt, alloc, db.as_str())?;
             print_done(DONE, output)
@@ -52,7 +57,7 @@ pub fn print_done<O: ByteOut>(done: &str, output: &mut O) -> Result<u8, Ending> 
     Ok(0)
 }
 
-// What is printed for a copy that was made: whether it was checked, too.
+// What is printed for a copy or a file that was made: whether it was checked, too.
 fn done_of(checks: bool) -> &'static str {
     if checks { CHECKED } else { DONE }
 }

@@ -1,6 +1,7 @@
 //! Copies of the files of a server that is held.
 
 use crate::ending::{Ending, Failure, Obstacle, Snag};
+use crate::progress::{Progress, Shown, Work};
 use registry_names::Fault;
 use std::alloc::Global;
 use std::fs::{File, OpenOptions};
@@ -39,20 +40,22 @@ pub fn copy_files(
     copy_bytes(rt, log_of(rt, alloc, path)?.as_str(), log)
 }
 
-// The path of the log, which is beside the file that a link leads to.
-fn log_of(rt: &HostRuntime, alloc: Global, path: &str) -> Result<String, Ending> {
+/// The path of the log, which is beside the file that a link leads to.
+pub fn log_of(rt: &HostRuntime, alloc: Global, path: &str) -> Result<String, Ending> {
     match fs::canonicalize(rt, path) {
         Ok(file) => Ok(format!(in alloc; "{}-wal", file.as_str())?),
         Err(error) => Err(unread(&error)),
     }
 }
 
-fn copy_bytes(rt: &HostRuntime, path: &str, target: &mut File) -> Result<(), Ending> {
+/// Copies the file at the path to a new file, byte by byte.
+pub fn copy_bytes(rt: &HostRuntime, path: &str, target: &mut File) -> Result<(), Ending> {
     let mut source = match fs::open(rt, path) {
         Ok(file) => file,
         Err(error) => return Err(unread(&error)),
     };
-    match io::copy(&mut source, target) {
+    let mut target = Shown::new(target, Progress::begin(rt, Work::Copying, path));
+    match io::copy(&mut source, &mut target) {
         Ok(_) => Ok(()),
         Err(error) => Err(snagged(&error)),
     }

@@ -8,6 +8,7 @@ ghost use Rattle.registry_desk.specs.Resting.{Rests};
 
 use crate::beside::{TRIES, busy, is_busy, pause};
 use crate::ending::{Ending, Failure, Obstacle};
+use crate::progress::{Progress, Work};
 use registry_desk::{Registry, SCHEMA, Unopened};
 use registry_migration::older_schema;
 use registry_names::Fault;
@@ -19,8 +20,14 @@ use std::alloc::Global;
 use std::fs;
 use std::io::ErrorKind;
 
-/// The registry in the file at the path.
+/// The registry in the file at the path. A terminal is told of it.
 pub fn open(rt: &HostRuntime, path: &str) -> Result<Registry<FileStore<File>>, Ending> {
+    let _opening = Progress::begin(rt, Work::Opening, path);
+    open_once(rt, path)
+}
+
+/// The same, and nothing is told.
+pub fn open_once(rt: &HostRuntime, path: &str) -> Result<Registry<FileStore<File>>, Ending> {
     match Registry::open(rt, path) {
         Ok(registry) => Ok(registry),
         Err(Fault::Memory) => Err(Ending::from(Fault::Memory)),
@@ -41,8 +48,9 @@ pub fn unopened(rt: &HostRuntime, path: &str) -> Ending {
 /// The registry in the file at the path. Where another process has the file, it is tried again, for
 /// five seconds.
 pub fn open_soon(rt: &HostRuntime, path: &str) -> Result<Registry<FileStore<File>>, Ending> {
+    let _opening = Progress::begin(rt, Work::Opening, path);
     for _ in 0..TRIES {
-        let opened = open(rt, path);
+        let opened = open_once(rt, path);
         if !is_busy(&opened) {
             return opened;
         }
@@ -149,9 +157,9 @@ fn obstacle_met(met: Tally) -> Obstacle {
     }
 }
 
-// What keeps an open database from being a registry. A database that has nothing yet is that of a
-// registry that couldn't be written.
-fn obstacle_in<S: Alter>(alloc: Global, conn: &mut Connection<S>) -> Obstacle {
+/// What keeps an open database from being a registry. A database that has nothing yet is that of a
+/// registry that couldn't be written.
+pub fn obstacle_in<S: Alter>(alloc: Global, conn: &mut Connection<S>) -> Obstacle {
     if has_nothing(conn) {
         Obstacle::Unreachable
     } else if is_newer(conn) {
@@ -181,8 +189,8 @@ fn is_newer<S: Alter>(conn: &mut Connection<S>) -> bool {
     }
 }
 
-// Whether the tables are those of an older schema.
-fn is_older<S: Alter>(alloc: Global, conn: &Connection<S>) -> bool {
+/// Whether the tables are those of an older schema.
+pub fn is_older<S: Alter>(alloc: Global, conn: &Connection<S>) -> bool {
     matches!(older_schema(alloc, conn.schema()), Ok(Some(_)))
 }
 

@@ -46,11 +46,13 @@ impl Names<'_> {
         written(sync_folder(rt, self.whole))
     }
 
-    /// Removes the files in which it was made.
+    /// Removes the files in which it was made, also from the disk: a file that still had the name of
+    /// its part after a loss of power wouldn't be opened.
     pub fn forget_part(&self, rt: &HostRuntime) {
         for name in [&self.part, &self.part_log] {
             let _ = fs::remove_file(rt, name.as_str());
         }
+        let _ = sync_folder(rt, self.whole);
     }
 }
 

@@ -1,7 +1,7 @@
 //! The registries that command lines name by their paths.
 
 use crate::ending::Ending;
-use crate::opening::open;
+use crate::opening::open_once;
 use registry_desk::Registry;
 use registry_http::RegistryService;
 use registry_names::Fault;
@@ -36,7 +36,7 @@ impl Registries for InFiles {
         path: &str,
         request: &Request,
     ) -> Result<Reply, Ending> {
-        match open(rt, path) {
+        match open_once(rt, path) {
             Ok(registry) => reply_in(alloc, registry, request),
             Err(ending) => Err(ending),
         }

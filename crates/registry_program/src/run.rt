@@ -27,7 +27,7 @@ const SHUT: &str = "the disk failed while the registry was served";
 /// - 2: what is wrong with the arguments, or the help that they ask for;
 /// - 3: `fault: ` and what failed, with a second line that gives the reason where the registry's
 ///   file can't be opened, its disk fails while it is served, its server gives no answer, nothing
-///   listens at a socket, or a copy of it can't be made.
+///   listens at a socket, a copy of it can't be made, or it can't be made of one.
 pub fn program<I: ByteIn, O: ByteOut, E: ByteOut>(
     rt: &HostRuntime,
     alloc: Global,
@@ -89,7 +89,7 @@ fn failure_text(failure: Failure) -> &'static str {
         Failure::Registry(fault) => fault.text(),
         Failure::Opening(_) | Failure::Shut | Failure::Server(_) => Fault::Database.text(),
         Failure::Read | Failure::Socket(_) => "Read",
-        Failure::File | Failure::Backup(_) => "File",
+        Failure::File | Failure::Backup(_) | Failure::Restore(_) => "File",
         Failure::Write => "Write",
     }
 }
@@ -102,6 +102,7 @@ fn reason(ending: &Ending) -> Option<&'static str> {
         Ending::Fault(Failure::Server(trouble)) => Some(trouble_text(*trouble)),
         Ending::Fault(Failure::Socket(blockage)) => Some(blockage_text(*blockage)),
         Ending::Fault(Failure::Backup(snag)) => Some(snag_text(*snag)),
+        Ending::Fault(Failure::Restore(snag)) => Some(restored_text(*snag)),
         _ => None,
     }
 }
@@ -147,6 +148,22 @@ fn snag_text(snag: Snag) -> &'static str {
         Snag::Full => "the disk is full",
         Snag::Unwritable => "the copy can't be written",
         Snag::Unreadable => "the copy doesn't open",
+        Snag::Missing | Snag::Busy | Snag::Newer | Snag::Older => restored_text(snag),
+    }
+}
+
+// Why no registry's file is made of a copy.
+fn restored_text(snag: Snag) -> &'static str {
+    match snag {
+        Snag::Taken =>
+            "the registry's file is there, or its -wal, -part or -part-wal: move it away first",
+        Snag::Full => "the disk is full",
+        Snag::Unwritable => "the registry's file can't be written",
+        Snag::Unreadable => "the copy holds no registry, or was changed by another hand",
+        Snag::Missing => "the copy isn't there, is empty, or can't be opened",
+        Snag::Busy => "another process has the copy",
+        Snag::Newer => "a newer program wrote the copy",
+        Snag::Older => "the copy has an older schema: --no-check restores it as it is",
     }
 }
 

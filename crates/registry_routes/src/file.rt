@@ -6,7 +6,7 @@ ghost use Rattle.registry_routes.specs.Files.{file_text, IsFileOf, IsNameOrPart,
 ghost use Rattle.registry_routes.specs.Files.{IsVersionText};
 ghost use Rattle.registry_routes.specs.Written.{StopsValue, text_of};
 
-use crate::value::decoded;
+use crate::value::decode_text;
 use registry_names::{Name, Refusal, Stop, Ver};
 use std::alloc::Global;
 
@@ -61,7 +61,7 @@ pub fn version_of_file(alloc: Global, name: &Name, written: &[u8]) -> Result<Ver
     ensures ok { IfOk result (λ v. IsFileOf name.now v (text_of written.now)) }
     ensures err { IfErr result (StopsValue written.now Refusal.NotFound (IsNoFileOf name.now)) }
 {
-    let file = decoded(alloc, written)?;
+    let file = decode_text(alloc, written)?;
     let Some(version) = version_text(name, file.as_str()) else {
         return Err(NOT_FOUND);
     };

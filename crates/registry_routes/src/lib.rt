@@ -24,4 +24,4 @@ pub use crate::body::{
 pub use crate::endpoint::Endpoint;
 pub use crate::file::version_of_file;
 pub use crate::route::{Route, Values, route_of};
-pub use crate::value::{decoded, ident_in, name_in, tag_in, version_in};
+pub use crate::value::{decode_ident, decode_name, decode_tag, decode_text, decode_version};

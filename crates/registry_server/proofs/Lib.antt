@@ -11,3 +11,4 @@ mod RestFacts
 mod HeldFacts
 mod RemainderFacts
 mod WokenFacts
+mod QueryFacts

@@ -6,8 +6,8 @@ use Rattle.std.proofs.lemmas.Bool.Decides.{nat_tests}
 use Rattle.std.proofs.lemmas.Option.{slice_get_read}
 use Rattle.std.proofs.lemmas.List.{drop-drop, drop-set-lt, drop_all, get_or-drop, take_all, take_more, take_more_set}
 use Rattle.registry_service.specs.Turns.{Answering}
-use Rattle.registry_server.specs.Pools.{ChoosesIf, ChoosesNext, EndsIdle, IsEarliestOf, IsFirstOfEarliest, LooksAtBodies, VisitsAll, VisitsAt, VisitsIf, VisitsThere, after_visit, at_place, body_with, chosen, earlier, emptied, has_body_at, has_room, held_at, held_limit, idle_at, idle_in, idle_times, is_busy, is_crowd, is_due, is_held_back, read_count, read_together, settled, waiting_at, waiting_times, waits_since, waits_since_at, with_connection}
-use Rattle.registry_server.specs.Connections.{IsDone, IsLost, LeavesLittle, OpenConnection, Visits, has_body, has_body_in, must_wait}
+use Rattle.registry_server.specs.Pools.{ChoosesIf, ChoosesNext, EndsIdle, IsEarliestOf, IsFirstOfEarliest, LooksAtBodies, VisitsAll, VisitsAt, VisitsIf, VisitsThere, after_visit, at_place, body_with, chosen, command_with, earlier, emptied, has_body_at, has_room, held_at, held_limit, idle_at, idle_in, idle_times, is_busy, is_crowd, is_due, is_held_back, is_to_visit, may_command_at, read_count, read_together, settled, waiting_at, waiting_times, waits_since, waits_since_at, with_connection}
+use Rattle.registry_server.specs.Connections.{IsDone, IsLost, LeavesLittle, OpenConnection, Visits, has_body, has_body_in, may_command, must_wait}
 use Rattle.registry_server.specs.declared.connection.Visit.{Visit}
 use Rattle.registry_server.specs.declared.connection.Visit.TheVariants.{Again, Rests, Over}
 use Rattle.registry_server.specs.declared.phase.Stage.{Stage}
@@ -157,9 +157,9 @@ looks-at {S} may crowd old middle new is both settles chooses =
     (subst (λ (m : Bool). ChoosesIf m (map settled old) new) both
     (subst (λ (l : List (Place S)). ChoosesIf may l new) settles chooses))
 
-pub busy-at : {S : Type 0} (may crowd : Bool) (places : List (Place S)) → crowd ≡ is_crowd places → may ≡ (crowd && has_room places) → list_any (is_due crowd may) places ≡ is_busy places
-busy-at may crowd places is both =
-    ap (λ (m : Bool). list_any (is_due crowd m) places) both ∙ ap (λ (c : Bool). list_any (is_due c (c && has_room places)) places) is
+pub busy-at : {S : Type 0} (paused may crowd : Bool) (places : List (Place S)) → crowd ≡ is_crowd places → may ≡ (crowd && has_room places) → list_any (is_due paused crowd may) places ≡ is_busy paused places
+busy-at paused may crowd places is both =
+    ap (λ (m : Bool). list_any (is_due paused crowd m) places) both ∙ ap (λ (c : Bool). list_any (is_due paused c (c && has_room places)) places) is
 
 -- ---- who is held back
 
@@ -177,72 +177,84 @@ body-begun Drains held is = absurd (false≢true is)
 pub body-there : {S : Type 0} (p : Place S) (c : OpenConnection S) → p.connection ≡ Some c → has_body_at p ≡ true → has_body c ≡ true
 body-there p c at is = sym (ap body_with at) ∙ is
 
+-- ---- who is visited while commands wait
+
+no-command : (ready paused command : Bool) → (ready && not (paused && command)) ≡ true → paused ≡ true → command ≡ false
+no-command true true false is waits = refl
+no-command true true true is waits = absurd (false≢true is)
+no-command false true command is waits = absurd (false≢true is)
+no-command ready false command is waits = absurd (false≢true waits)
+
+-- no request is under way that may be a command
+pub query-there : {S : Type 0} (paused : Bool) (p : Place S) (c : OpenConnection S) → p.connection ≡ Some c → is_to_visit paused p ≡ true → paused ≡ true → may_command c ≡ false
+query-there paused p c at is waits = sym (ap command_with at) ∙ no-command p.is_ready paused (may_command_at p) is waits
+
 -- ---- the visits of the places, one after the other
 
 module _ {S : Type 0} (received sent : S → Option (List ℕ)) (has_none is_full has_more is_ended is_broken : S → Bool) {D : Type 0} (answers : Answering D) (over : D → Bool) where
   -- no connection is to be visited there, or the service is over
-  pub visits-none : (crowd : Bool) (now most : ℕ) (p : Place S) (M : D) (r : Option (List ℕ)) → (p.is_ready && not (over M)) ≡ false → VisitsAt received sent has_none is_full has_more is_ended is_broken answers over crowd now most p p M M r r
-  visits-none crowd now most p M r is = subst (λ (b : Bool). VisitsIf received sent has_none is_full has_more is_ended is_broken answers b (is_held_back crowd p) now most p p M M r r) (sym is) (record { place = refl; service = refl; unasked = refl })
+  pub visits-none : (paused crowd : Bool) (now most : ℕ) (p : Place S) (M : D) (r : Option (List ℕ)) → (is_to_visit paused p && not (over M)) ≡ false → VisitsAt received sent has_none is_full has_more is_ended is_broken answers over paused crowd now most p p M M r r
+  visits-none paused crowd now most p M r is = subst (λ (b : Bool). VisitsIf received sent has_none is_full has_more is_ended is_broken answers b (is_held_back crowd p) now most p p M M r r) (sym is) (record { place = refl; service = refl; unasked = refl })
 
   -- the connection there is held back
-  pub visits-waits : (crowd : Bool) (now most : ℕ) (p q : Place S) (M : D) (r : Option (List ℕ)) → (p.is_ready && not (over M)) ≡ true → is_held_back crowd p ≡ true → q ≡ waiting_at now p
-      → VisitsAt received sent has_none is_full has_more is_ended is_broken answers over crowd now most p q M M r r
-  visits-waits crowd now most p q M r is held waits =
+  pub visits-waits : (paused crowd : Bool) (now most : ℕ) (p q : Place S) (M : D) (r : Option (List ℕ)) → (is_to_visit paused p && not (over M)) ≡ true → is_held_back crowd p ≡ true → q ≡ waiting_at now p
+      → VisitsAt received sent has_none is_full has_more is_ended is_broken answers over paused crowd now most p q M M r r
+  visits-waits paused crowd now most p q M r is held waits =
       subst (λ (b : Bool). VisitsIf received sent has_none is_full has_more is_ended is_broken answers b (is_held_back crowd p) now most p q M M r r) (sym is)
       (subst (λ (b : Bool). VisitsIf received sent has_none is_full has_more is_ended is_broken answers true b now most p q M M r r) (sym held)
       (record { place = waits; service = refl; unasked = refl }))
 
-  there : (crowd : Bool) (now most : ℕ) (p q : Place S) (M N : D) (r r2 : Option (List ℕ)) (c : Option (OpenConnection S)) → (p.is_ready && not (over M)) ≡ true → is_held_back crowd p ≡ false → p.connection ≡ c
-      → VisitsThere received sent has_none is_full has_more is_ended is_broken answers now most p c q M N r r2 → VisitsAt received sent has_none is_full has_more is_ended is_broken answers over crowd now most p q M N r r2
-  there crowd now most p q M N r r2 c is held at visits =
+  there : (paused crowd : Bool) (now most : ℕ) (p q : Place S) (M N : D) (r r2 : Option (List ℕ)) (c : Option (OpenConnection S)) → (is_to_visit paused p && not (over M)) ≡ true → is_held_back crowd p ≡ false → p.connection ≡ c
+      → VisitsThere received sent has_none is_full has_more is_ended is_broken answers now most p c q M N r r2 → VisitsAt received sent has_none is_full has_more is_ended is_broken answers over paused crowd now most p q M N r r2
+  there paused crowd now most p q M N r r2 c is held at visits =
       subst (λ (b : Bool). VisitsIf received sent has_none is_full has_more is_ended is_broken answers b (is_held_back crowd p) now most p q M N r r2) (sym is)
       (subst (λ (b : Bool). VisitsIf received sent has_none is_full has_more is_ended is_broken answers true b now most p q M N r r2) (sym held)
       (subst (λ (o : Option (OpenConnection S)). VisitsThere received sent has_none is_full has_more is_ended is_broken answers now most p o q M N r r2) (sym at) visits))
 
   -- nobody is there
-  pub visits-free : (crowd : Bool) (now most : ℕ) (p : Place S) (M : D) (r : Option (List ℕ)) → (p.is_ready && not (over M)) ≡ true → is_held_back crowd p ≡ false → p.connection ≡ None
-      → VisitsAt received sent has_none is_full has_more is_ended is_broken answers over crowd now most p (with_connection p p.connection false) M M r r
-  visits-free crowd now most p M r is held at = there crowd now most p (with_connection p p.connection false) M M r r None is held at
+  pub visits-free : (paused crowd : Bool) (now most : ℕ) (p : Place S) (M : D) (r : Option (List ℕ)) → (is_to_visit paused p && not (over M)) ≡ true → is_held_back crowd p ≡ false → p.connection ≡ None
+      → VisitsAt received sent has_none is_full has_more is_ended is_broken answers over paused crowd now most p (with_connection p p.connection false) M M r r
+  visits-free paused crowd now most p M r is held at = there paused crowd now most p (with_connection p p.connection false) M M r r None is held at
       (record { place = ap (λ (o : Option (OpenConnection S)). with_connection p o false) at; service = refl; unasked = refl })
 
   -- a connection is there, and was visited
-  pub visits-there : (crowd : Bool) (now most : ℕ) (p : Place S) (c d : OpenConnection S) (v : Visit) (M N : D) (r r2 : Option (List ℕ)) → (p.is_ready && not (over M)) ≡ true → is_held_back crowd p ≡ false → p.connection ≡ Some c
+  pub visits-there : (paused crowd : Bool) (now most : ℕ) (p : Place S) (c d : OpenConnection S) (v : Visit) (M N : D) (r r2 : Option (List ℕ)) → (is_to_visit paused p && not (over M)) ≡ true → is_held_back crowd p ≡ false → p.connection ≡ Some c
       → Visits received sent answers now most c d M N r r2 → (v ≡ Rests → d.phase.stage ≢ Next) → (v ≡ Rests → must_wait has_none is_full d ≡ true)
       → (v ≡ Again → d.phase.stage ≡ Begun → has_more d.socket ≡ true) → (v ≡ Over → IsLost is_ended is_broken d) → (IsDone c.state → d.is_over ≡ true → v ≡ Over) → (v ≢ Over → LeavesLittle most c → LeavesLittle most d)
-      → VisitsAt received sent has_none is_full has_more is_ended is_broken answers over crowd now most p (after_visit v p d) M N r r2
-  visits-there crowd now most p c d v M N r r2 is held at visits rests waits more over ends leaves = there crowd now most p (after_visit v p d) M N r r2 (Some c) is held at
+      → VisitsAt received sent has_none is_full has_more is_ended is_broken answers over paused crowd now most p (after_visit v p d) M N r r2
+  visits-there paused crowd now most p c d v M N r r2 is held at visits rests waits more over ends leaves = there paused crowd now most p (after_visit v p d) M N r r2 (Some c) is held at
       (record { connection = d; visits = visits; visit = v; place = refl; rests = rests; waits = waits; more = more; over = over; ends = ends; leaves = leaves })
 
-  visits-more : (crowd : Bool) (now most : ℕ) (ps qs : List (Place S)) (p q : Place S) (M m N : D) (r r1 r2 : Option (List ℕ))
-      → VisitsAll received sent has_none is_full has_more is_ended is_broken answers over crowd now most ps qs M m r r1 → VisitsAt received sent has_none is_full has_more is_ended is_broken answers over crowd now most p q m N r1 r2
-      → VisitsAll received sent has_none is_full has_more is_ended is_broken answers over crowd now most (ps ++ p ∷ []) (qs ++ q ∷ []) M N r r2
-  visits-more crowd now most [] [] p q M m N r r1 r2 all one = (
+  visits-more : (paused crowd : Bool) (now most : ℕ) (ps qs : List (Place S)) (p q : Place S) (M m N : D) (r r1 r2 : Option (List ℕ))
+      → VisitsAll received sent has_none is_full has_more is_ended is_broken answers over paused crowd now most ps qs M m r r1 → VisitsAt received sent has_none is_full has_more is_ended is_broken answers over paused crowd now most p q m N r1 r2
+      → VisitsAll received sent has_none is_full has_more is_ended is_broken answers over paused crowd now most (ps ++ p ∷ []) (qs ++ q ∷ []) M N r r2
+  visits-more paused crowd now most [] [] p q M m N r r1 r2 all one = (
     N,
     r2,
-    subst (λ (d : D). VisitsAt received sent has_none is_full has_more is_ended is_broken answers over crowd now most p q d N r r2) all.0
-        (subst (λ (x : Option (List ℕ)). VisitsAt received sent has_none is_full has_more is_ended is_broken answers over crowd now most p q m N x r2) all.1 one),
+    subst (λ (d : D). VisitsAt received sent has_none is_full has_more is_ended is_broken answers over paused crowd now most p q d N r r2) all.0
+        (subst (λ (x : Option (List ℕ)). VisitsAt received sent has_none is_full has_more is_ended is_broken answers over paused crowd now most p q m N x r2) all.1 one),
     (refl, refl),
   )
-  visits-more crowd now most (a ∷ ps) (b ∷ qs) p q M m N r r1 r2 all one = (all.0, all.1, all.2, visits-more crowd now most ps qs p q all.0 m N all.1 r1 r2 all.3 one)
-  visits-more crowd now most [] (b ∷ qs) p q M m N r r1 r2 all one = absurd all
-  visits-more crowd now most (a ∷ ps) [] p q M m N r r1 r2 all one = absurd all
+  visits-more paused crowd now most (a ∷ ps) (b ∷ qs) p q M m N r r1 r2 all one = (all.0, all.1, all.2, visits-more paused crowd now most ps qs p q all.0 m N all.1 r1 r2 all.3 one)
+  visits-more paused crowd now most [] (b ∷ qs) p q M m N r r1 r2 all one = absurd all
+  visits-more paused crowd now most (a ∷ ps) [] p q M m N r r1 r2 all one = absurd all
 
   -- one more place was visited
-  pub visits-step : (crowd : Bool) (now most : ℕ) (old items : List (Place S)) (i : ℕ) (p q : Place S) (M m N : D) (r r1 r2 : Option (List ℕ))
+  pub visits-step : (paused crowd : Bool) (now most : ℕ) (old items : List (Place S)) (i : ℕ) (p q : Place S) (M m N : D) (r r1 r2 : Option (List ℕ))
       → i < length old → length items ≡ length old → drop i items ≡ drop i old → p ≡ get_or items i p
-      → VisitsAll received sent has_none is_full has_more is_ended is_broken answers over crowd now most (take i old) (take i items) M m r r1
-      → VisitsAt received sent has_none is_full has_more is_ended is_broken answers over crowd now most p q m N r1 r2
-      → VisitsAll received sent has_none is_full has_more is_ended is_broken answers over crowd now most (take (i + 1) old) (take (i + 1) (set items i q)) M N r r2
-  visits-step crowd now most old items i p q M m N r r1 r2 within len rest is all one =
+      → VisitsAll received sent has_none is_full has_more is_ended is_broken answers over paused crowd now most (take i old) (take i items) M m r r1
+      → VisitsAt received sent has_none is_full has_more is_ended is_broken answers over paused crowd now most p q m N r1 r2
+      → VisitsAll received sent has_none is_full has_more is_ended is_broken answers over paused crowd now most (take (i + 1) old) (take (i + 1) (set items i q)) M N r r2
+  visits-step paused crowd now most old items i p q M m N r r1 r2 within len rest is all one =
       let none : i + 0 ≡ i = omega arith in
       let first : get_or (drop i items) 0 p ≡ get_or items i p = get_or-drop i items 0 p ∙ ap (λ (n : ℕ). get_or items n p) none in
       let second : get_or (drop i old) 0 p ≡ get_or old i p = get_or-drop i old 0 p ∙ ap (λ (n : ℕ). get_or old n p) none in
       let here : p ≡ get_or old i p = is ∙ sym first ∙ ap (λ (l : List (Place S)). get_or l 0 p) rest ∙ second in
       let before : take (i + 1) old ≡ take i old ++ p ∷ [] = take_more old i p within ∙ ap (λ (x : Place S). take i old ++ x ∷ []) (sym here) in
       let after : take (i + 1) (set items i q) ≡ take i items ++ q ∷ [] = take_more_set items i q (omega (arith, within, len)) in
-      subst (λ (l : List (Place S)). VisitsAll received sent has_none is_full has_more is_ended is_broken answers over crowd now most l (take (i + 1) (set items i q)) M N r r2) (sym before)
-      (subst (λ (l : List (Place S)). VisitsAll received sent has_none is_full has_more is_ended is_broken answers over crowd now most (take i old ++ p ∷ []) l M N r r2) (sym after)
-      (visits-more crowd now most (take i old) (take i items) p q M m N r r1 r2 all one))
+      subst (λ (l : List (Place S)). VisitsAll received sent has_none is_full has_more is_ended is_broken answers over paused crowd now most l (take (i + 1) (set items i q)) M N r r2) (sym before)
+      (subst (λ (l : List (Place S)). VisitsAll received sent has_none is_full has_more is_ended is_broken answers over paused crowd now most (take i old ++ p ∷ []) l M N r r2) (sym after)
+      (visits-more paused crowd now most (take i old) (take i items) p q M m N r r1 r2 all one))
 
 -- the places that weren't visited yet are as they were
 pub rest-step : {A : Type 0} (old items : List A) (i : ℕ) (q : A) → drop i items ≡ drop i old → drop (i + 1) (set items i q) ≡ drop (i + 1) old

@@ -8,7 +8,7 @@ use Rattle.std.proofs.lemmas.Option.{get_or_from_slice_get, slice_get_within}
 use Rattle.registry_service.specs.Turns.{Answering}
 use Rattle.registry_server.specs.Connections.{OpenConnection, finishing, must_wait, must_wait_in, waiting}
 use Rattle.registry_server.specs.Phases.{idle_from, is_late}
-use Rattle.registry_server.specs.Pools.{AllIdleEndsLeaveRest, ChoosesIf, EndsLeaveRest, FinishesLeaveRest, IdleEndsLeaveRest, IsAtRest, IsFirstOfEarliest, IsUnderWay, MayHaveOne, NewConnectionsLeaveRest, NewPoolRests, NewcomersEndIdle, StopsEndIdle, StopsLeaveUnderWay, VisitsAll, VisitsIf, VisitsLeaveRest, VisitsThere, WakesLeaveRest, WantOfRoomEndsIdle, after_visit, at_place, chosen, chosen_of, emptied, emptied_of, finishing_at, finishing_with, free, has_room, idle_at, idle_in, idle_times, idle_with, in_time, is_crowd, is_free, is_held_back, kept_at, left_with, new_at, place_count, settled, unless_idle, waiting_at, waiting_with, woken}
+use Rattle.registry_server.specs.Pools.{AllIdleEndsLeaveRest, ChoosesIf, EndsLeaveRest, FinishesLeaveRest, IdleEndsLeaveRest, IsAtRest, IsFirstOfEarliest, IsUnderWay, MayHaveOne, NewConnectionsLeaveRest, NewPoolRests, NewcomersEndIdle, StopsEndIdle, StopsLeaveUnderWay, VisitsAll, VisitsIf, VisitsLeaveRest, VisitsThere, WakesLeaveRest, WantOfRoomEndsIdle, after_visit, at_place, chosen, chosen_of, emptied, emptied_of, finishing_at, finishing_with, free, has_room, idle_at, idle_in, idle_times, idle_with, in_time, is_crowd, is_free, is_held_back, is_to_visit, kept_at, left_with, new_at, place_count, settled, unless_idle, waiting_at, waiting_with, woken}
 use Rattle.registry_server.specs.declared.connection.Visit.{Visit}
 use Rattle.registry_server.specs.declared.connection.Visit.TheVariants.{Again, Rests, Over}
 use Rattle.registry_server.specs.declared.phase.Stage.{Stage}
@@ -226,15 +226,15 @@ module _ {S : Type 0} (received sent : S → Option (List ℕ)) (has_none is_ful
   visited-rests true false now most p q M N r r2 h v = there-rests now most p p.connection q M N r r2 v
   visited-rests false held now most p q M N r r2 h v = subst (IsAtRest has_none is_full) (sym v.place) h
 
-  visited-rest : (crowd : Bool) (now most : ℕ) (ps qs : List (Place S)) (M N : D) (r r2 : Option (List ℕ)) → All (IsAtRest has_none is_full) ps
-      → VisitsAll received sent has_none is_full has_more is_ended is_broken answers over crowd now most ps qs M N r r2 → All (IsAtRest has_none is_full) qs
-  visited-rest crowd now most [] [] M N r r2 h v = h
-  visited-rest crowd now most (p ∷ ps) (q ∷ qs) M N r r2 h v = All-cons (IsAtRest has_none is_full) q qs
-      (visited-rests (p.is_ready && not (over M)) (is_held_back crowd p) now most p q M v.0 r v.1 (All-head (IsAtRest has_none is_full) p ps h) v.2)
-      (visited-rest crowd now most ps qs v.0 N v.1 r2 (All-tail (IsAtRest has_none is_full) p ps h) v.3)
-  visited-rest crowd now most [] (q ∷ qs) M N r r2 h v = absurd v
-  visited-rest crowd now most (p ∷ ps) [] M N r r2 h v = absurd v
+  visited-rest : (paused crowd : Bool) (now most : ℕ) (ps qs : List (Place S)) (M N : D) (r r2 : Option (List ℕ)) → All (IsAtRest has_none is_full) ps
+      → VisitsAll received sent has_none is_full has_more is_ended is_broken answers over paused crowd now most ps qs M N r r2 → All (IsAtRest has_none is_full) qs
+  visited-rest paused crowd now most [] [] M N r r2 h v = h
+  visited-rest paused crowd now most (p ∷ ps) (q ∷ qs) M N r r2 h v = All-cons (IsAtRest has_none is_full) q qs
+      (visited-rests (is_to_visit paused p && not (over M)) (is_held_back crowd p) now most p q M v.0 r v.1 (All-head (IsAtRest has_none is_full) p ps h) v.2)
+      (visited-rest paused crowd now most ps qs v.0 N v.1 r2 (All-tail (IsAtRest has_none is_full) p ps h) v.3)
+  visited-rest paused crowd now most [] (q ∷ qs) M N r r2 h v = absurd v
+  visited-rest paused crowd now most (p ∷ ps) [] M N r r2 h v = absurd v
 
   pub visits-leave-rest : VisitsLeaveRest received sent has_none is_full has_more is_ended is_broken answers over
-  visits-leave-rest now most old new M N r r2 h round = visited-rest (is_crowd old) now most round.looked new M N r r2
+  visits-leave-rest paused now most old new M N r r2 h round = visited-rest paused (is_crowd old) now most round.looked new M N r r2
       (looked-rest has_none is_full (is_crowd old && has_room old) (map settled old) round.looked round.looks (settled-rest has_none is_full old h)) round.visits

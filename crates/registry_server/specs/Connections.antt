@@ -1,12 +1,13 @@
 -- An open connection with its socket, and what a visit makes of both.
-use Rattle.std.specs.Prelude.{◌≡◌, ◌≢◌, ◌≤◌, ◌==◌, ◌⊎◌, ◌++◌, [], ℕ, Bool, true, false, List, Option, None, Some, IsSome, is_none, is_some, length, nat_lt, if◌then◌else◌}
+use Rattle.std.specs.Prelude.{◌≡◌, ◌≢◌, ◌≤◌, ◌==◌, ◌⊎◌, ◌++◌, ◌&&◌, [], ℕ, Bool, true, false, List, Option, None, Some, IsSome, codes, is_none, is_some, length, nat_eq, nat_lt, not, if◌then◌else◌}
 use Rattle.std.specs.Io.KnownBytes.{append_known}
+use Rattle.std.specs.List.{starts_with}
 use Rattle.registry_wire.specs.Spelling.{HasRequest, IsUnfinished, head_limit}
 use Rattle.registry_wire.specs.declared.wanted.Wanted.{Wanted}
 use Rattle.registry_service.specs.Turns.{Answering}
 use Rattle.registry_service.specs.declared.turning.End.{End}
 use Rattle.registry_server.specs.ConnectionStates.{IsStarved, MayTakeTurn, Pending, TakesNone, TakesTurn, holding, lasting, sending}
-use Rattle.registry_server.specs.Phases.{HeardAt, LookedAt, SentAt, entered, receives, takes_turns, waited}
+use Rattle.registry_server.specs.Phases.{HeardAt, LookedAt, SentAt, entered, is_under_way, receives, takes_turns, waited}
 use Rattle.registry_server.specs.declared.phase.Phase.{Phase}
 use Rattle.registry_server.specs.declared.phase.Stage.{Stage}
 use Rattle.registry_server.specs.declared.phase.Stage.TheVariants.{Idle, Begun, Next, Sends, Drains}
@@ -70,6 +71,14 @@ has_body c = has_body_in c.phase.stage (length c.state.held)
 -- since when a body is under way, if one is: since its request began
 abbrev pub body_since : {S : Type 0} → OpenConnection S → Option ℕ
 body_since c = if has_body c then Some c.phase.since else None
+
+-- the first byte of `GET`, with which no method of a command begins
+abbrev pub query_start : List ℕ
+query_start = codes "G"
+
+-- a request is under way on a connection, and may be a command, as it doesn't begin as a query does
+abbrev pub may_command : {S : Type 0} → OpenConnection S → Bool
+may_command c = is_under_way c.phase.stage && not (starts_with nat_eq c.state.held query_start)
 
 -- at these stages a request was answered, and what follows it wasn't looked at yet
 abbrev pub is_answered_in : Stage → Option End → Bool

@@ -2,9 +2,10 @@
 use Rattle.std.specs.Prelude.{◌≡◌, ◌≢◌, ◌<◌, ◌≤◌, ◌+◌, ◌*◌, ◌∷◌, ◌⊎◌, ⊤, [], ℕ, zero, suc, Bool, true, false, List, Option, Some, None, is_none, is_some, All, count_by, length, map, max, nat_le, nat_lt, position, replicate, slice_get, sum_by, MatchOption, ◌&&◌, ◌||◌, not, if◌then◌else◌}
 use Rattle.std.specs.List.{list_all, list_any}
 use Rattle.registry_wire.specs.Spelling.{request_limit}
-use Rattle.registry_service.specs.Turns.{Answering}
+use Rattle.registry_service.specs.Turns.{Answering, AnswersAsBefore}
 use Rattle.registry_server.specs.ConnectionStates.{fresh}
-use Rattle.registry_server.specs.Connections.{IsDone, IsLost, LeavesLittle, OpenConnection, Visits, body_least, body_since, connected, finishing, has_body, is_answered, must_wait, waiting}
+use Rattle.registry_server.specs.Connections.{IsDone, IsLost, LeavesLittle, OpenConnection, Visits, body_least, body_since, connected, finishing, has_body, is_answered, may_command, must_wait, waiting}
+use Rattle.registry_server.specs.Queries.{IsQueried, queries}
 use Rattle.registry_server.specs.Phases.{after, first_phase, idle_since, is_late}
 use Rattle.registry_server.specs.declared.connection.Visit.{Visit}
 use Rattle.registry_server.specs.declared.connection.Visit.TheVariants.{Again, Rests, Over}
@@ -254,13 +255,25 @@ LooksAtBodies old new = ChoosesIf (may_choose old) (map settled old) new
 abbrev pub is_held_back : {S : Type 0} → Bool → Place S → Bool
 is_held_back crowd p = crowd && not p.is_chosen && has_body_at p
 
--- the connection there is to be visited, and isn't held back, or one more body may be chosen
-abbrev pub is_due : {S : Type 0} → Bool → Bool → Place S → Bool
-is_due crowd choose p = p.is_ready && (choose || not (is_held_back crowd p))
+abbrev pub command_with : {S : Type 0} → Option (OpenConnection S) → Bool
+command_with None = false
+command_with (Some c) = may_command c
 
--- a connection is to be visited in the next round
-abbrev pub is_busy : {S : Type 0} → List (Place S) → Bool
-is_busy places = list_any (is_due (is_crowd places) (may_choose places)) places
+-- a request is under way there that may be a command
+abbrev pub may_command_at : {S : Type 0} → Place S → Bool
+may_command_at p = command_with p.connection
+
+-- The connection there is to be visited. Where commands wait, none is that may have one.
+abbrev pub is_to_visit : {S : Type 0} → Bool → Place S → Bool
+is_to_visit paused p = p.is_ready && not (paused && may_command_at p)
+
+-- the connection there is to be visited, and isn't held back, or one more body may be chosen
+abbrev pub is_due : {S : Type 0} → Bool → Bool → Bool → Place S → Bool
+is_due paused crowd choose p = is_to_visit paused p && (choose || not (is_held_back crowd p))
+
+-- a connection is to be visited in the next round, in which commands wait or not
+abbrev pub is_busy : {S : Type 0} → Bool → List (Place S) → Bool
+is_busy paused places = list_any (is_due paused (is_crowd places) (may_choose places)) places
 
 abbrev pub waiting_with : {S : Type 0} → ℕ → Option (OpenConnection S) → Option (OpenConnection S)
 waiting_with now None = None
@@ -316,28 +329,56 @@ module _ {S : Type 0} (received sent : S → Option (List ℕ)) (has_none is_ful
   VisitsIf false held now most old new M N readings readings2 = VisitsNone old new M N readings readings2
 
 module _ {S : Type 0} (received sent : S → Option (List ℕ)) (has_none is_full has_more is_ended is_broken : S → Bool) {D : Type 0} (answers : Answering D) (over : D → Bool) where
-  -- a place is visited where it is to be and isn't held back, unless the service is over
-  abbrev pub VisitsAt : Bool → ℕ → ℕ → Place S → Place S → D → D → Option (List ℕ) → Option (List ℕ) → Type 0
-  VisitsAt crowd now most old new M N readings readings2 =
-      VisitsIf received sent has_none is_full has_more is_ended is_broken answers (old.is_ready && not (over M)) (is_held_back crowd old) now most old new M N readings readings2
+  -- A place is visited where it is to be and isn't held back, unless the service is over. `paused`
+  -- says that commands wait.
+  abbrev pub VisitsAt : Bool → Bool → ℕ → ℕ → Place S → Place S → D → D → Option (List ℕ) → Option (List ℕ) → Type 0
+  VisitsAt paused crowd now most old new M N readings readings2 =
+      VisitsIf received sent has_none is_full has_more is_ended is_broken answers (is_to_visit paused old && not (over M)) (is_held_back crowd old) now most old new M N readings readings2
 
   -- Each connection that is to be visited and isn't held back is visited once, in the order of the
   -- places, and no other is. After the visit in which the service is over, none is visited. At most
   -- this many bytes are received from each.
-  abbrev pub VisitsAll : Bool → ℕ → ℕ → List (Place S) → List (Place S) → D → D → Option (List ℕ) → Option (List ℕ) → Type 0
-  VisitsAll crowd now most [] [] M N readings readings2 = (N ≡ M) × (readings2 ≡ readings)
-  VisitsAll crowd now most (p ∷ places) (q ∷ places2) M N readings readings2 =
-      (between : D) × (readings1 : Option (List ℕ)) × VisitsAt crowd now most p q M between readings readings1
-      × VisitsAll crowd now most places places2 between N readings1 readings2
-  VisitsAll crowd now most [] (q ∷ places2) M N readings readings2 = ⊥
-  VisitsAll crowd now most (p ∷ places) [] M N readings readings2 = ⊥
+  abbrev pub VisitsAll : Bool → Bool → ℕ → ℕ → List (Place S) → List (Place S) → D → D → Option (List ℕ) → Option (List ℕ) → Type 0
+  VisitsAll paused crowd now most [] [] M N readings readings2 = (N ≡ M) × (readings2 ≡ readings)
+  VisitsAll paused crowd now most (p ∷ places) (q ∷ places2) M N readings readings2 =
+      (between : D) × (readings1 : Option (List ℕ)) × VisitsAt paused crowd now most p q M between readings readings1
+      × VisitsAll paused crowd now most places places2 between N readings1 readings2
+  VisitsAll paused crowd now most [] (q ∷ places2) M N readings readings2 = ⊥
+  VisitsAll paused crowd now most (p ∷ places) [] M N readings readings2 = ⊥
 
   -- A round: first whether the connections are a crowd, then which bodies are read, and then the
   -- visits.
-  pub record VisitsRound (now most : ℕ) (old new : List (Place S)) (M N : D) (readings readings2 : Option (List ℕ)) : Type 0 where
+  pub record VisitsRound (paused : Bool) (now most : ℕ) (old new : List (Place S)) (M N : D) (readings readings2 : Option (List ℕ)) : Type 0 where
     pub looked : List (Place S)
     pub looks : LooksAtBodies old looked
-    pub visits : VisitsAll (is_crowd old) now most looked new M N readings readings2
+    pub visits : VisitsAll paused (is_crowd old) now most looked new M N readings readings2
+
+-- ---- while a server is held
+
+module _ {S : Type 0} (received sent : S → Option (List ℕ)) (has_none is_full has_more is_ended is_broken : S → Bool) {D : Type 0} (answers : Answering D) (over : D → Bool) where
+  -- Commands wait: in a round of visits the service is asked queries alone. Then it may look something
+  -- up.
+  pub record ServesQueries (now most : ℕ) (old : List (Place S)) (M N : D) (readings readings2 : Option (List ℕ)) : Type 0 where
+    pub visited : List (Place S)
+    pub between : D
+    pub round : VisitsRound received sent has_none is_full has_more is_ended is_broken (queries answers) over true now most old visited M between readings readings2
+    pub looks : AnswersAsBefore answers between N
+
+  -- Any number of such rounds, one after the other: what a server does with its service while it is
+  -- held.
+  pub data ServesHeld (M : D) : D → Type 0 where
+    no_round : ServesHeld M M
+    one_round : (K N : D) (now most : ℕ) (old : List (Place S)) (readings readings2 : Option (List ℕ)) → ServesHeld M K → ServesQueries now most old K N readings readings2 → ServesHeld M N
+
+  -- so in a whole hold it is asked queries alone
+  abbrev pub HoldsAskQueries : Type 0
+  HoldsAskQueries = (M N : D) → ServesHeld M N → IsQueried answers M N
+
+  -- and such a round is one as any other
+  abbrev pub QueriesAreAnswers : Type 0
+  QueriesAreAnswers = (paused : Bool) (now most : ℕ) (old new : List (Place S)) (M N : D) (readings readings2 : Option (List ℕ))
+      → VisitsRound received sent has_none is_full has_more is_ended is_broken (queries answers) over paused now most old new M N readings readings2
+      → VisitsRound received sent has_none is_full has_more is_ended is_broken answers over paused now most old new M N readings readings2
 
 -- ---- how much is held after a round
 
@@ -392,14 +433,14 @@ WhoWaitsHasBegun S = (crowd : Bool) (p : Place S) (c : OpenConnection S) → is_
 module _ {S : Type 0} (received sent : S → Option (List ℕ)) (has_none is_full has_more is_ended is_broken : S → Bool) {D : Type 0} (answers : Answering D) (over : D → Bool) where
   -- and in a round, also after it is decided which bodies are read
   abbrev pub RoundsReadFew : Type 0
-  RoundsReadFew = (now most : ℕ) (old new : List (Place S)) (M N : D) (readings readings2 : Option (List ℕ)) → FewChosen old
-      → (round : VisitsRound received sent has_none is_full has_more is_ended is_broken answers over now most old new M N readings readings2) → FewChosen round.looked × FewChosen new
+  RoundsReadFew = (paused : Bool) (now most : ℕ) (old new : List (Place S)) (M N : D) (readings readings2 : Option (List ℕ)) → FewChosen old
+      → (round : VisitsRound received sent has_none is_full has_more is_ended is_broken answers over paused now most old new M N readings readings2) → FewChosen round.looked × FewChosen new
 
   -- After a round each place holds at most this many bytes more than it did before, and no more
   -- than before where the connection is held back.
   abbrev pub RoundsHoldLittleMore : Type 0
-  RoundsHoldLittleMore = (now most : ℕ) (old new : List (Place S)) (M N : D) (readings readings2 : Option (List ℕ))
-      → (round : VisitsRound received sent has_none is_full has_more is_ended is_broken answers over now most old new M N readings readings2) → HoldLittleMore (is_crowd old) most round.looked new
+  RoundsHoldLittleMore = (paused : Bool) (now most : ℕ) (old new : List (Place S)) (M N : D) (readings readings2 : Option (List ℕ))
+      → (round : VisitsRound received sent has_none is_full has_more is_ended is_broken answers over paused now most old new M N readings readings2) → HoldLittleMore (is_crowd old) most round.looked new
 
 -- ---- how much is held after any number of rounds
 
@@ -465,8 +506,8 @@ FinishesLeaveLittle S = (most : ℕ) (places : List (Place S)) → HoldLittle mo
 module _ {S : Type 0} (received sent : S → Option (List ℕ)) (has_none is_full has_more is_ended is_broken : S → Bool) {D : Type 0} (answers : Answering D) (over : D → Bool) where
   -- and after a round
   abbrev pub RoundsLeaveLittle : Type 0
-  RoundsLeaveLittle = (now most : ℕ) (old new : List (Place S)) (M N : D) (readings readings2 : Option (List ℕ)) → HoldLittle most old
-      → VisitsRound received sent has_none is_full has_more is_ended is_broken answers over now most old new M N readings readings2 → HoldLittle most new
+  RoundsLeaveLittle = (paused : Bool) (now most : ℕ) (old new : List (Place S)) (M N : D) (readings readings2 : Option (List ℕ)) → HoldLittle most old
+      → VisitsRound received sent has_none is_full has_more is_ended is_broken answers over paused now most old new M N readings readings2 → HoldLittle most new
 
 -- what is held at a place whose body isn't chosen
 abbrev pub unread_at : {S : Type 0} → Place S → ℕ
@@ -525,8 +566,8 @@ FinishesLeaveRest {S} has_none is_full = (places : List (Place S)) → All (IsAt
 module _ {S : Type 0} (received sent : S → Option (List ℕ)) (has_none is_full has_more is_ended is_broken : S → Bool) {D : Type 0} (answers : Answering D) (over : D → Bool) where
   -- and after visits
   abbrev pub VisitsLeaveRest : Type 0
-  VisitsLeaveRest = (now most : ℕ) (old new : List (Place S)) (M N : D) (readings readings2 : Option (List ℕ)) → All (IsAtRest has_none is_full) old
-      → VisitsRound received sent has_none is_full has_more is_ended is_broken answers over now most old new M N readings readings2 → All (IsAtRest has_none is_full) new
+  VisitsLeaveRest = (paused : Bool) (now most : ℕ) (old new : List (Place S)) (M N : D) (readings readings2 : Option (List ℕ)) → All (IsAtRest has_none is_full) old
+      → VisitsRound received sent has_none is_full has_more is_ended is_broken answers over paused now most old new M N readings readings2 → All (IsAtRest has_none is_full) new
 
 -- A new connection ends another only if that isn't to be visited, its socket gave nothing when it
 -- was last asked, and nothing is begun on it.
@@ -582,7 +623,7 @@ round_time = 25
 abbrev pub counted_time : Bool → Bool → Bool → ℕ
 counted_time was_held is_held busy = if was_held || is_held then 0 else (if busy then 0 else look_time) + round_time
 
--- A server goes on while its service isn't over, and one more connection may come in, or a
--- connection or guest is there.
-abbrev pub goes_on : {S : Type 0} → Bool → Bool → List (Place S) → Bool → Bool
-goes_on over lets places nobody = not over && (lets || (not (list_all is_free places) || not nobody))
+-- A server goes on while its service isn't over, and it is held, or one more connection may come in,
+-- or a connection or guest is there.
+abbrev pub goes_on : {S : Type 0} → Bool → Bool → Bool → List (Place S) → Bool → Bool
+goes_on over held lets places nobody = not over && (held || lets || not (list_all is_free places) || not nobody)

@@ -1,10 +1,11 @@
 //! One open connection.
 
-ghost use Rattle.std.specs.Prelude.{◌≡◌, ◌≢◌, [], true, false, IfOk, IsSome, OnOk, OnErr, length};
+ghost use Rattle.std.specs.Prelude.{◌≡◌, ◌≢◌, [], ℕ, List, Option, true, false, IfOk, IsSome, OnOk, OnErr, length};
 ghost use Rattle.registry_wire.specs.Spelling.{IsUnfinished};
 ghost use Rattle.registry_server.specs.ConnectionStates.{Does, MayTakeTurn, fresh};
-ghost use Rattle.registry_server.specs.Connections.{AnswersOnce, Drops, IsDone, IsLost, LeavesLittle, LeavesRest, Receives, SendsDue, StarvesOnce, Visits, body_since, connected, finishing, has_body, is_answered, must_wait, stage_after, waiting};
+ghost use Rattle.registry_server.specs.Connections.{AnswersOnce, Drops, IsDone, IsLost, LeavesLittle, LeavesRest, Receives, SendsDue, StarvesOnce, Visits, body_since, connected, finishing, has_body, is_answered, may_command, must_wait, stage_after, waiting};
 ghost use Rattle.registry_server.specs.Phases as phases;
+ghost use Rattle.registry_server.specs.Queries.{queries};
 ghost use Rattle.registry_server.specs.declared.connection.Visit.TheVariants as visits;
 ghost use Rattle.registry_server.specs.declared.phase.Stage.TheVariants as stages;
 ghost use Rattle.registry_server.specs.declared.socket.Flow.TheVariants as flows;
@@ -99,6 +100,16 @@ impl<S: Socket> Connection<S> {
         }
     }
 
+    /// Whether a request is under way that may be a command: its first byte isn't the `G` of `GET`.
+    pub fn may_command(&self) -> bool
+        ensures { result ≡ may_command self.now }
+    {
+        match self.phase.stage {
+            Stage::Begun | Stage::Next => !self.state.begins_query(),
+            _ => false,
+        }
+    }
+
     /// Whether its request was answered and it goes on, and what follows wasn't looked at yet.
     pub fn is_answered(&self) -> bool
         ensures { result ≡ is_answered self.now }
@@ -169,6 +180,54 @@ impl<S: Socket> Connection<S> {
         }
     }
 
+    /// Goes on with the connection while commands wait, as [`visit`](Connection::visit) does. But where
+    /// nothing is begun it only receives: whether that may be a command isn't known before. No request
+    /// is under way that may be a command.
+    pub fn visit_query<D: Service, C: Clock>(
+        &mut self,
+        alloc: Global,
+        service: &mut D,
+        clock: &mut C,
+        buffer: &mut [u8],
+        now: u64,
+    ) -> Visit
+        ensures visits { may_command self.old ≡ false → Visits S.received S.sent (queries D.answers) now (length buffer.old) self.old self.new
+            service.old service.new (C.readings clock.old) (C.readings clock.new) }
+        ensures rests { result ≡ visits.Rests → self.new.phase.stage ≢ stages.Next }
+        ensures waits { result ≡ visits.Rests → must_wait S.has_none S.is_full self.new ≡ true }
+        ensures more { result ≡ visits.Again → self.new.phase.stage ≡ stages.Begun → S.has_more self.new.socket ≡ true }
+        ensures over { result ≡ visits.Over → IsLost S.is_ended S.is_broken self.new }
+        ensures ends { IsDone self.old.state → self.new.is_over ≡ true → result ≡ visits.Over }
+        ensures leaves { result ≢ visits.Over → LeavesLittle (length buffer.old) self.old
+            → LeavesLittle (length buffer.old) self.new }
+    {
+        match self.phase.stage {
+            Stage::Idle => self.receive_first(service, buffer, now),
+            _ => self.visit(alloc, service, clock, buffer, now),
+        }
+    }
+
+    // Receives the first bytes of a request, and takes no turn yet.
+    fn receive_first<D: Service>(&mut self, service: &mut D, buffer: &mut [u8], now: u64) -> Visit
+        requires { self.old.phase.stage ≡ stages.Idle }
+        ensures visits { (readings : Option (List ℕ)) → Visits S.received S.sent (queries D.answers) now (length buffer.old) self.old self.new
+            service.old service.new readings readings }
+        ensures rests { result ≡ visits.Rests → self.new.phase.stage ≢ stages.Next }
+        ensures waits { result ≡ visits.Rests → must_wait S.has_none S.is_full self.new ≡ true }
+        ensures more { self.new.phase.stage ≢ stages.Begun }
+        ensures over { result ≡ visits.Over → IsLost S.is_ended S.is_broken self.new }
+        ensures ends { self.new.is_over ≡ true → result ≡ visits.Over }
+        ensures leaves { result ≢ visits.Over → LeavesLittle (length buffer.old) self.new }
+    {
+        match self.receive(buffer, now) {
+            Ok(Flow::Moved(_)) => Visit::Again,
+            Ok(Flow::Waits) => Visit::Rests,
+            Ok(Flow::Ended) => Visit::Over,
+            Ok(Flow::Broken) => Visit::Over,
+            Err(_) => self.starve(service, now),
+        }
+    }
+
     // Receives what has come, and holds it. After an error what came isn't held.
     fn receive(&mut self, buffer: &mut [u8], now: u64) -> Result<Flow, AllocError>
         requires turns { phases.takes_turns self.old.phase.stage ≡ true }
@@ -184,6 +243,9 @@ impl<S: Socket> Connection<S> {
         ensures quiet { IfOk result (λ flow. flow ≡ flows.Waits → phases.receives self.new.phase.stage ≡ true) }
         ensures none { IfOk result (λ flow. flow ≡ flows.Waits → S.has_none self.new.socket ≡ true) }
         ensures goes_on { IfOk result (λ flow. flow ≡ flows.Waits → self.new.is_over ≡ false) }
+        ensures over { IfOk result (λ flow. flow ≡ flows.Ended → self.new.is_over ≡ true) }
+        ensures ends { IfOk result (λ flow. flow ≡ flows.Ended → S.is_ended self.new.socket ≡ true) }
+        ensures last { IfOk result (λ flow. self.new.is_over ≡ true → flow ≡ flows.Ended) }
         ensures ended { OnOk result (self.new.is_over ≡ true → self.new.state ≡ self.old.state) }
         ensures not_ended { OnErr result (self.new.is_over ≡ false) }
         ensures broken { IfOk result (λ flow. flow ≡ flows.Broken → S.is_broken self.new.socket ≡ true) }

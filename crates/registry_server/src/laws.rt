@@ -1,7 +1,7 @@
 //! Laws of connections. Each is the contract of a function that does nothing.
 
 ghost use Rattle.registry_server.specs.Phases.{BytesGive, EnteredEndsInTime, NeverGiveMore, NewPhasesEndInTime, PaidEndsInTime, ResponseTimePasses, StagesGiveNone, WaitedEndsInTime, WaitsGiveNone};
-ghost use Rattle.registry_server.specs.Pools.{AllHoldLittle, AllIdleEndsLeaveFew, AllIdleEndsLeaveLittle, AllIdleEndsLeaveRest, EndsLeaveFew, EndsLeaveLittle, EndsLeaveRest, FinishesLeaveFew, FinishesLeaveLittle, FinishesLeaveRest, IdleEndsLeaveFew, IdleEndsLeaveLittle, IdleEndsLeaveRest, NewConnectionsLeaveFew, NewConnectionsLeaveLittle, NewConnectionsLeaveRest, NewPoolHoldsLittle, NewPoolReadsFew, NewPoolRests, NewcomersEndIdle, RoundsHoldLittleMore, RoundsLeaveLittle, RoundsReadFew, ServersHoldLittle, StopsEndIdle, StopsLeaveUnderWay, UnreadHoldLittle, VisitsLeaveRest, WakesLeaveFew, WakesLeaveLittle, WakesLeaveRest, WantOfRoomEndsIdle, WhoWaitsHasBegun};
+ghost use Rattle.registry_server.specs.Pools.{AllHoldLittle, AllIdleEndsLeaveFew, AllIdleEndsLeaveLittle, AllIdleEndsLeaveRest, EndsLeaveFew, EndsLeaveLittle, EndsLeaveRest, FinishesLeaveFew, FinishesLeaveLittle, FinishesLeaveRest, HoldsAskQueries, IdleEndsLeaveFew, IdleEndsLeaveLittle, IdleEndsLeaveRest, NewConnectionsLeaveFew, NewConnectionsLeaveLittle, NewConnectionsLeaveRest, NewPoolHoldsLittle, NewPoolReadsFew, NewPoolRests, NewcomersEndIdle, QueriesAreAnswers, RoundsHoldLittleMore, RoundsLeaveLittle, RoundsReadFew, ServersHoldLittle, StopsEndIdle, StopsLeaveUnderWay, UnreadHoldLittle, VisitsLeaveRest, WakesLeaveFew, WakesLeaveLittle, WakesLeaveRest, WantOfRoomEndsIdle, WhoWaitsHasBegun};
 ghost use Rattle.registry_server.specs.Worlds.{Begins, Comes, Finishes, Lasts, Sends, Shuts, Starves, TakesTurns, VisitsLead};
 
 use crate::socket::Socket;
@@ -112,4 +112,12 @@ pub fn connections_hold_little<S: Socket, D: Service>()
     ensures unread { UnreadHoldLittle S }
     ensures all { AllHoldLittle S }
     ensures servers { ServersHoldLittle S }
+{}
+
+/// While a server is held, its service is asked queries alone, however many rounds that takes
+/// (`queried`): it is what queries left, but for what it looked up since. Each such round is also one
+/// of those that other laws speak of (`rounds`).
+pub fn held_servers_ask_queries<S: Socket, D: Service>()
+    ensures queried { HoldsAskQueries S.received S.sent S.has_none S.is_full S.has_more S.is_ended S.is_broken D.answers D.over }
+    ensures rounds { QueriesAreAnswers S.received S.sent S.has_none S.is_full S.has_more S.is_ended S.is_broken D.answers D.over }
 {}

@@ -1,9 +1,13 @@
 //! The open connections, and which of them can go on.
 
-ghost use Rattle.std.specs.Prelude.{◌≡◌, ◌&&◌, true, IfOk, is_none, length, map, position, replicate};
+ghost use Rattle.std.specs.Prelude.{◌≡◌, ◌≢◌, ◌&&◌, true, false, IfOk, is_none, length, map, position, replicate};
 ghost use Rattle.std.specs.List.{list_all, list_any};
+ghost use Rattle.registry_server.specs.Connections.{IsDone, IsLost, LeavesLittle, Visits, may_command, must_wait};
 ghost use Rattle.registry_server.specs.Pools as spec;
 ghost use Rattle.registry_server.specs.Pools.{ChoosesIf, ChoosesNext, EndsIdle, IsFirstOfEarliest, IsPlaceFor, LooksAtBodies, VisitsAll, VisitsAt, VisitsRound, at_place, idle_times, new_at, place_count, waiting_times};
+ghost use Rattle.registry_server.specs.Queries.{answering, queries};
+ghost use Rattle.registry_server.specs.declared.connection.Visit.TheVariants as visits;
+ghost use Rattle.registry_server.specs.declared.phase.Stage.TheVariants as stages;
 
 use crate::connection::{BODY_LEAST, Connection, Visit};
 use crate::socket::Socket;
@@ -110,12 +114,29 @@ impl<S: Socket> Place<S> {
         is_crowd && !self.is_chosen && self.has_body()
     }
 
+    // Whether a request is under way there that may be a command.
+    fn may_command(&self) -> bool
+        ensures { result ≡ spec.may_command_at self.now }
+    {
+        match &self.connection {
+            Some(connection) => connection.may_command(),
+            None => false,
+        }
+    }
+
+    // Whether the connection there is to be visited. Where commands wait, none is that may have one.
+    fn is_to_visit(&self, commands_wait: bool) -> bool
+        ensures { result ≡ spec.is_to_visit commands_wait self.now }
+    {
+        self.is_ready && !(commands_wait && self.may_command())
+    }
+
     // Whether the connection there is to be visited, and isn't held back, or one more body may be
     // chosen.
-    fn is_due(&self, is_crowd: bool, may_choose: bool) -> bool
-        ensures { result ≡ spec.is_due is_crowd may_choose self.now }
+    fn is_due(&self, commands_wait: bool, is_crowd: bool, may_choose: bool) -> bool
+        ensures { result ≡ spec.is_due commands_wait is_crowd may_choose self.now }
     {
-        self.is_ready && (may_choose || !self.is_held_back(is_crowd))
+        self.is_to_visit(commands_wait) && (may_choose || !self.is_held_back(is_crowd))
     }
 
     // Its body stays chosen until its request is answered, or as long as it is held where the
@@ -145,13 +166,14 @@ impl<S: Socket> Place<S> {
         clock: &mut C,
         buffer: &mut [u8],
         now: u64,
+        commands_wait: bool,
         is_crowd: bool,
     )
-        ensures { VisitsAt S.received S.sent S.has_none S.is_full S.has_more S.is_ended S.is_broken D.answers D.over
-            is_crowd now (length buffer.old) self.old self.new
+        ensures { VisitsAt S.received S.sent S.has_none S.is_full S.has_more S.is_ended S.is_broken
+            (answering commands_wait D.answers) D.over commands_wait is_crowd now (length buffer.old) self.old self.new
             service.old service.new (C.readings clock.old) (C.readings clock.new) }
     {
-        if !self.is_ready || service.is_over() {
+        if !self.is_to_visit(commands_wait) || service.is_over() {
             return;
         }
         if self.is_held_back(is_crowd) {
@@ -162,7 +184,15 @@ impl<S: Socket> Place<S> {
         let Some(connection) = &mut self.connection else {
             return;
         };
-        match connection.visit(alloc, service, clock, buffer, now) {
+        match visited(
+            connection,
+            alloc,
+            service,
+            clock,
+            buffer,
+            now,
+            commands_wait,
+        ) {
             Visit::Again => self.is_ready = true,
             Visit::Rests => {}
             Visit::Over => self.connection = None,
@@ -198,6 +228,35 @@ impl<S: Socket> Place<S> {
         if is_late {
             self.connection = None;
         }
+    }
+}
+
+// Visits a connection. Where commands wait, no request is under way on it that may be one.
+fn visited<S: Socket, D: Service, C: Clock>(
+    connection: &mut Connection<S>,
+    alloc: Global,
+    service: &mut D,
+    clock: &mut C,
+    buffer: &mut [u8],
+    now: u64,
+    commands_wait: bool,
+) -> Visit
+    requires query { commands_wait ≡ true → may_command connection.old ≡ false }
+    ensures visits { Visits S.received S.sent (answering commands_wait D.answers) now (length buffer.old)
+        connection.old connection.new service.old service.new (C.readings clock.old) (C.readings clock.new) }
+    ensures rests { result ≡ visits.Rests → connection.new.phase.stage ≢ stages.Next }
+    ensures waits { result ≡ visits.Rests → must_wait S.has_none S.is_full connection.new ≡ true }
+    ensures more { result ≡ visits.Again → connection.new.phase.stage ≡ stages.Begun
+        → S.has_more connection.new.socket ≡ true }
+    ensures over { result ≡ visits.Over → IsLost S.is_ended S.is_broken connection.new }
+    ensures ends { IsDone connection.old.state → connection.new.is_over ≡ true → result ≡ visits.Over }
+    ensures leaves { result ≢ visits.Over → LeavesLittle (length buffer.old) connection.old
+        → LeavesLittle (length buffer.old) connection.new }
+{
+    if commands_wait {
+        connection.visit_query(alloc, service, clock, buffer, now)
+    } else {
+        connection.visit(alloc, service, clock, buffer, now)
     }
 }
 
@@ -247,11 +306,25 @@ impl<S: Socket> ConnectionPool<S> {
     /// isn't held back, or its body would be chosen. The place of a connection that was to be
     /// visited and has ended counts, too, until that round.
     pub fn is_busy(&self) -> bool
-        ensures { result ≡ spec.is_busy self.now.places.items }
+        ensures { result ≡ spec.is_busy false self.now.places.items }
+    {
+        self.is_busy_in(false)
+    }
+
+    /// Whether a connection is to be visited in the next round, in which commands wait.
+    pub fn is_busy_with_queries(&self) -> bool
+        ensures { result ≡ spec.is_busy true self.now.places.items }
+    {
+        self.is_busy_in(true)
+    }
+
+    // Whether a connection is to be visited in a round in which commands wait, or don't.
+    fn is_busy_in(&self, commands_wait: bool) -> bool
+        ensures { result ≡ spec.is_busy commands_wait self.now.places.items }
     {
         let is_crowd = is_crowd(&self.places);
         let may_choose = may_choose(&self.places, is_crowd);
-        any_due(&self.places, is_crowd, may_choose)
+        any_due(&self.places, commands_wait, is_crowd, may_choose)
     }
 
     /// Where a new connection can be put: a free place, or else that of the connection on which
@@ -348,11 +421,30 @@ impl<S: Socket> ConnectionPool<S> {
         now: u64,
     )
         ensures { VisitsRound S.received S.sent S.has_none S.is_full S.has_more S.is_ended S.is_broken D.answers D.over
-            now (length buffer.old) self.old.places.items self.new.places.items service.old service.new
+            false now (length buffer.old) self.old.places.items self.new.places.items service.old service.new
             (C.readings clock.old) (C.readings clock.new) }
     {
         let is_crowd = self.look_at_bodies();
-        self.visit_each(alloc, service, clock, buffer, now, is_crowd);
+        self.visit_each(alloc, service, clock, buffer, now, false, is_crowd);
+    }
+
+    /// Visits connections as [`visit_all`](ConnectionPool::visit_all) does, but while commands wait: a
+    /// connection isn't visited, and is still to be visited, where a request is under way on it that
+    /// may be a command. So the service is asked queries alone.
+    pub fn visit_queries<D: Service, C: Clock>(
+        &mut self,
+        alloc: Global,
+        service: &mut D,
+        clock: &mut C,
+        buffer: &mut [u8],
+        now: u64,
+    )
+        ensures { VisitsRound S.received S.sent S.has_none S.is_full S.has_more S.is_ended S.is_broken (queries D.answers) D.over
+            true now (length buffer.old) self.old.places.items self.new.places.items service.old service.new
+            (C.readings clock.old) (C.readings clock.new) }
+    {
+        let is_crowd = self.look_at_bodies();
+        self.visit_each(alloc, service, clock, buffer, now, true, is_crowd);
     }
 
     // Visits each connection that is to be visited and isn't held back.
@@ -363,14 +455,15 @@ impl<S: Socket> ConnectionPool<S> {
         clock: &mut C,
         buffer: &mut [u8],
         now: u64,
+        commands_wait: bool,
         is_crowd: bool,
     )
-        ensures { VisitsAll S.received S.sent S.has_none S.is_full S.has_more S.is_ended S.is_broken D.answers D.over
-            is_crowd now (length buffer.old) self.old.places.items self.new.places.items
+        ensures { VisitsAll S.received S.sent S.has_none S.is_full S.has_more S.is_ended S.is_broken
+            (answering commands_wait D.answers) D.over commands_wait is_crowd now (length buffer.old) self.old.places.items self.new.places.items
             service.old service.new (C.readings clock.old) (C.readings clock.new) }
     {
         for place in self.places.iter_mut() {
-            place.visit(alloc, service, clock, buffer, now, is_crowd);
+            place.visit(alloc, service, clock, buffer, now, commands_wait, is_crowd);
         }
     }
 
@@ -455,12 +548,17 @@ fn may_choose<S: Socket>(places: &[Place<S>], is_crowd: bool) -> bool
 }
 
 // Whether the connection at one of the places is due.
-fn any_due<S: Socket>(places: &[Place<S>], is_crowd: bool, may_choose: bool) -> bool
-    ensures { result ≡ list_any (spec.is_due is_crowd may_choose) places.now }
+fn any_due<S: Socket>(
+    places: &[Place<S>],
+    commands_wait: bool,
+    is_crowd: bool,
+    may_choose: bool,
+) -> bool
+    ensures { result ≡ list_any (spec.is_due commands_wait is_crowd may_choose) places.now }
 {
     places
         .iter()
-        .any(|place| place.is_due(is_crowd, may_choose))
+        .any(|place| place.is_due(commands_wait, is_crowd, may_choose))
 }
 
 // The first place of those whose bodies wait and whose requests began first.

@@ -1,15 +1,17 @@
 //! The loop over all connections.
 
-ghost use Rattle.std.specs.Prelude.{◌≡◌, ◌≤◌, ◌||◌, ◌⊎◌, All, true, false, IfOk, OnOk, if◌then◌else◌};
+ghost use Rattle.std.specs.Prelude.{◌≡◌, ◌≤◌, ◌||◌, ◌⊎◌, All, true, false, not, length, IfOk, OnOk, if◌then◌else◌};
 ghost use Rattle.mio.specs.declared.net.stream.TcpStream.{TcpStream};
+ghost use Rattle.registry_service.specs.Turns.{AnswersAsBefore};
 ghost use Rattle.registry_server.specs.Listening.{lets_in};
 ghost use Rattle.registry_server.specs.Pools as spec;
-ghost use Rattle.registry_server.specs.Pools.{AreWoken, IsPlaceFor, IsUnderWay, MayHaveOne, at_place, new_at};
+ghost use Rattle.registry_server.specs.Pools.{AreWoken, IsPlaceFor, IsUnderWay, MayHaveOne, ServesQueries, at_place, new_at};
 
 use crate::clocks::{Timer, WallClock};
 use crate::guests::{FIRST_GUEST, GUEST_TOKENS, Guests, NoGuests};
 use crate::listener::{ListenAt, Listener, NoDescriptor};
 use crate::pool::{CONNECTION_COUNT, ConnectionPool};
+use crate::socket::Socket;
 use mio::net::TcpStream;
 use mio::{Events, Interest, Poll, Registry, Token};
 use registry_names::Moment;
@@ -116,10 +118,11 @@ impl Server {
     /// Serves as [`run`](Server::run) does, and looks after guests once in each round, after the
     /// connections. Where connections are counted it goes on until no guest is there, either.
     ///
-    /// While guests hold the server, it visits and lets in nobody, and no time of connections
-    /// passes. Where they stop it, it lets nobody in any more, ends the connections on which
-    /// nothing is begun, answers what is under way, and ends once nobody is there. Each connection
-    /// is answered at most one more request, and is told that it ends.
+    /// While guests hold the server, the service is asked queries of connections alone: commands
+    /// wait, and so do guests, and no time of connections passes. Where they stop it, it lets nobody
+    /// in any more, ends the connections on which nothing is begun, answers what is under way, and
+    /// ends once nobody is there. Each connection is answered at most one more request, and is told
+    /// that it ends.
     pub fn run_beside<R: time::Clock, D: Service, G: Guests>(
         mut self,
         rt: &R,
@@ -170,30 +173,28 @@ impl Server {
     ) -> io::Result<u64>
         ensures counts { IfOk result (λ most. most
             ≡ spec.counted_time (G.holds guests.old) (G.holds guests.new)
-            (G.busy guests.old || spec.is_busy self.old.pool.places.items)) }
+            (G.busy guests.old || spec.is_busy false self.old.pool.places.items)) }
         ensures keeps { AreWoken self.old.pool.places.items self.new.pool.places.items }
         ensures left { self.new.listener.left ≡ self.old.listener.left }
     {
         let was_held = guests.holds();
         let patience = if guests.is_busy() {
             0
-        } else if was_held {
-            LOOK_TIME
         } else {
-            self.patience()
+            self.patience(was_held)
         };
         self.look(patience, guests)?;
-        let most = patience + ROUND_TIME;
-        guests.attend(self.poll.registry(), timer.pass(most));
+        // Whoever reads from a held server doesn't make the hold longer.
+        guests.attend(self.poll.registry(), timer.pass(LOOK_TIME + ROUND_TIME));
         if was_held || guests.holds() {
             Ok(0)
         } else {
-            Ok(most)
+            Ok(patience + ROUND_TIME)
         }
     }
 
     // Visits those who are to be visited, ends those who are late, and lets in those who are there.
-    // Where the server is held it does nothing. Returns whether the server goes on.
+    // Where the server is held, commands wait. Returns whether the server goes on.
     fn serve<D: Service, C: Clock, G: Guests>(
         &mut self,
         alloc: Global,
@@ -203,21 +204,41 @@ impl Server {
         guests: &mut G,
         now: u64,
     ) -> io::Result<bool>
-        ensures held { G.holds guests.old ≡ true → self.new.pool.places.items ≡ self.old.pool.places.items }
-        ensures held_guests { G.holds guests.old ≡ true → guests.new ≡ guests.old }
-        ensures held_service { G.holds guests.old ≡ true → service.new ≡ service.old }
-        ensures held_clock { G.holds guests.old ≡ true → C.readings clock.new ≡ C.readings clock.old }
-        ensures held_listener { G.holds guests.old ≡ true → self.new.listener ≡ self.old.listener }
-        ensures goes_on { IfOk result (λ goes. goes ≡ (G.holds guests.old
-            || spec.goes_on (D.over service.new) (lets_in self.new.listener.left)
-            self.new.pool.places.items (G.empty guests.new))) }
+        ensures held { G.holds guests.old ≡ true → ServesQueries ⟦<TcpStream as Socket>⟧.received ⟦<TcpStream as Socket>⟧.sent ⟦<TcpStream as Socket>⟧.has_none ⟦<TcpStream as Socket>⟧.is_full
+            ⟦<TcpStream as Socket>⟧.has_more ⟦<TcpStream as Socket>⟧.is_ended ⟦<TcpStream as Socket>⟧.is_broken D.answers D.over now (length buffer.old)
+            self.old.pool.places.items service.old service.new (C.readings clock.old) (C.readings clock.new) }
+        ensures goes_on { IfOk result (λ goes. goes ≡ spec.goes_on (D.over service.new) (G.holds guests.old)
+            (lets_in self.new.listener.left) self.new.pool.places.items (G.empty guests.new)) }
         ensures shut { OnOk result (G.holds guests.old ≡ false → G.stops guests.old ≡ true
             → lets_in self.new.listener.left ≡ false) }
     {
         if guests.holds() {
-            return Ok(true);
+            return self.serve_queries(alloc, service, clock, buffer, guests, now);
         }
         self.serve_all(alloc, service, clock, buffer, guests, now)
+    }
+
+    // Does so while commands wait. No guest is visited, and nobody is late, as no time passes.
+    fn serve_queries<D: Service, C: Clock, G: Guests>(
+        &mut self,
+        alloc: Global,
+        service: &mut D,
+        clock: &mut C,
+        buffer: &mut [u8],
+        guests: &mut G,
+        now: u64,
+    ) -> io::Result<bool>
+        ensures serves { ServesQueries ⟦<TcpStream as Socket>⟧.received ⟦<TcpStream as Socket>⟧.sent ⟦<TcpStream as Socket>⟧.has_none ⟦<TcpStream as Socket>⟧.is_full
+            ⟦<TcpStream as Socket>⟧.has_more ⟦<TcpStream as Socket>⟧.is_ended ⟦<TcpStream as Socket>⟧.is_broken D.answers D.over now (length buffer.old)
+            self.old.pool.places.items service.old service.new (C.readings clock.old) (C.readings clock.new) }
+        ensures goes_on { IfOk result (λ goes. goes ≡ not (D.over service.new)) }
+    {
+        self.pool.visit_queries(alloc, service, clock, buffer, now);
+        if !end_round(alloc, service) {
+            return Ok(false);
+        }
+        self.let_in(alloc, now, guests)?;
+        Ok(true)
     }
 
     // Does so where the server isn't held.
@@ -230,8 +251,8 @@ impl Server {
         guests: &mut G,
         now: u64,
     ) -> io::Result<bool>
-        ensures goes_on { IfOk result (λ goes. goes ≡ spec.goes_on (D.over service.new) (lets_in self.new.listener.left)
-            self.new.pool.places.items (G.empty guests.new)) }
+        ensures goes_on { IfOk result (λ goes. goes ≡ spec.goes_on (D.over service.new) false
+            (lets_in self.new.listener.left) self.new.pool.places.items (G.empty guests.new)) }
         ensures shut { OnOk result (G.stops guests.old ≡ true → lets_in self.new.listener.left ≡ false) }
     {
         if guests.stops() {
@@ -239,9 +260,7 @@ impl Server {
         }
         self.pool.visit_all(alloc, service, clock, buffer, now);
         guests.visit(alloc, service, clock, buffer, self.poll.registry(), now);
-        service.look_up(alloc);
-        service.rest();
-        if service.is_over() {
+        if !end_round(alloc, service) {
             return Ok(false);
         }
         self.end_late(now);
@@ -265,11 +284,22 @@ impl Server {
     }
 
     // How many milliseconds to wait for what is ready: none while a connection may go on.
-    fn patience(&self) -> u64
+    fn patience(&self, is_held: bool) -> u64
         ensures few { result ≤ 250 }
-        ensures busy { result ≡ (if spec.is_busy self.now.pool.places.items then 0 else 250) }
+        ensures busy { result ≡ (if spec.is_busy is_held self.now.pool.places.items then 0 else 250) }
     {
-        if self.pool.is_busy() { 0 } else { LOOK_TIME }
+        if self.is_busy(is_held) { 0 } else { LOOK_TIME }
+    }
+
+    // Whether a connection may go on.
+    fn is_busy(&self, is_held: bool) -> bool
+        ensures { result ≡ spec.is_busy is_held self.now.pool.places.items }
+    {
+        if is_held {
+            self.pool.is_busy_with_queries()
+        } else {
+            self.pool.is_busy()
+        }
     }
 
     // Waits at most this many milliseconds until something is ready. What is ready is to be
@@ -404,6 +434,16 @@ fn wake_all<G: Guests>(
             guests.wake(token.0 - FIRST_GUEST);
         }
     }
+}
+
+// Tells the service that a round of turns is over. Returns whether the service goes on.
+fn end_round<D: Service>(alloc: Global, service: &mut D) -> bool
+    ensures looks { AnswersAsBefore D.answers service.old service.new }
+    ensures goes_on { result ≡ not (D.over service.new) }
+{
+    service.look_up(alloc);
+    service.rest();
+    !service.is_over()
 }
 
 // Why a server ended, by whether its service is over and whether guests stopped it.

@@ -1,12 +1,14 @@
 //! One connection, apart from its socket.
 
-ghost use Rattle.std.specs.Prelude.{◌≡◌, ◌≤◌, ◌-◌, ◌==◌, ◌++◌, ◌∷◌, ◌↔◌, [], ℕ, length, drop, true, IfOk, IsTrue, OnOk, OnErr};
+ghost use Rattle.std.specs.Prelude.{◌≡◌, ◌≤◌, ◌-◌, ◌==◌, ◌++◌, ◌∷◌, ◌↔◌, [], ℕ, length, drop, nat_eq, true, IfOk, IsTrue, OnOk, OnErr};
+ghost use Rattle.std.specs.List.{starts_with};
 ghost use Rattle.registry_wire.specs.Spelling.{EndsWith, IsUnfinished, Says};
 ghost use Rattle.registry_service.specs.Courses.{Gave};
 ghost use Rattle.registry_service.specs.Servings.{bytes_of};
 ghost use Rattle.registry_service.specs.Turns.{Turns, request};
 ghost use Rattle.registry_server.specs.declared.state.Progress.TheVariants.{Answered, Closed};
 ghost use Rattle.registry_server.specs.ConnectionStates.{Does, IsStarved, MayTakeTurn, fresh, holding, lasting, pending, sending};
+ghost use Rattle.registry_server.specs.Connections.{query_start};
 
 use crate::outgoing::Outgoing;
 use registry_names::Fault;
@@ -16,6 +18,9 @@ use registry_service::{
 use registry_wire::{Ending, First, Incoming, Wanted, ending_of};
 use std::alloc::{AllocError, Global};
 use std::marker::Model;
+
+/// The first byte of `GET`, with which no method of a command begins.
+const QUERY_START: &[u8] = b"G";
 
 /// What came on a connection and isn't used yet, what isn't sent of a response, how many requests
 /// it may still have, and how it ends once all is sent, if it does.
@@ -85,6 +90,13 @@ impl ConnectionState {
         ensures { result ≡ length self.now.held }
     {
         self.held.as_slice().len()
+    }
+
+    /// Whether what is held begins as a query does.
+    pub fn begins_query(&self) -> bool
+        ensures { result ≡ starts_with nat_eq self.now.held query_start }
+    {
+        self.held.as_slice().starts_with(QUERY_START)
     }
 
     /// Whether a turn may be taken: all of the response before is sent, and the connection goes on.

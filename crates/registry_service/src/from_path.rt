@@ -5,7 +5,7 @@ ghost use Rattle.registry_names.specs.declared.stop.Stop.{Stop};
 ghost use Rattle.registry_service.specs.Readings as spec;
 
 use registry_names::{Ident, LATEST, Name, Stop, TagText, Ver};
-use registry_routes::{decoded, ident_in, name_in, tag_in, version_in};
+use registry_routes::{decode_ident, decode_name, decode_tag, decode_text, decode_version};
 use registry_rules::Asked;
 use std::alloc::Global;
 
@@ -23,7 +23,7 @@ impl FromPath for Ident {
     ghost reads = { spec.reads_ident };
 
     fn read(alloc: Global, written: &[u8]) -> Result<Ident, Stop> {
-        ident_in(alloc, written)
+        decode_ident(alloc, written)
     }
 }
 
@@ -31,7 +31,7 @@ impl FromPath for Name {
     ghost reads = { spec.reads_name };
 
     fn read(alloc: Global, written: &[u8]) -> Result<Name, Stop> {
-        name_in(alloc, written)
+        decode_name(alloc, written)
     }
 }
 
@@ -39,7 +39,7 @@ impl FromPath for Ver {
     ghost reads = { spec.reads_version };
 
     fn read(alloc: Global, written: &[u8]) -> Result<Ver, Stop> {
-        version_in(alloc, written)
+        decode_version(alloc, written)
     }
 }
 
@@ -47,7 +47,7 @@ impl FromPath for TagText {
     ghost reads = { spec.reads_tag };
 
     fn read(alloc: Global, written: &[u8]) -> Result<TagText, Stop> {
-        tag_in(alloc, written)
+        decode_tag(alloc, written)
     }
 }
 
@@ -55,7 +55,7 @@ impl FromPath for Asked {
     ghost reads = { spec.reads_asked };
 
     fn read(alloc: Global, written: &[u8]) -> Result<Asked, Stop> {
-        let text = decoded(alloc, written)?;
+        let text = decode_text(alloc, written)?;
         match text.as_str() {
             LATEST => Ok(Asked::Latest),
             version => Ok(Asked::Exact(Ver::parse(alloc, version)?)),

@@ -20,7 +20,7 @@ pub fn turns_are_spelled()
     ensures { TurnsAreSpelled }
 {}
 
-/// Of a reader whose bytes are known, the turns of a connection were taken of everything that was
+/// For a reader whose bytes are known, the turns of a connection were taken of everything that was
 /// held or left, and what follows them is still held or left.
 pub fn turns_are_taken_of_all<D: Service>()
     ensures { TakenOfAll D.answers }

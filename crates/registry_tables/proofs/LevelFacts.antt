@@ -1,7 +1,7 @@
 -- Packages with a caller's level on each: those of a scope, and those that are the caller's own.
-use Rattle.std.proofs.Common.{◌≡◌, ◌⊎◌, ◌∙◌, ◌&&◌, ◌||◌, ℕ, Bool, true, false, not, cond, List, [], ◌∷◌, ◌++◌, filter, map, Option, Some, None, is_some, is_none, refl, sym, ap, ap₂, subst, true≢false, append_assoc, inl, inr, if◌then◌else◌}
+use Rattle.std.proofs.Common.{◌≡◌, ◌⊎◌, ◌∙◌, ◌&&◌, ◌||◌, Bool, true, false, cond, List, [], ◌∷◌, ◌++◌, filter, map, Option, Some, None, is_some, is_none, refl, sym, ap, ap₂, subst, true≢false, append_assoc, inl, inr}
 use Rattle.std.specs.List.{AllByRecursion, flat_map, list_any}
-use Rattle.std.proofs.lemmas.Bool.{and_parts, cases_Bool, false_from_ne_true}
+use Rattle.std.proofs.lemmas.Bool.{and_parts}
 use Rattle.std.proofs.lemmas.Simd.{map-map}
 use Rattle.sqlite.specs.State.{State as Shown}
 use Rattle.sqlite_rules.specs.Lists.{Has}
@@ -14,15 +14,12 @@ use Rattle.registry_names.proofs.EntryFacts.{among_keys, entries_rise, rises_kep
 use Rattle.registry_names.proofs.KeyFacts.{text_key}
 use Rattle.registry_names.proofs.MapFacts.{at-entries}
 use Rattle.registry_names.proofs.TextFacts.{is_self, is_sym, is_true as text_is}
-use Rattle.registry_access.specs.Access.{Access}
 use Rattle.registry_access.specs.Callers.{is_maintainer, role_of}
-use Rattle.registry_access.specs.Levels.{is_owner_or_admin, level_granted, larger, open_level, reads}
+use Rattle.registry_access.specs.Levels.{is_owner_or_admin, reads}
 use Rattle.registry_access.specs.Positions.{has_scope, level_at, level_in, scope_role}
-use Rattle.registry_access.specs.RowsFor.{StandingTells}
-use Rattle.registry_access.specs.Standings.{is_listed, position_of}
+use Rattle.registry_access.specs.Standings.{position_of}
 use Rattle.registry_access.specs.declared.caller.Caller.{Caller}
 use Rattle.registry_access.specs.declared.caller.Caller.TheVariants.{Operator, User, Anonymous}
-use Rattle.registry_access.specs.declared.grant.Grant.{Grant}
 use Rattle.registry_access.specs.declared.levels.Level.{Level}
 use Rattle.registry_access.specs.declared.levels.Level.TheVariants.{Write}
 use Rattle.registry_access.specs.declared.role.Role.{Role}

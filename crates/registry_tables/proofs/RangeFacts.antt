@@ -1,6 +1,5 @@
 -- The numbers that are stored stay in range, and tests of all rows tell whether they are.
 use Rattle.std.proofs.Common.{◌≡◌, ◌≤◌, ◌∙◌, ℕ, ℤ, Bool, true, false, cond, ◌&&◌, List, [], ◌∷◌, map, pos, is_some, refl, sym, ap, ap₂, subst, Ordering, Some, None, Option, option_map, IsTrue, All, codes, if◌then◌else◌}
-use Rattle.std.specs.Prelude.{nat_le}
 use Rattle.std.specs.List.{AllByRecursion, list_all}
 use Rattle.std.proofs.lemmas.Bool.{and_from, and_parts, le-leb}
 use Rattle.std.proofs.lemmas.List.Elements.{All-head, All-tail}

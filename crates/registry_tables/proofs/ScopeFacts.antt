@@ -1,5 +1,5 @@
 -- What the statement on all grants shows, and what it says of their scopes.
-use Rattle.std.proofs.Common.{◌≡◌, ◌≢◌, ◌==◌, ◌∙◌, ◌↔◌, ◌&&◌, ℕ, ℤ, Bool, true, false, cond, List, [], ◌∷◌, map, Option, None, Some, IsSome, IsTrue, is_some, Ordering, refl, sym, ap, subst, codes, true≢false, if◌then◌else◌}
+use Rattle.std.proofs.Common.{◌≡◌, ◌≢◌, ◌==◌, ◌∙◌, ◌↔◌, ℕ, ℤ, Bool, true, false, cond, List, [], ◌∷◌, map, Option, None, Some, IsSome, is_some, Ordering, refl, sym, ap, subst, codes, true≢false, if◌then◌else◌}
 use Rattle.std.specs.List.{before_first, list_all}
 use Rattle.std.proofs.lemmas.Bool.{and_from, and_parts, eqb-true}
 use Rattle.std.proofs.lemmas.List.Folds.{list_all-map}
@@ -10,7 +10,7 @@ use Rattle.sqlite_tied.specs.Compute.{everything}
 use Rattle.sqlite_value.specs.Order.{Row, column}
 use Rattle.sqlite_sql.specs.Term.{Term, col}
 use Rattle.registry_names.specs.Keys.{IsKey, Triple}
-use Rattle.registry_names.specs.Maps.{MapBy, at, entries, first_at, keys}
+use Rattle.registry_names.specs.Maps.{entries, first_at, keys}
 use Rattle.registry_names.specs.Names.{scope_of}
 use Rattle.registry_names.specs.Texts.{Text}
 use Rattle.registry_names.proofs.KeyFacts.{same_self, same_true, text_key, triple_key}

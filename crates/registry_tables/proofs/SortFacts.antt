@@ -1,9 +1,9 @@
 -- Packages in the order of their names.
-use Rattle.std.proofs.Common.{◌≡◌, ◌∙◌, Bool, true, false, cond, ◌&&◌, List, [], ◌∷◌, ◌++◌, length, map, Option, Some, None, Result, Ok, Err, IfOk, Less, is_eq, is_lt, refl, sym, ap, append_assoc}
+use Rattle.std.proofs.Common.{◌≡◌, ◌∙◌, true, cond, List, [], ◌∷◌, ◌++◌, length, map, Some, Result, Ok, Err, IfOk, Less, is_lt, refl, sym, ap, append_assoc}
 use Rattle.std.specs.List.{AllByRecursion}
 use Rattle.std.specs.List.Sorted.{IsStrictlySortedBy}
 use Rattle.std.specs.Map.{lookup, keys_of}
-use Rattle.std.specs.BTreeMap.{BTreeMap, IsOrdered, Updates, is_at, get}
+use Rattle.std.specs.BTreeMap.{BTreeMap, Updates, is_at, get}
 use Rattle.std.specs.FinMap.Entries.{below_all}
 use Rattle.std.proofs.lemmas.Bool.{and_from}
 use Rattle.std.proofs.lemmas.List.{map-append}
@@ -12,7 +12,7 @@ use Rattle.registry_names.specs.Texts.{Text, text_cmp, is}
 use Rattle.registry_names.proofs.TextFacts.{is_sym, is_tie}
 use Rattle.registry_access.specs.declared.levels.Level.{Level}
 use Rattle.registry_packument.specs.declared.list.PackageLevel.{PackageLevel}
-use Rattle.registry_tables.specs.Levels.{last_at, level_entry}
+use Rattle.registry_tables.specs.Levels.{level_entry}
 
 -- ---- the entries of a map, one after another
 

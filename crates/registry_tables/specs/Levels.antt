@@ -1,5 +1,5 @@
 -- The packages that a caller reads, each with their level on it.
-use Rattle.std.specs.Prelude.{◌≡◌, [], ◌∷◌, cond, Bool, ◌&&◌, is_none, List, ◌++◌, map, filter, flat_map, Option, Some}
+use Rattle.std.specs.Prelude.{◌≡◌, [], ◌∷◌, cond, Bool, ◌&&◌, is_none, List, map, filter, flat_map, Option, Some}
 use Rattle.registry_names.specs.Maps.{PairMap, at, entries, keys}
 use Rattle.registry_names.specs.Keys.{Pair}
 use Rattle.registry_names.specs.Names.{scope_of}

@@ -1,6 +1,6 @@
 -- What goes with a member and with a team, the members of a team, and what they are granted by
 -- that.
-use Rattle.std.specs.Prelude.{◌≡◌, Bool, false, not, ◌&&◌, List, map, filter, Option, Some, IsSome}
+use Rattle.std.specs.Prelude.{◌≡◌, Bool, false, not, ◌&&◌, List, filter, Option, Some, IsSome}
 use Rattle.std.specs.List.{list_any}
 use Rattle.sqlite_value.specs.Order.{Row, column}
 use Rattle.registry_names.specs.Texts.{Text}

@@ -59,6 +59,20 @@ fn a_file_can_be_copied(rt: HostRuntime) {
 }
 
 #[test]
+fn a_file_can_be_made_of_a_copy(rt: HostRuntime) {
+    let arguments = ["--db", "r.db", "restore", "copy.db", "--no-check"];
+    for (count, is_checked) in [(4, true), (5, false)] {
+        let Errand::Restore { db, copy, checks } = errand(&rt, rt.alloc(), &arguments[..count])
+        else {
+            panic!(rt; "nothing is restored");
+        };
+        same(&rt, "db", db.as_str(), "r.db");
+        same(&rt, "copy", copy.as_str(), "copy.db");
+        same(&rt, "checks", checks, is_checked);
+    }
+}
+
+#[test]
 fn a_server_can_be_stopped(rt: HostRuntime) {
     let Errand::Stop { db } = errand(&rt, rt.alloc(), &["--db", "r.db", "stop"]) else {
         panic!(rt; "nothing is stopped");

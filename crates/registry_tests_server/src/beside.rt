@@ -1,7 +1,8 @@
 //! A server with connections over loopback and with commands beside it.
 
 use crate::client::{
-    ANSWER, LAST_ANSWER, client, command, connect, forget, heard, is_done, lay, send, wait,
+    ANSWER, LAST_ANSWER, client, command, connect, forget, heard, is_answered, is_done, lay, send,
+    send_command, wait,
 };
 use crate::service::{Counting, one_more};
 use mio::{Token, Waker};
@@ -40,15 +41,29 @@ struct Holding<'a> {
     rt: &'a HostRuntime,
     readings: Cell<u32>,
     holder: &'a UnixStream,
+    clients: &'a [TcpStream; 2],
     asked: &'a Cell<u32>,
-    // How often the service was asked until then.
+    // How often the service was asked until then, and whether each client had one answer.
     asked_meanwhile: Cell<u32>,
+    answered_meanwhile: Cell<bool>,
+}
+
+impl Holding<'_> {
+    fn are_answered(&self) -> io::Result<bool> {
+        for client in self.clients {
+            if !is_answered(client)? {
+                return Ok(false);
+            }
+        }
+        Ok(true)
+    }
 }
 
 impl Clock for Holding<'_> {
     fn monotonic(&self) -> io::Result<Duration> {
         if one_more(&self.readings) == FIFTH_ROUND {
             self.asked_meanwhile.set(self.asked.get());
+            self.answered_meanwhile.set(self.are_answered()?);
             self.holder.shutdown(Shutdown::Write)?;
         }
         self.rt.monotonic()
@@ -59,16 +74,21 @@ impl Clock for Holding<'_> {
     }
 }
 
+// Two clients ask, and one of them sends a command and asks again. A third sends a command beside the
+// server.
 #[test]
-fn nobody_is_answered_during_a_hold(rt: HostRuntime) -> Result<(), Fail> {
+fn commands_wait_during_a_hold(rt: HostRuntime) -> Result<(), Fail> {
     let file = "hold.db";
     let (server, mut listener) = server(&rt, file)?;
     let mut holder = connect(&rt, file, "control")?;
     holder.write_all(b"h")?;
     let user = command(&rt, file)?;
     let clients = [client(&rt, &server)?, client(&rt, &server)?];
+    send(&clients[0])?;
+    send(&clients[1])?;
+    send_command(&clients[1])?;
+    send(&clients[1])?;
     for client in &clients {
-        send(client)?;
         client.shutdown(Shutdown::Write)?;
     }
     wait(&rt);
@@ -77,8 +97,10 @@ fn nobody_is_answered_during_a_hold(rt: HostRuntime) -> Result<(), Fail> {
         rt: &rt,
         readings: Cell::new(0),
         holder: &holder,
+        clients: &clients,
         asked: &asked,
         asked_meanwhile: Cell::new(u32::MAX),
+        answered_meanwhile: Cell::new(false),
     };
     let mut service = Counting {
         asked: &asked,
@@ -87,11 +109,16 @@ fn nobody_is_answered_during_a_hold(rt: HostRuntime) -> Result<(), Fail> {
     let at = Moment::clamped(0);
     let ended = server.run_beside(&clock, rt.alloc(), at, &mut service, &mut listener)?;
     same("it ended", ended, Ended::Enough)?;
-    same("asked during the hold", clock.asked_meanwhile.get(), 0)?;
-    same("asked after it", asked.get(), 3)?;
-    for client in &clients {
-        same("a client", heard(&rt, client)?.as_str(), ANSWER)?;
-    }
+    same("asked during the hold", clock.asked_meanwhile.get(), 2)?;
+    same("answered during it", clock.answered_meanwhile.get(), true)?;
+    same("asked in all", asked.get(), 5)?;
+    same("the first client", heard(&rt, &clients[0])?.as_str(), "")?;
+    let both = format!(in rt.alloc(); "{ANSWER}{ANSWER}")?;
+    same(
+        "the second client",
+        heard(&rt, &clients[1])?.as_str(),
+        both.as_str(),
+    )?;
     is_done(&rt, &user)?;
     forget(&rt, file)
 }
@@ -144,7 +171,7 @@ fn a_hold_of_a_server_lapses_after_a_minute(rt: HostRuntime) -> Result<(), Fail>
     holder.write_all(b"h")?;
     let clients = [client(&rt, &server)?, client(&rt, &server)?];
     for client in &clients {
-        send(client)?;
+        send_command(client)?;
         client.shutdown(Shutdown::Write)?;
     }
     wait(&rt);

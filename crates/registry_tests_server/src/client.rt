@@ -14,11 +14,15 @@ use std::{fs, io, thread};
 /// A request.
 const REQUEST: &str = "GET /-/package/kit/dist-tags HTTP/1.1\r\n\r\n";
 
-/// The answer to it, where the connection goes on.
+/// A request that may change a registry.
+const COMMAND: &str =
+    "PUT /-/package/kit/dist-tags/next HTTP/1.1\r\ncontent-length: 7\r\n\r\n\"1.0.0\"";
+
+/// The answer to either, where the connection goes on.
 pub const ANSWER: &str =
     "HTTP/1.1 200 OK\r\ncontent-type: application/json\r\ncontent-length: 11\r\n\r\n{\"ok\":true}";
 
-/// The answer to it, where it is the last.
+/// The answer to either, where it is the last.
 pub const LAST_ANSWER: &str =
     "HTTP/1.1 200 OK\r\ncontent-type: application/json\r\ncontent-length: 11\r\nconnection: close\r\n\r\n{\"ok\":true}";
 
@@ -34,6 +38,20 @@ pub fn client(rt: &HostRuntime, server: &Server) -> Result<TcpStream, Fail> {
 /// Sends a request over HTTP.
 pub fn send(mut client: &TcpStream) -> io::Result<()> {
     client.write_all(REQUEST.as_bytes())
+}
+
+/// Sends a request over HTTP that may change a registry.
+pub fn send_command(mut client: &TcpStream) -> io::Result<()> {
+    client.write_all(COMMAND.as_bytes())
+}
+
+/// Whether a client over HTTP was sent one answer, and nothing more yet.
+pub fn is_answered(mut client: &TcpStream) -> io::Result<bool> {
+    client.set_read_timeout(Some(Duration::from_millis(TRANSIT)))?;
+    let mut piece = [0; 256];
+    let count = client.read(&mut piece)?;
+    client.set_read_timeout(None)?;
+    Ok(&piece[..count] == ANSWER.as_bytes())
 }
 
 /// Waits until what was sent over loopback is there.

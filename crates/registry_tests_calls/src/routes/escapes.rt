@@ -2,7 +2,7 @@
 
 use crate::outcome::{is_refused, same};
 use registry_names::Refusal;
-use registry_routes::decoded;
+use registry_routes::decode_text;
 use std::alloc::Global;
 use std::process::Abort;
 
@@ -23,7 +23,7 @@ static WRITTEN: [Written; 9] = [
 
 fn is_read(rt: &impl Abort, alloc: Global, case: &Written) {
     let (written, wanted) = case;
-    match decoded(alloc, written) {
+    match decode_text(alloc, written) {
         Ok(text) => same(rt, *written, &Ok(text.as_str()), wanted),
         Err(stop) => is_refused(rt, *written, stop, wanted),
     }

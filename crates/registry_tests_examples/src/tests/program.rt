@@ -1,9 +1,10 @@
-//! The program over streams that fail. Its modules have a check that finds something, copies,
-//! tokens that are made, clients over loopback, and the moments of requests.
+//! The program over streams that fail. Its modules have a check that finds something, copies and what
+//! is made of them, tokens that are made, clients over loopback, and the moments of requests.
 
 mod checks;
 mod copies;
 mod moments;
+mod restores;
 mod serving;
 mod tokens;
 

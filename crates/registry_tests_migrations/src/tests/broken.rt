@@ -12,7 +12,7 @@ ghost use Rattle.registry_desk.specs.Adopted.{CanBeAdopted, CanBeAdoptedAgain};
 
 use super::rows::push_digits;
 use super::{connected, files_of, new_files, options, run_all};
-use registry_check::{Problem, Thing, check};
+use registry_check::{Problem, TextTable, Thing, check};
 use registry_desk::{Registry, Unopened, has_tables};
 use registry_names::{Blob, Fault, Text};
 use registry_tables::TABLES;
@@ -63,7 +63,7 @@ static ROWS: [&str; 23] = [
 ];
 
 /// What is done to it, in the order of the rules that are then broken.
-static CASES: [Case; 42] = [
+static CASES: [Case; 53] = [
     Case {
         change: "UPDATE users SET name = name",
         told: "",
@@ -229,8 +229,52 @@ static CASES: [Case; 42] = [
         told: "tag tool a b is not spelled in form",
     },
     Case {
+        change: "INSERT INTO tags VALUES ('tool', '1.x', '1.0.0')",
+        told: "tag tool 1.x is a range of versions",
+    },
+    Case {
         change: "INSERT INTO needs VALUES ('tool', '1.0.0', '@lab/kit')",
         told: "target tool 1.0.0 @lab/kit is in a table that stays empty",
+    },
+    Case {
+        change: "UPDATE sqlite_sequence SET seq = 1",
+        told: "archive 2 has a number above the count",
+    },
+    Case {
+        change: "UPDATE sqlite_sequence SET seq = 3",
+        told: "",
+    },
+    Case {
+        change: "UPDATE sqlite_sequence SET seq = 9223372036854775807",
+        told: "counter has a count out of range",
+    },
+    Case {
+        change: "UPDATE sqlite_sequence SET seq = '2'",
+        told: "counter has a count out of range",
+    },
+    Case {
+        change: "UPDATE sqlite_sequence SET seq = -1",
+        told: "archive 1 has a number above the count; archive 2 has a number above the count; counter has a count out of range",
+    },
+    Case {
+        change: "DELETE FROM sqlite_sequence",
+        told: "archive 1 has a number above the count; archive 2 has a number above the count",
+    },
+    Case {
+        change: "INSERT INTO sqlite_sequence VALUES ('tools', 1)",
+        told: "closed: counter counts something else than archives",
+    },
+    Case {
+        change: "INSERT INTO users VALUES (CAST(x'61ff' AS TEXT))",
+        told: "row users 3 has a text that is not UTF-8",
+    },
+    Case {
+        change: "INSERT INTO users VALUES (CAST(x'ff' AS TEXT)); INSERT INTO tokens VALUES (x'00', CAST(x'ff' AS TEXT)); INSERT INTO orgs VALUES (CAST(x'ff' AS TEXT)); INSERT INTO members VALUES ('lab', CAST(x'ff' AS TEXT), 0); INSERT INTO teams VALUES ('lab', CAST(x'ff' AS TEXT)); INSERT INTO team_members VALUES ('lab', CAST(x'ff' AS TEXT), 'bob'); INSERT INTO packages VALUES (CAST(x'ff' AS TEXT), 1); INSERT INTO grants VALUES ('lab', 'developers', CAST(x'ff' AS TEXT), 1); INSERT INTO owners VALUES (CAST(x'ff' AS TEXT), 'ann'); INSERT INTO versions VALUES ('tool', CAST(x'ff' AS TEXT), 1, '', '', x''); INSERT INTO spent VALUES ('tool', CAST(x'ff' AS TEXT), 1, 2); INSERT INTO tags VALUES ('tool', CAST(x'ff' AS TEXT), '1.0.0'); INSERT INTO needs VALUES ('tool', '1.0.0', CAST(x'ff' AS TEXT)); INSERT INTO meta VALUES (CAST(x'ff' AS TEXT), 1); INSERT INTO held VALUES ('tool', CAST(x'ff' AS TEXT), 1); INSERT INTO archives (integrity, bytes) VALUES (CAST(x'ff' AS TEXT), x''); INSERT INTO need_ranges VALUES ('tool', '1.0.0', CAST(x'ff' AS TEXT), '1')",
+        told: "closed: row users 3 has a text that is not UTF-8; row tokens 2 has a text that is not UTF-8; row orgs 2 has a text that is not UTF-8; row members 3 has a text that is not UTF-8; row teams 2 has a text that is not UTF-8; row team_members 2 has a text that is not UTF-8; row packages 3 has a text that is not UTF-8; row grants 2 has a text that is not UTF-8; row owners 2 has a text that is not UTF-8; row versions 3 has a text that is not UTF-8; row spent 2 has a text that is not UTF-8; row tags 3 has a text that is not UTF-8; row needs 1 has a text that is not UTF-8; row meta 2 has a text that is not UTF-8; row held 3 has a text that is not UTF-8; row archives 3 has a text that is not UTF-8; row need_ranges 2 has a text that is not UTF-8",
+    },
+    Case {
+        change: "UPDATE versions SET manifest = CAST(x'7b22c0227d' AS TEXT), deprecated = CAST(x'ff' AS TEXT) WHERE package = 'tool'; UPDATE tags SET tag = CAST(x'80' AS TEXT) WHERE package = 'tool'",
+        told: "row versions 2 has a text that is not UTF-8; row tags 2 has a text that is not UTF-8",
     },
 ];
 
@@ -398,8 +442,17 @@ fn version_text(alloc: Global, thing: &Thing) -> Result<String, Fail> {
             target,
         } => { named(alloc, "target", &[package, version, target]) }
         Thing::Archive { number } => Ok(format!(in alloc; "archive {number}")?),
+        Thing::Counter => Ok(String::from_str(alloc, "counter")?),
+        Thing::Row { table, row } => row_text(alloc, *table, *row),
         _ => Ok(format!(in alloc; "{thing:?}")?),
     }
+}
+
+fn row_text(alloc: Global, table: TextTable, row: i64) -> Result<String, Fail> {
+    let mut text = String::from_str(alloc, "row ")?;
+    text.push_str(table.name())?;
+    text.push_str(format!(in alloc; " {row}")?.as_str())?;
+    Ok(text)
 }
 
 fn named(alloc: Global, kind: &str, names: &[&Text]) -> Result<String, Fail> {

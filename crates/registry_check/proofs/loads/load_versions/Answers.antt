@@ -1,6 +1,6 @@
 use Rattle.std.proofs.Common.{◌∙◌, ap, map}
 use Rattle.std.proofs.lemmas.Result.{IfOk-weaker}
-use Rattle.registry_check.specs.Rows.{archive_entry, held_entry, live_entry, need_entry}
+use Rattle.registry_check.specs.Rows.{archive_entry, held_entry, integrities, live_entry, need_entry}
 use Rattle.registry_names.specs.Maps.{entries}
 use Rattle.registry_rows.proofs.QuietFacts.{stays_then}
 use Rattle.registry_tables.specs.Contents.{contents}
@@ -28,14 +28,14 @@ returns-in_err-archives-clause-stays g c =
     let one = answered g.S.Store live_spelled (λ db. entries (contents db).versions) live_listed c.args.tx.now c.load.new.tx _ c.requires.in_form c.load.ensures.same_reference c.in_ok-live.ensures.finds in
     let two = answered g.S.Store need_spelled (λ db. entries (contents db).need_ranges) needs_listed c.load.new.tx c.load-2.new.tx _ (still g.S.Store c.args.tx.now c.load.new.tx _ one) c.load-2.ensures.same_reference c.in_ok-needs.ensures.finds in
     let three = answered g.S.Store held_spelled (λ db. entries (contents db).held) held_listed c.load-2.new.tx c.load-3.new.tx _ (still g.S.Store c.load.new.tx c.load-2.new.tx _ two) c.load-3.ensures.same_reference c.in_ok-held.ensures.finds in
-    stays_then g.S.Store c.args.tx.now c.load-3.new.tx c.load-4.new.tx (next g.S.Store c.args.tx.now c.load-2.new.tx c.load-3.new.tx _ _ (next g.S.Store c.args.tx.now c.load.new.tx c.load-2.new.tx _ _ one two) three).stays (left g.S.Store archive_spelled (λ db. entries (contents db).archives) archives_listed c.load-3.new.tx c.load-4.new.tx (still g.S.Store c.load-2.new.tx c.load-3.new.tx _ three) c.load-4.ensures.same_reference c.load-4.ensures.finds)
+    stays_then g.S.Store c.args.tx.now c.load-3.new.tx c.load-4.new.tx (next g.S.Store c.args.tx.now c.load-2.new.tx c.load-3.new.tx _ _ (next g.S.Store c.args.tx.now c.load.new.tx c.load-2.new.tx _ _ one two) three).stays (left g.S.Store archive_spelled (λ db. integrities (contents db).archives) archives_listed c.load-3.new.tx c.load-4.new.tx (still g.S.Store c.load-2.new.tx c.load-3.new.tx _ three) c.load-4.ensures.same_reference c.load-4.ensures.finds)
 
 pub returns : goal.returns
 returns g c =
     let one = answered g.S.Store live_spelled (λ db. entries (contents db).versions) live_listed c.args.tx.now c.load.new.tx _ c.requires.in_form c.load.ensures.same_reference c.in_ok-live.ensures.finds in
     let two = answered g.S.Store need_spelled (λ db. entries (contents db).need_ranges) needs_listed c.load.new.tx c.load-2.new.tx _ (still g.S.Store c.args.tx.now c.load.new.tx _ one) c.load-2.ensures.same_reference c.in_ok-needs.ensures.finds in
     let three = answered g.S.Store held_spelled (λ db. entries (contents db).held) held_listed c.load-2.new.tx c.load-3.new.tx _ (still g.S.Store c.load.new.tx c.load-2.new.tx _ two) c.load-3.ensures.same_reference c.in_ok-held.ensures.finds in
-    let four = answered g.S.Store archive_spelled (λ db. entries (contents db).archives) archives_listed c.load-3.new.tx c.load-4.new.tx _ (still g.S.Store c.load-2.new.tx c.load-3.new.tx _ three) c.load-4.ensures.same_reference c.in_ok-archives.ensures.finds in
+    let four = answered g.S.Store archive_spelled (λ db. integrities (contents db).archives) archives_listed c.load-3.new.tx c.load-4.new.tx _ (still g.S.Store c.load-2.new.tx c.load-3.new.tx _ three) c.load-4.ensures.same_reference c.in_ok-archives.ensures.finds in
     let all = next g.S.Store c.args.tx.now c.load-3.new.tx c.load-4.new.tx _ _ (next g.S.Store c.args.tx.now c.load-2.new.tx c.load-3.new.tx _ _ (next g.S.Store c.args.tx.now c.load.new.tx c.load-2.new.tx _ _ one two) three) four in
     record {
       stays = all.stays;

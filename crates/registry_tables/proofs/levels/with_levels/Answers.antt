@@ -11,8 +11,8 @@ use Rattle.registry_tables.specs.Effects.{shown, stored_in}
 use Rattle.registry_tables.specs.Levels.{IsListedFor, levels_on, listed_name}
 use Rattle.registry_tables.specs.Teams.{AreTeamsSound}
 use Rattle.registry_tables.specs.declared.packages.ListedPackage.{ListedPackage}
-use Rattle.registry_tables.proofs.EffectFacts.{as_it_was, before_then}
-use Rattle.registry_tables.proofs.LevelFacts.{level_left, level_taken}
+use Rattle.registry_tables.proofs.EffectFacts.{before_then}
+use Rattle.registry_tables.proofs.LevelFacts.{level_taken}
 use Rattle.registry_tables.proofs.levels.with_levels.Goals as goal
 
 pub loop-listed-preserved-in-Continue-branch-2 : goal.loop-listed-preserved-in-Continue-branch-2

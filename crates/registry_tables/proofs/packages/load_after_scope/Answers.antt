@@ -1,6 +1,5 @@
 use Rattle.std.proofs.Common.{◌∙◌, ap, map}
 use Rattle.std.proofs.lemmas.Result.{IfOk-weaker}
-use Rattle.sqlite.specs.declared.types.Value.TheVariants.{Text as Stored}
 use Rattle.registry_rows.proofs.QuietFacts.{read_stays}
 use Rattle.registry_tables.specs.Effects.{shown}
 use Rattle.registry_tables.specs.Overviews.{package_spelled}

@@ -1,6 +1,6 @@
 use Rattle.std.proofs.Common.{◌≡◌, ◌∙◌, List, ℕ, subst, IfOk}
 use Rattle.registry_names.specs.Names.{IsName}
-use Rattle.registry_routes.proofs.value.name_in.Goals as goal
+use Rattle.registry_routes.proofs.value.decode_name.Goals as goal
 
 pub returns-clause-ok : goal.returns-clause-ok
 returns-clause-ok c =

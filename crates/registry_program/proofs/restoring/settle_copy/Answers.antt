@@ -1,0 +1,8 @@
+use Rattle.std.proofs.lemmas.Result.{IfOk-weaker}
+use Rattle.registry_program.proofs.CopyFacts.{is_restored}
+use Rattle.registry_program.proofs.restoring.settle_copy.Goals as goal
+
+pub returns-in-Ok : goal.returns-in-Ok
+returns-in-Ok g c = IfOk-weaker c.see_tables.result _ _
+    (λ seen held clean. is_restored {g = g.D.Disk} c.args.files c.in-Ok.conn _ c.connect-opened.ensures.opened c.connect-opened.ensures.found (held clean))
+    c.see_tables.ensures.seen
