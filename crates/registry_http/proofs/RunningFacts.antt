@@ -1,7 +1,6 @@
 -- Turns are runs.
 use Rattle.std.proofs.Common.{◌≡◌, ◌++◌, ◌∷◌, [], ℕ, List, map, Option, Bool, inl, inr, refl, sym, subst}
 use Rattle.sqlite.specs.State.{State as Shown}
-use Rattle.registry_rules.specs.declared.request.Request.{Request}
 use Rattle.registry_laws_history.specs.Runs.{Outcome}
 use Rattle.registry_desk.specs.Promises.{HasRun, IsOneRun}
 use Rattle.registry_desk.proofs.StoredFacts.{has_run_more, has_run_none}

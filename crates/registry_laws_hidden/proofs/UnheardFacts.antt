@@ -18,9 +18,9 @@ use Rattle.registry_access.specs.declared.grant.Grant.{Grant}
 use Rattle.registry_access.specs.declared.levels.Level.TheVariants.{Nothing}
 use Rattle.registry_access.proofs.LevelFacts.{never_published}
 use Rattle.registry_rules.specs.Callers.{caller_of}
-use Rattle.registry_rules.specs.Refusals.{refusal, refusal_by, refusal_for}
+use Rattle.registry_rules.specs.Refusals.{refusal_by, refusal_for}
 use Rattle.registry_rules.specs.State.{State}
-use Rattle.registry_rules.specs.declared.reply.Reply.TheVariants.{Created, Refused}
+use Rattle.registry_rules.specs.declared.reply.Reply.TheVariants.{Created, Done, Refused}
 use Rattle.registry_rules.specs.declared.request.Action.{Action}
 use Rattle.registry_rules.specs.declared.request.Action.TheVariants.{Publish, Withdraw, WithdrawAll, Packages}
 use Rattle.registry_rules.specs.declared.request.Credential.{Credential}
@@ -29,7 +29,7 @@ use Rattle.registry_rules.specs.declared.request.Request.{Request}
 use Rattle.registry_laws_history.specs.Answers.{answer, reply, reply_to, unless_refused}
 use Rattle.registry_laws_history.specs.History.{after}
 use Rattle.registry_laws_hidden.specs.Concerns.{is_enumerated, is_kept_by, is_listed, is_shown, is_taken, keeps_from, lists_to, shows, shows_to}
-use Rattle.registry_laws_hidden.specs.Laws.{KeptIsDepended, RepliesAreAlike, TakenIsDenied}
+use Rattle.registry_laws_hidden.specs.Laws.{KeptIsDepended, RepliesAreAlike, TakenIsDenied, withdrawn_reply}
 use Rattle.registry_laws_hidden.specs.Levels.{HasNoLevel, IsStranger}
 use Rattle.registry_laws_hidden.specs.Without.{state_without}
 use Rattle.registry_laws_hidden.proofs.KeepFacts.{keep_twice, erase_twice}
@@ -195,16 +195,26 @@ replies_are_alike h p r legal stranger hides = unheard (after h) p (histories_re
 
 -- ---- the two that show that it is there
 
+kept_done : (S : State) (now : ℕ) (who : Caller) (what : Action) (p : Text) → is_kept_by S now who what p ≡ true
+    → (unless_refused (refusal_by S now who what) (reply S who what) ≡ Refused Depended)
+    × (unless_refused (refusal_by (state_without S p) now who what) (reply (state_without S p) who what) ≡ withdrawn_reply (state_without S p) what)
+kept_done S now who (Withdraw q v) p kept =
+    let both = kept_is S now who (Withdraw q v) p kept in
+    (ap (λ x. unless_refused x Done) both.0, ap (λ x. unless_refused x Done) both.1)
+kept_done S now who (WithdrawAll q) p kept =
+    let both = kept_is S now who (WithdrawAll q) p kept in
+    (ap (λ x. unless_refused x (reply S who (WithdrawAll q))) both.0, ap (λ x. unless_refused x (reply (state_without S p) who (WithdrawAll q))) both.1)
+kept_done S now who _ p kept = absurd (true≢false (sym kept))
+
 pub kept_is_depended : KeptIsDepended
 kept_is_depended h p r legal kept = by (caller_of (after h) r.who) refl kept
   where
-    by : (o : Option Caller) → caller_of (after h) r.who ≡ o → keeps_from (after h) r.at o r.what p ≡ true → (answer (after h) r ≡ Refused Depended) × (refusal (state_without (after h) p) r ≡ None)
+    by : (o : Option Caller) → caller_of (after h) r.who ≡ o → keeps_from (after h) r.at o r.what p ≡ true
+        → (answer (after h) r ≡ Refused Depended) × (answer (state_without (after h) p) r ≡ withdrawn_reply (state_without (after h) p) r.what)
     by None known kept = absurd (true≢false (sym kept))
     by (Some who) known kept =
-        let both = kept_is (after h) r.at who r.what p kept in (
-          answer_as (after h) r (Some who) known ∙ ap (λ x. unless_refused x (reply (after h) who r.what)) both.0,
-          ap (λ c. refusal_for (state_without (after h) p) r.at c r.what) (same_caller (after h) p r.who ∙ known) ∙ both.1,
-        )
+        let both = kept_done (after h) r.at who r.what p kept in
+        (answer_as (after h) r (Some who) known ∙ both.0, answer_as (state_without (after h) p) r (Some who) (same_caller (after h) p r.who ∙ known) ∙ both.1)
 
 taken_done : (S : State) (now : ℕ) (who : Caller) (what : Action) (p : Text) → Rests S → level_in S.access who p ≡ Nothing → is_taken S who what p ≡ true
     → (unless_refused (refusal_by S now who what) (reply S who what) ≡ Refused (Denied A6)) × (unless_refused (refusal_by (state_without S p) now who what) (reply (state_without S p) who what) ≡ Created)

@@ -1,5 +1,5 @@
 -- Laws of the registry without a package.
-use Rattle.std.specs.Prelude.{◌≡◌, ℕ, true, false, List, Some, None, Ok}
+use Rattle.std.specs.Prelude.{◌≡◌, ℕ, true, false, List, length, Some, None, Ok}
 use Rattle.registry_names.specs.Texts.{Text}
 use Rattle.registry_names.specs.declared.refusal.Refusal.TheVariants.{Denied, Depended}
 use Rattle.registry_names.specs.declared.refusal.Rule.TheVariants.{A6}
@@ -9,10 +9,13 @@ use Rattle.registry_access.specs.declared.levels.Level.TheVariants.{Nothing}
 use Rattle.registry_rules.specs.Actions.{is_command, names_package}
 use Rattle.registry_rules.specs.Callers.{caller_of}
 use Rattle.registry_rules.specs.Effects.{step_by}
-use Rattle.registry_rules.specs.Refusals.{refusal, refusal_by}
+use Rattle.registry_rules.specs.Refusals.{refusal_by}
 use Rattle.registry_rules.specs.State.{State}
-use Rattle.registry_rules.specs.declared.reply.Reply.TheVariants.{Created, Refused}
+use Rattle.registry_rules.specs.Withdrawals.{live_versions}
+use Rattle.registry_rules.specs.declared.reply.Reply.{Reply}
+use Rattle.registry_rules.specs.declared.reply.Reply.TheVariants.{Count, Created, Done, Refused}
 use Rattle.registry_rules.specs.declared.request.Action.{Action}
+use Rattle.registry_rules.specs.declared.request.Action.TheVariants.{WithdrawAll}
 use Rattle.registry_rules.specs.declared.request.Request.{Request}
 use Rattle.registry_laws_history.specs.Answers.{answer}
 use Rattle.registry_laws_history.specs.History.{Entry, Legal, after}
@@ -64,11 +67,16 @@ RestsAreAlike = (h : List Entry) (p : Text) (r : Request) → Legal h → IsStra
 
 -- ---- the two that show the package and nothing of it
 
--- a withdrawal that the package alone keeps from being done, whoever asks: without the package
--- nothing refuses it
+-- the reply to a withdrawal that is done, of a version or of all
+abbrev pub withdrawn_reply : State → Action → Reply
+withdrawn_reply S (WithdrawAll q) = Count (length (live_versions S q))
+withdrawn_reply S _ = Done
+
+-- a withdrawal that the package alone keeps from being done, whoever asks: without the package it is
+-- done
 abbrev pub KeptIsDepended : Type 0
 KeptIsDepended = (h : List Entry) (p : Text) (r : Request) → Legal h → is_held (after h) r p ≡ true
-    → (answer (after h) r ≡ Refused Depended) × (refusal (state_without (after h) p) r ≡ None)
+    → (answer (after h) r ≡ Refused Depended) × (answer (state_without (after h) p) r ≡ withdrawn_reply (state_without (after h) p) r.what)
 
 -- a publish of the package by a member of its scope who doesn't read it
 abbrev pub TakenIsDenied : Type 0

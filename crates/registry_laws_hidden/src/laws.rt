@@ -31,8 +31,8 @@ pub fn unread_packages_are_unheard_of()
     ensures rests { RestsAreAlike }
 {}
 
-/// What the first two excepted requests show. The withdrawal is refused with `Depended`, and nothing
-/// would refuse it without the package; the publish is refused with `Denied A6`, and would create the package.
+/// What the first two excepted requests show. The withdrawal is refused with `Depended`, and would be
+/// done without the package; the publish is refused with `Denied A6`, and would create the package.
 /// So each is answered differently wherever it is excepted.
 pub fn two_requests_show_a_package()
     ensures kept { KeptIsDepended }
