@@ -692,6 +692,7 @@ sys.exit(1 if missing else 0)
 END
 copies_while_it_publishes() {
     python3 "$work/publish.py" "$(port)" "$token" big 0 12 2500000 > "$work/published" 2>> "$work/said" || return 1
+    rm "$work/published"
     python3 "$work/publish.py" "$(port)" "$token" kit 0 100000 20000 > "$work/published" 2>> "$work/said" &
     others=$!
     for _ in $(seq 1 1000); do

@@ -79,9 +79,9 @@ pub trait Service {
         ensures over { over self.new ≡ over self.old }
     {}
 
-    /// A round of turns is over. The server of many connections calls it once in each round in
-    /// which it isn't held, after the turns of all connections and commands. An implementation may
-    /// write what it noted. It changes nothing that contracts see of the service.
+    /// A round of turns is over. The server of many connections calls it once in each round, after
+    /// the turns of all connections and commands. An implementation may write what it noted. It
+    /// changes nothing that contracts see of the service.
     fn rest(&mut self)
         ensures { self.new ≡ self.old }
     {}
