@@ -750,6 +750,7 @@ backup.send_signal(signal.SIGCONT)
 print(backup.communicate(timeout=60)[0], backup.returncode)
 END
 halt() { python3 "$work/halt.py" kill "$program" "$db" "$1" > "$work/halted" 2>> "$work/said" && others=$(cat "$work/halted"); }
+is_silent() { ! curl -s -m 1 "http://127.0.0.1:$(port)/kit" > /dev/null; }
 answers() { curl -s -m 2 "http://127.0.0.1:$(port)/kit" > /dev/null; }
 # Whether a command of HTTP is answered in this many seconds.
 does() { curl -s -m "$1" -X PUT -d '"1.0.0"' "http://127.0.0.1:$(port)/-/package/kit/dist-tags/next" > /dev/null; }

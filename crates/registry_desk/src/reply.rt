@@ -75,7 +75,7 @@ fn reply_of(alloc: Global, what: &Action, rows: Rows) -> Result<Reply, Fault>
         (Action::Deprecate { selector, .. }, Rows::Live(live)) => {
             Ok(Reply::Count(count(selector, &live)))
         }
-        (Action::WithdrawAll { .. }, Rows::Live(live)) => Ok(Reply::Count(live.len() as u64)),
+        (Action::WithdrawAll { .. }, Rows::Live(live)) => Ok(Reply::Count(number_of(live))),
         (Action::Archive { .. }, Rows::Archive(Some(archive))) => bytes(alloc, archive),
         (Action::Archive { .. }, Rows::KnownArchive(archive)) => Ok(Reply::Bytes(archive)),
         _ => Err(Fault::Database),
@@ -123,6 +123,13 @@ fn text_of(alloc: Global, what: &Action, rows: Rows) -> Result<Text, Fault>
         }
         _ => Err(Fault::Database),
     }
+}
+
+// How many versions there are.
+fn number_of(live: Vec<Ver>) -> u64
+    ensures { result ≡ length live.items }
+{
+    live.len() as u64
 }
 
 // How many of the versions the selector selects.

@@ -1,5 +1,5 @@
 -- Queries leave what is stored.
-use Rattle.std.proofs.Common.{◌≡◌, ◌∙◌, ◌&&◌, Bool, IsTrue, refl, ap, arith}
+use Rattle.std.proofs.Common.{◌∙◌, ◌&&◌, Bool, refl, ap, arith}
 use Rattle.sqlite.specs.State.{State as Shown, HasCleanDisk}
 use Rattle.registry_laws_history.specs.Runs.{accepts}
 use Rattle.registry_server.specs.Queries.{one_more, unasked}

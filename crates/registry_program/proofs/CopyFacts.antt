@@ -16,14 +16,11 @@ use Rattle.sqlite_disk.specs.declared.Disk.{Ghosts}
 use Rattle.sqlite_disk.specs.declared.Files.{Files}
 use Rattle.sqlite_store.specs.declared.store.FileStore.{FileStore}
 use Rattle.sqlite_trees.specs.Tree.{Trees}
-use Rattle.sqlite_schema.specs.declared.schema.Schema.{Schema}
 use Rattle.registry_desk.specs.Adopted.{IsMade}
 use Rattle.registry_desk.specs.Opened.{GivesFound, IsMadeOf}
 use Rattle.registry_desk.specs.Resting.{IsRegistryOf, Rests}
-use Rattle.registry_migration.specs.Older.{schema_of}
 use Rattle.registry_program.specs.Copies.{HoldsRegistry, HoldsSeen, IsCopy, IsHeld, IsRestored, StaysCommitted, alone}
 use Rattle.registry_rows.specs.Ready.{IsReady}
-use Rattle.registry_rows.specs.Tables.{no_tables}
 use Rattle.registry_tables.specs.Contents.{Contents, contents}
 use Rattle.registry_tables.specs.Effects.{stored}
 use Rattle.registry_tables.specs.Schema.{schema}
@@ -87,14 +84,11 @@ same_seen conn files copied = record {
   holds = inr copied.seen.alone;
 }
 
-sound_as : (tables : Schema) (seen : Database) → seen.schema ≡ tables → IsDatabase seen → IsSound tables seen.trees
-sound_as tables seen is sound = subst (λ s. IsSound s seen.trees) is sound
-
 -- what is made of the database that was seen is what an open gives of its trees
 gives_found : (seen : Database) (c : Contents) → IsMadeOf seen c → IsDatabase seen → GivesFound seen.trees c
-gives_found seen c (inl (is, number, same)) sound = inl (sound_as schema seen is sound, number, same)
-gives_found seen c (inr (inl (none, same))) sound = inr (inl (sound_as no_tables seen none sound, same))
-gives_found seen c (inr (inr (older, was, same))) sound = inr (inr (older, sound_as (schema_of older) seen was sound, same))
+gives_found seen c (inl (is, number, same)) sound = inl (subst (λ s. IsSound s seen.trees) is sound, number, same)
+gives_found seen c (inr (inl (none, same))) sound = inr (inl (subst (λ s. IsSound s seen.trees) none sound, same))
+gives_found seen c (inr (inr (older, was, same))) sound = inr (inr (older, subst (λ s. IsSound s seen.trees) was sound, same))
 
 restored_as : (seen : Shown) (file : List ℕ) → seen.now ≡ seen.committed → IsDatabase seen.now → HoldsSeen seen file
     → ((c : Contents) × GivesFound seen.committed.trees c × HoldsRegistry file c) ⊎ ∥ HoldsDatabase (alone file) seen.committed.trees ∥₁

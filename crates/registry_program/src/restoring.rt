@@ -212,10 +212,11 @@ pub fn settle_copy<D: Disk + Drop>(
         → IsRestored (image_of D.Disk files) (D.Disk.seen seen.0.db)) }
 {
     let opening = Progress::begin(rt, Work::Opening, path);
-    let opened = Registry::connect(alloc, files, Options::new(SEED));
-    drop(opening);
-    match opened {
-        Ok(conn) => see_tables(rt, alloc, path, conn, checks),
+    match Registry::connect(alloc, files, Options::new(SEED)) {
+        Ok(conn) => {
+            drop(opening);
+            see_tables(rt, alloc, path, conn, checks)
+        }
         Err((Fault::Memory, _)) => Err(Ending::from(Fault::Memory)),
         Err((Fault::Database, left)) => {
             Err(snag(snag_of(obstacle_left(alloc, Unopened::Files(left)))))

@@ -1,5 +1,5 @@
 -- Requests that begin as queries do are queries.
-use Rattle.std.proofs.Common.{◌≡◌, ◌≢◌, ◌<◌, ◌≤◌, ◌⊎◌, ◌++◌, ◌∷◌, ◌∙◌, ◌==◌, ◌&&◌, not, [], ℕ, Bool, true, false, List, Option, None, Some, IsSome, Result, Ok, Err, if◌then◌else◌, append_assoc, bytes_eq, codes, drop, length, nat_eq, refl, ap, subst, sym, inl, inr, arith}
+use Rattle.std.proofs.Common.{◌≡◌, ◌≢◌, ◌<◌, ◌≤◌, ◌⊎◌, ◌++◌, ◌∷◌, ◌∙◌, ◌==◌, ◌&&◌, not, [], ℕ, Bool, true, false, List, Option, None, Some, IsSome, Result, Ok, if◌then◌else◌, append_assoc, bytes_eq, codes, drop, length, nat_eq, refl, ap, subst, sym, inl, inr, arith}
 use Rattle.std.specs.Prelude.{option_and_then}
 use Rattle.std.specs.List.{starts_with}
 use Rattle.std.proofs.lemmas.Bool.{false≢true}
@@ -31,7 +31,7 @@ use Rattle.registry_wire.specs.Reading.{TakenOf}
 use Rattle.registry_service.specs.Courses.{taken_for}
 use Rattle.registry_service.specs.Turns.{Answering, AnswersAsBefore, Cause, Turns, bad_input, no_memory, request}
 use Rattle.registry_service.specs.declared.turning.Turned.{Turned}
-use Rattle.registry_server.specs.ConnectionStates.{MayTakeTurn, Pending, TakesNone, TakesTurn, holding}
+use Rattle.registry_server.specs.ConnectionStates.{MayTakeTurn, Pending, holding}
 use Rattle.registry_server.specs.Connections.{IsInOrder, Keeps, LeavesLittle, OpenConnection, TakesOne, Visits, may_command, query_start}
 use Rattle.registry_server.specs.Phases.{HeardAt, is_under_way}
 use Rattle.registry_server.specs.Pools.{HoldsAskQueries, QueriesAreAnswers, ServesQueries, no_round, one_round, VisitsAll, VisitsIf, VisitsThere, is_crowd, is_held_back, is_to_visit}

@@ -1,4 +1,4 @@
-use Rattle.std.proofs.Common.{◌≡◌, ◌∙◌, ◌++◌, ◌<◌, List, ap, arith, length, refl, sym, take, take_all}
+use Rattle.std.proofs.Common.{◌≡◌, ◌∙◌, ◌+◌, ◌++◌, ◌<◌, ℕ, List, ap, arith, get_or, length, refl, sym, take, take_all}
 use Rattle.std.specs.List.{flat_map}
 use Rattle.sqlite.specs.Effect.{Database}
 use Rattle.sqlite.specs.State.{HasCleanDisk}
@@ -11,6 +11,15 @@ use Rattle.registry_check.specs.declared.texts.TextTable.{TextTable}
 use Rattle.registry_check.proofs.LoadFacts.{stays_here}
 use Rattle.registry_check.proofs.StepFacts.{flat_next}
 use Rattle.registry_check.proofs.texts.problems_of_tables.Goals as goal
+
+-- the problems of one more table
+told_next : (now then : Database) → now ≡ then → (tables : List TextTable) (i : ℕ) (d : TextTable) → i < length tables → (old new : List Problem) → old ≡ flat_map (table_problems then.trees) (take i tables)
+    → new ≡ old ++ table_problems now.trees (get_or tables i d) → new ≡ flat_map (table_problems then.trees) (take (i + 1) tables)
+told_next now then same tables i d within old new so_far one =
+    one
+    ∙ ap (λ (it : Database). old ++ table_problems it.trees (get_or tables i d)) same
+    ∙ ap (λ (ps : List Problem). ps ++ table_problems then.trees (get_or tables i d)) so_far
+    ∙ sym (flat_next (table_problems then.trees) tables i d within)
 
 pub push_table-requires : goal.push_table-requires
 push_table-requires g c = record { in_form = form_after (shown g.S.Store c.args.tx.now) (shown g.S.Store c.loop-table.tx) (λ clean. omega (arith, c.loop-table.invariant.stays.survives.clean, clean)) c.loop-table.invariant.kept c.requires.in_form }
@@ -29,13 +38,7 @@ loop-table-preserved g c =
           (now.invariant.kept were).committed.was_open (c.in_ok-push_table.ensures.adds clean).0.was_open;
       added = λ clean.
           let were : HasCleanDisk (shown g.S.Store now.tx) = omega (arith, c.push_table.ensures.stays.survives.clean, clean) in
-          let table = c.table-item.result in
-          let old = (shown g.S.Store c.args.tx.now).now.trees in
-          (c.in_ok-push_table.ensures.adds clean).1
-          ∙ ap (λ (d : Database). now.problems.items ++ table_problems d.trees table) (now.invariant.kept were).same
-          ∙ ap (λ (ps : List Problem). ps ++ table_problems old table) (now.invariant.added were)
-          ∙ ap (λ (t : TextTable). flat_map (table_problems old) (take now.table-index c.args.tables.now) ++ table_problems old t) c.table-item.is
-          ∙ sym (flat_next (table_problems old) c.args.tables.now now.table-index table c.loop-table-test.true);
+          told_next (shown g.S.Store now.tx).now (shown g.S.Store c.args.tx.now).now (now.invariant.kept were).same c.args.tables.now now.table-index _ c.loop-table-test.true now.problems.items _ (now.invariant.added were) (c.in_ok-push_table.ensures.adds clean).1;
     }
 
 pub loop-table-init : goal.loop-table-init
@@ -43,7 +46,7 @@ loop-table-init g c = record {
   stays = stays_here g.S.Store c.args.tx.now;
   kept = λ clean. as_it_was (shown g.S.Store c.args.tx.now);
   was_open = λ clean less. absurd (omega (arith, less));
-  added = λ clean. refl;
+  added = λ clean. c.new-problems.ensures.items;
 }
 
 pub returns-clause-loads : goal.returns-clause-loads

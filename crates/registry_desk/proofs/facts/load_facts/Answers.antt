@@ -111,7 +111,7 @@ returns-in-Archive-clause-loads g c clean =
 
 pub returns-in-Members-clause-loads : goal.returns-in-Members-clause-loads
 returns-in-Members-clause-loads g c clean =
-    found_either (Reads schema (shown g.S.Store c.args.tx.now) (shown g.S.Store c.facts_about_organisation.new.tx)) (stored_in g.S.Store c.args.tx.now) c.args.request.now.at c.args.caller.now c.args.request.now.what (asked.Members c.in-Members.organisation) (asked.Teams c.in-Members.organisation) c.facts_about_organisation.result c.map-in-Members.result c.in-Members.is refl refl c.map-in-Members.ensures.cases (λ x told sound. told) (λ x told sound. told) (c.facts_about_organisation.ensures.members clean) (c.facts_about_organisation.ensures.teams clean)
+    found_either (Reads schema (shown g.S.Store c.args.tx.now) (shown g.S.Store c.facts_about_organisation-in-Members.new.tx)) (stored_in g.S.Store c.args.tx.now) c.args.request.now.at c.args.caller.now c.args.request.now.what (asked.Members c.in-Members.organisation) (asked.Teams c.in-Members.organisation) c.facts_about_organisation-in-Members.result c.map-in-Members.result c.in-Members.is refl refl c.map-in-Members.ensures.cases (λ x told sound. told) (λ x told sound. told) (c.facts_about_organisation-in-Members.ensures.members clean) (c.facts_about_organisation-in-Members.ensures.teams clean)
 
 pub returns-in-TeamMembers-clause-loads : goal.returns-in-TeamMembers-clause-loads
 returns-in-TeamMembers-clause-loads g c clean =
@@ -123,10 +123,10 @@ returns-in-Maintainers-clause-loads g c clean =
 
 pub returns-in-WhoAmI-clause-loads : goal.returns-in-WhoAmI-clause-loads
 returns-in-WhoAmI-clause-loads g c clean =
-    found_either (Reads schema (shown g.S.Store c.args.tx.now) (shown g.S.Store c.facts_of_caller.new.tx)) (stored_in g.S.Store c.args.tx.now) c.args.request.now.at c.args.caller.now c.args.request.now.what asked.WhoAmI asked.Users c.facts_of_caller.result c.map-in-WhoAmI.result c.in-WhoAmI.is refl refl c.map-in-WhoAmI.ensures.cases
+    found_either (Reads schema (shown g.S.Store c.args.tx.now) (shown g.S.Store c.facts_of_caller-in-WhoAmI.new.tx)) (stored_in g.S.Store c.args.tx.now) c.args.request.now.at c.args.caller.now c.args.request.now.what asked.WhoAmI asked.Users c.facts_of_caller-in-WhoAmI.result c.map-in-WhoAmI.result c.in-WhoAmI.is refl refl c.map-in-WhoAmI.ensures.cases
     (λ x told sound. subst (λ (y : About). AboutTells y (registry_of (stored_in g.S.Store c.args.tx.now)) c.args.caller.now asked.WhoAmI) (sym told) tt)
     (λ x told sound. subst (λ (y : About). AboutTells y (registry_of (stored_in g.S.Store c.args.tx.now)) c.args.caller.now asked.Users) (sym told) tt)
-    (c.facts_of_caller.ensures.loads clean) (c.facts_of_caller.ensures.loads clean)
+    (c.facts_of_caller-in-WhoAmI.ensures.loads clean) (c.facts_of_caller-in-WhoAmI.ensures.loads clean)
 
 pub returns-in-Organisations-clause-loads : goal.returns-in-Organisations-clause-loads
 returns-in-Organisations-clause-loads g c clean =
@@ -137,10 +137,10 @@ returns-in-Organisations-clause-loads g c clean =
 
 pub returns-in-OrgPackages-clause-loads : goal.returns-in-OrgPackages-clause-loads
 returns-in-OrgPackages-clause-loads g c clean =
-    found_about (Reads schema (shown g.S.Store c.args.tx.now) (shown g.S.Store c.facts_about_organisation-in-OrgPackages.new.tx)) (stored_in g.S.Store c.args.tx.now) c.args.request.now.at c.args.caller.now c.args.request.now.what (asked.OrgPackages c.in-OrgPackages.organisation) c.facts_about_organisation-in-OrgPackages.result c.map-in-OrgPackages.result c.in-OrgPackages.is refl c.map-in-OrgPackages.ensures.cases (λ x told sound. told) (c.facts_about_organisation-in-OrgPackages.ensures.packages clean)
+    found_about (Reads schema (shown g.S.Store c.args.tx.now) (shown g.S.Store c.facts_about_organisation.new.tx)) (stored_in g.S.Store c.args.tx.now) c.args.request.now.at c.args.caller.now c.args.request.now.what (asked.OrgPackages c.in-OrgPackages.organisation) c.facts_about_organisation.result c.map-in-OrgPackages.result c.in-OrgPackages.is refl c.map-in-OrgPackages.ensures.cases (λ x told sound. told) (c.facts_about_organisation.ensures.packages clean)
 
 pub returns-in-MyPackages-clause-loads : goal.returns-in-MyPackages-clause-loads
 returns-in-MyPackages-clause-loads g c clean =
-    found_about (Reads schema (shown g.S.Store c.args.tx.now) (shown g.S.Store c.facts_of_caller-in-MyPackages.new.tx)) (stored_in g.S.Store c.args.tx.now) c.args.request.now.at c.args.caller.now c.args.request.now.what asked.MyPackages c.facts_of_caller-in-MyPackages.result c.map-in-MyPackages.result c.in-MyPackages.is refl c.map-in-MyPackages.ensures.cases
+    found_about (Reads schema (shown g.S.Store c.args.tx.now) (shown g.S.Store c.facts_of_caller.new.tx)) (stored_in g.S.Store c.args.tx.now) c.args.request.now.at c.args.caller.now c.args.request.now.what asked.MyPackages c.facts_of_caller.result c.map-in-MyPackages.result c.in-MyPackages.is refl c.map-in-MyPackages.ensures.cases
     (λ x told sound. subst (λ (y : About). AboutTells y (registry_of (stored_in g.S.Store c.args.tx.now)) c.args.caller.now asked.MyPackages) (sym told) tt)
-    (c.facts_of_caller-in-MyPackages.ensures.loads clean)
+    (c.facts_of_caller.ensures.loads clean)

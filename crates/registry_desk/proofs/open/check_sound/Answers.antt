@@ -1,4 +1,4 @@
-use Rattle.std.proofs.Common.{arith, ap, refl, subst}
+use Rattle.std.proofs.Common.{arith, refl, subst}
 use Rattle.sqlite.specs.Effect.{Database}
 use Rattle.sqlite.specs.State.{HasCleanDisk}
 use Rattle.registry_rows.proofs.QuietFacts.{reads_then, stays_then}

@@ -1,14 +1,16 @@
-use Rattle.std.proofs.Common.{◌≡◌, ◌∙◌, ℕ, Bool, map, arith, ap, false, refl, sym}
+use Rattle.std.proofs.Common.{◌≡◌, ◌∙◌, Bool, List, map, arith, ap, false, refl, sym}
 use Rattle.std.specs.List.{list_any}
 use Rattle.sqlite.specs.Effect.{Database}
 use Rattle.sqlite.specs.State.{HasCleanDisk}
 use Rattle.registry_rows.proofs.QuietFacts.{reads_then, stays_then}
 use Rattle.registry_rules.specs.Refusals.{withdraw_all_refusal}
 use Rattle.registry_rules.specs.Withdrawals.{all_tags, is_any_depended, is_depended, live_since, versions_in}
+use Rattle.registry_rules.specs.declared.facts.LiveVersion.{LiveVersion}
 use Rattle.registry_tables.specs.Contents.{contents, registry_of}
 use Rattle.registry_tables.specs.Effects.{shown}
 use Rattle.registry_tables.specs.Needs.{HoldsNeeds}
 use Rattle.registry_tables.specs.Schema.{schema}
+use Rattle.registry_tables.specs.Withdrawals.{version_text}
 use Rattle.registry_desk.proofs.EarlyFacts.{all_depended, alone, neither, nothing_needs_any, or_second, same_since, texts_since}
 use Rattle.registry_desk.proofs.withdrawals.facts_if_all_unneeded.Goals as goal
 
@@ -26,11 +28,12 @@ pub returns-then-branch-clause-loads : goal.returns-then-branch-clause-loads
 returns-then-branch-clause-loads g c clean =
     let p = c.args.name.now in
     let S = registry_of (contents (shown g.S.Store c.args.tx.now).now.trees) in
-    let depended = c.in_ok-is_any_depended.ensures.loads clean in (
+    let depended = c.in_ok-is_any_depended.ensures.loads clean in
+    let seen = ap (λ (rows : List LiveVersion). list_any (is_depended S p) (versions_in (map version_text rows))) c.deref.ensures.value in (
       depended.0,
       λ who at allowed young live stands. record {
         tells = λ needs.
-            let needed = ap (λ ts. list_any (is_depended S p) (versions_in ts)) (sym (texts_since S p c.args.live.items live)) ∙ sym (depended.1 needs) ∙ c.if-branch.true in
+            let needed = ap (λ ts. list_any (is_depended S p) (versions_in ts)) (sym (texts_since S p c.args.live.items live)) ∙ sym seen ∙ sym (depended.1 needs) ∙ c.if-branch.true in
             or_second _ _ _ allowed (all_depended at (live_since S p) (is_any_depended S p) (ap (λ rows. withdraw_all_refusal at rows false) (sym live) ∙ young) needed);
         some = tt;
       },
@@ -47,11 +50,12 @@ returns-clause-loads g c clean =
     let clean_one : HasCleanDisk one = omega (arith, c.load_tag_names.ensures.stays.survives.clean, clean) in
     let depended = c.in_ok-is_any_depended.ensures.loads clean_one in
     let tags = c.in_ok-tags.ensures.loads clean in
+    let seen = ap (λ (rows : List LiveVersion). list_any (is_depended S p) (versions_in (map version_text rows))) c.deref.ensures.value in
     let tags_are = tags.1 ∙ ap (λ (d : Database). all_tags (registry_of (contents d.trees)) p) depended.0.same in (
       reads_then schema was one two depended.0 tags.0,
       λ who at allowed young live stands.
           let unneeded : HoldsNeeds (contents was.now.trees) → false ≡ is_any_depended S p =
-          λ needs. sym c.if-branch.false ∙ depended.1 needs ∙ ap (λ ts. list_any (is_depended S p) (versions_in ts)) (texts_since S p c.args.live.items live) in
+          λ needs. sym c.if-branch.false ∙ depended.1 needs ∙ seen ∙ ap (λ ts. list_any (is_depended S p) (versions_in ts)) (texts_since S p c.args.live.items live) in
           record {
             tells = λ needs. (
               neither _ _ allowed (ap (λ (b : Bool). withdraw_all_refusal at (live_since S p) b) (sym (unneeded needs)) ∙ ap (λ rows. withdraw_all_refusal at rows false) (sym live) ∙ young),

@@ -1,4 +1,4 @@
-use Rattle.std.proofs.Common.{◌≡◌, ◌∙◌, ℕ, map, arith, ap, false, sym, subst, Option, None}
+use Rattle.std.proofs.Common.{◌≡◌, ◌∙◌, ℕ, map, arith, ap, false, sym, subst, List, None}
 use Rattle.std.proofs.lemmas.Result.{IfOk-weaker}
 use Rattle.sqlite.specs.Effect.{Database}
 use Rattle.sqlite.specs.State.{HasCleanDisk}
@@ -8,6 +8,7 @@ use Rattle.registry_rows.proofs.QuietFacts.{reads_then, stays_then}
 use Rattle.registry_rules.specs.Facts.{since_of}
 use Rattle.registry_rules.specs.Refusals.{withdraw_all_refusal}
 use Rattle.registry_rules.specs.Withdrawals.{live_since}
+use Rattle.registry_rules.specs.declared.facts.LiveVersion.{LiveVersion}
 use Rattle.registry_rules.specs.declared.request.Action.TheVariants as asked
 use Rattle.registry_tables.specs.Contents.{access_of, contents, registry_of}
 use Rattle.registry_tables.specs.Effects.{shown}
@@ -22,11 +23,12 @@ facts_if_all_unneeded-requires g c = record { in_form = λ clean on. (c.in_ok-li
 pub returns-in-Some-clause-loads : goal.returns-in-Some-clause-loads
 returns-in-Some-clause-loads g c clean =
     let S = registry_of (contents (shown g.S.Store c.args.tx.now).now.trees) in
-    let live = c.in_ok-live.ensures.loads clean in (
+    let live = c.in_ok-live.ensures.loads clean in
+    let seen = ap (λ (rows : List LiveVersion). withdraw_all_refusal c.args.now.now (map since_of rows) false) c.deref.ensures.value in (
       live.0,
       λ who allowed stands. record {
         tells = λ needs. or_second _ _ _ allowed
-            (all_too_old c.args.now.now (live_since S c.args.name.now) _ c.in-Some.refusal (ap (λ rows. withdraw_all_refusal c.args.now.now rows false) (sym live.1) ∙ sym c.refusal_by_ages.ensures ∙ c.in-Some.is));
+            (all_too_old c.args.now.now (live_since S c.args.name.now) _ c.in-Some.refusal (ap (λ rows. withdraw_all_refusal c.args.now.now rows false) (sym live.1) ∙ sym seen ∙ sym c.refusal_by_ages.ensures ∙ c.in-Some.is));
         some = tt;
       },
     )
@@ -41,7 +43,8 @@ returns-in-None-clause-loads g c clean =
     let one = shown g.S.Store c.load_live_since.new.tx in
     let were : HasCleanDisk one = omega (arith, c.facts_if_all_unneeded.ensures.stays.survives.clean, clean) in
     let live = c.in_ok-live.ensures.loads were in
-    let young = sym c.refusal_by_ages.ensures ∙ c.in-None.is in
+    let seen = ap (λ (rows : List LiveVersion). withdraw_all_refusal c.args.now.now (map since_of rows) false) c.deref.ensures.value in
+    let young = sym seen ∙ sym c.refusal_by_ages.ensures ∙ c.in-None.is in
     IfOk-weaker c.facts_if_all_unneeded.result _ _
     (λ found told. (
       reads_then schema was one (shown g.S.Store c.facts_if_all_unneeded.new.tx) live.0 told.0,

@@ -1,10 +1,9 @@
-use Rattle.std.proofs.Common.{sym}
 use Rattle.registry_tables.specs.Contents.{contents, registry_of}
 use Rattle.registry_tables.specs.Effects.{shown}
 use Rattle.registry_desk.proofs.EarlyFacts.{names_are}
 use Rattle.registry_desk.proofs.withdrawals.load_tag_names.Goals as goal
 
-pub returns-in_ok-names_of-clause-loads : goal.returns-in_ok-names_of-clause-loads
-returns-in_ok-names_of-clause-loads g c clean =
+pub returns-clause-loads : goal.returns-clause-loads
+returns-clause-loads g c clean =
     let tags = c.in_ok-tags.ensures.loads clean in
     (tags.0, names_are (registry_of (contents (shown g.S.Store c.args.tx.now).now.trees)) c.args.name.now c.in_ok-tags.tags.items _ c.in_ok-names_of.ensures tags.1)

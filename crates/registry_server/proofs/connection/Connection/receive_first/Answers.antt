@@ -61,7 +61,11 @@ returns-in-Ok-Ended-clause-over g c over =
     let received = c.in-Ok-Ended.ensures in
     let is_over = received.over (search rules) in
     let same = received.ended is_over in
-    inr (received.ends (search rules), is_over, record {
-      all_sent = ap (λ (p : Pending). p.outgoing) same ∙ received.may.all_sent;
-      none_left = inl (ap (λ (p : Pending). p.held) same ∙ received.idle c.requires);
-    })
+    inr (
+      received.ends (search rules),
+      is_over,
+      record {
+        all_sent = ap (λ (p : Pending). p.outgoing) same ∙ received.may.all_sent;
+        none_left = inl (ap (λ (p : Pending). p.held) same ∙ received.idle c.requires);
+      },
+    )
