@@ -1,6 +1,5 @@
 -- What the rows of sqlite_sequence say of the numbers of archives.
-use Rattle.std.proofs.Common.{◌≡◌, ◌∙◌, ◌==◌, ℕ, ℤ, pos, ◌≤ℤ◌, Bool, true, false, cond, List, [], ◌∷◌, drop, find, length, map, Option, None, Some, option_map, arith, ne_eqb, refl, sym, ap, ap₂, subst, codes}
-use Rattle.std.specs.Prelude.{int_le}
+use Rattle.std.proofs.Common.{◌≡◌, ◌∙◌, ◌==◌, ℕ, ℤ, pos, Bool, true, false, cond, List, [], ◌∷◌, find, length, map, Option, None, Some, option_map, arith, ne_eqb, refl, sym, ap, ap₂, codes}
 use Rattle.std.specs.Ordering.{is_eq}
 use Rattle.sqlite.specs.declared.types.Value.{Value}
 use Rattle.sqlite.specs.declared.types.Value.TheVariants.{Null, Int, Real, Text, Blob}

@@ -1,5 +1,5 @@
 -- A text is in form exactly where its test is true.
-use Rattle.std.proofs.Common.{◌≡◌, ◌∙◌, ℕ, suc, ℤ, pos, negsuc, ◌≤◌, ◌&&◌, Bool, true, false, true≢false, Option, Some, None, Result, Ok, Err, List, [], ◌∷◌, ◌++◌, length, drop, nat_le, is_some, refl, sym, ap, subst, arith, if◌then◌else◌}
+use Rattle.std.proofs.Common.{◌≡◌, ◌∙◌, suc, ℤ, pos, negsuc, ◌≤◌, Bool, true, false, true≢false, Option, Some, None, Result, Ok, Err, [], ◌∷◌, ◌++◌, length, drop, nat_le, is_some, refl, sym, ap, subst, if◌then◌else◌}
 use Rattle.std.specs.Cmp.{both_ways}
 use Rattle.std.proofs.lemmas.Bool.{and_from, and_parts, le-leb, leb-true}
 use Rattle.semver.specs.Parse.{Parts, version_parts}
@@ -8,11 +8,11 @@ use Rattle.serde_json.specs.Data.{Data}
 use Rattle.serde_json.specs.Read.{read}
 use Rattle.serde_json.specs.Written.{compact_text}
 use Rattle.registry_names.specs.Idents.{is_ident}
-use Rattle.registry_names.specs.Moments.{last_second, moment_of}
+use Rattle.registry_names.specs.Moments.{last_second}
 use Rattle.registry_names.specs.Names.{IsName, IsNameOf, is_plain_part, is_scoped_part, longest_name, scope_of}
 use Rattle.registry_names.specs.Texts.{Text, is}
 use Rattle.registry_names.specs.VersionReading.{in_profile}
-use Rattle.registry_names.specs.Versions.{IsVersion, IsVersionOf, VersionParts, longest_version, text_of_version}
+use Rattle.registry_names.specs.Versions.{IsVersion, VersionParts, longest_version, text_of_version}
 use Rattle.registry_names.proofs.KeyFacts.{same_self, same_true, text_key}
 use Rattle.registry_names.proofs.NameFacts.{scope_of-name}
 use Rattle.registry_names.proofs.VersionFacts.{kept, not_kept, not_read}

@@ -1,5 +1,5 @@
 -- A query for all rows of a table in the order of their numbers shows them one after another.
-use Rattle.std.proofs.Common.{◌≡◌, ◌∙◌, ℕ, ℤ, Bool, true, List, [], ◌∷◌, map, drop, slice_get, Some, refl, sym, ap, ap₂, subst₂, arith, Less, is_lt, IsTrue}
+use Rattle.std.proofs.Common.{◌≡◌, ◌∙◌, ℕ, ℤ, true, List, [], ◌∷◌, map, drop, slice_get, Some, refl, sym, ap, ap₂, subst₂, arith, Less, is_lt, IsTrue}
 use Rattle.std.specs.FinMap.Entries.{below_all}
 use Rattle.std.specs.List.{AllByRecursion}
 use Rattle.std.specs.Ordering.{int_cmp, int_eq}
@@ -16,12 +16,12 @@ use Rattle.sqlite_sql.specs.Term.{Term}
 use Rattle.sqlite_schema.specs.declared.schema.Schema.{Schema}
 use Rattle.sqlite_schema.specs.declared.schema.Table.{Table}
 use Rattle.sqlite_rules.specs.Lists.{Has}
-use Rattle.sqlite_rules.proofs.ListLemmas.{all_has, all_from}
-use Rattle.registry_names.specs.Maps.{first_at, rises, seen}
+use Rattle.sqlite_rules.proofs.ListLemmas.{all_has}
+use Rattle.registry_names.specs.Maps.{first_at, rises}
 use Rattle.registry_rows.specs.KeyKinds.{numbers}
 use Rattle.registry_rows.specs.Ready.{Queried, Reads, Ready}
 use Rattle.registry_rows.specs.Rows.{HasRowids}
-use Rattle.registry_rows.specs.Statements.{MeansQuery, Selects, is_wanted, select_where, shown_by}
+use Rattle.registry_rows.specs.Statements.{MeansQuery, Selects, select_where, shown_by}
 use Rattle.registry_rows.proofs.KeyedFacts.{number_is, number_key, numbers_once}
 use Rattle.registry_rows.proofs.ListFacts.{has_mapped, map_has}
 use Rattle.registry_rows.proofs.ListingFacts.{first_risen}

@@ -1,13 +1,13 @@
 -- Rows that rise: those that compare as equal to what is asked stand together.
-use Rattle.std.proofs.Common.{◌≡◌, ◌∙◌, ◌==◌, ne_eqb, find, slice_get, Some, Option, option_map, ℕ, suc, zero, ◌+◌, ◌-◌, ◌<◌, ◌≤◌, Bool, true, false, not, cond, ◌&&◌, ◌||◌, List, [], ◌∷◌, ◌++◌, length, take, drop, get_or, map, arith, refl, sym, ap, ap₂, subst, true≢false, append-nil, Ordering, Less, Equal, Greater, is_lt, is_eq}
+use Rattle.std.proofs.Common.{◌≡◌, ◌∙◌, ◌==◌, ne_eqb, find, slice_get, Some, ℕ, suc, ◌+◌, ◌<◌, ◌≤◌, Bool, true, false, not, cond, ◌||◌, List, [], ◌∷◌, ◌++◌, length, take, drop, get_or, arith, refl, sym, ap, ap₂, subst, true≢false, append-nil, Ordering, Less, Equal, Greater, is_lt, is_eq}
 use Rattle.std.specs.Cmp.{IsTotalOrder}
 use Rattle.std.specs.List.{AllWithin, IsAllAdjacentAnswer, filter, list_any}
-use Rattle.std.specs.List.Sorted.{IsNonDecreasingBy, IsPartitionPoint, IsPartitionedBy, IsSortedBy, IsSortedByKey}
+use Rattle.std.specs.List.Sorted.{IsNonDecreasingBy, IsPartitionPoint, IsPartitionedBy, IsSortedByKey}
 use Rattle.std.specs.Ordering.{ordering_index, ordering_then}
-use Rattle.std.proofs.lemmas.List.{get_or-take, get_or-drop, length-take, length-take-le, length-drop, take-append-drop}
+use Rattle.std.proofs.lemmas.List.{get_or-take, get_or-drop, length-take-le, length-drop, take-append-drop}
 use Rattle.std.proofs.lemmas.List.Elements.{filter-append}
 use Rattle.std.proofs.lemmas.List.Sorted.{searchable_from_sorted}
-use Rattle.registry_names.specs.Keys.{IsKey, by_first}
+use Rattle.registry_names.specs.Keys.{by_first}
 use Rattle.registry_names.specs.Texts.{Text, text_cmp}
 
 low : (a b : Ordering) → ordering_index a ≤ ordering_index b → is_lt b ≡ true → is_lt a ≡ true

@@ -1,15 +1,15 @@
 -- No row breaks a rule exactly where the registry is right.
-use Rattle.std.proofs.Common.{◌≡◌, ◌∙◌, ◌==◌, ℕ, ℤ, ◌≤◌, ◌≤ℤ◌, Bool, true, false, not, ◌&&◌, ◌||◌, List, [], ◌∷◌, ◌++◌, map, find, length, is_none, is_some, option_and_then, option_map, arith, refl, sym, ap, ap₂, subst, true≢false, Some, None, Option, IsSome, IsTrue, T, cond}
+use Rattle.std.proofs.Common.{◌≡◌, ◌∙◌, ◌==◌, ℕ, ℤ, ◌≤◌, ◌≤ℤ◌, Bool, true, false, not, ◌&&◌, ◌||◌, List, [], ◌∷◌, ◌++◌, map, find, length, is_none, is_some, option_and_then, option_map, refl, sym, ap, ap₂, subst, true≢false, Some, None, Option, IsSome, IsTrue, T, cond}
 use Rattle.std.specs.Int.Signed.{le_z_yes}
 use Rattle.std.specs.Ordering.{int_eq}
 use Rattle.std.specs.Prelude.{int_le}
-use Rattle.std.proofs.lemmas.Bool.{and_from, and_parts, eqb-true, or_left, or_right}
+use Rattle.std.proofs.lemmas.Bool.{and_from, and_parts, eqb-true}
 use Rattle.serde_json.specs.Data.{Data}
 use Rattle.serde_json.specs.Read.{read}
 use Rattle.sqlite_trees.specs.Tree.{Trees}
 use Rattle.sqlite_value.specs.Order.{Row}
 use Rattle.registry_names.specs.Idents.{is_ident}
-use Rattle.registry_names.specs.Keys.{IsKey, Pair, Triple, pair_is}
+use Rattle.registry_names.specs.Keys.{Pair, Triple, pair_is}
 use Rattle.registry_names.specs.Maps.{at, entries, first_at, seen}
 use Rattle.registry_names.specs.Messages.{is_message}
 use Rattle.registry_names.specs.Moments.{last_second}
@@ -31,13 +31,13 @@ use Rattle.registry_tables.specs.Ranges.{HasNumbersInRange}
 use Rattle.registry_tables.proofs.ReadFacts.{at-read, read_there}
 use Rattle.registry_tables.proofs.LiveFacts.{lives_as_row}
 use Rattle.registry_check.specs.Counter.{CountsArchives, count_of, is_count, is_counted}
-use Rattle.registry_check.specs.FormRules.{counter_forms, has_live, has_scope_of, held_integrity, held_number, integrity_under, level_forms, maintainer_forms, moment_forms, number_forms, organisation_forms, package_forms, role_forms, spent_forms, states_held, status_forms, tag_forms, target_forms, team_forms, token_forms, user_forms, version_forms}
-use Rattle.registry_check.specs.Forms.{is_manifest_text, is_name, is_range, is_version, states, states_in}
+use Rattle.registry_check.specs.FormRules.{counter_forms, has_live, has_scope_of, held_integrity, integrity_under, level_forms, maintainer_forms, moment_forms, number_forms, organisation_forms, package_forms, role_forms, spent_forms, states_held, status_forms, tag_forms, target_forms, team_forms, token_forms, user_forms, version_forms}
+use Rattle.registry_check.specs.Forms.{is_manifest_text, is_name, is_range, is_version, states_in}
 use Rattle.registry_check.specs.Numbers.{Numbers, numbers_in}
 use Rattle.registry_check.specs.Premises.{MeetsPremises, rows_in}
 use Rattle.registry_check.specs.Problems as spec
 use Rattle.registry_check.specs.Problems.{counted_problems, counter_problems, level_problems, maintainer_form_problems, moment_problems, name_problems, number_problems, organisation_form_problems, package_form_problems, premise_problems, problems, release_problems, role_problems, spent_problems, status_problems, tag_problems, target_problems, team_form_problems, token_form_problems, user_form_problems, version_form_problems}
-use Rattle.registry_check.specs.Right.{HoldsRight, IsRight, TellsRight, first_told, problems_at, rows_at}
+use Rattle.registry_check.specs.Right.{HoldsRight, TellsRight, first_told, problems_at, rows_at}
 use Rattle.registry_check.specs.Readable.{text_problems}
 use Rattle.registry_check.specs.Rows.{Rows}
 use Rattle.registry_check.specs.Rules.{has}

@@ -1,5 +1,5 @@
 -- Where SQLite counts the numbers of archives.
-use Rattle.std.specs.Prelude.{◌≡◌, ◌==◌, ℕ, ℤ, pos, ◌≤ℤ◌, int_le, int_lt, Bool, true, false, ◌&&◌, List, [], ◌∷◌, Option, None, Some, find, length, option_map, IsTrue}
+use Rattle.std.specs.Prelude.{◌≡◌, ◌==◌, ℤ, pos, ◌≤ℤ◌, int_le, int_lt, Bool, true, false, ◌&&◌, List, [], ◌∷◌, Option, None, Some, find, length, option_map, IsTrue}
 use Rattle.sqlite.specs.declared.types.Value.{Value}
 use Rattle.sqlite.specs.declared.types.Value.TheVariants as value
 use Rattle.sqlite_value.specs.Order.{Row, column}

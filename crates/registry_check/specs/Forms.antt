@@ -1,6 +1,6 @@
 -- Whether texts are in form. Each of these holds exactly where the relation of the same
 -- name does: `IsName`, `IsVersion`, `IsRangeText` and `IsManifestText`.
-use Rattle.std.specs.Prelude.{◌≡◌, ℕ, suc, Bool, true, false, ◌&&◌, nat_le, List, ◌∷◌, ◌++◌, length, drop, Option, Some, None, is_some, Result, Ok, Err}
+use Rattle.std.specs.Prelude.{suc, Bool, true, false, ◌&&◌, nat_le, ◌∷◌, ◌++◌, length, drop, Option, Some, None, is_some, Result, Ok, Err}
 use Rattle.semver.specs.Parse.{Parts, version_parts}
 use Rattle.semver.specs.declared.error.Error.{Error}
 use Rattle.serde_json.specs.Data.{Data}

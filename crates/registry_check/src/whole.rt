@@ -46,7 +46,7 @@ pub fn check<S: Alter>(alloc: Global, tx: &mut Transaction<'_, S>) -> Result<Vec
     ensures met { Tells S.Store tx.old tx.new result (λ found db. TellsRight found.items db) }
 {
     let unreadable = text_problems(alloc, tx)?;
-    if unreadable.is_empty() {
+    if unreadable.as_slice().is_empty() {
         check_rules(alloc, tx)
     } else {
         Ok(unreadable)

@@ -1,4 +1,4 @@
-use Rattle.std.proofs.Common.{Bor, SFits, w64, rules, ◌≡◌, ◌∙◌, ℕ, ℤ, List, Some, ap, find, map, option_map}
+use Rattle.std.proofs.Common.{SFits, w64, rules, ◌≡◌, ◌∙◌, ℕ, ℤ, List, Some, ap, find, map, option_map}
 use Rattle.std.specs.Ordering.{int_eq}
 use Rattle.std.proofs.lemmas.Int.{to_z-of_z}
 use Rattle.registry_names.specs.Texts.{is}

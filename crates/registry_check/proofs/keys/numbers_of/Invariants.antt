@@ -1,4 +1,4 @@
-use Rattle.std.proofs.Common.{◌≡◌, ℤ, map, take}
+use Rattle.std.proofs.Common.{◌≡◌, map, take}
 use Rattle.registry_check.specs.declared.tables.HeldRow.{HeldRow}
 use Rattle.registry_check.proofs.keys.numbers_of.Given as goal
 

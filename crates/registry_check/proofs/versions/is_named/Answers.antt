@@ -1,4 +1,4 @@
-use Rattle.std.proofs.Common.{◌≡◌, ◌∙◌, ◌&&◌, ap, is_eq, rules, sym}
+use Rattle.std.proofs.Common.{◌∙◌, ◌&&◌, ap, is_eq, rules, sym}
 use Rattle.std.specs.List.{list_any}
 use Rattle.std.proofs.lemmas.Result.{IfOk-weaker}
 use Rattle.registry_names.specs.Keys.{Pair, pair_cmp, pair_is}

@@ -1,5 +1,5 @@
-use Rattle.std.proofs.Common.{◌≡◌, ◌∙◌, ◌&&◌, Some, ap, is_eq, rules, sym}
-use Rattle.std.specs.List.{filter, list_any}
+use Rattle.std.proofs.Common.{◌∙◌, ◌&&◌, Some, ap, is_eq, rules, sym}
+use Rattle.std.specs.List.{list_any}
 use Rattle.registry_names.specs.Keys.{Pair}
 use Rattle.registry_names.specs.Texts.{is, text_cmp}
 use Rattle.registry_names.proofs.KeyFacts.{text_key}

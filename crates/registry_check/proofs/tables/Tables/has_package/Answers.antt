@@ -1,5 +1,5 @@
 use Rattle.std.proofs.Common.{◌∙◌, rules}
-use Rattle.registry_names.specs.Texts.{Text, text_cmp}
+use Rattle.registry_names.specs.Texts.{text_cmp}
 use Rattle.registry_names.proofs.KeyFacts.{text_key}
 use Rattle.registry_access.specs.declared.rows.PackageRow.{PackageRow}
 use Rattle.registry_access.specs.RowMaps.{package_entry}
