@@ -125,7 +125,7 @@ fn first_count(rows: &[CountRow]) -> Option<Option<i64>>
     rows.iter().find(|row| row.is_archives).map(|row| row.count)
 }
 
-// Whether it is a number from 0 on, above which there is another for an archive.
+// Whether it is a number from 0 on, and the next archive can have a higher one.
 fn is_count(count: Option<i64>) -> bool
     ensures { result ≡ spec.is_count count }
 {

@@ -135,7 +135,7 @@ pub(crate) fn rows_for<S: Alter>(
     }
 }
 
-// The name of a user. It is empty of a caller who is none.
+// The name of the caller. It is empty if the caller isn't a user.
 fn own_name(alloc: Global, caller: &Caller) -> Result<Text, AllocError>
     ensures { IfOk result (λ name. name ≡ answers.own_name caller.now) }
 {

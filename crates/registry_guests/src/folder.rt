@@ -21,8 +21,8 @@ pub(crate) const CONTROL_SOCKET: &str = "control";
 /// What says which file the server has open.
 pub(crate) const IDENTITY: &str = "file";
 
-/// The folder of the sockets of a server of a file. It lies beside the file, even if the path is a
-/// link to it.
+/// The folder with the sockets of a file's server. It lies beside the file itself, even if the path is
+/// a link to the file.
 ///
 /// An error is the system's.
 pub fn folder_of<R: Files + Alloc>(rt: &R, alloc: Global, file: &str) -> io::Result<String> {

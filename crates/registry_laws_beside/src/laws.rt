@@ -44,9 +44,9 @@ pub fn unread_packages_change_nothing_that_is_told<S: Alter>()
 {}
 
 /// While its server is held, a registry keeps what it stores. After any number of queries an open
-/// registry holds what it held before them (`queries`). A hold asks it queries alone
-/// (`held_servers_ask_queries` of `registry_server`): so whatever is answered first after a hold is
-/// answered by a registry that holds what was held before it (`holds`).
+/// registry holds what it held before them (`queries`). During a hold it is asked only queries
+/// (`held_servers_ask_queries` of `registry_server`). So the first request after a hold is answered by
+/// a registry that holds what it held before (`holds`).
 pub fn held_servers_leave_what_is_stored<S: Alter>()
     ensures queries { QueriesLeaveStored (shown S.Store) }
     ensures holds { HoldsLeaveStored (shown S.Store) }

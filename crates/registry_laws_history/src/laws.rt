@@ -55,9 +55,9 @@ pub fn packuments_have_moments()
     ensures keys { TimeKeysRise }
 {}
 
-/// Of an organisation a caller is listed exactly the packages of its scope that they read, each with
-/// their level on it. As their own they are listed exactly those that they read of the organisations
-/// whose members they are, and those without a scope that they maintain.
+/// The list of an organisation's packages has exactly those of its scope that the caller reads, each
+/// with the caller's level on it. The list of one's own packages has exactly those that the caller
+/// reads in the organisations they are a member of, and those without a scope that they maintain.
 pub fn lists_have_what_is_read()
     ensures organisation { OrgPackagesAreRead }
     ensures own { OwnPackagesAreRead }

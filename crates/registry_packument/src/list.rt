@@ -193,11 +193,14 @@ fn push_username(alloc: Global, out: &mut String, name: &str) -> Result<(), Allo
     out.push_str("}")
 }
 
-/// A list in compact JSON: an object of tags to versions, of users to `developer`, `admin` or
-/// `owner`, of packages to `read-only` or `read-write`, or to `read` or `write`, of users to the
-/// number of their tokens, or of packages to objects, each with `status`, which is `public` or
-/// `restricted`, and with `latest` where a version lives; an object of `username` to a name; or an
-/// array of names.
+/// A list in compact JSON. It is an object, an array of names, or an object with the name of a user as
+/// `username`. An object has as its members
+///
+/// - tags with their versions;
+/// - users with `developer`, `admin` or `owner`, or with the number of their tokens;
+/// - packages with `read-only` or `read-write`, or with `read` or `write`;
+/// - packages with objects, each with `status`, which is `public` or `restricted`, and with `latest` if
+///   a version lives.
 ///
 /// The rows are written as they come, in byte order and each once. `Memory` is returned when no
 /// memory is left, and no other fault is returned.

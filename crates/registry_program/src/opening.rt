@@ -20,13 +20,13 @@ use std::alloc::Global;
 use std::fs;
 use std::io::ErrorKind;
 
-/// The registry in the file at the path. A terminal is told of it.
+/// Opens the registry in the file at the path, and shows a line on a terminal meanwhile.
 pub fn open(rt: &HostRuntime, path: &str) -> Result<Registry<FileStore<File>>, Ending> {
     let _opening = Progress::begin(rt, Work::Opening, path);
     open_once(rt, path)
 }
 
-/// The same, and nothing is told.
+/// Opens the registry in the file at the path, and shows nothing.
 pub fn open_once(rt: &HostRuntime, path: &str) -> Result<Registry<FileStore<File>>, Ending> {
     match Registry::open(rt, path) {
         Ok(registry) => Ok(registry),

@@ -6,19 +6,19 @@ use std::io::{IsTerminal, Write};
 use std::time::Instant;
 use std::{fs, io};
 
-/// To open or check a file of so many bytes takes about a second, or more.
+/// The bytes of a file from which on opening or checking it takes about a second, or more.
 const LONG: u64 = 32_000_000;
 
-/// After so many milliseconds of work a line is shown, if its file is shorter.
+/// The milliseconds of work after which a line is shown for a shorter file.
 const PATIENCE: u128 = 1_000;
 
-/// A line that is shown stays for at least so many milliseconds.
+/// The milliseconds for which a shown line stays at least.
 const PAUSE: u128 = 250;
 
 /// The bytes of a megabyte.
 const MEGABYTE: u64 = 1_000_000;
 
-/// What is written over a line, which is never longer.
+/// The text that is written over a line. No line is longer.
 const BLANK: &str = "\r                                        \r";
 
 /// What takes long.
@@ -42,11 +42,10 @@ impl Work {
     }
 }
 
-/// A line on the terminal that says what is done with a file of how many bytes. It is removed when this
-/// is dropped.
+/// A line on the terminal that says what is done with a file, and how long the file is. The line is
+/// removed when this is dropped.
 ///
-/// Where standard error isn't a terminal, nothing is ever written. Nor is it where the work takes less
-/// than about a second.
+/// Nothing is written if standard error isn't a terminal, or if the work takes less than about a second.
 pub struct Progress {
     rt: HostRuntime,
     work: Work,
@@ -62,7 +61,7 @@ pub struct Progress {
 }
 
 impl Progress {
-    /// What is begun with the file at the path. The line is shown at once if the file is long.
+    /// Begins work on the file at the path. The line is shown at once if the file is long.
     pub fn begin(rt: &HostRuntime, work: Work, path: &str) -> Progress {
         let mut progress = Progress {
             rt: *rt,
@@ -84,7 +83,7 @@ impl Progress {
         progress
     }
 
-    /// So many bytes are done. The line says how many percent that is, at most four times in a second.
+    /// Notes how many bytes are done. The line shows the percentage, at most four times in a second.
     pub fn reach(&mut self, done: u64) {
         let Some(begun) = self.begun else {
             return;
@@ -142,8 +141,7 @@ fn length_at(rt: &HostRuntime, path: &str) -> u64 {
     }
 }
 
-/// A writer, and what is shown of how much it has taken. It takes what the writer takes, and nothing
-/// else.
+/// A writer that shows on a line how much it has taken. It takes exactly what its inner writer takes.
 #[derive(Drop)]
 pub struct Shown<W> {
     writer: W,
@@ -152,7 +150,7 @@ pub struct Shown<W> {
 }
 
 impl<W> Shown<W> {
-    /// The writer, which has taken nothing yet.
+    /// A writer that has taken nothing yet.
     pub fn new(writer: W, progress: Progress) -> Shown<W>
         ensures { result.writer ≡ writer }
     {

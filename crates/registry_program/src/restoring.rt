@@ -24,12 +24,11 @@ use std::fs;
 use std::fs::File;
 use std::io::ErrorKind;
 
-/// What the salts of a log are made of that is emptied before its file has its name. No other process
-/// has that log, so it needs no randomness.
+/// The seed for the salts of the log, which is emptied before the file gets its name. No other process
+/// has that log, so the seed needn't be random.
 const SEED: u64 = 1;
 
-/// Makes the registry's file at the path, where none is yet, of a copy and of the copy's log, if it has
-/// one.
+/// Makes the registry's file at the path, where no file is yet, from a copy and its log, if it has one.
 ///
 /// The file is made under the path with `-part`, opened to see that a registry is in it, and then gets
 /// its own name. Nothing is migrated. A line is returned for each thing that is wrong in it, if it is

@@ -101,9 +101,9 @@ pub fn withdrawals_spend()
 {}
 
 /// The withdrawal of all versions of a package is the run of the withdrawals of its live versions, in
-/// any order, at the same moment and by the same caller, each of which is accepted. Where the
-/// withdrawal of one of them would be refused, it is refused so, and first as too late; then nothing
-/// is withdrawn. Afterwards no version of the package lives and it has no tag, and each that lived is
+/// any order, at the same moment and by the same caller, each of which is accepted. If the
+/// withdrawal of one of them would be refused, the whole is refused for the same reason, `TooLate`
+/// before `Depended`, and nothing is withdrawn. Afterwards no version of the package lives and it has no tag, and each that lived is
 /// spent. Nothing else changes.
 pub fn whole_withdrawals_are_runs()
     ensures live { LiveVersionsAreTheLive }

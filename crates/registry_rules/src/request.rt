@@ -277,9 +277,8 @@ pub enum Action {
         /// The organisation's name.
         organisation: Ident,
     },
-    /// A user's query for the packages that are theirs, each with what they may do with it: those
-    /// without a scope that they maintain, and those that they read of the organisations whose
-    /// members they are.
+    /// A user's query for their own packages, each with what they may do with it: those without a
+    /// scope that they maintain, and those that they read in the organisations they are a member of.
     MyPackages,
     /// The operator's query for all users, each with the number of their tokens.
     Users,

@@ -180,9 +180,9 @@ impl<S: Socket> Connection<S> {
         }
     }
 
-    /// Goes on with the connection while commands wait, as [`visit`](Connection::visit) does. But where
-    /// nothing is begun it only receives: whether that may be a command isn't known before. No request
-    /// is under way that may be a command.
+    /// Goes on with the connection while commands wait, as [`visit`](Connection::visit) does. But if no
+    /// request is begun, it only receives, since the next one may be a command. No request that may be
+    /// a command is under way.
     pub fn visit_query<D: Service, C: Clock>(
         &mut self,
         alloc: Global,

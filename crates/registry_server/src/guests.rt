@@ -18,8 +18,8 @@ pub const GUEST_TOKENS: usize = 16;
 /// in each round. They register with the server's poll under the tokens from [`FIRST_GUEST`] on, of
 /// which there are [`GUEST_TOKENS`].
 ///
-/// One of them may hold the server: then the service is asked queries of connections alone, and all
-/// else waits. And they may stop it: then it lets nobody in any more, answers what is under way, and
+/// One of them may hold the server: then the service is asked only queries of connections, and all
+/// else waits. They may also stop it: then it accepts nobody any more, answers what is under way, and
 /// ends.
 pub trait Guests {
     // Whether one of them holds the server.

@@ -114,9 +114,9 @@ pub fn connections_hold_little<S: Socket, D: Service>()
     ensures servers { ServersHoldLittle S }
 {}
 
-/// While a server is held, its service is asked queries alone, however many rounds that takes
-/// (`queried`): it is what queries left, but for what it looked up since. Each such round is also one
-/// of those that other laws speak of (`rounds`).
+/// While a server is held, its service is asked only queries, however many rounds that takes
+/// (`queried`): it is what these queries leave, except for what it has looked up since. The other laws
+/// of rounds hold of these rounds too (`rounds`).
 pub fn held_servers_ask_queries<S: Socket, D: Service>()
     ensures queried { HoldsAskQueries S.received S.sent S.has_none S.is_full S.has_more S.is_ended S.is_broken D.answers D.over }
     ensures rounds { QueriesAreAnswers S.received S.sent S.has_none S.is_full S.has_more S.is_ended S.is_broken D.answers D.over }

@@ -124,7 +124,8 @@ impl<S: Socket> Place<S> {
         }
     }
 
-    // Whether the connection there is to be visited. Where commands wait, none is that may have one.
+    // Whether the connection there is to be visited. While commands wait, one that may have a command
+    // isn't.
     fn is_to_visit(&self, commands_wait: bool) -> bool
         ensures { result ≡ spec.is_to_visit commands_wait self.now }
     {
@@ -231,7 +232,7 @@ impl<S: Socket> Place<S> {
     }
 }
 
-// Visits a connection. Where commands wait, no request is under way on it that may be one.
+// Visits a connection. If commands wait, no request that may be a command is under way on it.
 fn visited<S: Socket, D: Service, C: Clock>(
     connection: &mut Connection<S>,
     alloc: Global,
@@ -318,7 +319,7 @@ impl<S: Socket> ConnectionPool<S> {
         self.is_busy_in(true)
     }
 
-    // Whether a connection is to be visited in a round in which commands wait, or don't.
+    // Whether a connection is to be visited in a round. The flag says whether commands wait in it.
     fn is_busy_in(&self, commands_wait: bool) -> bool
         ensures { result ≡ spec.is_busy commands_wait self.now.places.items }
     {
@@ -428,9 +429,9 @@ impl<S: Socket> ConnectionPool<S> {
         self.visit_each(alloc, service, clock, buffer, now, false, is_crowd);
     }
 
-    /// Visits connections as [`visit_all`](ConnectionPool::visit_all) does, but while commands wait: a
-    /// connection isn't visited, and is still to be visited, where a request is under way on it that
-    /// may be a command. So the service is asked queries alone.
+    /// Visits connections as [`visit_all`](ConnectionPool::visit_all) does, while commands wait: a
+    /// connection on which a request that may be a command is under way isn't visited, and is still to
+    /// be visited. So the service is asked only queries.
     pub fn visit_queries<D: Service, C: Clock>(
         &mut self,
         alloc: Global,

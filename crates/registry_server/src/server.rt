@@ -118,11 +118,11 @@ impl Server {
     /// Serves as [`run`](Server::run) does, and looks after guests once in each round, after the
     /// connections. Where connections are counted it goes on until no guest is there, either.
     ///
-    /// While guests hold the server, the service is asked queries of connections alone: commands
-    /// wait, and so do guests, and no time of connections passes. Where they stop it, it lets nobody
-    /// in any more, ends the connections on which nothing is begun, answers what is under way, and
-    /// ends once nobody is there. Each connection is answered at most one more request, and is told
-    /// that it ends.
+    /// While guests hold the server, the service is asked only queries of connections: commands and
+    /// guests wait, and no time of connections passes. If guests stop the server, it accepts nobody
+    /// any more, ends the connections on which nothing is begun, answers what is under way, and ends
+    /// once nobody is there. Each connection gets at most one more answer, which says that the
+    /// connection ends.
     pub fn run_beside<R: time::Clock, D: Service, G: Guests>(
         mut self,
         rt: &R,

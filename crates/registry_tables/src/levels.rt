@@ -102,7 +102,7 @@ fn load_unscoped<S: Alter>(
     written(alloc, names)
 }
 
-// Those of the names that have no scope, each with the level of who writes the package.
+// The names without a scope, each with the level write.
 fn written(alloc: Global, names: Vec<Text>) -> Result<Vec<PackageLevel>, Fault>
     ensures { IfOk result (λ packages. packages.items
         ≡ map writable (filter (λ p. is_none (scope_of p)) names.items)) }
@@ -196,8 +196,8 @@ fn load_caller_role<S: Alter>(
     }
 }
 
-// Those of the packages that the caller reads, each with their level, where this is their role in
-// the organisation of each package's scope.
+// The packages that the caller reads, each with their level. This is their role in the organisation
+// of each package's scope.
 fn with_levels<S: Alter>(
     alloc: Global,
     tx: &mut Transaction<'_, S>,

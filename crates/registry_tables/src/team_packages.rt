@@ -72,7 +72,7 @@ fn is_read<S: Alter>(
     Ok(reads(level_of(&standing, caller)))
 }
 
-/// Whether who has this level reads a package.
+/// Whether this level allows reading a package.
 pub(crate) fn reads(level: Level) -> bool
     ensures { result ≡ levels.reads level }
 {
