@@ -36,6 +36,10 @@ const LOOK_TIME: u64 = 250;
 /// At most this many milliseconds of a round count, besides those in which it waited.
 const ROUND_TIME: u64 = 25;
 
+/// At most this many milliseconds of a round count for guests while the server is held, since it
+/// answers many queries in a round. A machine that was asleep doesn't end a hold by that alone.
+const HELD_TIME: u64 = 10_000;
+
 /// Why a server ended.
 #[derive(Clone, Copy, Debug, PartialEq, Eq)]
 pub enum Ended {
@@ -185,7 +189,12 @@ impl Server {
         };
         self.look(patience, guests)?;
         // Whoever reads from a held server doesn't make the hold longer.
-        guests.attend(self.poll.registry(), timer.pass(LOOK_TIME + ROUND_TIME));
+        let most = if was_held {
+            HELD_TIME
+        } else {
+            LOOK_TIME + ROUND_TIME
+        };
+        guests.attend(self.poll.registry(), timer.pass(most));
         if was_held || guests.holds() {
             Ok(0)
         } else {
