@@ -45,7 +45,7 @@ pub enum Errand {
         /// Whether what the copy holds is checked.
         checks: bool,
     },
-    /// A file that is made of a copy.
+    /// A file that is made from a copy.
     Restore {
         /// The path of the file that is to keep the registry.
         db: Text,

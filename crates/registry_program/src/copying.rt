@@ -239,7 +239,7 @@ pub fn see_inside<D: Disk + Drop>(
     }
 }
 
-/// Closes a database that was made of a copy, which copies its log into its file.
+/// Closes a database that was made from a copy. This copies its log into its file.
 pub fn close_copy<D: Disk + Drop>(conn: Connection<FileStore<D>>) -> Result<Files<D>, Ending>
     ensures copied { IfOk result (λ files. AreClean D.Disk files.log files.db
         → IsCopied conn files) }

@@ -39,7 +39,7 @@ pub enum Failure {
     File,
     /// The copy that the arguments name, which can't be made.
     Backup(Snag),
-    /// The registry's file, which can't be made of a copy.
+    /// The registry's file, which can't be made from a copy.
     Restore(Snag),
     /// Standard output.
     Write,
@@ -73,7 +73,7 @@ pub enum Blockage {
     Unmade,
 }
 
-/// Why there is no copy, or no file that is made of one.
+/// Why there is no copy, or no file that is made from one.
 #[derive(Clone, Copy)]
 pub enum Snag {
     /// A file has its name already, or the name of its log or of its part.

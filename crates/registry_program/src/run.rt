@@ -27,7 +27,7 @@ const SHUT: &str = "the disk failed while the registry was served";
 /// - 2: what is wrong with the arguments, or the help that they ask for;
 /// - 3: `fault: ` and what failed, with a second line that gives the reason where the registry's
 ///   file can't be opened, its disk fails while it is served, its server gives no answer, nothing
-///   listens at a socket, a copy of it can't be made, or it can't be made of one.
+///   listens at a socket, a copy of it can't be made, or it can't be made from one.
 pub fn program<I: ByteIn, O: ByteOut, E: ByteOut>(
     rt: &HostRuntime,
     alloc: Global,
@@ -152,7 +152,7 @@ fn snag_text(snag: Snag) -> &'static str {
     }
 }
 
-// Why no registry's file is made of a copy.
+// Why no registry's file is made from a copy.
 fn restored_text(snag: Snag) -> &'static str {
     match snag {
         Snag::Taken =>

@@ -1,4 +1,4 @@
-//! Registries that are made of copies: over files in memory, and at paths.
+//! Registries that are made from copies: over files in memory, and at paths.
 
 use super::{Case, Failing, forget, leaves_it, path, with_db};
 use crate::tests::at_path::number_at;
