@@ -123,14 +123,14 @@ fn commands_wait_during_a_hold(rt: HostRuntime) -> Result<(), Fail> {
     forget(&rt, file)
 }
 
-/// This many milliseconds pass between two readings, and a round counts at most 275.
+/// This many milliseconds pass between two readings, and all of them count while a server is held.
 const STEP: u64 = 200;
 
 /// The reading after 58 s.
-const AFTER_58: u32 = 422;
+const AFTER_58: u32 = 290;
 
 /// The reading after 66 s.
-const AFTER_66: u32 = 480;
+const AFTER_66: u32 = 330;
 
 /// A fast clock, by which no round waits. It ends a hold that lasts for 66 s.
 #[derive(Drop)]
