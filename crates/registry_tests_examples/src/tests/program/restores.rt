@@ -142,14 +142,7 @@ fn a_copy_that_breaks_a_rule_is_not_put_in_place(rt: HostRuntime) -> Result<(), 
     same("a file is there", fs::exists(&rt, db.as_str())?, false)?;
     restores(&rt, db.as_str(), copy.as_str(), &UNCHECKED)?;
     restores(&rt, db.as_str(), copy.as_str(), &TAKEN)?;
-    let count = number_at(&rt, db.as_str(), "SELECT 1", "SELECT count(*) FROM orgs")?;
-    same("organisations", count, 1)?;
-    // Its log alone is left.
     fs::remove_file(&rt, db.as_str())?;
-    restores(&rt, db.as_str(), copy.as_str(), &TAKEN)?;
-    same("a file is made", fs::exists(&rt, db.as_str())?, false)?;
-    let log = format!(in rt.alloc(); "{}-wal", db.as_str())?;
-    fs::remove_file(&rt, log.as_str())?;
     forget(&rt, copy.as_str())
 }
 
