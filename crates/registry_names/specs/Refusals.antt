@@ -3,7 +3,7 @@ use Rattle.std.specs.Prelude.{ℕ, List, ◌++◌, codes}
 use Rattle.registry_names.specs.declared.refusal.Rule.{Rule}
 use Rattle.registry_names.specs.declared.refusal.Rule.TheVariants.{A1, A2, A3, A4, A5, A6, A7, A8, A9, A10}
 use Rattle.registry_names.specs.declared.refusal.Refusal.{Refusal}
-use Rattle.registry_names.specs.declared.refusal.Refusal.TheVariants.{BadName, BadVersion, RangeTag, BadTag, BadBody, BadIntegrity, TooLarge, NoCaller, NotFound, Denied, Published, Spent, TooLate, Depended, KeepsLatest, BadSelector, LastOwner, KeepsDevelopers, Exists, OtherScope, AlwaysPublic, Waiting}
+use Rattle.registry_names.specs.declared.refusal.Refusal.TheVariants.{BadName, BadVersion, RangeTag, BadTag, BadBody, BadIntegrity, TooLarge, NoCaller, NotFound, Denied, Published, Spent, TooLate, Depended, KeepsLatest, BadSelector, LastOwner, KeepsDevelopers, Exists, OtherScope, AlwaysPublic, Waiting, Stale, NotServed}
 
 abbrev pub rule_text : Rule → List ℕ
 rule_text A1 = codes "A1"
@@ -43,9 +43,11 @@ refusal_text Exists = codes "Exists"
 refusal_text OtherScope = codes "OtherScope"
 refusal_text AlwaysPublic = codes "AlwaysPublic"
 refusal_text Waiting = codes "Waiting"
+refusal_text Stale = codes "Stale"
+refusal_text NotServed = codes "NotServed"
 
--- Bad Request 400, Unauthorized 401, Forbidden 403, Not Found 404, Conflict 409, Content Too Large
--- 413
+-- Bad Request 400, Unauthorized 401, Forbidden 403, Not Found 404, Method Not Allowed 405, Conflict
+-- 409, Content Too Large 413
 abbrev pub refusal_status : Refusal → ℕ
 refusal_status BadName = 400
 refusal_status BadVersion = 400
@@ -69,3 +71,5 @@ refusal_status Exists = 409
 refusal_status OtherScope = 409
 refusal_status AlwaysPublic = 409
 refusal_status Waiting = 409
+refusal_status Stale = 409
+refusal_status NotServed = 405

@@ -84,6 +84,10 @@ pub enum Refusal {
     AlwaysPublic,
     /// Too little time has passed since the last version was withdrawn.
     Waiting,
+    /// A document was made of an older state of its package. Only npm's own requests are refused so.
+    Stale,
+    /// npm asks for something that this registry doesn't do. Only npm's own requests are refused so.
+    NotServed,
 }
 
 impl Refusal {
@@ -114,6 +118,8 @@ impl Refusal {
             Refusal::OtherScope => "OtherScope",
             Refusal::AlwaysPublic => "AlwaysPublic",
             Refusal::Waiting => "Waiting",
+            Refusal::Stale => "Stale",
+            Refusal::NotServed => "NotServed",
         }
     }
 
@@ -143,7 +149,9 @@ impl Refusal {
             | Refusal::Exists
             | Refusal::OtherScope
             | Refusal::AlwaysPublic
-            | Refusal::Waiting => 409,
+            | Refusal::Waiting
+            | Refusal::Stale => 409,
+            Refusal::NotServed => 405,
         }
     }
 }

@@ -4,7 +4,7 @@ use Rattle.http.specs.StatusCode.{IsStatusCode}
 use Rattle.registry_names.specs.Faults.{fault_status, fault_text}
 use Rattle.registry_names.specs.Refusals.{refusal_status, refusal_text, denied_text}
 use Rattle.registry_names.specs.declared.refusal.Refusal.{Refusal}
-use Rattle.registry_names.specs.declared.refusal.Refusal.TheVariants.{BadName, BadVersion, RangeTag, BadTag, BadBody, BadIntegrity, TooLarge, NoCaller, NotFound, Published, Spent, TooLate, Depended, KeepsLatest, BadSelector, LastOwner, KeepsDevelopers, Exists, OtherScope, AlwaysPublic, Waiting, Denied}
+use Rattle.registry_names.specs.declared.refusal.Refusal.TheVariants.{BadName, BadVersion, RangeTag, BadTag, BadBody, BadIntegrity, TooLarge, NoCaller, NotFound, Published, Spent, TooLate, Depended, KeepsLatest, BadSelector, LastOwner, KeepsDevelopers, Exists, OtherScope, AlwaysPublic, Waiting, Stale, NotServed, Denied}
 use Rattle.registry_names.specs.declared.refusal.Rule.{Rule}
 use Rattle.registry_names.specs.declared.refusal.Rule.TheVariants.{A1, A2, A3, A4, A5, A6, A7, A8, A9, A10}
 use Rattle.registry_names.specs.declared.stop.Fault.{Fault}
@@ -32,6 +32,8 @@ refusal-code Exists = (lit≤ tt, lit≤ tt)
 refusal-code OtherScope = (lit≤ tt, lit≤ tt)
 refusal-code AlwaysPublic = (lit≤ tt, lit≤ tt)
 refusal-code Waiting = (lit≤ tt, lit≤ tt)
+refusal-code Stale = (lit≤ tt, lit≤ tt)
+refusal-code NotServed = (lit≤ tt, lit≤ tt)
 refusal-code (Denied rule) = (lit≤ tt, lit≤ tt)
 
 rule-short : (r : Rule) → length (denied_text r) ≤ 100
@@ -68,6 +70,8 @@ refusal-short Exists = lit≤ tt
 refusal-short OtherScope = lit≤ tt
 refusal-short AlwaysPublic = lit≤ tt
 refusal-short Waiting = lit≤ tt
+refusal-short Stale = lit≤ tt
+refusal-short NotServed = lit≤ tt
 refusal-short (Denied rule) = rule-short rule
 
 pub fault-code : (f : Fault) → IsStatusCode (fault_status f)

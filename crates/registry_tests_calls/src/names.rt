@@ -98,6 +98,8 @@ static PRINTED: [(Stop, &str, u16); 27] = [
     (Stop::Refused(Refusal::OtherScope), "OtherScope", 409),
     (Stop::Refused(Refusal::AlwaysPublic), "AlwaysPublic", 409),
     (Stop::Refused(Refusal::Waiting), "Waiting", 409),
+    (Stop::Refused(Refusal::Stale), "Stale", 409),
+    (Stop::Refused(Refusal::NotServed), "NotServed", 405),
     (Stop::Fault(Fault::Memory), "Memory", 503),
     (Stop::Fault(Fault::Database), "Database", 500),
 ];
