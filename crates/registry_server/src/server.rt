@@ -214,7 +214,7 @@ impl Server {
         now: u64,
     ) -> io::Result<bool>
         ensures held { G.holds guests.old ≡ true → ServesQueries ⟦<TcpStream as Socket>⟧.received ⟦<TcpStream as Socket>⟧.sent ⟦<TcpStream as Socket>⟧.has_none ⟦<TcpStream as Socket>⟧.is_full
-            ⟦<TcpStream as Socket>⟧.has_more ⟦<TcpStream as Socket>⟧.is_ended ⟦<TcpStream as Socket>⟧.is_broken D.answers D.over now (length buffer.old)
+            ⟦<TcpStream as Socket>⟧.has_more ⟦<TcpStream as Socket>⟧.is_ended ⟦<TcpStream as Socket>⟧.is_broken D.speaks D.answers D.over now (length buffer.old)
             self.old.pool.places.items service.old service.new (C.readings clock.old) (C.readings clock.new) }
         ensures goes_on { IfOk result (λ goes. goes ≡ spec.goes_on (D.over service.new) (G.holds guests.old)
             (lets_in self.new.listener.left) self.new.pool.places.items (G.empty guests.new)) }
@@ -238,7 +238,7 @@ impl Server {
         now: u64,
     ) -> io::Result<bool>
         ensures serves { ServesQueries ⟦<TcpStream as Socket>⟧.received ⟦<TcpStream as Socket>⟧.sent ⟦<TcpStream as Socket>⟧.has_none ⟦<TcpStream as Socket>⟧.is_full
-            ⟦<TcpStream as Socket>⟧.has_more ⟦<TcpStream as Socket>⟧.is_ended ⟦<TcpStream as Socket>⟧.is_broken D.answers D.over now (length buffer.old)
+            ⟦<TcpStream as Socket>⟧.has_more ⟦<TcpStream as Socket>⟧.is_ended ⟦<TcpStream as Socket>⟧.is_broken D.speaks D.answers D.over now (length buffer.old)
             self.old.pool.places.items service.old service.new (C.readings clock.old) (C.readings clock.new) }
         ensures goes_on { IfOk result (λ goes. goes ≡ not (D.over service.new)) }
     {
