@@ -312,9 +312,9 @@ module _ {S : Type 0} (received sent : S → Option (List ℕ)) (has_none is_ful
   all-leave K paused crowd now most [] (q ∷ qs) M N r r2 was v = absurd v
   all-leave K paused crowd now most (p ∷ ps) [] M N r r2 was v = absurd v
 
-  serve-queried : (now most : ℕ) (old : List (Place S)) (M N : D) (r r2 : Option (List ℕ)) (x : ServesQueries received sent has_none is_full has_more is_ended is_broken speaks answers over now most old M N r r2)
+  serve-queried : (now most : ℕ) (old new : List (Place S)) (M N : D) (r r2 : Option (List ℕ)) (x : ServesQueries received sent has_none is_full has_more is_ended is_broken speaks answers over now most old new M N r r2)
       → AskQueries answers M x.between
-  serve-queried now most old M N r r2 x = all-leave M true (is_crowd old) now most x.round.looked x.visited M x.between r r2 unasked x.round.visits
+  serve-queried now most old new M N r r2 x = all-leave M true (is_crowd old) now most x.round.looked x.visited M x.between r r2 unasked x.round.visits
 
   -- queries after a look-up are queries without it, except that the last look-up may show later
   after-look : (M K N B : D) → AskQueries answers M K → AnswersAsBefore answers K N → AskQueries answers N B → IsQueried answers M B
@@ -327,7 +327,7 @@ module _ {S : Type 0} (received sent : S → Option (List ℕ)) (has_none is_ful
   look-again M K N was looks = record { left = was.left; asked = was.asked; before = λ r o L x. was.before r o L (looks r o L x) }
 
   pub holds-ask-queries : HoldsAskQueries received sent has_none is_full has_more is_ended is_broken speaks answers over
-  holds-ask-queries M _ no_round = record { left = M; asked = unasked; before = λ r o L x. x }
-  holds-ask-queries M _ (one_round K N now most old r r2 held x) =
-      let was = holds-ask-queries M K held in
-      look-again M x.between N (after-look M was.left K x.between was.asked was.before (serve-queried now most old K N r r2 x)) x.looks
+  holds-ask-queries old M _ _ no_round = record { left = M; asked = unasked; before = λ r o L x. x }
+  holds-ask-queries old M _ _ (one_round between ready new K N now most r r2 held woken x) =
+      let was = holds-ask-queries old M between K held in
+      look-again M x.between N (after-look M was.left K x.between was.asked was.before (serve-queried now most ready new K N r r2 x)) x.looks

@@ -124,6 +124,17 @@ pub record EndsIdle {S : Type 0} (old new : List (Place S)) (was : Bool) : Type 
   pub places : new ≡ emptied_of old which
   pub found : was ≡ is_some which
 
+-- ---- who comes in
+
+-- Connections come in at this moment. For each it may be looked who is to be visited, and the one may
+-- end on which nothing has been begun for longest, because room is lacking. Nothing else happens at
+-- the places.
+pub data LetsIn {S : Type 0} (now : ℕ) (old : List (Place S)) : List (Place S) → Type 0 where
+  nobody_comes : LetsIn now old old
+  is_looked : (between new : List (Place S)) → LetsIn now old between → AreWoken between new → LetsIn now old new
+  one_comes : (between : List (Place S)) (k : ℕ) (socket : S) → LetsIn now old between → IsPlaceFor between (Some k) → LetsIn now old (at_place (λ _. new_at now socket) between k)
+  idle_ends : (between new : List (Place S)) (was : Bool) → LetsIn now old between → EndsIdle between new was → LetsIn now old new
+
 -- ---- where a server is about to end
 
 -- the connection there ends where nothing is begun on it and it isn't to be visited
@@ -353,26 +364,53 @@ module _ {S : Type 0} (received sent : S → Option (List ℕ)) (has_none is_ful
     pub looks : LooksAtBodies old looked
     pub visits : VisitsAll paused (is_crowd old) now most looked new M N readings readings2
 
+-- ---- who stays
+
+-- each connection at whose place this holds stays there as it is, and it still holds
+abbrev pub Stay : {S : Type 0} → (Place S → Type 0) → List (Place S) → List (Place S) → Type 0
+Stay P [] [] = ⊤
+Stay P (p ∷ places) (q ∷ places2) = (P p → (q.connection ≡ p.connection) × P q) × Stay P places places2
+Stay P [] (q ∷ places2) = ⊥
+Stay P (p ∷ places) [] = ⊥
+
+-- somebody is there, and something is begun there, or it is to be visited
+abbrev pub IsBusyThere : {S : Type 0} → Place S → Type 0
+IsBusyThere p = (is_free p ≡ false) × IsUnderWay p
+
+-- a request is under way there that may be a command
+abbrev pub MayCommand : {S : Type 0} → Place S → Type 0
+MayCommand p = may_command_at p ≡ true
+
+-- whoever comes in takes the place of nobody who is under way
+abbrev pub NewcomersLeaveBusy : Type 0 → Type 0
+NewcomersLeaveBusy S = (now : ℕ) (old new : List (Place S)) → LetsIn now old new → Stay IsBusyThere old new
+
 -- ---- while a server is held
 
 module _ {S : Type 0} (received sent : S → Option (List ℕ)) (has_none is_full has_more is_ended is_broken : S → Bool) (speaks : Dialect) {D : Type 0} (answers : Answering D) (over : D → Bool) where
   -- Commands wait: in a round of visits the service is asked queries alone. Then it may look something
-  -- up.
-  pub record ServesQueries (now most : ℕ) (old : List (Place S)) (M N : D) (readings readings2 : Option (List ℕ)) : Type 0 where
+  -- up, and connections come in. Nothing else happens at the places.
+  pub record ServesQueries (now most : ℕ) (old new : List (Place S)) (M N : D) (readings readings2 : Option (List ℕ)) : Type 0 where
     pub visited : List (Place S)
     pub between : D
     pub round : VisitsRound received sent has_none is_full has_more is_ended is_broken (spoken speaks (queries answers)) over true now most old visited M between readings readings2
     pub looks : AnswersAsBefore answers between N
+    pub comes : LetsIn now visited new
 
-  -- Any number of such rounds, one after the other: what a server does with its service while it is
-  -- held.
-  pub data ServesHeld (M : D) : D → Type 0 where
-    no_round : ServesHeld M M
-    one_round : (K N : D) (now most : ℕ) (old : List (Place S)) (readings readings2 : Option (List ℕ)) → ServesHeld M K → ServesQueries now most old K N readings readings2 → ServesHeld M N
+  -- Any number of such rounds, one after the other: what a server does with its connections and its
+  -- service while it is held. Before each round some connections are to be visited.
+  pub data ServesHeld (old : List (Place S)) (M : D) : List (Place S) → D → Type 0 where
+    no_round : ServesHeld old M old M
+    one_round : (between ready new : List (Place S)) (K N : D) (now most : ℕ) (readings readings2 : Option (List ℕ))
+        → ServesHeld old M between K → AreWoken between ready → ServesQueries now most ready new K N readings readings2 → ServesHeld old M new N
 
   -- so in a whole hold it is asked queries alone
   abbrev pub HoldsAskQueries : Type 0
-  HoldsAskQueries = (M N : D) → ServesHeld M N → IsQueried answers M N
+  HoldsAskQueries = (old : List (Place S)) (M : D) (new : List (Place S)) (N : D) → ServesHeld old M new N → IsQueried answers M N
+
+  -- and each connection on which a request is under way that may be a command stays as it is
+  abbrev pub HoldsKeepCommands : Type 0
+  HoldsKeepCommands = (old : List (Place S)) (M : D) (new : List (Place S)) (N : D) → ServesHeld old M new N → Stay MayCommand old new
 
   -- and such a round is one as any other
   abbrev pub QueriesAreAnswers : Type 0

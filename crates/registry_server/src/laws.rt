@@ -1,7 +1,7 @@
 //! Laws of connections. Each is the contract of a function that does nothing.
 
 ghost use Rattle.registry_server.specs.Phases.{BytesGive, EnteredEndsInTime, NeverGiveMore, NewPhasesEndInTime, PaidEndsInTime, ResponseTimePasses, StagesGiveNone, WaitedEndsInTime, WaitsGiveNone};
-ghost use Rattle.registry_server.specs.Pools.{AllHoldLittle, AllIdleEndsLeaveFew, AllIdleEndsLeaveLittle, AllIdleEndsLeaveRest, EndsLeaveFew, EndsLeaveLittle, EndsLeaveRest, FinishesLeaveFew, FinishesLeaveLittle, FinishesLeaveRest, HoldsAskQueries, IdleEndsLeaveFew, IdleEndsLeaveLittle, IdleEndsLeaveRest, NewConnectionsLeaveFew, NewConnectionsLeaveLittle, NewConnectionsLeaveRest, NewPoolHoldsLittle, NewPoolReadsFew, NewPoolRests, NewcomersEndIdle, QueriesAreAnswers, RoundsHoldLittleMore, RoundsLeaveLittle, RoundsReadFew, ServersHoldLittle, StopsEndIdle, StopsLeaveUnderWay, UnreadHoldLittle, VisitsLeaveRest, WakesLeaveFew, WakesLeaveLittle, WakesLeaveRest, WantOfRoomEndsIdle, WhoWaitsHasBegun};
+ghost use Rattle.registry_server.specs.Pools.{AllHoldLittle, AllIdleEndsLeaveFew, AllIdleEndsLeaveLittle, AllIdleEndsLeaveRest, EndsLeaveFew, EndsLeaveLittle, EndsLeaveRest, FinishesLeaveFew, FinishesLeaveLittle, FinishesLeaveRest, HoldsAskQueries, HoldsKeepCommands, IdleEndsLeaveFew, IdleEndsLeaveLittle, IdleEndsLeaveRest, NewConnectionsLeaveFew, NewConnectionsLeaveLittle, NewConnectionsLeaveRest, NewPoolHoldsLittle, NewPoolReadsFew, NewPoolRests, NewcomersEndIdle, NewcomersLeaveBusy, QueriesAreAnswers, RoundsHoldLittleMore, RoundsLeaveLittle, RoundsReadFew, ServersHoldLittle, StopsEndIdle, StopsLeaveUnderWay, UnreadHoldLittle, VisitsLeaveRest, WakesLeaveFew, WakesLeaveLittle, WakesLeaveRest, WantOfRoomEndsIdle, WhoWaitsHasBegun};
 ghost use Rattle.registry_service.specs.Turns.{spoken};
 ghost use Rattle.registry_server.specs.Worlds.{Begins, Comes, Finishes, Lasts, Sends, Shuts, Starves, TakesTurns, VisitsLead};
 
@@ -121,4 +121,13 @@ pub fn connections_hold_little<S: Socket, D: Service>()
 pub fn held_servers_ask_queries<S: Socket, D: Service>()
     ensures queried { HoldsAskQueries S.received S.sent S.has_none S.is_full S.has_more S.is_ended S.is_broken D.speaks D.answers D.over }
     ensures rounds { QueriesAreAnswers S.received S.sent S.has_none S.is_full S.has_more S.is_ended S.is_broken D.speaks D.answers D.over }
+{}
+
+/// Over a whole hold, however many rounds it takes and whoever comes in meanwhile, no waiting command
+/// is lost: each connection on which a request is under way that may be a command stays at its place as
+/// it is, with all that was received (`waits`). Who comes in takes the place of nobody on whose
+/// connection something is begun, or who is to be visited (`comes`).
+pub fn held_servers_keep_commands<S: Socket, D: Service>()
+    ensures waits { HoldsKeepCommands S.received S.sent S.has_none S.is_full S.has_more S.is_ended S.is_broken D.speaks D.answers D.over }
+    ensures comes { NewcomersLeaveBusy S }
 {}
