@@ -182,6 +182,12 @@ def public_calls(crate):
     return calls + laws
 
 
+def last_seen():
+    """How tools/plants last saw each wrong body refused, by CRATE/NAME."""
+    lines = (TOP / 'tools/plants_seen.txt').read_text(encoding='utf-8').splitlines()
+    return {line.split()[0]: line.split()[-1] for line in lines if line.strip() and not line.startswith('#')}
+
+
 class Edit:
     """A wrong body: its crate, its name, whether the gate tries it, and what is said of it."""
 
