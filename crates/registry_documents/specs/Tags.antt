@@ -1,0 +1,49 @@
+-- What a package's tags name once a version is withdrawn.
+use Rattle.std.specs.Prelude.{◌≡◌, Bool, true, false, ◌&&◌, ◌||◌, not, is_none, is_some, if◌then◌else◌, List, bytes_eq, codes, Option, Some, None, option_map, option_and_then, unwrap_or}
+use Rattle.std.specs.Ordering.{is_gt}
+use Rattle.serde_json.specs.Data.{Data, Members, no_members, member}
+use Rattle.serde_json.specs.Find.{get, get_member, as_object, as_str}
+use Rattle.registry_names.specs.Precedence.{text_precedence}
+use Rattle.registry_names.specs.Tags.{latest}
+use Rattle.registry_names.specs.Texts.{Text}
+use Rattle.registry_names.specs.Versions.{IsVersion}
+use Rattle.registry_documents.specs.Values.{both, same}
+use Rattle.registry_documents.specs.Parts
+use Rattle.registry_documents.specs.declared.value.Part.TheVariants.{Any}
+
+-- none of the versions but v is above m
+abbrev pub is_top : Text → Text → Members → Bool
+is_top v m no_members = true
+is_top v m (member u d ms) = (bytes_eq u v || not (is_gt (text_precedence u m))) && is_top v m ms
+
+-- m is the greatest of the versions but v
+abbrev pub is_greatest_but : Text → Members → Text → Bool
+is_greatest_but v vs m = is_some (get_member m vs) && not (bytes_eq m v) && is_top v m vs
+
+-- no version but v is there
+abbrev pub is_sole : Text → Members → Bool
+is_sole v no_members = true
+is_sole v (member u d ms) = bytes_eq u v && is_sole v ms
+
+-- `latest` names the greatest of the versions but v, and nothing where there is no other
+abbrev pub is_moved : Text → Members → Option Data → Bool
+is_moved v vs None = is_sole v vs
+is_moved v vs (Some d) = unwrap_or (option_map (is_greatest_but v vs) (as_str d)) false
+
+-- the tag names the version v
+abbrev pub names : Text → Data → Bool
+names v d = unwrap_or (option_map (λ s. bytes_eq s v) (as_str d)) false
+
+-- what a tag named, and what it is to name: a tag on the version v goes, but for `latest`, which
+-- moves; each other one stays
+abbrev pub is_left : Text → Members → Text → Data → Option Data → Bool
+is_left v vs t d o = if names v d then (if bytes_eq t latest then is_moved v vs o else is_none o) else unwrap_or (option_map (same d) o) false
+
+abbrev pub are_left : Text → Members → Members → Data → Bool
+are_left v vs no_members tags = true
+are_left v vs (member t d ms) tags = is_left v vs t d (get t tags) && are_left v vs ms tags
+
+-- each key is that of a version
+abbrev pub AreVersions : Members → Type 0
+AreVersions no_members = Unit {0}
+AreVersions (member v d ms) = IsVersion v × AreVersions ms
