@@ -4,12 +4,12 @@ use Rattle.std.specs.List.{list_all, list_any}
 use Rattle.serde_json.specs.Data.{Data, Members, no_members, member}
 use Rattle.serde_json.specs.Find.{get, as_object, as_str}
 use Rattle.registry_names.specs.Texts.{Text}
-use Rattle.registry_documents.specs.Documents.{names_in}
+use Rattle.registry_documents.specs.Documents.{versions_in}
 use Rattle.registry_documents.specs.Tags.{are_left}
-use Rattle.registry_documents.specs.Values.{both, keys_in, members_in, same, same_but, same_found, within}
+use Rattle.registry_documents.specs.Values.{all_members, both, keys_in, members_in, same, same_but, same_found, within}
 use Rattle.registry_documents.specs.declared.asked.Asked.{Asked}
 use Rattle.registry_documents.specs.declared.asked.Asked.TheVariants.{AlreadySo, Deprecation, Withdrawal, OwnerAdd, OwnerRemove}
-use Rattle.registry_documents.specs.declared.versions.News.{News}
+use Rattle.registry_documents.specs.declared.news.News.{News}
 use Rattle.registry_documents.specs.declared.value.Part.TheVariants.{Any, Package, Maintainers, Manifest, Dist}
 
 -- ---- one version
@@ -32,17 +32,24 @@ abbrev pub same_version : Data → Data → Text → Data → Data → Bool
 same_version w d v wanted present = same_manifest wanted present && is_some (message_of wanted) && is_some (message_of present)
     && same_found (within (codes "time") v w) (within (codes "time") v d)
 
+-- the document w lacks the version v, or says the same of it
+abbrev pub is_same : Data → Data → Text → Data → Bool
+is_same w d v present = unwrap_or (option_map (λ wanted. same_version w d v wanted present) (within (codes "versions") v w)) true
+
 -- ---- all versions
 
 -- of the versions of d, each that w has is the same but for its message
 abbrev pub are_same : Data → Data → Members → Bool
-are_same w d no_members = true
-are_same w d (member v present vs) = unwrap_or (option_map (λ wanted. same_version w d v wanted present) (within (codes "versions") v w)) true && are_same w d vs
+are_same w d vs = all_members (is_same w d) vs
+
+-- the version v before others, where w lacks it
+abbrev pub with_lost : Data → Text → List Text → List Text
+with_lost w v vs = if is_some (within (codes "versions") v w) then vs else v ∷ vs
 
 -- the versions that w lacks
 abbrev pub lost : Data → Members → List Text
 lost w no_members = []
-lost w (member v present vs) = if is_some (within (codes "versions") v w) then lost w vs else v ∷ lost w vs
+lost w (member v present vs) = with_lost w v (lost w vs)
 
 -- a version with a message that isn't the present one, before others
 abbrev pub with_news : Text → Option Text → Option Text → List News → List News
@@ -57,7 +64,7 @@ news w (member v present vs) = with_news v (option_and_then message_of (within (
 
 -- w has no version that d lacks
 abbrev pub adds_none : Data → Data → Bool
-adds_none w d = both (λ ws vs. keys_in Any ws vs) (option_and_then as_object (get (codes "versions") w)) (get (codes "versions") d)
+adds_none w d = both (keys_in Any) (versions_in w) (get (codes "versions") d)
 
 -- ---- maintainers
 
@@ -105,7 +112,7 @@ same_tags w d = same_found (get (codes "dist-tags") w) (get (codes "dist-tags") 
 
 -- these tags are the others as the withdrawal of the version v leaves them
 abbrev pub tags_without : Text → Members → Data → Data → Bool
-tags_without v vs ts us = both (λ ms ns. are_left v vs ns ts && keys_in Any ms us) (as_object ts) (as_object us)
+tags_without v vs ts us = both (λ ms ns. keys_in Any ms us && are_left v vs ns ts) (as_object ts) (as_object us)
 
 abbrev pub has_tags_without : Text → Members → Data → Data → Bool
 has_tags_without v vs w d = both (tags_without v vs) (get (codes "dist-tags") w) (get (codes "dist-tags") d)
@@ -119,20 +126,24 @@ abbrev pub messages_asked : Data → Data → List News → Option Asked
 messages_asked w d [] = if same_tags w d then Some AlreadySo else None
 messages_asked w d (n ∷ ns) = if same_tags w d && list_all (λ m. bytes_eq m.message n.message) ns then Some (Deprecation (union n ns) n.message) else None
 
+-- what is asked for where this version is missing
+abbrev pub withdrawal_asked : Data → Data → Members → Text → Option Asked
+withdrawal_asked w d vs v = if has_tags_without v vs w d then Some (Withdrawal v) else None
+
 -- what is asked for where the first versions are missing, and the second have other messages
 abbrev pub change_asked : Data → Data → Members → List Text → List News → Option Asked
 change_asked w d vs [] ns = messages_asked w d ns
-change_asked w d vs (v ∷ []) [] = if has_tags_without v vs w d then Some (Withdrawal v) else None
+change_asked w d vs (v ∷ []) [] = withdrawal_asked w d vs v
 change_asked w d vs (v ∷ []) (n ∷ ns) = None
 change_asked w d vs (v ∷ u ∷ gone) ns = None
 
--- Beside tags, messages and missing versions w says what d says. It needn't repeat when the package
--- was modified, and may say moments of versions that aren't there.
-abbrev pub says_the_same : Data → Data → Members → List Text → List Text → Bool
-says_the_same w d vs present names = same_but Package w d && same_found (within (codes "time") (codes "created") w) (within (codes "time") (codes "created") d)
-    && adds_none w d && are_same w d vs && same_names present names
+-- Beside tags, messages and missing versions w says what d says, and the same maintainers. It needn't
+-- repeat when the package was modified, and may say moments of versions that aren't there.
+abbrev pub says_the_same : Data → Data → Members → Bool → Bool
+says_the_same w d vs maintained = same_but Package w d && same_found (within (codes "time") (codes "created") w) (within (codes "time") (codes "created") d)
+    && adds_none w d && are_same w d vs && maintained
 
 -- what w asks for, whose maintainers have these names, where d, of these versions, and these
 -- maintainers are there
 abbrev pub asked_of_package : Data → Data → Members → List Text → List Text → Option Asked
-asked_of_package w d vs present names = if says_the_same w d vs present names then change_asked w d vs (lost w vs) (news w vs) else None
+asked_of_package w d vs present names = if says_the_same w d vs (same_names present names) then change_asked w d vs (lost w vs) (news w vs) else None

@@ -32,6 +32,10 @@ has_text k t d = unwrap_or (option_map (λ s. bytes_eq s t) (option_and_then as_
 abbrev pub is_of : Text → Option Text → Data → Bool
 is_of revision path d = has_text (codes "_rev") revision d && unwrap_or (option_map (λ t. bytes_eq t revision) path) true
 
+-- the members of `versions`, if that is an object
+abbrev pub versions_in : Data → Option Members
+versions_in d = option_and_then as_object (get (codes "versions") d)
+
 -- ---- maintainers
 
 -- a name before others, where both are read

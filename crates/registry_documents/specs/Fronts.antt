@@ -1,6 +1,6 @@
 -- What comes before the members of a packument where npm reads it: its revision, and its
 -- maintainers.
-use Rattle.std.specs.Prelude.{ℕ, Bool, true, false, List, [], ◌∷◌, ◌++◌, codes}
+use Rattle.std.specs.Prelude.{◌≡◌, ℕ, Bool, true, false, List, [], ◌∷◌, ◌++◌, drop, codes}
 use Rattle.serde_json.specs.Data.{Data, string, array, object, Items, no_items, item, Members, no_members, member}
 use Rattle.json.specs.Print.{quoted}
 use Rattle.serde_json.specs.Written.{comma_if, compact_text}
@@ -37,3 +37,9 @@ maintainers_text (n ∷ ns) = member_text true (codes "maintainers") (array (peo
 -- the opening brace, both members, and a comma
 abbrev pub front_text : Text → List Text → List ℕ
 front_text rev names = 123 ∷ (member_text false (codes "_rev") (string rev) ++ (maintainers_text names ++ 44 ∷ []))
+
+-- The front, and a packument's text without its first byte, are the compact JSON of the packument
+-- with both members in front of its own.
+abbrev pub FrontsAreJson : Type 0
+FrontsAreJson = (rev : Text) (names : List Text) (k : Text) (d : Data) (ms : Members)
+    → front_text rev names ++ drop 1 (compact_text (object (member k d ms))) ≡ compact_text (object (shown rev names (member k d ms)))

@@ -1,26 +1,20 @@
 -- What a document asks for, and why it is refused.
 use Rattle.std.specs.Prelude.{◌≡◌, ⊤, Bool, true, false, List, [], ◌∷◌, codes, Option, Some, None, option_and_then, unwrap_or, Result, Ok, Err}
 use Rattle.serde_json.specs.Data.{Data, Members, no_members}
-use Rattle.serde_json.specs.Find.{get, as_object}
 use Rattle.serde_json.specs.Read.{read}
 use Rattle.registry_names.specs.Texts.{Text}
 use Rattle.registry_names.specs.declared.refusal.Refusal.{Refusal}
 use Rattle.registry_names.specs.declared.refusal.Refusal.TheVariants.{BadBody, Stale}
 use Rattle.registry_names.specs.declared.stop.Stop.{Stop}
 use Rattle.registry_names.specs.declared.stop.Stop.TheVariants.{Refused, Fault as Faulted}
-use Rattle.registry_names.specs.declared.stop.Fault.{Fault}
 use Rattle.registry_names.specs.declared.stop.Fault.TheVariants.{Memory, Database}
 use Rattle.registry_documents.specs.Differences.{asked_of_owners, asked_of_package}
-use Rattle.registry_documents.specs.Documents.{is_of, kind_of, names_in}
+use Rattle.registry_documents.specs.Documents.{is_of, kind_of, names_in, versions_in}
 use Rattle.registry_documents.specs.Tags.{AreVersions}
 use Rattle.registry_documents.specs.declared.asked.Asked.{Asked}
 use Rattle.registry_documents.specs.declared.asked.Asked.TheVariants.{AlreadySo, Deprecation, Withdrawal, OwnerAdd, OwnerRemove}
 use Rattle.registry_documents.specs.declared.document.Kind.{Kind}
 use Rattle.registry_documents.specs.declared.document.Kind.TheVariants.{Publication, Package, Maintainers, Other}
-
--- the versions of a packument
-abbrev pub versions_in : Data → Option Members
-versions_in d = option_and_then as_object (get (codes "versions") d)
 
 -- what a document of this kind asks for, if that is one thing, where d and these maintainers are
 -- there
@@ -57,7 +51,7 @@ answer_of false asked = answer_late asked
 abbrev pub judged : Data → Option Text → Data → List Text → Text → Result Asked Refusal
 judged w path d present revision = answer_of (is_of revision path w) (asked_in w d present)
 
--- the text is JSON of this value
+-- the text is JSON of a packument, of which this is answered to the document w
 abbrev pub IsJudged : Data → Option Text → Text → List Text → Text → Result Asked Refusal → Type 0
 IsJudged w path packument present revision answer = (d : Data) × (read packument ≡ Some d) × (judged w path d present revision ≡ answer)
 
@@ -74,8 +68,3 @@ abbrev pub StopsJudging : Data → Option Text → Text → List Text → Text �
 StopsJudging w path packument present revision (Refused r) = IsJudged w path packument present revision (Err r)
 StopsJudging w path packument present revision (Faulted Memory) = ⊤
 StopsJudging w path packument present revision (Faulted Database) = IsNoPackument packument
-
--- why it isn't told what a document asks for
-abbrev pub FaultsAsking : Data → Fault → Type 0
-FaultsAsking d Memory = ⊤
-FaultsAsking d Database = ¬ (HasVersions d)

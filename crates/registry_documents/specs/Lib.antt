@@ -2,6 +2,7 @@ pub mod Differences
 pub mod Documents
 pub mod Fronts
 pub mod Judging
+pub mod Laws
 pub mod Parts
 pub mod Revisions
 pub mod Tags

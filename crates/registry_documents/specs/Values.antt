@@ -24,10 +24,18 @@ same_flag true c = c
 same_flag false true = false
 same_flag false false = true
 
+-- each member passes the test
+abbrev pub all_members : (List ℕ → Data → Bool) → Members → Bool
+all_members test no_members = true
+all_members test (member k d ms) = test k d && all_members test ms
+
+-- the key is one of the value's, or apart
+abbrev pub is_key : Part → Data → List ℕ → Bool
+is_key part e k = is_apart part k || is_some (get k e)
+
 -- each key, but those apart, is a key of the value
 abbrev pub keys_in : Part → Members → Data → Bool
-keys_in part no_members e = true
-keys_in part (member k d ms) e = (is_apart part k || is_some (get k e)) && keys_in part ms e
+keys_in part ms e = all_members (λ k d. is_key part e k) ms
 
 -- Arrays have the same items in the same order, and objects the same values under the same keys.
 abbrev mutual

@@ -6,7 +6,7 @@ ghost use Rattle.serde_json.specs.Read.{read};
 ghost use Rattle.serde_json.specs.View.{view};
 ghost use Rattle.registry_names.specs.Faults.{IsMemoryOr};
 ghost use Rattle.registry_documents.specs.Documents as spec;
-ghost use Rattle.registry_documents.specs.Documents.{IsDocumentOf, IsNoDocument, has, is_of, is_publication, kind_of};
+ghost use Rattle.registry_documents.specs.Documents.{IsDocumentOf, IsNoDocument, kind_of};
 
 use registry_names::{Fault, Refusal, Stop};
 use serde_json::Value;
@@ -79,7 +79,7 @@ impl Document {
     // Whether the document, and the path where it names one, say this revision.
     pub(crate) fn is_of(&self, revision: &str, path: Option<&str>) -> bool
         ensures { result
-            ≡ is_of revision.now (option_map (λ t. t.now) path.entry) self.now }
+            ≡ spec.is_of revision.now (option_map (λ t. t.now) path.entry) self.now }
     {
         has_text(&self.value, "_rev", revision) && is_named(path, revision)
     }
@@ -106,13 +106,13 @@ fn json_of(alloc: Global, body: &[u8]) -> Result<Value, Stop>
 }
 
 fn has(value: &Value, key: &str) -> bool
-    ensures { result ≡ has key.now (view value.now) }
+    ensures { result ≡ spec.has key.now (view value.now) }
 {
     value.get(key).is_some()
 }
 
 fn is_publication(value: &Value) -> bool
-    ensures { result ≡ is_publication (view value.now) }
+    ensures { result ≡ spec.is_publication (view value.now) }
 {
     has(value, "_attachments") || (!has(value, "_rev") && !has(value, "versions"))
 }

@@ -17,11 +17,7 @@ use std::alloc::{AllocError, Global};
 /// as where it has a scope.
 ///
 /// An error is returned when no memory is left.
-pub fn front(
-    alloc: Global,
-    revision: &Revision,
-    maintainers: &[Text],
-) -> Result<String, AllocError>
+pub fn front(alloc: Global, revision: &Revision, maintainers: &[Text]) -> Result<String, AllocError>
     ensures { IfOk result (λ text. string_bytes text ≡ front_text revision.now maintainers.now) }
 {
     let mut out = String::from_str(alloc, "{")?;
@@ -71,11 +67,7 @@ fn push_text_member(
 }
 
 // A comma and the member `maintainers`, where there are some.
-fn push_maintainers(
-    alloc: Global,
-    out: &mut String,
-    maintainers: &[Text],
-) -> Result<(), AllocError>
+fn push_maintainers(alloc: Global, out: &mut String, maintainers: &[Text]) -> Result<(), AllocError>
     ensures { OnOk result (string_bytes out.new
         ≡ string_bytes out.old ++ maintainers_text maintainers.now) }
 {

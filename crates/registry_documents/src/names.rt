@@ -1,10 +1,9 @@
 //! The maintainers that a document names.
 
-ghost use Rattle.std.specs.Prelude.{◌≡◌, List, IfOk, option_map, option_and_then};
+ghost use Rattle.std.specs.Prelude.{◌≡◌, bytes_eq, codes, IfOk, option_map, option_and_then};
 ghost use Rattle.std.specs.List.{list_any};
 ghost use Rattle.serde_json.specs.Find.{get, as_str};
 ghost use Rattle.serde_json.specs.View.{view, items_view};
-ghost use Rattle.std.specs.Prelude.{bytes_eq};
 ghost use Rattle.registry_documents.specs.Differences as differences;
 ghost use Rattle.registry_documents.specs.Documents as spec;
 

@@ -23,11 +23,7 @@ fn says_no_other(wanted: &Value, present: &Value) -> bool
 }
 
 // What is asked for where the first are added, and the second are left out.
-fn owners_asked(
-    alloc: Global,
-    more: &[Text],
-    less: &[Text],
-) -> Result<Option<Asked>, AllocError>
+fn owners_asked(alloc: Global, more: &[Text], less: &[Text]) -> Result<Option<Asked>, AllocError>
     ensures { IfOk result (λ asked. asked ≡ spec.owners_asked more.now less.now) }
 {
     if more.len() + less.len() > 1 {

@@ -1,9 +1,9 @@
 //! Revisions of packages.
 
-ghost use Rattle.std.specs.Prelude.{◌≡◌, ◌++◌, List, ℕ, string_bytes, bytes_eq, IfOk, OnOk};
-ghost use Rattle.hex.specs.Hex.{encode_lower};
+ghost use Rattle.std.specs.Prelude.{◌≡◌, ◌++◌, ◌∷◌, [], string_bytes, bytes_eq, IfOk, OnOk};
 ghost use Rattle.sha2.specs.Sha256.{sha256};
-ghost use Rattle.registry_documents.specs.Revisions.{lines, revised, revision_of};
+ghost use Rattle.registry_documents.specs.Revisions as spec;
+ghost use Rattle.registry_documents.specs.Revisions.{revision_of};
 
 use registry_names::Text;
 use sha2::{Digest, Sha256};
@@ -23,6 +23,8 @@ impl Model for TextDigest {
     ghost Value = { List ℕ };
 
     ghost view = { λ d. d.bytes };
+
+    ghost inverse = { λ bytes. record { bytes = bytes } };
 }
 
 impl TextDigest {
@@ -92,7 +94,7 @@ fn revised(
     packument: &TextDigest,
     maintainers: &[Text],
 ) -> Result<String, AllocError>
-    ensures { IfOk result (λ text. string_bytes text ≡ revised packument.now maintainers.now) }
+    ensures { IfOk result (λ text. string_bytes text ≡ spec.revised packument.now maintainers.now) }
 {
     let mut out = hex::encode(alloc, packument.bytes)?;
     for name in maintainers {

@@ -1,12 +1,11 @@
 //! When two JSON values are the same.
 
-ghost use Rattle.std.specs.Prelude.{◌≡◌, false, bytes_eq, option_map, unwrap_or, is_some, Some};
-ghost use Rattle.serde_json.specs.Data.{string};
-ghost use Rattle.serde_json.specs.Find.{as_bool, as_number, as_str};
+ghost use Rattle.std.specs.Prelude.{◌≡◌, ◌||◌, Some, false, bytes_eq, option_map, unwrap_or};
+ghost use Rattle.serde_json.specs.Find.{as_bool, as_number, as_str, get};
 ghost use Rattle.serde_json.specs.View.{view, number_view, items_view, members_view};
 ghost use Rattle.registry_documents.specs.Parts as parts;
 ghost use Rattle.registry_documents.specs.Values as spec;
-ghost use Rattle.registry_documents.specs.Values.{both, same_flag, same_number};
+ghost use Rattle.registry_documents.specs.Values.{both, same_flag};
 
 use serde_json::{Map, Number, Value};
 
@@ -55,7 +54,7 @@ fn is_apart(part: Part, key: &str) -> bool
 }
 
 fn same_number(number: &Number, other: &Number) -> bool
-    ensures { result ≡ same_number (number_view number.now) (number_view other.now) }
+    ensures { result ≡ spec.same_number (number_view number.now) (number_view other.now) }
 {
     match (number.as_i128(), other.as_i128()) {
         (Some(number), Some(other)) => number == other,
@@ -64,7 +63,7 @@ fn same_number(number: &Number, other: &Number) -> bool
 }
 
 fn is_number(number: &Number, value: &Value) -> bool
-    ensures { result ≡ both same_number (Some (number_view number.now)) (as_number (view value.now)) }
+    ensures { result ≡ both spec.same_number (Some (number_view number.now)) (as_number (view value.now)) }
 {
     match value.as_number() {
         Some(other) => same_number(number, other),
@@ -90,12 +89,19 @@ fn is_text(text: &str, value: &Value) -> bool
     }
 }
 
+// Whether a key is one of the value's, or apart.
+fn is_key(part: Part, other: &Value, key: &str) -> bool
+    ensures { result ≡ spec.is_key part (view other.now) key.now }
+{
+    is_apart(part, key) || other.get(key).is_some()
+}
+
 /// Whether each key, but those apart, is a key of the value.
 pub(crate) fn keys_in(part: Part, members: &Map<String, Value>, other: &Value) -> bool
     ensures { result ≡ spec.keys_in part (members_view members.now.entries) (view other.now) }
 {
     for (key, _value) in members.iter() {
-        if !is_apart(part, key.as_str()) && other.get(key.as_str()).is_none() {
+        if !is_key(part, other, key.as_str()) {
             return false;
         }
     }
@@ -118,7 +124,8 @@ pub(crate) fn same(one: &Value, other: &Value) -> bool
             None => false,
         },
         Value::Object(members) => match other.as_object() {
-            Some(others) => members_in(Part::Any, members, other) && keys_in(Part::Any, others, one),
+            Some(others) => members_in(Part::Any, members, other)
+                && keys_in(Part::Any, others, one),
             None => false,
         },
     }
@@ -142,7 +149,7 @@ fn items_same(items: &Vec<Value>, others: &Vec<Value>) -> bool
 
 // Whether the value is there, and the same.
 #[cycle(same)]
-fn is_there(value: &Value, found: Option<&Value>) -> bool
+pub(crate) fn is_there(value: &Value, found: Option<&Value>) -> bool
     ensures { result ≡ unwrap_or (option_map (spec.same (view value.now))
         (option_map (λ v. view v.now) found.entry)) false }
 {
@@ -152,13 +159,22 @@ fn is_there(value: &Value, found: Option<&Value>) -> bool
     }
 }
 
+// Whether a member is one of the value's, or apart.
+#[cycle(same)]
+fn is_member(part: Part, other: &Value, key: &str, value: &Value) -> bool
+    ensures { result ≡ (parts.is_apart part key.now
+        || unwrap_or (option_map (spec.same (view value.now)) (get key.now (view other.now))) false) }
+{
+    is_apart(part, key) || is_there(value, other.get(key))
+}
+
 // Whether each member, but those apart, is a member of the value.
 #[cycle(same)]
 pub(crate) fn members_in(part: Part, members: &Map<String, Value>, other: &Value) -> bool
     ensures { result ≡ spec.members_in part (members_view members.now.entries) (view other.now) }
 {
     for (key, value) in members.iter() {
-        if !is_apart(part, key.as_str()) && !is_there(value, other.get(key.as_str())) {
+        if !is_member(part, other, key.as_str(), value) {
             return false;
         }
     }
@@ -170,7 +186,8 @@ pub(crate) fn same_but(part: Part, one: &Value, other: &Value) -> bool
     ensures { result ≡ spec.same_but part (view one.now) (view other.now) }
 {
     match (one.as_object(), other.as_object()) {
-        (Some(members), Some(others)) => members_in(part, members, other) && keys_in(part, others, one),
+        (Some(members), Some(others)) => members_in(part, members, other)
+            && keys_in(part, others, one),
         _ => false,
     }
 }

@@ -1,27 +1,22 @@
 //! The versions of a document, beside those that there are.
 
-ghost use Rattle.std.specs.Prelude.{◌≡◌, IfOk, OnOk, option_map, option_and_then, is_some};
+ghost use Rattle.std.specs.Prelude.{◌≡◌, ◌++◌, [], codes, IfOk, OnOk, option_map, option_and_then};
 ghost use Rattle.serde_json.specs.View.{view, members_view};
 ghost use Rattle.registry_documents.specs.Differences as spec;
-ghost use Rattle.registry_documents.specs.Differences.{message_of, same_dist, same_manifest, with_news};
-ghost use Rattle.registry_documents.specs.Values.{within};
+ghost use Rattle.registry_documents.specs.Differences.{with_news};
+ghost use Rattle.registry_documents.specs.Documents as documents;
+ghost use Rattle.registry_documents.specs.Values as values;
 
+use crate::news::News;
 use crate::value::{Part, is, keys_in, same, same_but, same_found, within};
 use registry_names::Text;
 use serde_json::{Map, Value};
 use std::alloc::{AllocError, Global};
 
-/// A version, and the message that a document gives to it.
-#[derive(Debug, Drop)]
-pub(crate) struct News {
-    pub(crate) version: Text,
-    pub(crate) message: Text,
-}
-
 // The message of a manifest, which is empty where nothing is deprecated. `None` where it isn't a
 // text.
 fn message_of(manifest: &Value) -> Option<&str>
-    ensures { option_map (λ t. t.now) result ≡ message_of (view manifest.now) }
+    ensures { option_map (λ t. t.now) result ≡ spec.message_of (view manifest.now) }
 {
     match manifest.get("deprecated") {
         Some(message) => message.as_str(),
@@ -31,7 +26,7 @@ fn message_of(manifest: &Value) -> Option<&str>
 
 // Whether both are missing, or the same but for the address of the archive.
 fn same_dist(one: Option<&Value>, other: Option<&Value>) -> bool
-    ensures { result ≡ same_dist (option_map (λ v. view v.now) one.entry)
+    ensures { result ≡ spec.same_dist (option_map (λ v. view v.now) one.entry)
         (option_map (λ v. view v.now) other.entry) }
 {
     match (one, other) {
@@ -43,7 +38,7 @@ fn same_dist(one: Option<&Value>, other: Option<&Value>) -> bool
 
 // Whether the manifests are the same but for the message and the address of the archive.
 fn same_manifest(one: &Value, other: &Value) -> bool
-    ensures { result ≡ same_manifest (view one.now) (view other.now) }
+    ensures { result ≡ spec.same_manifest (view one.now) (view other.now) }
 {
     same_but(Part::Manifest, one, other) && same_dist(one.get("dist"), other.get("dist"))
 }
@@ -62,7 +57,21 @@ fn same_version(
     same_manifest(manifest, stored)
         && message_of(manifest).is_some()
         && message_of(stored).is_some()
-        && same_found(within(wanted, "time", version), within(present, "time", version))
+        && same_found(
+            within(wanted, "time", version),
+            within(present, "time", version),
+        )
+}
+
+// Whether the document lacks a version, or says the same of it but for its message.
+fn is_same(wanted: &Value, present: &Value, version: &str, stored: &Value) -> bool
+    ensures { result ≡ spec.is_same (view wanted.now) (view present.now) version.now
+        (view stored.now) }
+{
+    match within(wanted, "versions", version) {
+        Some(manifest) => same_version(wanted, present, version, manifest, stored),
+        None => true,
+    }
 }
 
 /// Whether of these versions each that the document has is the same but for its message.
@@ -71,13 +80,27 @@ pub(crate) fn are_same(wanted: &Value, present: &Value, versions: &Map<String, V
         (members_view versions.now.entries) }
 {
     for (version, stored) in versions.iter() {
-        if let Some(manifest) = within(wanted, "versions", version.as_str()) {
-            if !same_version(wanted, present, version.as_str(), manifest, stored) {
-                return false;
-            }
+        if !is_same(wanted, present, version.as_str(), stored) {
+            return false;
         }
     }
     true
+}
+
+// Adds a version that the document lacks.
+fn push_lost(
+    alloc: Global,
+    gone: &mut Vec<Text>,
+    wanted: &Value,
+    version: &str,
+) -> Result<(), AllocError>
+    ensures { OnOk result (gone.new.items
+        ≡ gone.old.items ++ spec.with_lost (view wanted.now) version.now []) }
+{
+    if within(wanted, "versions", version).is_none() {
+        gone.push(Text::from_str(alloc, version)?)?;
+    }
+    Ok(())
 }
 
 /// The versions that the document lacks.
@@ -91,9 +114,7 @@ pub(crate) fn lost(
 {
     let mut gone = Vec::new(alloc);
     for (version, _stored) in versions.iter() {
-        if within(wanted, "versions", version.as_str()).is_none() {
-            gone.push(Text::from_str(alloc, version.as_str())?)?;
-        }
+        push_lost(alloc, &mut gone, wanted, version.as_str())?;
     }
     Ok(gone)
 }
@@ -101,7 +122,7 @@ pub(crate) fn lost(
 // The message that the document gives to the version.
 fn message_in<'v>(wanted: &'v Value, version: &str) -> Option<&'v str>
     ensures { option_map (λ t. t.now) result
-        ≡ option_and_then message_of (within (codes "versions") version.now (view wanted.now)) }
+        ≡ option_and_then spec.message_of (values.within (codes "versions") version.now (view wanted.now)) }
 {
     message_of(within(wanted, "versions", version)?)
 }
@@ -139,7 +160,13 @@ pub(crate) fn news(
     let mut news = Vec::new(alloc);
     for (version, stored) in versions.iter() {
         let message = message_in(wanted, version.as_str());
-        push_news(alloc, &mut news, version.as_str(), message, message_of(stored))?;
+        push_news(
+            alloc,
+            &mut news,
+            version.as_str(),
+            message,
+            message_of(stored),
+        )?;
     }
     Ok(news)
 }
@@ -157,7 +184,7 @@ pub(crate) fn adds_none(wanted: &Value, present: &Value) -> bool
 /// The members of `versions`, if that is an object.
 pub(crate) fn versions_in(value: &Value) -> Option<&Map<String, Value>>
     ensures { option_map (λ m. members_view m.now.entries) result
-        ≡ versions_in (view value.now) }
+        ≡ documents.versions_in (view value.now) }
 {
     value.get("versions")?.as_object()
 }

@@ -1,0 +1,3 @@
+pub mod FrontFacts
+pub mod LawFacts
+pub mod LoopFacts
