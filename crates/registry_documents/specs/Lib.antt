@@ -1,3 +1,4 @@
+pub mod Claims
 pub mod Differences
 pub mod Documents
 pub mod Fronts

@@ -1,6 +1,7 @@
 //! Laws of what documents may change, and of what is shown to npm. Each function does nothing: what
 //! it ensures holds of the definitions themselves, and its proof is the law's.
 
+ghost use Rattle.registry_documents.specs.Claims.{ClaimsAreHeard};
 ghost use Rattle.registry_documents.specs.Fronts.{FrontsAreJson};
 ghost use Rattle.registry_documents.specs.Laws.{DeprecationsChangeMessages, LateAsksNothing, OwnersChangeByOne, PresentIsHeard, WithdrawalsTakeOneVersion};
 
@@ -26,6 +27,13 @@ pub fn deprecations_change_messages()
 /// other versions, their manifests and messages, and the maintainers stay.
 pub fn withdrawals_take_one_version()
     ensures { WithdrawalsTakeOneVersion }
+{}
+
+/// A document that repeats what was read, in JSON with each key once and without other numbers than
+/// integers of 64 bits, differs in nothing but its missing versions, its messages and its tags.
+/// These alone decide what it asks for.
+pub fn claims_are_heard()
+    ensures { ClaimsAreHeard }
 {}
 
 /// Where a maintainer is added or removed, no other name is more or less.
