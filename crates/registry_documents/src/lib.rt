@@ -9,8 +9,8 @@
 
 mod asked;
 mod document;
-mod front;
-mod judge;
+mod fronts;
+mod judging;
 pub mod laws;
 mod names;
 mod news;
@@ -23,6 +23,6 @@ mod versions;
 
 pub use crate::asked::Asked;
 pub use crate::document::{Document, Kind};
-pub use crate::front::front;
-pub use crate::judge::{Present, judge};
+pub use crate::fronts::front;
+pub use crate::judging::{Present, judge};
 pub use crate::revision::{Revision, TextDigest};

@@ -2,7 +2,7 @@ use Rattle.std.proofs.Common.{◌≡◌, ◌++◌, drop, string_bytes}
 use Rattle.serde_json.specs.Data.{array}
 use Rattle.serde_json.specs.Written.{items_text, compact_text}
 use Rattle.registry_documents.specs.Fronts.{people}
-use Rattle.registry_documents.proofs.front.push_people.Given as goal
+use Rattle.registry_documents.proofs.fronts.push_people.Given as goal
 
 -- the whole is what is written, and then the maintainers that are left
 abbrev pub invariant-loop-name : goal.invariant-loop-name
