@@ -7,17 +7,18 @@ use Rattle.std.proofs.lemmas.Slice.Eq.{bytes_eq-Decides}
 use Rattle.serde_json.specs.Data.{Data, Members, no_members, member}
 use Rattle.registry_names.specs.Texts.{Text}
 use Rattle.registry_names.specs.declared.refusal.Refusal.TheVariants.{BadBody, Stale}
-use Rattle.registry_documents.specs.Differences.{are_same, asked_of_package, asked_of_owners, besides, change_asked, has_tags_without, lost, message_of, messages_asked, news, owners_asked, owners_less, same_manifest, same_names, same_tags, same_version, says_no_other, says_the_same, union, with_lost, with_news, withdrawal_asked}
+use Rattle.registry_documents.specs.Differences.{adds_none, are_same, asked_of_package, asked_of_owners, besides, change_asked, has_tags_without, lost, message_of, message_asked, messages_asked, news, owners_asked, owners_less, same_manifest, same_names, same_tags, same_version, says_no_other, says_the_same, union, with_lost, with_news, withdrawal_asked}
 use Rattle.registry_documents.specs.Judging.{answer_late, answer_now, answer_of}
 use Rattle.registry_documents.specs.Laws.{AllMembers, HasMessage, IsElseTheSame, IsDeprecation, IsKept, IsLostOrKept, IsWithdrawal, KeepsMessage}
-use Rattle.registry_documents.specs.Values.{within}
+use Rattle.registry_documents.specs.Values.{same_but, same_found, within}
+use Rattle.registry_documents.specs.declared.value.Part.TheVariants.{Package}
 use Rattle.registry_documents.specs.declared.asked.Asked.{Asked}
 use Rattle.registry_documents.specs.declared.asked.Asked.TheVariants.{AlreadySo, Deprecation, Withdrawal, OwnerAdd, OwnerRemove}
 use Rattle.registry_documents.specs.declared.news.News.{News}
 
 -- ---- what is asked for
 
-is_nothing : Option Asked → Bool
+abbrev is_nothing : Option Asked → Bool
 is_nothing None = false
 is_nothing (Some AlreadySo) = true
 is_nothing (Some (Deprecation s m)) = false
@@ -25,7 +26,7 @@ is_nothing (Some (Withdrawal v)) = false
 is_nothing (Some (OwnerAdd u)) = false
 is_nothing (Some (OwnerRemove u)) = false
 
-is_deprecation : Option Asked → Bool
+abbrev is_deprecation : Option Asked → Bool
 is_deprecation None = false
 is_deprecation (Some AlreadySo) = false
 is_deprecation (Some (Deprecation s m)) = true
@@ -33,7 +34,7 @@ is_deprecation (Some (Withdrawal v)) = false
 is_deprecation (Some (OwnerAdd u)) = false
 is_deprecation (Some (OwnerRemove u)) = false
 
-is_addition : Option Asked → Bool
+abbrev is_addition : Option Asked → Bool
 is_addition None = false
 is_addition (Some AlreadySo) = false
 is_addition (Some (Deprecation s m)) = false
@@ -42,7 +43,7 @@ is_addition (Some (OwnerAdd u)) = true
 is_addition (Some (OwnerRemove u)) = false
 
 -- the first text of a case that has one
-first_text : Option Asked → Text
+abbrev first_text : Option Asked → Text
 first_text None = []
 first_text (Some AlreadySo) = []
 first_text (Some (Deprecation s m)) = s
@@ -50,7 +51,7 @@ first_text (Some (Withdrawal v)) = v
 first_text (Some (OwnerAdd u)) = u
 first_text (Some (OwnerRemove u)) = u
 
-message_text : Option Asked → Text
+abbrev message_text : Option Asked → Text
 message_text None = []
 message_text (Some AlreadySo) = []
 message_text (Some (Deprecation s m)) = m
@@ -61,11 +62,11 @@ message_text (Some (OwnerRemove u)) = []
 cons_nil : {A P : Type 0} (x : A) (xs : List A) → x ∷ xs ≡ [] → P
 cons_nil x xs h = let e : suc (length xs) ≡ 0 = ap length h in absurd (omega (arith, e))
 
-first_or : Text → List Text → Text
+abbrev first_or : Text → List Text → Text
 first_or u [] = u
 first_or u (v ∷ vs) = v
 
-rest_of : List Text → List Text
+abbrev rest_of : List Text → List Text
 rest_of [] = []
 rest_of (v ∷ vs) = vs
 
@@ -74,6 +75,9 @@ rest_of (v ∷ vs) = vs
 pub and_parts : (a b : Bool) → (a && b) ≡ true → (a ≡ true) × (b ≡ true)
 and_parts true b h = (refl, h)
 and_parts false b h = absurd (true≢false (sym h))
+
+and_both : {a b : Bool} → a ≡ true → b ≡ true → (a && b) ≡ true
+and_both e f = rw (e, f) refl
 
 pub if_some : {A : Type 0} (b : Bool) (o : Option A) (a : A) → (if b then o else None) ≡ Some a → (b ≡ true) × (o ≡ Some a)
 if_some true o a h = (refl, h)
@@ -114,16 +118,16 @@ pub record FromMessages (w d : Data) (gone : List Text) (ns : List News) (s m : 
 pub from_messages : (w d : Data) (vs : Members) (gone : List Text) (ns : List News) (s m : Text) → change_asked w d vs gone ns ≡ Some (Deprecation s m) → FromMessages w d gone ns s m
 from_messages w d vs [] [] s m h = absurd (true≢false (sym (ap is_deprecation (if_some (same_tags w d) (Some AlreadySo) (Deprecation s m) h).1)))
 from_messages w d vs [] (n ∷ ns) s m h =
-    let p = if_some (same_tags w d && list_all (λ o. bytes_eq o.message n.message) ns) (Some (Deprecation (union n ns) n.message)) (Deprecation s m) h in
-    let q = and_parts (same_tags w d) (list_all (λ o. bytes_eq o.message n.message) ns) p.0 in record {
+    let p = if_some (same_tags w d) (message_asked n ns) (Deprecation s m) h in
+    let q = if_some (list_all (λ o. bytes_eq o.message n.message) ns) (Some (Deprecation (union n ns) n.message)) (Deprecation s m) p.1 in record {
       first = n;
       others = ns;
       none_gone = refl;
       are_news = refl;
-      tags = q.0;
-      alike = q.1;
-      is_selector = sym (ap first_text p.1);
-      is_message = sym (ap message_text p.1);
+      tags = p.0;
+      alike = q.0;
+      is_selector = sym (ap first_text q.1);
+      is_message = sym (ap message_text q.1);
     }
 from_messages w d vs (v ∷ []) [] s m h = absurd (true≢false (sym (ap is_deprecation (if_some (has_tags_without v vs w d) (Some (Withdrawal v)) (Deprecation s m) h).1)))
 from_messages w d vs (v ∷ []) (n ∷ ns) s m h = absurd (none-some (Deprecation s m) h)
@@ -137,7 +141,7 @@ pub record FromLost (w d : Data) (vs : Members) (gone : List Text) (ns : List Ne
 pub from_lost : (w d : Data) (vs : Members) (gone : List Text) (ns : List News) (v : Text) → change_asked w d vs gone ns ≡ Some (Withdrawal v) → FromLost w d vs gone ns v
 from_lost w d vs [] [] v h = absurd (true≢false (ap is_nothing (if_some (same_tags w d) (Some AlreadySo) (Withdrawal v) h).1))
 from_lost w d vs [] (n ∷ ns) v h =
-    absurd (true≢false (ap is_deprecation (if_some (same_tags w d && list_all (λ o. bytes_eq o.message n.message) ns) (Some (Deprecation (union n ns) n.message)) (Withdrawal v) h).1))
+    absurd (true≢false (ap is_deprecation (if_some (list_all (λ o. bytes_eq o.message n.message) ns) (Some (Deprecation (union n ns) n.message)) (Withdrawal v) (if_some (same_tags w d) (message_asked n ns) (Withdrawal v) h).1).1))
 from_lost w d vs (u ∷ []) [] v h =
     let p = if_some (has_tags_without u vs w d) (Some (Withdrawal u)) (Withdrawal v) h in
     let is : u ≡ v = ap first_text p.1 in record {
@@ -183,9 +187,11 @@ record SaysSame (wanted p : Data) : Type 0 where
 
 says_same : (w d : Data) (v : Text) (wanted p : Data) → same_version w d v wanted p ≡ true → SaysSame wanted p
 says_same w d v wanted p h =
-    let x = and_parts (same_manifest wanted p) _ h in
-    let y = and_parts (is_some (message_of wanted)) _ x.1 in
-    let z = and_parts (is_some (message_of p)) _ y.1 in record { same = x.0; a_text = y.0; b_text = z.0 }
+    let manifests = same_manifest wanted p in
+    let texts = manifests && is_some (message_of wanted) in
+    let x = and_parts (texts && is_some (message_of p)) (same_found (within (codes "time") v w) (within (codes "time") v d)) h in
+    let y = and_parts texts (is_some (message_of p)) x.0 in
+    let z = and_parts manifests (is_some (message_of wanted)) y.0 in record { same = z.0; a_text = z.1; b_text = y.1 }
 
 -- ---- all versions
 
@@ -264,23 +270,23 @@ one_lost w d u (member v p vs) g a n = lost_or_kept w d u v p vs (within (codes 
 -- ---- the rest
 
 -- what is said beside maintainers, without and with them
-last_part : (w d : Data) (vs : Members) (present names : List Text) (b : Bool) → same_names present names ≡ b → says_the_same w d vs b ≡ true → IsElseTheSame w d vs present names
-last_part w d vs present names true is h = record { members = h; maintainers = is }
-last_part w d vs present names false is h =
-    let x = and_parts _ _ h in
-    let y = and_parts _ _ x.1 in
-    let z = and_parts _ _ y.1 in
-    absurd (true≢false (sym (and_parts (are_same w d vs) false z.1).1))
+-- all that is said but of the versions and the maintainers
+abbrev others_same : Data → Data → Bool
+others_same w d = same_but Package w d && same_found (within (codes "time") (codes "created") w) (within (codes "time") (codes "created") d) && adds_none w d
 
-pub else_same : (w d : Data) (vs : Members) (present names : List Text) → says_the_same w d vs (same_names present names) ≡ true → IsElseTheSame w d vs present names
-else_same w d vs present names h = last_part w d vs present names (same_names present names) refl h
+maintainers_same : (w d : Data) (vs : Members) (b : Bool) → says_the_same w d vs b ≡ true → b ≡ true
+maintainers_same w d vs b h = (and_parts (others_same w d && are_same w d vs) b h).1
 
 pub versions_same : (w d : Data) (vs : Members) (b : Bool) → says_the_same w d vs b ≡ true → are_same w d vs ≡ true
-versions_same w d vs b h =
-    let x = and_parts _ _ h in
-    let y = and_parts _ _ x.1 in
-    let z = and_parts _ _ y.1 in
-    (and_parts (are_same w d vs) b z.1).0
+versions_same w d vs b h = (and_parts (others_same w d) (are_same w d vs) (and_parts (others_same w d && are_same w d vs) b h).0).1
+
+last_part : (w d : Data) (vs : Members) (present names : List Text) (b : Bool) → same_names present names ≡ b → says_the_same w d vs b ≡ true → IsElseTheSame w d vs present names
+last_part w d vs present names true is h = record { members = h; maintainers = is }
+last_part w d vs present names false is h = absurd (true≢false (sym (maintainers_same w d vs false h)))
+
+-- what is said beside maintainers, without and with them
+pub else_same : (w d : Data) (vs : Members) (present names : List Text) → says_the_same w d vs (same_names present names) ≡ true → IsElseTheSame w d vs present names
+else_same w d vs present names h = last_part w d vs present names (same_names present names) refl h
 
 -- ---- maintainers
 
@@ -305,7 +311,10 @@ removed (v ∷ t ∷ more) less u h = absurd (none-some (OwnerRemove u) h)
 -- each message of the list is that of the first
 all_said : (w : Data) (vs : Members) (n : News) (ns : List News) (m : Text) → news w vs ≡ n ∷ ns → m ≡ n.message → list_all (λ o. bytes_eq o.message n.message) ns ≡ true
     → list_all (λ o. bytes_eq o.message m) (news w vs) ≡ true
-all_said w vs n ns m is message alike = rw (is, message, (bytes_eq-Decides n.message n.message).1 refl) alike
+all_said w vs n ns m is message alike =
+    let first : bytes_eq n.message n.message ≡ true = (bytes_eq-Decides n.message n.message).1 refl in
+    subst (λ t. list_all (λ o. bytes_eq o.message t) (news w vs) ≡ true) (sym message)
+    (subst (λ xs. list_all (λ o. bytes_eq o.message n.message) xs ≡ true) (sym is) (and_both first alike))
 
 pub a_deprecation : (w d : Data) (vs : Members) (present names : List Text) (s m : Text) → asked_of_package w d vs present names ≡ Some (Deprecation s m) → IsDeprecation w d vs present names s m
 a_deprecation w d vs present names s m h =

@@ -11,7 +11,7 @@ use Rattle.serde_json.specs.Data.{Num, unsigned, negative, float, Data, null, bo
 use Rattle.serde_json.specs.Find.{get, get_member, is_float}
 use Rattle.registry_names.specs.Texts.{Text}
 use Rattle.registry_documents.specs.Claims.{AreFound, ArePlain, ArePlainItems, IsClaim, IsLostOrRepeated, IsPlain, Repeats, RepeatsVersion}
-use Rattle.registry_documents.specs.Differences.{are_same, asked_of_package, change_asked, is_same, lost, message_of, news, same_dist, same_manifest, same_version, says_the_same}
+use Rattle.registry_documents.specs.Differences.{are_same, asked_of_package, change_asked, is_same, lost, message_of, news, same_dist, same_manifest, same_names, same_version, says_the_same}
 use Rattle.registry_documents.specs.Laws.{AllMembers}
 use Rattle.registry_documents.specs.Parts.{is_apart}
 use Rattle.registry_documents.specs.Values.{all_members, is_key, items_same, keys_in, members_in, same, same_but, same_flag, same_found, same_number, within}
@@ -42,6 +42,9 @@ keys_own : (part : Part) (all ms : Members) → AreFound all ms → keys_in part
 keys_own part all no_members h = refl
 keys_own part all (member k d ms) h = both_true (key_there part k d (object all) h.0) (keys_own part all ms h.1)
 
+found_as : (d : Data) (o : Option Data) → o ≡ Some d → same d d ≡ true → unwrap_or (option_map (same d) o) false ≡ true
+found_as d o is h = ap (λ x. unwrap_or (option_map (same d) x) false) is ∙ h
+
 mutual
   same_itself : (d : Data) → IsPlain d → same d d ≡ true
   same_itself null h = refl
@@ -58,10 +61,10 @@ mutual
   members_own : (part : Part) (all ms : Members) → AreFound all ms → ArePlain ms → members_in part ms (object all) ≡ true
   members_own part all no_members h p = refl
   members_own part all (member k d ms) h p =
-      both_true (or_right (is_apart part k) (unwrap_or (option_map (same d) (get_member k all)) false) (found_itself d (get_member k all) h.0 p.0)) (members_own part all ms h.1 p.1)
+      both_true (or_right (is_apart part k) (unwrap_or (option_map (same d) (get_member k all)) false) (found_as d (get_member k all) h.0 (same_itself d p.0))) (members_own part all ms h.1 p.1)
 
-  found_itself : (d : Data) (o : Option Data) → o ≡ Some d → IsPlain d → unwrap_or (option_map (same d) o) false ≡ true
-  found_itself d o is p = rw is (same_itself d p)
+found_itself : (d : Data) (o : Option Data) → o ≡ Some d → IsPlain d → unwrap_or (option_map (same d) o) false ≡ true
+found_itself d o is p = found_as d o is (same_itself d p)
 
 -- one member, apart or found
 either_apart : (b c : Bool) → (b ≡ false → c ≡ true) → (b || c) ≡ true
@@ -130,8 +133,8 @@ moments w d k p e = both_found (within (codes "time") k w) (within (codes "time"
 
 version_same : (w d : Data) (v : Text) (p : Data) → IsPlain d → get (codes "time") w ≡ get (codes "time") d → (r : RepeatsVersion w v p) → same_version w d v r.wanted p ≡ true
 version_same w d v p plain e r =
-    both_true (both_true (repeated Manifest r.wanted p r.manifest) (both_dist (get (codes "dist") r.wanted) (get (codes "dist") p) r.dist (λ x h. get_plain (codes "dist") p x r.manifest.other_is_plain h)))
-    (both_true r.message (both_true r.other_message (moments w d v plain e)))
+    let dists = both_dist (get (codes "dist") r.wanted) (get (codes "dist") p) r.dist (λ x h. get_plain (codes "dist") p x r.manifest.other_is_plain h) in
+    both_true (both_true (both_true (both_true (repeated Manifest r.wanted p r.manifest) dists) r.message) r.other_message) (moments w d v plain e)
 
 one_same : (w d : Data) (v : Text) (p : Data) → IsPlain d → get (codes "time") w ≡ get (codes "time") d → IsLostOrRepeated w v p → is_same w d v p ≡ true
 one_same w d v p plain e (inl none) = rw none refl
@@ -143,9 +146,8 @@ each_same w d (member v p vs) plain e h = both_true (one_same w d v p plain e h.
 
 says_so : (w d : Data) (vs : Members) (present names : List Text) → IsClaim w d vs present names → says_the_same w d vs (same_names present names) ≡ true
 says_so w d vs present names c =
-    both_true (repeated Package w d c.members)
-    (both_true (moments w d (codes "created") c.members.other_is_plain c.time)
-    (both_true c.none_more (both_true (each_same w d vs c.members.other_is_plain c.time c.versions) c.maintainers)))
+    let plain = c.members.other_is_plain in
+    both_true (both_true (both_true (both_true (repeated Package w d c.members) (moments w d (codes "created") plain c.time)) c.none_more) (each_same w d vs plain c.time c.versions)) c.maintainers
 
 taken : {A : Type 0} (b : Bool) (o : Option A) → b ≡ true → (if b then o else None) ≡ o
 taken b o e = rw e refl

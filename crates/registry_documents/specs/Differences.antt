@@ -68,10 +68,14 @@ adds_none w d = both (keys_in Any) (versions_in w) (get (codes "versions") d)
 
 -- ---- maintainers
 
+-- the name n before others, where it isn't among these
+abbrev pub with_beside : List Text → Text → List Text → List Text
+with_beside others n ns = if list_any (λ m. bytes_eq m n) others then ns else n ∷ ns
+
 -- the names that aren't among others
 abbrev pub besides : List Text → List Text → List Text
 besides others [] = []
-besides others (n ∷ ns) = if list_any (λ m. bytes_eq m n) others then besides others ns else n ∷ besides others ns
+besides others (n ∷ ns) = with_beside others n (besides others ns)
 
 abbrev pub is_nobody : List Text → Bool
 is_nobody [] = true
@@ -121,10 +125,14 @@ has_tags_without v vs w d = both (tags_without v vs) (get (codes "dist-tags") w)
 abbrev pub union : News → List News → Text
 union n ns = n.version ++ flat_map (λ m. codes " || " ++ m.version) ns
 
+-- what is asked for where these have other messages
+abbrev pub message_asked : News → List News → Option Asked
+message_asked n ns = if list_all (λ m. bytes_eq m.message n.message) ns then Some (Deprecation (union n ns) n.message) else None
+
 -- what is asked for where no version is missing, and these have other messages
 abbrev pub messages_asked : Data → Data → List News → Option Asked
 messages_asked w d [] = if same_tags w d then Some AlreadySo else None
-messages_asked w d (n ∷ ns) = if same_tags w d && list_all (λ m. bytes_eq m.message n.message) ns then Some (Deprecation (union n ns) n.message) else None
+messages_asked w d (n ∷ ns) = if same_tags w d then message_asked n ns else None
 
 -- what is asked for where this version is missing
 abbrev pub withdrawal_asked : Data → Data → Members → Text → Option Asked

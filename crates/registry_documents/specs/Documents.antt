@@ -3,9 +3,15 @@ use Rattle.std.specs.Prelude.{◌≡◌, ℕ, Bool, true, false, ◌&&◌, ◌||
 use Rattle.serde_json.specs.Data.{Data, Items, no_items, item, Members, object}
 use Rattle.serde_json.specs.Find.{get, as_array, as_object, as_str}
 use Rattle.serde_json.specs.Read.{read}
+use Rattle.serde_json.specs.View.{view}
 use Rattle.registry_names.specs.Texts.{Text}
+use Rattle.registry_documents.specs.declared.document.Document.{Document}
 use Rattle.registry_documents.specs.declared.document.Kind.{Kind}
 use Rattle.registry_documents.specs.declared.document.Kind.TheVariants.{Publication, Package, Maintainers, Other}
+
+-- the JSON value that a document is
+abbrev pub value_of : Document → Data
+value_of d = view d.value
 
 -- the bytes are JSON of an object, which has this value
 abbrev pub IsDocumentOf : List ℕ → Data → Type 0

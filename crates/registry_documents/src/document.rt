@@ -6,12 +6,11 @@ ghost use Rattle.serde_json.specs.Read.{read};
 ghost use Rattle.serde_json.specs.View.{view};
 ghost use Rattle.registry_names.specs.Faults.{IsMemoryOr};
 ghost use Rattle.registry_documents.specs.Documents as spec;
-ghost use Rattle.registry_documents.specs.Documents.{IsDocumentOf, IsNoDocument, kind_of};
+ghost use Rattle.registry_documents.specs.Documents.{IsDocumentOf, IsNoDocument, kind_of, value_of};
 
 use registry_names::{Fault, Refusal, Stop};
 use serde_json::Value;
 use std::alloc::Global;
-use std::marker::Model;
 
 const BAD_BODY: Stop = Stop::Refused(Refusal::BadBody);
 
@@ -29,19 +28,10 @@ pub enum Kind {
     Other,
 }
 
-/// A document that npm sent. Contracts see its value.
+/// A document that npm sent. Contracts see its value (`value_of`).
 #[derive(Drop)]
 pub struct Document {
     value: Value,
-}
-
-impl Model for Document {
-    ghost use Rattle.serde_json.specs.Data.{Data};
-    ghost use Rattle.serde_json.specs.View.{view};
-
-    ghost Value = { Data };
-
-    ghost view = { λ d. view d.value };
 }
 
 impl Document {
@@ -50,7 +40,7 @@ impl Document {
     ///
     /// `BadBody` is returned only for another body, and `Memory` when no memory is left.
     pub fn read(alloc: Global, body: &[u8]) -> Result<Document, Stop>
-        ensures ok { IfOk result (IsDocumentOf body.now) }
+        ensures ok { IfOk result (λ d. IsDocumentOf body.now (value_of d)) }
         ensures err { IfErr result (IsMemoryOr Refusal.BadBody (IsNoDocument body.now)) }
     {
         let value = json_of(alloc, body)?;
@@ -62,7 +52,7 @@ impl Document {
 
     /// What the document is about.
     pub fn kind(&self) -> Kind
-        ensures { result ≡ kind_of self.now }
+        ensures { result ≡ kind_of (value_of self.now) }
     {
         let value = &self.value;
         if is_publication(value) {
@@ -79,13 +69,13 @@ impl Document {
     // Whether the document, and the path where it names one, say this revision.
     pub(crate) fn is_of(&self, revision: &str, path: Option<&str>) -> bool
         ensures { result
-            ≡ spec.is_of revision.now (option_map (λ t. t.now) path.entry) self.now }
+            ≡ spec.is_of revision.now (option_map (λ t. t.now) path.entry) (value_of self.now) }
     {
         has_text(&self.value, "_rev", revision) && is_named(path, revision)
     }
 
     pub(crate) fn value(&self) -> &Value
-        ensures { view result.now ≡ self.now }
+        ensures { view result.now ≡ value_of self.now }
     {
         &self.value
     }

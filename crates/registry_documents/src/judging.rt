@@ -4,6 +4,7 @@ ghost use Rattle.std.specs.Prelude.{◌≡◌, Some, Ok, IfOk, IfErr, option_map
 ghost use Rattle.serde_json.specs.Data.{Data};
 ghost use Rattle.serde_json.specs.Read.{read};
 ghost use Rattle.serde_json.specs.View.{view};
+ghost use Rattle.registry_documents.specs.Documents.{value_of};
 ghost use Rattle.registry_documents.specs.Judging as spec;
 ghost use Rattle.registry_documents.specs.Judging.{HasVersions, IsJudged, StopsJudging};
 ghost use Rattle.registry_documents.specs.Tags.{FaultsReading};
@@ -64,15 +65,18 @@ pub fn judge(
     path: Option<&str>,
     present: Present<'_>,
 ) -> Result<Asked, Stop>
-    ensures ok { IfOk result (λ asked. IsJudged document.now (option_map (λ t. t.now) path.entry)
-        present.packument.now present.maintainers.now present.revision.now (Ok asked)) }
-    ensures err { IfErr result (StopsJudging document.now (option_map (λ t. t.now) path.entry)
-        present.packument.now present.maintainers.now present.revision.now) }
+    ensures ok { IfOk result (λ asked. IsJudged (value_of document.now) (option_map (λ t. t.now) path.entry)
+        present.entry.packument.now present.entry.maintainers.now present.entry.revision.now (Ok asked)) }
+    ensures err { IfErr result (StopsJudging (value_of document.now) (option_map (λ t. t.now) path.entry)
+        present.entry.packument.now present.entry.maintainers.now present.entry.revision.now) }
 {
     let packument = packument_of(alloc, present.packument)?;
     let asked = asked_in(alloc, document, &packument, present.maintainers)?;
     let is_present = document.is_of(present.revision.text(), path);
-    answer_of(is_present, asked).map_err(Stop::Refused)
+    match answer_of(is_present, asked) {
+        Ok(asked) => Ok(asked),
+        Err(refusal) => Err(Stop::Refused(refusal)),
+    }
 }
 
 // The packument that a text is.
@@ -80,11 +84,14 @@ fn packument_of(alloc: Global, text: &str) -> Result<Value, Fault>
     ensures ok { IfOk result (λ value. read text.now ≡ Some (view value)) }
     ensures err { IfErr result (FaultsReading ((d : Data) × (read text.now ≡ Some d))) }
 {
-    Value::from_str(alloc, text).map_err(|error| if error.is_memory() {
-        Fault::Memory
-    } else {
-        Fault::Database
-    })
+    match Value::from_str(alloc, text) {
+        Ok(value) => Ok(value),
+        Err(error) => if error.is_memory() {
+            Err(Fault::Memory)
+        } else {
+            Err(Fault::Database)
+        },
+    }
 }
 
 // What the document asks for, if that is one thing.
@@ -95,7 +102,7 @@ fn asked_in(
     maintainers: &[Text],
 ) -> Result<Option<Asked>, Fault>
     ensures ok { IfOk result (λ asked. asked
-        ≡ spec.asked_in document.now (view present.now) maintainers.now) }
+        ≡ spec.asked_in (value_of document.now) (view present.now) maintainers.now) }
     ensures err { IfErr result (FaultsReading (HasVersions (view present.now))) }
 {
     match document.kind() {
@@ -142,7 +149,7 @@ fn owners(
 
 // What is answered to a document of the present revision, or of another one.
 fn answer_of(is_present: bool, asked: Option<Asked>) -> Result<Asked, Refusal>
-    ensures { result ≡ spec.answer_of is_present asked.entry }
+    ensures { result ≡ spec.answer_of is_present asked }
 {
     if is_present {
         return asked.ok_or(Refusal::BadBody);

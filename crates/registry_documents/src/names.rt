@@ -1,6 +1,6 @@
 //! The maintainers that a document names.
 
-ghost use Rattle.std.specs.Prelude.{◌≡◌, bytes_eq, codes, IfOk, option_map, option_and_then};
+ghost use Rattle.std.specs.Prelude.{◌≡◌, ◌++◌, [], bytes_eq, codes, IfOk, OnOk, option_map, option_and_then};
 ghost use Rattle.std.specs.List.{list_any};
 ghost use Rattle.serde_json.specs.Find.{get, as_str};
 ghost use Rattle.serde_json.specs.View.{view, items_view};
@@ -56,6 +56,22 @@ fn is_among(names: &[Text], name: &Text) -> bool
     names.iter().any(|other| is(other.as_str(), name.as_str()))
 }
 
+// Adds a name that isn't among the others.
+fn push_beside(
+    alloc: Global,
+    more: &mut Vec<Text>,
+    others: &[Text],
+    name: &Text,
+) -> Result<(), AllocError>
+    ensures { OnOk result (more.new.items
+        ≡ more.old.items ++ differences.with_beside others.now name.now []) }
+{
+    if !is_among(others, name) {
+        more.push(Text::from_str(alloc, name.as_str())?)?;
+    }
+    Ok(())
+}
+
 /// The names that aren't among the others.
 pub(crate) fn besides(
     alloc: Global,
@@ -66,9 +82,7 @@ pub(crate) fn besides(
 {
     let mut more = Vec::new(alloc);
     for name in names {
-        if !is_among(others, name) {
-            more.push(Text::from_str(alloc, name.as_str())?)?;
-        }
+        push_beside(alloc, &mut more, others, name)?;
     }
     Ok(more)
 }

@@ -77,6 +77,18 @@ fn have_message(news: &[News], message: &str) -> bool
     news.iter().all(|other| is(other.message.as_str(), message))
 }
 
+// What is asked for where these have other messages.
+fn message_asked(alloc: Global, first: &News, others: &[News]) -> Result<Option<Asked>, AllocError>
+    ensures { IfOk result (λ asked. asked ≡ spec.message_asked first.now others.now) }
+{
+    if !have_message(others, first.message.as_str()) {
+        return Ok(None);
+    }
+    let selector = union(alloc, first, others)?;
+    let message = Text::from_str(alloc, first.message.as_str())?;
+    Ok(Some(Asked::Deprecation { selector, message }))
+}
+
 // What is asked for where no version is missing, and these have other messages.
 fn messages_asked(
     alloc: Global,
@@ -90,15 +102,10 @@ fn messages_asked(
     if !same_tags(wanted, present) {
         return Ok(None);
     }
-    let Some((first, others)) = news.split_first() else {
-        return Ok(Some(Asked::AlreadySo));
-    };
-    if !have_message(others, first.message.as_str()) {
-        return Ok(None);
+    match news.split_first() {
+        Some((first, others)) => message_asked(alloc, first, others),
+        None => Ok(Some(Asked::AlreadySo)),
     }
-    let selector = union(alloc, first, others)?;
-    let message = Text::from_str(alloc, first.message.as_str())?;
-    Ok(Some(Asked::Deprecation { selector, message }))
 }
 
 // What is asked for where this version is missing.

@@ -195,10 +195,10 @@ fn tags_without(
 {
     match (tags.as_object(), stored.as_object()) {
         (Some(members), Some(others)) => {
-            Ok(
-                keys_in(Part::Any, members, stored)
-                    && are_left(alloc, without, versions, others, tags)?,
-            )
+            if !keys_in(Part::Any, members, stored) {
+                return Ok(false);
+            }
+            are_left(alloc, without, versions, others, tags)
         }
         _ => Ok(false),
     }

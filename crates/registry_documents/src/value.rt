@@ -161,7 +161,7 @@ pub(crate) fn is_there(value: &Value, found: Option<&Value>) -> bool
 
 // Whether a member is one of the value's, or apart.
 #[cycle(same)]
-fn is_member(part: Part, other: &Value, key: &str, value: &Value) -> bool
+fn is_member(value: &Value, part: Part, other: &Value, key: &str) -> bool
     ensures { result ≡ (parts.is_apart part key.now
         || unwrap_or (option_map (spec.same (view value.now)) (get key.now (view other.now))) false) }
 {
@@ -174,7 +174,7 @@ pub(crate) fn members_in(part: Part, members: &Map<String, Value>, other: &Value
     ensures { result ≡ spec.members_in part (members_view members.now.entries) (view other.now) }
 {
     for (key, value) in members.iter() {
-        if !is_member(part, other, key.as_str(), value) {
+        if !is_member(value, part, other, key.as_str()) {
             return false;
         }
     }
