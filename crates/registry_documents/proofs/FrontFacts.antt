@@ -1,5 +1,5 @@
 -- The front, and what follows it.
-use Rattle.std.proofs.Common.{◌≡◌, ℕ, true, false, List, [], ◌∷◌, ◌++◌, drop, codes, refl, ap, append_assoc}
+use Rattle.std.proofs.Common.{◌≡◌, ℕ, false, List, [], ◌∷◌, ◌++◌, drop, codes, ap, append_assoc}
 use Rattle.json.specs.Print.{quoted}
 use Rattle.serde_json.specs.Data.{Data, string, array, object, Members, member}
 use Rattle.serde_json.specs.Written.{compact_text, members_text}

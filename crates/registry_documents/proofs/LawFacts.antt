@@ -1,5 +1,5 @@
 -- The cases of what a document asks for.
-use Rattle.std.proofs.Common.{◌≡◌, ◌≢◌, ◌⊎◌, inl, inr, ℕ, suc, length, Bool, true, false, ◌&&◌, if◌then◌else◌, List, [], ◌∷◌, codes, Option, Some, None, option_map, option_and_then, is_some, Ok, Err, bytes_eq, refl, sym, ap, ◌∙◌, subst, true≢false, arith}
+use Rattle.std.proofs.Common.{◌≡◌, ◌≢◌, ◌⊎◌, inl, inr, suc, length, Bool, true, false, ◌&&◌, if◌then◌else◌, List, [], ◌∷◌, codes, Option, Some, None, option_map, option_and_then, is_some, Ok, Err, bytes_eq, refl, sym, ap, subst, true≢false, arith}
 use Rattle.std.specs.Prelude.{unwrap_or}
 use Rattle.std.specs.List.{list_all}
 use Rattle.std.proofs.lemmas.Option.{none-some}
@@ -7,9 +7,9 @@ use Rattle.std.proofs.lemmas.Slice.Eq.{bytes_eq-Decides}
 use Rattle.serde_json.specs.Data.{Data, Members, no_members, member}
 use Rattle.registry_names.specs.Texts.{Text}
 use Rattle.registry_names.specs.declared.refusal.Refusal.TheVariants.{BadBody, Stale}
-use Rattle.registry_documents.specs.Differences.{adds_none, are_same, asked_of_package, asked_of_owners, besides, change_asked, has_tags_without, lost, message_of, message_asked, messages_asked, news, owners_asked, owners_less, same_manifest, same_names, same_tags, same_version, says_no_other, says_the_same, union, with_lost, with_news, withdrawal_asked}
+use Rattle.registry_documents.specs.Differences.{adds_none, are_same, asked_of_package, change_asked, has_tags_without, lost, message_of, message_asked, news, owners_asked, same_manifest, same_names, same_tags, same_version, says_the_same, union, with_news}
 use Rattle.registry_documents.specs.Judging.{answer_late, answer_now, answer_of}
-use Rattle.registry_documents.specs.Laws.{AllMembers, HasMessage, IsElseTheSame, IsDeprecation, IsKept, IsLostOrKept, IsWithdrawal, KeepsMessage}
+use Rattle.registry_documents.specs.Laws.{AllMembers, HasMessage, IsElseTheSame, IsDeprecation, IsLostOrKept, IsWithdrawal, KeepsMessage}
 use Rattle.registry_documents.specs.Values.{same_but, same_found, within}
 use Rattle.registry_documents.specs.declared.value.Part.TheVariants.{Package}
 use Rattle.registry_documents.specs.declared.asked.Asked.{Asked}

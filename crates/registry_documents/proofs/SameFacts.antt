@@ -1,5 +1,5 @@
 -- Values that have the same under each key are the same.
-use Rattle.std.proofs.Common.{◌≡◌, inl, inr, Bool, true, false, ◌&&◌, ◌||◌, List, codes, Option, Some, None, option_map, option_and_then, is_some, bytes_eq, if◌then◌else◌, refl, sym, ap, ◌∙◌, subst, true≢false, pos, Ordering, Less, Equal, Greater, nat_cmp}
+use Rattle.std.proofs.Common.{◌≡◌, inl, inr, Bool, true, false, ◌&&◌, ◌||◌, List, codes, Option, Some, None, option_map, option_and_then, is_some, if◌then◌else◌, refl, sym, ap, ◌∙◌, subst, true≢false, pos, Ordering, Less, Equal, Greater, nat_cmp}
 use Rattle.std.specs.Prelude.{unwrap_or}
 use Rattle.std.specs.Cmp.Lexicographic.{slice_cmp}
 use Rattle.std.specs.Ordering.{match_ordering}
@@ -11,10 +11,10 @@ use Rattle.serde_json.specs.Data.{Num, unsigned, negative, float, Data, null, bo
 use Rattle.serde_json.specs.Find.{get, get_member, is_float}
 use Rattle.registry_names.specs.Texts.{Text}
 use Rattle.registry_documents.specs.Claims.{AreFound, ArePlain, ArePlainItems, IsClaim, IsLostOrRepeated, IsPlain, Repeats, RepeatsVersion}
-use Rattle.registry_documents.specs.Differences.{are_same, asked_of_package, change_asked, is_same, lost, message_of, news, same_dist, same_manifest, same_names, same_version, says_the_same}
+use Rattle.registry_documents.specs.Differences.{are_same, asked_of_package, change_asked, is_same, lost, news, same_dist, same_names, same_version, says_the_same}
 use Rattle.registry_documents.specs.Laws.{AllMembers}
 use Rattle.registry_documents.specs.Parts.{is_apart}
-use Rattle.registry_documents.specs.Values.{all_members, is_key, items_same, keys_in, members_in, same, same_but, same_flag, same_found, same_number, within}
+use Rattle.registry_documents.specs.Values.{is_key, items_same, keys_in, members_in, same, same_but, same_flag, same_found, same_number, within}
 use Rattle.registry_documents.specs.declared.value.Part.{Part}
 use Rattle.registry_documents.specs.declared.value.Part.TheVariants.{Any, Dist, Manifest, Package}
 

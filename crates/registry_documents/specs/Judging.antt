@@ -1,6 +1,6 @@
 -- What a document asks for, and why it is refused.
-use Rattle.std.specs.Prelude.{◌≡◌, ⊤, Bool, true, false, List, [], ◌∷◌, codes, Option, Some, None, option_and_then, unwrap_or, Result, Ok, Err}
-use Rattle.serde_json.specs.Data.{Data, Members, no_members}
+use Rattle.std.specs.Prelude.{◌≡◌, ⊤, Bool, true, false, List, Option, Some, None, option_and_then, unwrap_or, Result, Ok, Err}
+use Rattle.serde_json.specs.Data.{Data, no_members}
 use Rattle.serde_json.specs.Read.{read}
 use Rattle.registry_names.specs.Texts.{Text}
 use Rattle.registry_names.specs.declared.refusal.Refusal.{Refusal}

@@ -1,5 +1,5 @@
 -- What a document may change, in the words of versions, messages and maintainers.
-use Rattle.std.specs.Prelude.{◌≡◌, ◌≢◌, ⊤, true, false, ◌⊎◌, List, [], ◌∷◌, Option, Some, None, Result, Ok, Err, codes}
+use Rattle.std.specs.Prelude.{◌≡◌, ◌≢◌, ⊤, true, false, ◌⊎◌, List, [], ◌∷◌, Option, Some, None, Ok, Err, codes}
 use Rattle.serde_json.specs.Data.{Data, Members, no_members, member}
 use Rattle.registry_names.specs.Texts.{Text}
 use Rattle.registry_names.specs.declared.refusal.Refusal.TheVariants.{BadBody, Stale}

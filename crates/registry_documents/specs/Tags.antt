@@ -1,5 +1,5 @@
 -- What a package's tags name once a version is withdrawn.
-use Rattle.std.specs.Prelude.{◌≡◌, ⊤, Bool, true, false, ◌&&◌, ◌||◌, not, is_none, is_some, if◌then◌else◌, List, bytes_eq, codes, Option, Some, None, option_map, option_and_then, unwrap_or}
+use Rattle.std.specs.Prelude.{⊤, Bool, false, ◌&&◌, ◌||◌, not, is_none, if◌then◌else◌, bytes_eq, Option, Some, None, option_map, unwrap_or}
 use Rattle.std.specs.Ordering.{is_gt}
 use Rattle.serde_json.specs.Data.{Data, Members, no_members, member}
 use Rattle.serde_json.specs.Find.{get, as_str}

@@ -2,7 +2,7 @@ use Rattle.std.proofs.Common.{◌≡◌, ◌∙◌, true, rules, sym}
 use Rattle.std.proofs.lemmas.Result.{err_from_is_err_and}
 use Rattle.serde_json.specs.View.{members_view}
 use Rattle.registry_names.specs.Versions.{IsVersion}
-use Rattle.registry_documents.specs.Tags.{AreVersions, is_version_of}
+use Rattle.registry_documents.specs.Tags.{AreVersions}
 use Rattle.registry_documents.proofs.LoopFacts.{faults_weaker, version_among}
 use Rattle.registry_documents.proofs.tags.is_greatest_but.Goals as goal
 

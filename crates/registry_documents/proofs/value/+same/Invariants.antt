@@ -1,4 +1,4 @@
-use Rattle.std.proofs.Common.{◌≡◌, drop, length}
+use Rattle.std.proofs.Common.{◌≡◌, drop}
 use Rattle.serde_json.specs.View.{view, items_view, members_view}
 use Rattle.registry_documents.specs.Values.{items_same, members_in}
 use Rattle.registry_documents.proofs.value.+same.Given as goal
