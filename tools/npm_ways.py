@@ -154,7 +154,9 @@ def asked(port, method, target, headers, body):
                 link.putheader(name, value)
         if body:
             link.putheader('content-length', str(len(body)))
-        link.endheaders(body or None)
+        # A body that is too large is answered before it has come.
+        with contextlib.suppress(BrokenPipeError, ConnectionResetError):
+            link.endheaders(body or None)
         answer = link.getresponse()
         return answer.status, [it for it in answer.getheaders() if it[0].lower() not in OF_A_CONNECTION], answer.read()
     finally:
