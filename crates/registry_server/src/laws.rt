@@ -127,7 +127,7 @@ pub fn held_servers_ask_queries<S: Socket, D: HttpService>()
 /// is lost: each connection on which a request is under way that may be a command stays at its place as
 /// it is, with all that was received (`waits`). Who comes in takes the place of nobody on whose
 /// connection something is begun, or who is to be visited (`comes`).
-pub fn held_servers_keep_commands<S: Socket, D: Service>()
+pub fn held_servers_keep_commands<S: Socket, D: HttpService>()
     ensures waits { HoldsKeepCommands S.received S.sent S.has_none S.is_full S.has_more S.is_ended S.is_broken D.speaks D.answers D.over }
     ensures comes { NewcomersLeaveBusy S }
 {}
