@@ -1,5 +1,5 @@
 -- What npm is shown, sent back as it is.
-use Rattle.std.proofs.Common.{◌≡◌, inl, inr, Bool, true, false, ◌&&◌, ◌||◌, not, is_eq, if◌then◌else◌, List, [], ◌∷◌, ◌++◌, codes, Option, Some, None, option_map, option_and_then, is_some, bytes_eq, refl, sym, ap, ◌∙◌, subst, true≢false, Ordering, Less, Equal, Greater, nat_cmp, append_assoc}
+use Rattle.std.proofs.Common.{◌≡◌, inl, inr, Bool, true, false, ◌&&◌, ◌||◌, is_eq, if◌then◌else◌, List, [], ◌∷◌, ◌++◌, codes, Option, Some, None, option_map, option_and_then, is_some, bytes_eq, refl, sym, ap, ◌∙◌, true≢false, Ordering, Less, Equal, Greater, nat_cmp, append_assoc}
 use Rattle.std.specs.Prelude.{unwrap_or}
 use Rattle.std.specs.List.{list_any}
 use Rattle.std.specs.Cmp.Lexicographic.{slice_cmp}
@@ -8,22 +8,20 @@ use Rattle.std.proofs.Math.Bool.{or-true}
 use Rattle.std.proofs.lemmas.Map.Text.{is_eq-slice_cmp}
 use Rattle.std.proofs.lemmas.Option.{none-some}
 use Rattle.std.proofs.lemmas.Slice.Eq.{bytes_eq-Decides}
-use Rattle.serde_json.specs.Data.{Data, string, array, object, Items, Members, no_members, member}
+use Rattle.serde_json.specs.Data.{Data, string, array, object, Members, no_members, member}
 use Rattle.serde_json.specs.Find.{as_object, as_str, as_array, get, get_member}
 use Rattle.registry_names.specs.Texts.{Text}
 use Rattle.registry_documents.specs.Claims.{AreFound, ArePlain, ArePlainItems, IsClaim, IsLostOrRepeated, IsManifest, IsPackument, IsPlain, Repeats, RepeatsVersion}
-use Rattle.registry_documents.specs.Differences.{adds_none, asked_of_package, besides, change_asked, is_nobody, lost, message_of, news, same_names, same_tags, with_news}
-use Rattle.registry_documents.specs.Documents.{has, has_text, is_of, kind_of, names_in, names_of, versions_in}
+use Rattle.registry_documents.specs.Differences.{adds_none, asked_of_package, besides, change_asked, lost, message_of, news, same_names, same_tags, with_news}
+use Rattle.registry_documents.specs.Documents.{has_text, is_of, kind_of, names_in, names_of, with_name}
 use Rattle.registry_documents.specs.Fronts.{people, person, shown, with_maintainers}
 use Rattle.registry_documents.specs.Judging.{asked_by, asked_in}
 use Rattle.registry_documents.specs.Laws.{AllMembers}
 use Rattle.registry_documents.specs.Parts.{is_apart}
 use Rattle.registry_documents.specs.Values.{both, keys_in, within}
 use Rattle.registry_documents.specs.declared.asked.Asked.TheVariants.{AlreadySo}
-use Rattle.registry_documents.specs.declared.document.Kind.{Kind}
 use Rattle.registry_documents.specs.declared.document.Kind.TheVariants.{Package as Whole}
 use Rattle.registry_documents.specs.declared.news.News.{News}
-use Rattle.registry_documents.specs.declared.value.Part.{Part}
 use Rattle.registry_documents.specs.declared.value.Part.TheVariants.{Any, Manifest, Package}
 use Rattle.registry_documents.proofs.SameFacts.{a_claim, both_found, get_plain, keys_own}
 
@@ -80,7 +78,8 @@ name_of_person n = skip (codes "name") (codes "email") (string []) (member (code
 
 names_of_people : (ns : List Text) → names_of (people ns) ≡ Some ns
 names_of_people [] = refl
-names_of_people (n ∷ ns) = rw (name_of_person n, names_of_people ns) refl
+names_of_people (n ∷ ns) =
+    ap (λ o. with_name (option_and_then as_str o) (names_of (people ns))) (name_of_person n) ∙ ap (λ o. with_name (Some n) o) (names_of_people ns)
 
 any_here : (n : Text) (before ns : List Text) → list_any (λ m. bytes_eq m n) (before ++ n ∷ ns) ≡ true
 any_here n [] ns = ap (λ b. b || list_any (λ m. bytes_eq m n) ns) ((bytes_eq-Decides n n).1 refl)
@@ -163,15 +162,15 @@ each_repeated : (rev : Text) (names : List Text) (ms vs us : Members) → IsPack
 each_repeated rev names ms vs no_members p found plain manifests = tt
 each_repeated rev names ms vs (member v q us) p found plain manifests =
     let m = manifests.0 in
-    let same : Repeats Manifest q q = record { members = m.0; others = m.0; is_object = m.1; other_is_object = m.1; is_plain = plain.0; other_is_plain = plain.0; found = λ k out. refl } in
+    let same : Repeats Manifest q q = record { members = m.0; others = m.0; is_object = m.1.0; other_is_object = m.1.0; is_plain = plain.0; other_is_plain = plain.0; found = λ k out. refl } in
     let repeated : RepeatsVersion (object (shown rev names ms)) (object ms) v q = record {
       wanted = q;
       there = version_there rev names ms vs v q p found.0;
       moment = ap (option_and_then (get v)) (shown_get (codes "time") rev names ms refl refl);
       manifest = same;
       dist = inl refl;
-      message = m.2;
-      other_message = m.2;
+      message = m.1.1;
+      other_message = m.1.1;
     } in
     (inr repeated, each_repeated rev names ms vs us p found.1 plain.1 manifests.1)
 
@@ -190,7 +189,7 @@ no_news rev names ms vs no_members p found manifests = refl
 no_news rev names ms vs (member v q us) p found manifests =
     let rest = news (object (shown rev names ms)) us in
     ap (λ o. with_news v (option_and_then message_of o) (message_of q) rest) (version_there rev names ms vs v q p found.0)
-    ∙ (same_message v (message_of q) rest manifests.0.2 ∙ no_news rev names ms vs us p found.1 manifests.1)
+    ∙ (same_message v (message_of q) rest manifests.0.1.1 ∙ no_news rev names ms vs us p found.1 manifests.1)
 
 none_added : (rev : Text) (names : List Text) (ms vs : Members) → IsPackument ms vs → adds_none (object (shown rev names ms)) (object ms) ≡ true
 none_added rev names ms vs p =
