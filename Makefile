@@ -11,7 +11,7 @@ EVERY := 1
 JOBS := 1
 SECONDS := 600
 
-.PHONY: help demo quick try run build test check stories stops plants fmt npm front beside log socket kill files older limits large soak starve fuzz bench compare house copy examples kit
+.PHONY: help demo quick try run build test check stories stops plants fmt npm npm-team front beside log socket kill files older limits large soak starve fuzz bench compare house copy examples kit
 
 help:
 	@echo 'Build:'
@@ -31,6 +31,7 @@ help:
 	@echo
 	@echo 'Try the built program out/registry:'
 	@echo '  make npm      publishes and installs with the stock npm client: a minute'
+	@echo '  make npm-team runs all that npm offers a team, directly and through nginx: 4 minutes; it needs nginx'
 	@echo '  make front    the same through nginx with TLS, hostile clients, public packages: 3 minutes; it needs nginx'
 	@echo '  make beside   runs commands beside a server, and kills, halts and stops it meanwhile: 4 minutes'
 	@echo '  make socket   serves at a Unix socket: who may connect, takeovers, stops: ten seconds'
@@ -81,6 +82,9 @@ out/registry:
 
 npm: out/registry
 	@examples/npm.sh out/registry
+
+npm-team: out/registry
+	@examples/npm_team.sh out/registry
 
 front: out/registry
 	@examples/front.sh out/registry
