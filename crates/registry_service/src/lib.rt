@@ -26,5 +26,5 @@ pub use crate::sending::PackumentService;
 pub use crate::serving::{Clock, Served, serve};
 pub use crate::turning::{
     AnsweredCommand, End, HttpService, REQUESTS_PER_CONNECTION, Service, Turned, turn, turn_away,
-    turn_starved,
+    turn_starved, turn_with,
 };

@@ -191,7 +191,7 @@ pub(crate) fn end_after_reply(is_last: bool, closes: bool) -> Option<End>
 }
 
 /// The turn of a request that has this outcome.
-pub(crate) fn turn_with(outcome: Result<Reply, Fault>, is_last: bool, closes: bool) -> Turned
+pub fn turn_with(outcome: Result<Reply, Fault>, is_last: bool, closes: bool) -> Turned
     ensures { IsTurnWith outcome is_last closes result }
 {
     let end = end_of(&outcome, is_last, closes);

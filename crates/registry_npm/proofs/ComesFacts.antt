@@ -1,0 +1,73 @@
+-- What a service was asked, and what that came to, one request after the other.
+use Rattle.std.proofs.Common.{◌≡◌, ◌∷◌, [], Bool, true, false, List, Result, Ok, Err, refl, inl, inr}
+use Rattle.std.specs.Prelude.{IfOk, MatchResult}
+use Rattle.registry_names.specs.declared.stop.Fault.{Fault}
+use Rattle.registry_names.specs.declared.stop.Fault.TheVariants.{Memory}
+use Rattle.registry_names.specs.Texts.{Text}
+use Rattle.registry_names.specs.declared.stop.Stop.{Stop}
+use Rattle.registry_rules.specs.declared.request.Action.TheVariants.{Members, Teams}
+use Rattle.registry_rules.specs.declared.request.Request.{Request}
+use Rattle.registry_service.specs.HttpAnswers.{Outcome}
+use Rattle.registry_service.specs.Readings.{Reading}
+use Rattle.registry_service.specs.Turns.{Answering, AnswersEach, Exchange, exchange, stopped}
+use Rattle.registry_npm.specs.Leading.{Comes, Leads, asks, either, ends, is_stop, or_memory, reading, unless_stopped}
+
+-- the organisation that an action names
+pub same-teams : (a b : Text) → Teams a ≡ Teams b → a ≡ b
+same-teams a b e = cc e
+
+pub same-members : (a b : Text) → Members a ≡ Members b → a ≡ b
+same-members a b e = cc e
+
+module _ {D : Type 0} (answers : Answering D) where
+  -- nothing is asked
+  pub comes-alone : (M : D) (leads : Leads) (o : Outcome) → leads [] o → Comes answers M leads o M
+  comes-alone M leads o h = ([], h, refl)
+
+  -- one request, and then what follows its outcome
+  pub comes-asked : (M K N : D) (q r : Request) (first : Outcome) (next : Outcome → Leads) (o : Outcome) → q ≡ r → answers M q first K → Comes answers K (next first) o N → Comes answers M (asks r next) o N
+  unfolding asks
+  comes-asked M K N q r first next o same a (es, h, later) = (exchange q first ∷ es, (same, h), (K, a, later))
+
+  -- or snd memory is left
+  pub comes-or : (M N : D) (leads : Leads) (o : Outcome) → Comes answers M leads o N → Comes answers M (or_memory leads) o N
+  unfolding or_memory
+  comes-or M N leads o (es, h, later) = (es, inl h, later)
+
+  pub comes-starved : (M : D) (leads : Leads) → Comes answers M (or_memory leads) (Err Memory) M
+  unfolding or_memory
+  comes-starved M leads = ([], inr (refl, refl), refl)
+
+  -- what is read is in form
+  pub comes-read : {A : Type 0} (M N : D) (reads : Reading A) (next : A → Leads) (a : A) (o : Outcome) → reads (Ok a) → Comes answers M (next a) o N → Comes answers M (reading reads next) o N
+  unfolding reading
+  comes-read M N reads next a o r (es, h, later) = (es, inl (a, r, h), later)
+
+  -- what is read isn't in form
+  pub comes-stopped : {A : Type 0} (M : D) (reads : Reading A) (next : A → Leads) (s : Stop) (o : Outcome) → reads (Err s) → o ≡ stopped s → Comes answers M (reading reads next) o M
+  unfolding reading
+  comes-stopped M reads next s o r e = ([], inr (s, r, (refl, e)), refl)
+
+  -- what the registry answered isn't a refusal or a fault
+  pub comes-on : (M N : D) (next : Leads) (c o : Outcome) → is_stop c ≡ false → Comes answers M next o N → Comes answers M (unless_stopped next c) o N
+  comes-on M N next c o e (es, h, later) = (es, rw e h, later)
+
+  -- it is one
+  pub comes-stop : (M : D) (next : Leads) (c : Outcome) → is_stop c ≡ true → Comes answers M (unless_stopped next c) c M
+  comes-stop M next c e = ([], rw e (refl, refl), refl)
+
+  -- the first where a test holds, and otherwise the second
+  pub comes-either : (M N : D) (b : Bool) (this other : Leads) (o : Outcome) → b ≡ true → Comes answers M this o N → Comes answers M (either b this other) o N
+  comes-either M N b this other o e (es, h, later) = (es, rw e h, later)
+
+  pub comes-or_else : (M N : D) (b : Bool) (this other : Leads) (o : Outcome) → b ≡ false → Comes answers M other o N → Comes answers M (either b this other) o N
+  comes-or_else M N b this other o e (es, h, later) = (es, rw e h, later)
+
+  pub comes-ended : (M : D) (c : Outcome) → Comes answers M (ends c) c M
+  comes-ended M c = ([], (refl, refl), refl)
+
+  -- a test that memory may be lacking for
+  pub comes-tested : (M N : D) (b : Bool) (made : Result Bool Fault) (this other : Leads) (o : Outcome) → IfOk made (λ x. x ≡ b) → MatchResult made (λ x. Comes answers M (either x this other) o N) (λ f. (o ≡ Err Memory) × (N ≡ M))
+      → Comes answers M (or_memory (either b this other)) o N
+  comes-tested M N b (Ok x) this other o e h = comes-or M N (either b this other) o (rw (← e) h)
+  comes-tested M N b (Err f) this other o e h = rw (h.0, h.1) (comes-starved M (either b this other))

@@ -1,0 +1,494 @@
+-- Why the laws of npm's dialect hold.
+use Rattle.std.proofs.Common.{◌≡◌, ◌≤◌, ◌+◌, ◌∷◌, ◌⊎◌, [], ℕ, Bool, true, false, List, Option, Some, None, Ok, Err, option_map, option_and_then, is_some, refl, sym, ap, ◌∙◌, inl, inr, arith}
+use Rattle.std.specs.Prelude.{if◌then◌else◌}
+use Rattle.std.proofs.lemmas.Bool.{cases_Bool}
+use Rattle.registry_access.specs.declared.role.Role.{Role}
+use Rattle.registry_names.specs.Names.{scope_of}
+use Rattle.registry_names.specs.Texts.{Text}
+use Rattle.registry_names.specs.declared.method.Method.{Method}
+use Rattle.registry_names.specs.declared.refusal.Refusal.TheVariants.{NotFound, NotServed}
+use Rattle.registry_names.specs.declared.stop.Fault.{Fault}
+use Rattle.registry_names.specs.declared.stop.Stop.{Stop}
+use Rattle.registry_routes.specs.NpmLaws.{TablesMeet, endpoint_of, met}
+use Rattle.registry_routes.specs.NpmRoutes.{NpmRoute, npm_route_of}
+use Rattle.registry_routes.specs.Routes.{Route, Values, route_of}
+use Rattle.registry_routes.specs.declared.endpoint.Endpoint.{Endpoint}
+use Rattle.registry_routes.specs.declared.npm_endpoint.NpmEndpoint.{NpmEndpoint}
+use Rattle.registry_routes.specs.declared.npm_endpoint.NpmEndpoint.TheVariants as by
+use Rattle.registry_rules.specs.Actions.{is_command}
+use Rattle.registry_rules.specs.declared.reply.Reply.{Reply}
+use Rattle.registry_rules.specs.declared.reply.Reply.TheVariants.{Refused}
+use Rattle.registry_rules.specs.declared.request.Action.{Action}
+use Rattle.registry_rules.specs.declared.request.Action.TheVariants.{OrgSet, Maintainers, Members, MyPackages, Tags, Teams, WhoAmI}
+use Rattle.registry_rules.specs.declared.request.Credential.{Credential}
+use Rattle.registry_rules.specs.declared.request.Credential.TheVariants.{Anonymous}
+use Rattle.registry_rules.specs.declared.request.Request.{Request}
+use Rattle.registry_service.specs.Callers.{reads_caller}
+use Rattle.registry_service.specs.HttpAnswers.{Outcome}
+use Rattle.registry_service.specs.Readings.{Reading, one, reads_ident, reads_name}
+use Rattle.registry_service.specs.Requests.{reads_request}
+use Rattle.registry_service.specs.Turns.{Exchange, exchange, profile, stopped}
+use Rattle.registry_wire.specs.declared.wanted.Wanted.{Wanted}
+use Rattle.registry_npm.specs.Asked.{reads_first, reads_member, reads_user}
+use Rattle.registry_npm.specs.Bodies.{begins_object}
+use Rattle.registry_npm.specs.Forms.{empty_text, grants_form, membership_form, profile_form, teams_form, user_text, visibility_text, writers_form}
+use Rattle.registry_npm.specs.Laws.{CameTo, FaultsEnd, FilesAreGone, NpmIsApart, OneCommand, OthersStay, StopAtFaults, StopsAtFault, command_count, commands, is_file_drop, is_npms_by}
+use Rattle.registry_npm.specs.Leading.{Leads, asks, document_of, either, ends, in_form, is_refused, is_stop, or_memory, reading, request, shown_as, shows, unless_stopped}
+use Rattle.registry_npm.specs.Npm.{asks_action, asks_first, asks_nobody, asks_own, asks_role, asks_size, by_caller, follows, is_npms, is_user, leads, not_served, npm, sets_member, shows_own, shows_public, shows_teams, shows_user, shows_visibility, shows_writers, speaks_by}
+
+-- ---- of either
+
+either-of : (P : Leads → Type 0) (b : Bool) (fst snd : Leads) → P fst → P snd → P (either b fst snd)
+either-of P true fst snd y n = y
+either-of P false fst snd y n = n
+
+either-no : (b : Bool) (fst snd : Leads) (es : List Exchange) (o : Outcome) → b ≡ false → (either b fst snd es o → snd es o) × (snd es o → either b fst snd es o)
+either-no true fst snd es o e = absurd (cc)
+either-no false fst snd es o e = (λ h. h, λ h. h)
+
+pub either-yes : (b : Bool) (fst snd : Leads) (es : List Exchange) (o : Outcome) → b ≡ true → either b fst snd es o → fst es o
+either-yes true fst snd es o e h = h
+either-yes false fst snd es o e h = absurd (cc)
+
+-- ---- others stay
+
+pub stays-by : (r : Option NpmRoute) (w : Wanted) (at : ℕ) (es : List Exchange) (o : Outcome) → is_npms_by r w.body ≡ false → (speaks_by r w at es o → profile w at es o) × (profile w at es o → speaks_by r w at es o)
+stays-by None w at es o e = (λ h. h, λ h. h)
+stays-by (Some r) w at es o e = either-no (is_npms r.endpoint w.body) (leads r.endpoint r.values w at) (profile w at) es o e
+
+pub others-stay : OthersStay
+others-stay w at es o e = stays-by (npm_route_of w.method w.target) w at es o e
+
+-- ---- how many commands
+
+abbrev Few : ℕ → Leads → Type 0
+Few n leading = (es : List Exchange) (o : Outcome) → leading es o → commands es ≤ n
+
+few-ends : (n : ℕ) (c : Outcome) → Few n (ends c)
+few-ends n c es o h = rw h.0 (omega arith)
+
+few-shows : (n : ℕ) (t : Text) → Few n (shows t)
+few-shows n t es o h = rw h.0 (omega arith)
+
+abbrev cost : Action → ℕ
+cost what = if is_command what then 1 else 0
+
+cost-one : (what : Action) → cost what ≤ 1
+cost-one what = elim (cases_Bool (is_command what)) [
+  | inl y ↦ rw y (omega arith)
+  | inr n ↦ rw n (omega arith)
+]
+
+few-asks : (k n : ℕ) (r : Request) (next : Outcome → Leads) → cost r.what ≤ k → ((c : Outcome) → Few n (next c)) → Few (k + n) (asks r next)
+unfolding asks
+few-asks k n r next low f [] o h = absurd h
+few-asks k n r next low f (e ∷ es) o h =
+    let same : command_count e ≡ cost r.what = ap (λ (q : Request). cost q.what) h.0 in
+    let later : commands es ≤ n = f e.outcome es o h.1 in
+    omega (arith, same, later, low)
+
+few-reading : {A : Type 0} (n : ℕ) (reads : Reading A) (next : A → Leads) → ((a : A) → reads (Ok a) → Few n (next a)) → Few n (reading reads next)
+unfolding reading
+few-reading n reads next f es o (inl (a, r, h)) = f a r es o h
+few-reading n reads next f es o (inr (s, r, h)) = rw h.0 (omega arith)
+
+few-unless : (n : ℕ) (next : Leads) (c : Outcome) → Few n next → Few n (unless_stopped next c)
+few-unless n next c f = either-of (Few n) (is_stop c) (ends c) next (few-ends n c) f
+
+few-or_memory : (n : ℕ) (leading : Leads) → Few n leading → Few n (or_memory leading)
+unfolding or_memory
+few-or_memory n leading f es o (inl h) = f es o h
+few-or_memory n leading f es o (inr h) = rw h.0 (omega arith)
+
+few-in_form : (form : Text → Option Text) (t : Option Text) (c : Outcome) → Few 0 (in_form form t c)
+few-in_form form None c = few-ends 0 c
+few-in_form form (Some t) c = few-shows 0 _
+
+few-shown : (form : Text → Option Text) (c : Outcome) → Few 0 (shown_as form c)
+few-shown form c = few-in_form form (document_of c) c
+
+few-public : (c : Outcome) → Few 0 (shows_public c)
+few-public (Err fault) = few-ends 0 (Err fault)
+few-public (Ok reply) = few-shows 0 _
+
+few-not_served : (c : Outcome) → Few 0 (not_served c)
+few-not_served c = few-unless 0 (ends (Ok (Refused NotServed))) c (few-ends 0 (Ok (Refused NotServed)))
+
+few-either : (b : Bool) (c : Outcome) → Few 0 (either b not_served (shown_as writers_form) c)
+few-either true c = few-not_served c
+few-either false c = few-shown writers_form c
+
+few-visibility : (p : Text) (w : Wanted) (at : ℕ) → Few 1 (shows_visibility p w at)
+few-visibility p w at = few-reading 1 (reads_caller w.authorization) _ (λ who _. few-asks 0 1 (request at who (Tags p)) _ (omega arith)
+    (λ c. few-unless 1 (asks_nobody (Tags p) at) c (few-asks 1 0 (request at Anonymous (Tags p)) shows_public (omega arith) few-public)))
+
+few-writers : (p : Text) (w : Wanted) (at : ℕ) → Few 1 (shows_writers p w at)
+few-writers p w at = few-reading 1 (reads_caller w.authorization) _ (λ who _. few-asks 1 0 (request at who (Maintainers p)) _ (omega arith) (few-either (is_some (scope_of p))))
+
+few-teams : (o : Text) (w : Wanted) (at : ℕ) → Few 1 (shows_teams o w at)
+few-teams o w at = few-reading 1 (reads_caller w.authorization) _ (λ who _. few-asks 1 0 (request at who (Teams o)) _ (omega arith) (few-shown (teams_form o)))
+
+few-member : (o u : Text) (role : Role) (w : Wanted) (at : ℕ) → Few 1 (sets_member o u role w at)
+few-member o u role w at = few-reading 1 (reads_caller w.authorization) _ (λ who _. few-or_memory 1 (asks_role o u role at who) (few-asks 1 0 (request at who (OrgSet o u role)) _ (omega arith)
+    (λ c. few-unless 0 (asks_size o u role who at) c (few-asks 0 0 (request at who (Members o)) _ (omega arith) (few-shown (membership_form o u role))))))
+
+few-user : (u : Text) (w : Wanted) (at : ℕ) → Few 1 (shows_user u w at)
+few-user u w at = few-reading 1 (reads_caller w.authorization) _ (λ who _. few-asks 1 0 (request at who WhoAmI) _ (omega arith) (λ c. few-unless 0 (shows (user_text u)) c (few-shows 0 (user_text u))))
+
+few-asks_own : (u : Text) (at : ℕ) (who : Credential) (c : Outcome) → Few 0 (asks_own u at who c)
+few-asks_own u at who c = few-unless 0 _ c (few-or_memory 0 _ (either-of (Few 0) (is_user u c) _ _ (few-asks 0 0 (request at who MyPackages) ends (omega arith) (few-ends 0)) (few-ends 0 (Ok (Refused NotFound)))))
+
+few-own : (u : Text) (w : Wanted) (at : ℕ) → Few 1 (shows_own u w at)
+few-own u w at = few-reading 1 (reads_caller w.authorization) _ (λ who _. few-asks 1 0 (request at who WhoAmI) _ (omega arith) (few-asks_own u at who))
+
+few-follows : (e : NpmEndpoint) (c : Outcome) → Few 0 (follows e c)
+few-follows by.Packument c = few-ends 0 c
+few-follows by.Document c = few-ends 0 c
+few-follows by.Revised c = few-ends 0 c
+few-follows by.Unpublish c = few-ends 0 c
+few-follows by.FileDrop c = few-not_served c
+few-follows by.ScopedFileDrop c = few-not_served c
+few-follows by.Visibility c = few-ends 0 c
+few-follows by.SetAccess c = few-ends 0 c
+few-follows by.Collaborators c = few-ends 0 c
+few-follows by.OrgPackages c = few-ends 0 c
+few-follows by.UserPackages c = few-ends 0 c
+few-follows by.Members c = few-ends 0 c
+few-follows by.OrgSet c = few-ends 0 c
+few-follows by.OrgRemove c = few-ends 0 c
+few-follows by.Teams c = few-ends 0 c
+few-follows by.TeamCreate c = few-ends 0 c
+few-follows by.TeamMembers c = few-ends 0 c
+few-follows by.TeamAdd c = few-ends 0 c
+few-follows by.TeamRemove c = few-ends 0 c
+few-follows by.TeamPackages c = few-shown grants_form c
+few-follows by.Grant c = few-ends 0 c
+few-follows by.Revoke c = few-ends 0 c
+few-follows by.WhoAmI c = few-ends 0 c
+few-follows by.Profile c = few-shown profile_form c
+few-follows by.User c = few-ends 0 c
+few-follows by.Logout c = few-ends 0 c
+few-follows by.Ping c = few-ends 0 c
+few-follows by.NotServed c = few-ends 0 c
+
+few-first : (e : NpmEndpoint) (v : Values) (w : Wanted) (at : ℕ) → Few 1 (asks_first e v w at)
+few-first e v w at = few-reading 1 (reads_first e v w.body) _ (λ what _. few-reading 1 (reads_caller w.authorization) _ (λ who _. few-asks 1 0 (request at who what) (follows e) (cost-one what) (few-follows e)))
+
+few-leads : (e : NpmEndpoint) (v : Values) (w : Wanted) (at : ℕ) → Few 1 (leads e v w at)
+few-leads by.Packument v w at = few-first by.Packument v w at
+few-leads by.Document v w at = few-first by.Document v w at
+few-leads by.Revised v w at = few-first by.Revised v w at
+few-leads by.Unpublish v w at = few-first by.Unpublish v w at
+few-leads by.FileDrop v w at = few-first by.FileDrop v w at
+few-leads by.ScopedFileDrop v w at = few-first by.ScopedFileDrop v w at
+few-leads by.Visibility v w at = few-reading 1 (one reads_name v) (λ p. shows_visibility p w at) (λ p _. few-visibility p w at)
+few-leads by.SetAccess v w at = few-first by.SetAccess v w at
+few-leads by.Collaborators v w at = few-reading 1 (one reads_name v) (λ p. shows_writers p w at) (λ p _. few-writers p w at)
+few-leads by.OrgPackages v w at = few-first by.OrgPackages v w at
+few-leads by.UserPackages v w at = few-reading 1 (one reads_ident v) (λ u. shows_own u w at) (λ u _. few-own u w at)
+few-leads by.Members v w at = few-first by.Members v w at
+few-leads by.OrgSet v w at = few-reading 1 (reads_member v w.body) (λ m. sets_member m.0 m.1 m.2 w at) (λ m _. few-member m.0 m.1 m.2 w at)
+few-leads by.OrgRemove v w at = few-first by.OrgRemove v w at
+few-leads by.Teams v w at = few-reading 1 (one reads_ident v) (λ o. shows_teams o w at) (λ o _. few-teams o w at)
+few-leads by.TeamCreate v w at = few-first by.TeamCreate v w at
+few-leads by.TeamMembers v w at = few-first by.TeamMembers v w at
+few-leads by.TeamAdd v w at = few-first by.TeamAdd v w at
+few-leads by.TeamRemove v w at = few-first by.TeamRemove v w at
+few-leads by.TeamPackages v w at = few-first by.TeamPackages v w at
+few-leads by.Grant v w at = few-first by.Grant v w at
+few-leads by.Revoke v w at = few-first by.Revoke v w at
+few-leads by.WhoAmI v w at = few-first by.WhoAmI v w at
+few-leads by.Profile v w at = few-first by.Profile v w at
+few-leads by.User v w at = few-reading 1 (one reads_user v) (λ u. shows_user u w at) (λ u _. few-user u w at)
+few-leads by.Logout v w at = few-first by.Logout v w at
+few-leads by.Ping v w at = few-shows 1 empty_text
+few-leads by.NotServed v w at = few-ends 1 (Ok (Refused NotServed))
+
+few-profile : (w : Wanted) (at : ℕ) → Few 1 (profile w at)
+few-profile w at es o (inl (r, is, same)) = rw same (let one = cost-one r.what in omega (arith, one))
+few-profile w at es o (inr (s, is, none, same)) = rw none (omega arith)
+
+few-by : (r : Option NpmRoute) (w : Wanted) (at : ℕ) → Few 1 (speaks_by r w at)
+few-by None w at = few-profile w at
+few-by (Some r) w at = either-of (Few 1) (is_npms r.endpoint w.body) (leads r.endpoint r.values w at) (profile w at) (few-leads r.endpoint r.values w at) (few-profile w at)
+
+pub one-command : OneCommand npm
+one-command w at es o h = few-by (npm_route_of w.method w.target) w at es o h
+
+-- ---- a fault is the last
+
+abbrev Stops : Leads → Type 0
+Stops leading = (es : List Exchange) (o : Outcome) → leading es o → StopAtFaults es o
+
+-- what follows an outcome stops at faults, and follows no fault
+record Stops-after (next : Outcome → Leads) : Type 0 where
+  later : (c : Outcome) → Stops (next c)
+  at_fault : (f : Fault) (es : List Exchange) (o : Outcome) → next (Err f) es o → (es ≡ []) × (o ≡ Err f)
+
+stops-nothing : (es : List Exchange) (o : Outcome) → es ≡ [] → StopAtFaults es o
+stops-nothing es o e = rw e tt
+
+stops-ended : (c : Outcome) → Stops (ends c)
+stops-ended c es o h = stops-nothing es o h.0
+
+stops-ends : Stops-after ends
+stops-ends = record { later = stops-ended; at_fault = λ f es o h. h }
+
+stops-shows : (t : Text) → Stops (shows t)
+stops-shows t es o h = stops-nothing es o h.0
+
+stops-here : (c : Outcome) (next : Outcome → Leads) (es : List Exchange) (o : Outcome) → Stops-after next → next c es o → StopsAtFault c es o
+stops-here (Ok reply) next es o s h = tt
+stops-here (Err fault) next es o s h = s.at_fault fault es o h
+
+stops-asks : (r : Request) (next : Outcome → Leads) → Stops-after next → Stops (asks r next)
+unfolding asks
+stops-asks r next s [] o h = absurd h
+stops-asks r next s (e ∷ es) o h = (stops-here e.outcome next es o s h.1, s.later e.outcome es o h.1)
+
+stops-reading : {A : Type 0} (reads : Reading A) (next : A → Leads) → ((a : A) → reads (Ok a) → Stops (next a)) → Stops (reading reads next)
+unfolding reading
+stops-reading reads next f es o (inl (a, r, h)) = f a r es o h
+stops-reading reads next f es o (inr (s, r, h)) = stops-nothing es o h.0
+
+stops-unless : (next : Leads) → Stops next → Stops-after (unless_stopped next)
+stops-unless next s = record { later = λ c. either-of Stops (is_stop c) (ends c) next (stops-ended c) s; at_fault = λ f es o h. h }
+
+stops-or_memory : (leading : Leads) → Stops leading → Stops (or_memory leading)
+unfolding or_memory
+stops-or_memory leading f es o (inl h) = f es o h
+stops-or_memory leading f es o (inr h) = stops-nothing es o h.0
+
+stops-in_form : (form : Text → Option Text) (t : Option Text) (c : Outcome) → Stops (in_form form t c)
+stops-in_form form None c = stops-ended c
+stops-in_form form (Some t) c = stops-shows _
+
+stops-shown : (form : Text → Option Text) → Stops-after (shown_as form)
+stops-shown form = record { later = λ c. stops-in_form form (document_of c) c; at_fault = λ f es o h. h }
+
+stops-public_later : (c : Outcome) → Stops (shows_public c)
+stops-public_later (Err fault) = stops-ended (Err fault)
+stops-public_later (Ok reply) = stops-shows _
+
+stops-public : Stops-after shows_public
+stops-public = record { later = stops-public_later; at_fault = λ f es o h. h }
+
+stops-not_served : Stops-after not_served
+stops-not_served = stops-unless (ends (Ok (Refused NotServed))) (stops-ended (Ok (Refused NotServed)))
+
+stops-visibility : (p : Text) (w : Wanted) (at : ℕ) → Stops (shows_visibility p w at)
+stops-visibility p w at = stops-reading (reads_caller w.authorization) _ (λ who _. stops-asks (request at who (Tags p)) _
+    (stops-unless (asks_nobody (Tags p) at) (stops-asks (request at Anonymous (Tags p)) shows_public stops-public)))
+
+stops-either : (b : Bool) → Stops-after (either b not_served (shown_as writers_form))
+stops-either true = stops-not_served
+stops-either false = stops-shown writers_form
+
+stops-writers : (p : Text) (w : Wanted) (at : ℕ) → Stops (shows_writers p w at)
+stops-writers p w at = stops-reading (reads_caller w.authorization) _ (λ who _. stops-asks (request at who (Maintainers p)) _ (stops-either (is_some (scope_of p))))
+
+stops-teams : (o : Text) (w : Wanted) (at : ℕ) → Stops (shows_teams o w at)
+stops-teams o w at = stops-reading (reads_caller w.authorization) _ (λ who _. stops-asks (request at who (Teams o)) _ (stops-shown (teams_form o)))
+
+stops-member : (o u : Text) (role : Role) (w : Wanted) (at : ℕ) → Stops (sets_member o u role w at)
+stops-member o u role w at = stops-reading (reads_caller w.authorization) _ (λ who _. stops-or_memory (asks_role o u role at who) (stops-asks (request at who (OrgSet o u role)) _
+    (stops-unless (asks_size o u role who at) (stops-asks (request at who (Members o)) _ (stops-shown (membership_form o u role))))))
+
+stops-user : (u : Text) (w : Wanted) (at : ℕ) → Stops (shows_user u w at)
+stops-user u w at = stops-reading (reads_caller w.authorization) _ (λ who _. stops-asks (request at who WhoAmI) _ (stops-unless (shows (user_text u)) (stops-shows (user_text u))))
+
+stops-asks_own : (u : Text) (at : ℕ) (who : Credential) → Stops-after (asks_own u at who)
+stops-asks_own u at who = record {
+  later = λ c. either-of Stops (is_stop c) (ends c) _ (stops-ended c)
+      (stops-or_memory _ (either-of Stops (is_user u c) _ _ (stops-asks (request at who MyPackages) ends stops-ends) (stops-ended (Ok (Refused NotFound)))));
+  at_fault = λ f es o h. h;
+}
+
+stops-own : (u : Text) (w : Wanted) (at : ℕ) → Stops (shows_own u w at)
+stops-own u w at = stops-reading (reads_caller w.authorization) _ (λ who _. stops-asks (request at who WhoAmI) _ (stops-asks_own u at who))
+
+stops-follows : (e : NpmEndpoint) → Stops-after (follows e)
+stops-follows by.Packument = stops-ends
+stops-follows by.Document = stops-ends
+stops-follows by.Revised = stops-ends
+stops-follows by.Unpublish = stops-ends
+stops-follows by.FileDrop = stops-not_served
+stops-follows by.ScopedFileDrop = stops-not_served
+stops-follows by.Visibility = stops-ends
+stops-follows by.SetAccess = stops-ends
+stops-follows by.Collaborators = stops-ends
+stops-follows by.OrgPackages = stops-ends
+stops-follows by.UserPackages = stops-ends
+stops-follows by.Members = stops-ends
+stops-follows by.OrgSet = stops-ends
+stops-follows by.OrgRemove = stops-ends
+stops-follows by.Teams = stops-ends
+stops-follows by.TeamCreate = stops-ends
+stops-follows by.TeamMembers = stops-ends
+stops-follows by.TeamAdd = stops-ends
+stops-follows by.TeamRemove = stops-ends
+stops-follows by.TeamPackages = stops-shown grants_form
+stops-follows by.Grant = stops-ends
+stops-follows by.Revoke = stops-ends
+stops-follows by.WhoAmI = stops-ends
+stops-follows by.Profile = stops-shown profile_form
+stops-follows by.User = stops-ends
+stops-follows by.Logout = stops-ends
+stops-follows by.Ping = stops-ends
+stops-follows by.NotServed = stops-ends
+
+stops-first : (e : NpmEndpoint) (v : Values) (w : Wanted) (at : ℕ) → Stops (asks_first e v w at)
+stops-first e v w at = stops-reading (reads_first e v w.body) _ (λ what _. stops-reading (reads_caller w.authorization) _ (λ who _. stops-asks (request at who what) (follows e) (stops-follows e)))
+
+stops-leads : (e : NpmEndpoint) (v : Values) (w : Wanted) (at : ℕ) → Stops (leads e v w at)
+stops-leads by.Packument v w at = stops-first by.Packument v w at
+stops-leads by.Document v w at = stops-first by.Document v w at
+stops-leads by.Revised v w at = stops-first by.Revised v w at
+stops-leads by.Unpublish v w at = stops-first by.Unpublish v w at
+stops-leads by.FileDrop v w at = stops-first by.FileDrop v w at
+stops-leads by.ScopedFileDrop v w at = stops-first by.ScopedFileDrop v w at
+stops-leads by.Visibility v w at = stops-reading (one reads_name v) (λ p. shows_visibility p w at) (λ p _. stops-visibility p w at)
+stops-leads by.SetAccess v w at = stops-first by.SetAccess v w at
+stops-leads by.Collaborators v w at = stops-reading (one reads_name v) (λ p. shows_writers p w at) (λ p _. stops-writers p w at)
+stops-leads by.OrgPackages v w at = stops-first by.OrgPackages v w at
+stops-leads by.UserPackages v w at = stops-reading (one reads_ident v) (λ u. shows_own u w at) (λ u _. stops-own u w at)
+stops-leads by.Members v w at = stops-first by.Members v w at
+stops-leads by.OrgSet v w at = stops-reading (reads_member v w.body) (λ m. sets_member m.0 m.1 m.2 w at) (λ m _. stops-member m.0 m.1 m.2 w at)
+stops-leads by.OrgRemove v w at = stops-first by.OrgRemove v w at
+stops-leads by.Teams v w at = stops-reading (one reads_ident v) (λ o. shows_teams o w at) (λ o _. stops-teams o w at)
+stops-leads by.TeamCreate v w at = stops-first by.TeamCreate v w at
+stops-leads by.TeamMembers v w at = stops-first by.TeamMembers v w at
+stops-leads by.TeamAdd v w at = stops-first by.TeamAdd v w at
+stops-leads by.TeamRemove v w at = stops-first by.TeamRemove v w at
+stops-leads by.TeamPackages v w at = stops-first by.TeamPackages v w at
+stops-leads by.Grant v w at = stops-first by.Grant v w at
+stops-leads by.Revoke v w at = stops-first by.Revoke v w at
+stops-leads by.WhoAmI v w at = stops-first by.WhoAmI v w at
+stops-leads by.Profile v w at = stops-first by.Profile v w at
+stops-leads by.User v w at = stops-reading (one reads_user v) (λ u. shows_user u w at) (λ u _. stops-user u w at)
+stops-leads by.Logout v w at = stops-first by.Logout v w at
+stops-leads by.Ping v w at = stops-shows empty_text
+stops-leads by.NotServed v w at = stops-ended (Ok (Refused NotServed))
+
+stops-once : (r : Request) (c : Outcome) → StopAtFaults (exchange r c ∷ []) c
+stops-once r (Ok reply) = (tt, tt)
+stops-once r (Err fault) = ((refl, refl), tt)
+
+stops-profile : (w : Wanted) (at : ℕ) → Stops (profile w at)
+stops-profile w at es o (inl (r, is, same)) = rw same (stops-once r o)
+stops-profile w at es o (inr (s, is, none, same)) = stops-nothing es o none
+
+stops-by : (r : Option NpmRoute) (w : Wanted) (at : ℕ) → Stops (speaks_by r w at)
+stops-by None w at = stops-profile w at
+stops-by (Some r) w at = either-of Stops (is_npms r.endpoint w.body) (leads r.endpoint r.values w at) (profile w at) (stops-leads r.endpoint r.values w at) (stops-profile w at)
+
+pub faults-end : FaultsEnd npm
+faults-end w at es o h = stops-by (npm_route_of w.method w.target) w at es o h
+
+-- ---- npm's own are apart
+
+met-or_object : (e : NpmEndpoint) (body : Text) → is_npms e body ≡ true → (met e ≡ None) ⊎ (begins_object body ≡ true)
+met-or_object by.Packument body h = absurd (cc)
+met-or_object by.Document body h = absurd (cc)
+met-or_object by.Revised body h = inl refl
+met-or_object by.Unpublish body h = inl refl
+met-or_object by.FileDrop body h = inl refl
+met-or_object by.ScopedFileDrop body h = inl refl
+met-or_object by.Visibility body h = inl refl
+met-or_object by.SetAccess body h = inl refl
+met-or_object by.Collaborators body h = inl refl
+met-or_object by.OrgPackages body h = inl refl
+met-or_object by.UserPackages body h = inl refl
+met-or_object by.Members body h = inl refl
+met-or_object by.OrgSet body h = inr h
+met-or_object by.OrgRemove body h = inr h
+met-or_object by.Teams body h = inl refl
+met-or_object by.TeamCreate body h = inr h
+met-or_object by.TeamMembers body h = inl refl
+met-or_object by.TeamAdd body h = inr h
+met-or_object by.TeamRemove body h = inr h
+met-or_object by.TeamPackages body h = inl refl
+met-or_object by.Grant body h = inr h
+met-or_object by.Revoke body h = inr h
+met-or_object by.WhoAmI body h = inl refl
+met-or_object by.Profile body h = inl refl
+met-or_object by.User body h = inl refl
+met-or_object by.Logout body h = inl refl
+met-or_object by.Ping body h = inl refl
+met-or_object by.NotServed body h = inl refl
+
+no-endpoint : (o : Option Route) → option_map endpoint_of o ≡ None → o ≡ None
+no-endpoint None e = refl
+no-endpoint (Some r) e = absurd (cc)
+
+apart-by : (meet : TablesMeet) (m : Method) (target body : Text) (r : Option NpmRoute) → npm_route_of m target ≡ r → is_npms_by r body ≡ true → (route_of m target ≡ None) ⊎ (begins_object body ≡ true)
+apart-by meet m target body None e h = absurd (cc)
+apart-by meet m target body (Some r) e h = elim (met-or_object r.endpoint body h) [
+  | inl none ↦ inl (no-endpoint (route_of m target) (meet m target r e ∙ none))
+  | inr object ↦ inr object
+]
+
+pub npm-is_apart : TablesMeet → NpmIsApart
+npm-is_apart meet w h = apart-by meet w.method w.target w.body (npm_route_of w.method w.target) refl h
+
+-- ---- archives' files
+
+came-not_served : (c : Outcome) (es : List Exchange) → not_served c es (Ok (Refused NotFound)) → c ≡ Ok (Refused NotFound)
+came-not_served c es h = elim (cases_Bool (is_stop c)) [
+  | inl y ↦ let stop : ends c es (Ok (Refused NotFound)) = either-yes (is_stop c) (ends c) (ends (Ok (Refused NotServed))) es (Ok (Refused NotFound)) y h in sym stop.1
+  | inr n ↦ let other : ends (Ok (Refused NotServed)) es (Ok (Refused NotFound)) = (either-no (is_stop c) (ends c) (ends (Ok (Refused NotServed))) es (Ok (Refused NotFound)) n).0 h in absurd (cc)
+]
+
+came-asks : (r : Request) (es : List Exchange) → asks r not_served es (Ok (Refused NotFound)) → CameTo es (Ok (Refused NotFound))
+unfolding asks
+came-asks r [] h = tt
+came-asks r (e ∷ es) h = came-not_served e.outcome es h.1
+
+came-nothing : (es : List Exchange) (c : Outcome) → es ≡ [] → CameTo es c
+came-nothing es c e = rw e tt
+
+came-reading : {A : Type 0} (reads : Reading A) (next : A → Leads) → ((a : A) (es : List Exchange) → next a es (Ok (Refused NotFound)) → CameTo es (Ok (Refused NotFound)))
+    → (es : List Exchange) → reading reads next es (Ok (Refused NotFound)) → CameTo es (Ok (Refused NotFound))
+unfolding reading
+came-reading reads next f es (inl (a, r, h)) = f a es h
+came-reading reads next f es (inr (s, r, h)) = came-nothing es _ h.0
+
+came-file : (e : NpmEndpoint) (v : Values) (w : Wanted) (at : ℕ) (es : List Exchange) → reading (reads_first e v w.body) (λ what. by_caller w (λ who. asks (request at who what) not_served)) es (Ok (Refused NotFound)) → CameTo es (Ok (Refused NotFound))
+came-file e v w at es h = came-reading (reads_first e v w.body) (λ what. by_caller w (λ who. asks (request at who what) not_served)) (λ what es2 h2. came-reading (reads_caller w.authorization) (λ who. asks (request at who what) not_served) (λ who es3 h3. came-asks (request at who what) es3 h3) es2 h2) es h
+
+gone-by : (e : NpmEndpoint) (v : Values) (w : Wanted) (at : ℕ) (es : List Exchange) → is_file_drop e ≡ true → either (is_npms e w.body) (leads e v w at) (profile w at) es (Ok (Refused NotFound)) → CameTo es (Ok (Refused NotFound))
+gone-by by.Packument v w at es d h = absurd (cc)
+gone-by by.Document v w at es d h = absurd (cc)
+gone-by by.Revised v w at es d h = absurd (cc)
+gone-by by.Unpublish v w at es d h = absurd (cc)
+gone-by by.FileDrop v w at es d h = came-file by.FileDrop v w at es h
+gone-by by.ScopedFileDrop v w at es d h = came-file by.ScopedFileDrop v w at es h
+gone-by by.Visibility v w at es d h = absurd (cc)
+gone-by by.SetAccess v w at es d h = absurd (cc)
+gone-by by.Collaborators v w at es d h = absurd (cc)
+gone-by by.OrgPackages v w at es d h = absurd (cc)
+gone-by by.UserPackages v w at es d h = absurd (cc)
+gone-by by.Members v w at es d h = absurd (cc)
+gone-by by.OrgSet v w at es d h = absurd (cc)
+gone-by by.OrgRemove v w at es d h = absurd (cc)
+gone-by by.Teams v w at es d h = absurd (cc)
+gone-by by.TeamCreate v w at es d h = absurd (cc)
+gone-by by.TeamMembers v w at es d h = absurd (cc)
+gone-by by.TeamAdd v w at es d h = absurd (cc)
+gone-by by.TeamRemove v w at es d h = absurd (cc)
+gone-by by.TeamPackages v w at es d h = absurd (cc)
+gone-by by.Grant v w at es d h = absurd (cc)
+gone-by by.Revoke v w at es d h = absurd (cc)
+gone-by by.WhoAmI v w at es d h = absurd (cc)
+gone-by by.Profile v w at es d h = absurd (cc)
+gone-by by.User v w at es d h = absurd (cc)
+gone-by by.Logout v w at es d h = absurd (cc)
+gone-by by.Ping v w at es d h = absurd (cc)
+gone-by by.NotServed v w at es d h = absurd (cc)
+
+gone-found : (x : Option NpmRoute) (r : NpmRoute) (w : Wanted) (at : ℕ) (es : List Exchange) → x ≡ Some r → is_file_drop r.endpoint ≡ true → speaks_by x w at es (Ok (Refused NotFound)) → CameTo es (Ok (Refused NotFound))
+gone-found None r w at es e d h = absurd (cc)
+gone-found (Some x) r w at es e d h = let same : x ≡ r = cc in gone-by x.endpoint x.values w at es (ap (λ (y : NpmRoute). is_file_drop y.endpoint) same ∙ d) h
+
+pub files-are_gone : FilesAreGone
+files-are_gone w at es r found drop h = gone-found (npm_route_of w.method w.target) r w at es found drop h

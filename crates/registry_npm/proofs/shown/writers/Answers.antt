@@ -1,0 +1,9 @@
+use Rattle.registry_npm.specs.Forms.{writers_form}
+use Rattle.registry_npm.proofs.ShownFacts.{shown_formed, shown_other}
+use Rattle.registry_npm.proofs.shown.writers.Goals as goal
+
+pub returns-in-Ok : goal.returns-in-Ok
+returns-in-Ok c = shown_formed writers_form _ c.in-Ok.text _ _ c.in-Ok.ensures (rw c.as_str.ensures.text at c.writers-form.ensures.ok) c.formed.ensures
+
+pub returns-in-Err : goal.returns-in-Err
+returns-in-Err c = shown_other writers_form _ _ c.in-Err.ensures.0 c.in-Err.ensures.1

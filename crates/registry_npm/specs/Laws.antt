@@ -1,0 +1,79 @@
+-- What holds of the dialect of npm's own requests: the laws that the functions of `src/laws.rt` ensure.
+use Rattle.std.specs.Prelude.{◌≡◌, ◌≤◌, ◌+◌, ◌∷◌, ◌⊎◌, [], ℕ, Bool, true, false, List, Option, Some, None, Ok, Err, option_map, unwrap_or, if◌then◌else◌}
+use Rattle.registry_names.specs.Texts.{Text}
+use Rattle.registry_names.specs.declared.refusal.Refusal.TheVariants.{NotFound}
+use Rattle.registry_routes.specs.Files.{IsFileOf}
+use Rattle.registry_routes.specs.NpmRoutes.{NpmRoute, npm_route_of}
+use Rattle.registry_routes.specs.Routes.{route_of}
+use Rattle.registry_routes.specs.declared.npm_endpoint.NpmEndpoint.{NpmEndpoint}
+use Rattle.registry_routes.specs.declared.npm_endpoint.NpmEndpoint.TheVariants as by
+use Rattle.registry_rules.specs.Actions.{is_command}
+use Rattle.registry_rules.specs.declared.reply.Reply.TheVariants.{Refused}
+use Rattle.registry_rules.specs.declared.request.Request.{Request}
+use Rattle.registry_service.specs.HttpAnswers.{Outcome}
+use Rattle.registry_service.specs.Turns.{Dialect, Exchange, profile}
+use Rattle.registry_wire.specs.declared.wanted.Wanted.{Wanted}
+use Rattle.registry_npm.specs.Bodies.{begins_object}
+use Rattle.registry_npm.specs.Npm.{is_npms, npm}
+
+-- ---- which requests are npm's own
+
+abbrev pub is_npms_by : Option NpmRoute → Text → Bool
+is_npms_by None body = false
+is_npms_by (Some r) body = is_npms r.endpoint body
+
+-- the request is npm's own
+abbrev pub is_npm : Wanted → Bool
+is_npm w = is_npms_by (npm_route_of w.method w.target) w.body
+
+-- any other request means what it means without npm's routes
+abbrev pub OthersStay : Type 0
+OthersStay = (w : Wanted) (at : ℕ) (es : List Exchange) (o : Outcome) → is_npm w ≡ false → (npm w at es o → profile w at es o) × (profile w at es o → npm w at es o)
+
+-- a request of npm's own has no route without npm's, or a body that begins as an object does
+abbrev pub NpmIsApart : Type 0
+NpmIsApart = (w : Wanted) → is_npm w ≡ true → (route_of w.method w.target ≡ None) ⊎ (begins_object w.body ≡ true)
+
+-- ---- what is asked in a turn
+
+abbrev pub command_count : Exchange → ℕ
+command_count e = if is_command e.asked.what then 1 else 0
+
+abbrev pub commands : List Exchange → ℕ
+commands [] = 0
+commands (e ∷ es) = command_count e + commands es
+
+-- a turn asks for one command at most
+abbrev pub OneCommand : Dialect → Type 0
+OneCommand speaks = (w : Wanted) (at : ℕ) (es : List Exchange) (o : Outcome) → speaks w at es o → commands es ≤ 1
+
+-- after a fault nothing more is asked, and it is the answer
+abbrev pub StopsAtFault : Outcome → List Exchange → Outcome → Type 0
+StopsAtFault (Ok reply) es o = Unit {0}
+StopsAtFault (Err fault) es o = (es ≡ []) × (o ≡ Err fault)
+
+abbrev pub StopAtFaults : List Exchange → Outcome → Type 0
+StopAtFaults [] o = Unit {0}
+StopAtFaults (e ∷ es) o = StopsAtFault e.outcome es o × StopAtFaults es o
+
+-- a fault of what is asked ends a turn, which answers it
+abbrev pub FaultsEnd : Dialect → Type 0
+FaultsEnd speaks = (w : Wanted) (at : ℕ) (es : List Exchange) (o : Outcome) → speaks w at es o → StopAtFaults es o
+
+-- ---- what npm takes for success
+
+abbrev pub is_file_drop : NpmEndpoint → Bool
+is_file_drop by.FileDrop = true
+is_file_drop by.ScopedFileDrop = true
+is_file_drop _ = false
+
+-- the first of what was asked came to this
+abbrev pub CameTo : List Exchange → Outcome → Type 0
+CameTo [] o = Unit {0}
+CameTo (e ∷ es) o = e.outcome ≡ o
+
+-- Where the deletion of an archive's file is answered by NotFound, that is what the registry answers of
+-- the version's document, if the file is one of the package
+abbrev pub FilesAreGone : Type 0
+FilesAreGone = (w : Wanted) (at : ℕ) (es : List Exchange) (r : NpmRoute) → npm_route_of w.method w.target ≡ Some r → is_file_drop r.endpoint ≡ true
+    → npm w at es (Ok (Refused NotFound)) → CameTo es (Ok (Refused NotFound))

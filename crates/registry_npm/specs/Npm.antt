@@ -1,0 +1,143 @@
+-- The dialect of npm's own requests.
+use Rattle.std.specs.Prelude.{◌≡◌, ◌||◌, ℕ, not, Bool, true, false, List, bytes_eq, is_some, option_map, unwrap_or, Option, Some, None, Ok, Err}
+use Rattle.registry_access.specs.declared.role.Role.{Role}
+use Rattle.registry_names.specs.Names.{scope_of}
+use Rattle.registry_names.specs.Texts.{Text}
+use Rattle.registry_names.specs.declared.refusal.Refusal.TheVariants.{NotFound, NotServed}
+use Rattle.registry_packument.specs.Lists.{username_text}
+use Rattle.registry_routes.specs.NpmRoutes.{NpmRoute, npm_route_of}
+use Rattle.registry_routes.specs.Routes.{Values}
+use Rattle.registry_routes.specs.declared.npm_endpoint.NpmEndpoint.{NpmEndpoint}
+use Rattle.registry_routes.specs.declared.npm_endpoint.NpmEndpoint.TheVariants as by
+use Rattle.registry_rules.specs.declared.reply.Reply.TheVariants.{Refused}
+use Rattle.registry_rules.specs.declared.request.Action.{Action}
+use Rattle.registry_rules.specs.declared.request.Action.TheVariants.{OrgSet, Maintainers, Members, MyPackages, Tags, Teams, WhoAmI}
+use Rattle.registry_rules.specs.declared.request.Credential.TheVariants.{Anonymous}
+use Rattle.registry_rules.specs.declared.request.Credential.{Credential}
+use Rattle.registry_service.specs.Callers.{reads_caller}
+use Rattle.registry_service.specs.HttpAnswers.{Outcome}
+use Rattle.registry_service.specs.Readings.{one, reads_ident, reads_name}
+use Rattle.registry_service.specs.Turns.{Dialect, Exchange, profile}
+use Rattle.registry_wire.specs.declared.wanted.Wanted.{Wanted}
+use Rattle.registry_npm.specs.Asked.{reads_first, reads_member, reads_user}
+use Rattle.registry_npm.specs.Bodies.{begins_object}
+use Rattle.registry_npm.specs.Forms.{empty_text, grants_form, membership_form, profile_form, teams_form, user_text, visibility_text, writers_form}
+use Rattle.registry_npm.specs.Leading.{Leads, asks, document_of, either, ends, is_refused, or_memory, reading, request, shown_as, shows, unless_stopped}
+
+-- ---- after the first request
+
+-- that this isn't served, where the registry answers
+abbrev pub not_served : Outcome → Leads
+not_served = unless_stopped (ends (Ok (Refused NotServed)))
+
+-- What follows the outcome of the first request. By most routes it is the answer. The archive of a
+-- live version isn't deleted by itself
+abbrev pub follows : NpmEndpoint → Outcome → Leads
+follows by.FileDrop = not_served
+follows by.ScopedFileDrop = not_served
+follows by.TeamPackages = shown_as grants_form
+follows by.Profile = shown_as profile_form
+follows _ = ends
+
+-- by the caller of a request
+abbrev pub by_caller : Wanted → (Credential → Leads) → Leads
+by_caller w next = reading (reads_caller w.authorization) next
+
+-- ---- packages
+
+-- whether nobody, too, is told of the package
+abbrev pub shows_public : Outcome → Leads
+shows_public (Err fault) = ends (Err fault)
+shows_public (Ok reply) = shows (visibility_text (not (is_refused reply)))
+
+-- the same, asked as nobody
+abbrev pub asks_nobody : Action → ℕ → Leads
+asks_nobody what at = asks (request at Anonymous what) shows_public
+
+-- what is told of the package to the caller, and then to nobody
+abbrev pub shows_visibility : Text → Wanted → ℕ → Leads
+shows_visibility p w at = by_caller w (λ who. asks (request at who (Tags p)) (unless_stopped (asks_nobody (Tags p) at)))
+
+-- the maintainers of a package that has no scope
+abbrev pub shows_writers : Text → Wanted → ℕ → Leads
+shows_writers p w at = by_caller w (λ who. asks (request at who (Maintainers p)) (either (is_some (scope_of p)) not_served (shown_as writers_form)))
+
+-- ---- organisations
+
+-- the teams of an organisation
+abbrev pub shows_teams : Text → Wanted → ℕ → Leads
+shows_teams o w at = by_caller w (λ who. asks (request at who (Teams o)) (shown_as (teams_form o)))
+
+-- the members of an organisation, of which one and the size are shown
+abbrev pub asks_size : Text → Text → Role → Credential → ℕ → Leads
+asks_size o u role who at = asks (request at who (Members o)) (shown_as (membership_form o u role))
+
+-- to give a user a role in an organisation, and then its size
+abbrev pub asks_role : Text → Text → Role → ℕ → Credential → Leads
+asks_role o u role at who = asks (request at who (OrgSet o u role)) (unless_stopped (asks_size o u role who at))
+
+abbrev pub sets_member : Text → Text → Role → Wanted → ℕ → Leads
+sets_member o u role w at = by_caller w (λ who. or_memory (asks_role o u role at who))
+
+-- ---- users
+
+-- the document of a user, for any user who asks. It doesn't tell whether there is such a user
+abbrev pub shows_user : Text → Wanted → ℕ → Leads
+shows_user u w at = by_caller w (λ who. asks (request at who WhoAmI) (unless_stopped (shows (user_text u))))
+
+-- the outcome is the name of this user
+abbrev pub is_user : Text → Outcome → Bool
+is_user u o = unwrap_or (option_map (λ text. bytes_eq text (username_text u)) (document_of o)) false
+
+-- their packages, where the outcome is their name
+abbrev pub asks_own : Text → ℕ → Credential → Outcome → Leads
+asks_own u at who named = unless_stopped (or_memory (either (is_user u named) (asks (request at who MyPackages) ends) (ends (Ok (Refused NotFound))))) named
+
+-- the packages of a user, for that user alone
+abbrev pub shows_own : Text → Wanted → ℕ → Leads
+shows_own u w at = by_caller w (λ who. asks (request at who WhoAmI) (asks_own u at who))
+
+-- ---- the routes
+
+-- the first request, and what follows
+abbrev pub asks_action : NpmEndpoint → Action → Wanted → ℕ → Leads
+asks_action e what w at = by_caller w (λ who. asks (request at who what) (follows e))
+
+abbrev pub asks_first : NpmEndpoint → Values → Wanted → ℕ → Leads
+asks_first e v w at = reading (reads_first e v w.body) (λ what. asks_action e what w at)
+
+abbrev pub leads : NpmEndpoint → Values → Wanted → ℕ → Leads
+leads by.Ping v w at = shows empty_text
+leads by.NotServed v w at = ends (Ok (Refused NotServed))
+leads by.Visibility v w at = reading (one reads_name v) (λ p. shows_visibility p w at)
+leads by.Collaborators v w at = reading (one reads_name v) (λ p. shows_writers p w at)
+leads by.Teams v w at = reading (one reads_ident v) (λ o. shows_teams o w at)
+leads by.OrgSet v w at = reading (reads_member v w.body) (λ m. sets_member m.0 m.1 m.2 w at)
+leads by.User v w at = reading (one reads_user v) (λ u. shows_user u w at)
+leads by.UserPackages v w at = reading (one reads_ident v) (λ u. shows_own u w at)
+leads e v w at = asks_first e v w at
+
+-- by these routes the path is one of the registry's own, too: it is npm's where the body is an object
+abbrev pub is_shared : NpmEndpoint → Bool
+is_shared by.OrgSet = true
+is_shared by.OrgRemove = true
+is_shared by.TeamCreate = true
+is_shared by.TeamAdd = true
+is_shared by.TeamRemove = true
+is_shared by.Grant = true
+is_shared by.Revoke = true
+is_shared _ = false
+
+-- a request by this route, with this body, is npm's own
+abbrev pub is_npms : NpmEndpoint → Text → Bool
+is_npms by.Packument body = false
+is_npms by.Document body = false
+is_npms e body = not (is_shared e) || begins_object body
+
+abbrev pub speaks_by : Option NpmRoute → Dialect
+speaks_by None w at = profile w at
+speaks_by (Some r) w at = either (is_npms r.endpoint w.body) (leads r.endpoint r.values w at) (profile w at)
+
+-- npm's own requests, and all others as without them
+abbrev pub npm : Dialect
+npm w at = speaks_by (npm_route_of w.method w.target) w at

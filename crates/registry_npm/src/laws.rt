@@ -1,0 +1,40 @@
+//! Laws of npm's own requests. Each is the contract of a function that does nothing.
+
+ghost use Rattle.registry_service.specs.Dialects.{AsksQueriesByGet};
+ghost use Rattle.registry_npm.specs.Laws.{FaultsEnd, FilesAreGone, NpmIsApart, OneCommand, OthersStay};
+ghost use Rattle.registry_npm.specs.Npm.{npm};
+
+use registry_routes::laws::tables_meet;
+
+/// A request that isn't npm's own means what it means without npm's routes.
+pub fn others_stay()
+    ensures { OthersStay }
+{}
+
+/// A request of npm's own has no route without npm's, or a body that begins as a JSON object does.
+pub fn npm_is_apart()
+    ensures { NpmIsApart }
+{
+    tables_meet();
+}
+
+/// A turn asks for one command at most.
+pub fn one_command()
+    ensures { OneCommand npm }
+{}
+
+/// After a fault nothing more is asked in a turn, and it is the answer.
+pub fn faults_end()
+    ensures { FaultsEnd npm }
+{}
+
+/// A `GET` asks only queries.
+pub fn get_asks_queries()
+    ensures { AsksQueriesByGet npm }
+{}
+
+/// The deletion of an archive's file is answered by `NotFound` only where the registry answers so of
+/// the version's document, or where the file is none of the package.
+pub fn files_are_gone()
+    ensures { FilesAreGone }
+{}

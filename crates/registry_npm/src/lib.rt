@@ -1,0 +1,22 @@
+//! npm's own requests over HTTP, where a server serves them: those of `npm access`, `org`, `team`,
+//! `owner`, `whoami`, `profile`, `logout` and `ping`, beside the registry's own routes.
+//!
+//! A request of npm's own leads to one request of the registry or several, which are asked in one turn,
+//! so that nothing comes between them ([`npm_turn`]). Which requests it leads to, and what is answered
+//! of their outcomes, is in `specs/Npm`, by cases on the route. Every other request means what it means
+//! without this crate ([`laws`]).
+#![tactic(auto)]
+
+mod asked;
+mod body;
+mod caller;
+mod following;
+mod forms;
+pub mod laws;
+mod path;
+mod service;
+mod shown;
+mod turning;
+
+pub use crate::service::NpmService;
+pub use crate::turning::npm_turn;
