@@ -29,7 +29,7 @@ copy = required (codes "COPY")
 abbrev pub no_check : Rule
 no_check = flag (codes "no-check") (codes "no-check")
 
--- the port, which may be left out where there is a socket or a log
+-- the port, which may be left out where another option of these is there
 abbrev pub port_beside : Rule
 port_beside = number (codes "PORT") (codes "port") (numbers 1 65535)
 
@@ -39,8 +39,11 @@ socket = option (codes "SOCKET") (codes "socket")
 abbrev pub log : Rule
 log = option (codes "LOG") (codes "log")
 
+abbrev pub npm : Rule
+npm = flag (codes "npm") (codes "npm")
+
 abbrev pub errands : List (Text × List Rule)
-errands = (codes "token-new", user ∷ []) ∷ (codes "check", []) ∷ (codes "backup", no_check ∷ copy ∷ []) ∷ (codes "restore", no_check ∷ copy ∷ []) ∷ (codes "stop", []) ∷ (codes "serve", port_beside ∷ socket ∷ connections ∷ log ∷ []) ∷ []
+errands = (codes "token-new", user ∷ []) ∷ (codes "check", []) ∷ (codes "backup", no_check ∷ copy ∷ []) ∷ (codes "restore", no_check ∷ copy ∷ []) ∷ (codes "stop", []) ∷ (codes "serve", port_beside ∷ socket ∷ connections ∷ log ∷ npm ∷ []) ∷ []
 
 -- the options are those of requests
 abbrev pub admin_command : App
@@ -78,13 +81,14 @@ port_in found = unwrap_or (first_of (codes "PORT") found) (codes "8080")
 abbrev pub listens_at_port : List Row → Bool
 listens_at_port found = is_some (first_of (codes "PORT") found) || is_none (first_of (codes "SOCKET") found)
 
--- the line that serves, without a socket or a log
+-- the line that serves, without a socket, a log or npm's own requests
 abbrev pub serving_line : Who → List Row → List Row → Line
 serving_line who rows found = record { db = db_in rows; who = who; at = at_in rows; what = codes "serve" ∷ port_in found ∷ value_in found (codes "CONNECTIONS") ∷ [] }
 
--- the same, with the path of the socket and that of the log, where they are given
+-- the same, with the path of the socket and that of the log, where they are given. npm's own requests
+-- are answered if the flag says so, and not by default.
 abbrev pub serve : Who → List Row → List Row → Option Errand
-serve who rows found = Some (Serve (record { line = serving_line who rows found; has_port = listens_at_port found; socket = first_of (codes "SOCKET") found; log = first_of (codes "LOG") found }))
+serve who rows found = Some (Serve (record { line = serving_line who rows found; has_port = listens_at_port found; socket = first_of (codes "SOCKET") found; log = first_of (codes "LOG") found; answers_npm = has_flag found (codes "npm") }))
 
 abbrev pub errand_called : Who → List Row → Text → List Row → Option Errand
 errand_called who rows name found =

@@ -59,11 +59,12 @@ pub enum Errand {
         /// The path of the file that keeps the registry.
         db: Text,
     },
-    /// A server that listens at a Unix socket, keeps a log, or both.
+    /// A server with more than a port and a number of connections.
     Serve(Serving),
 }
 
-/// A server that listens at a Unix socket, keeps a log, or both.
+/// A server that listens at a Unix socket, keeps a log, answers npm's own requests, or several of
+/// these.
 #[derive(Debug, Drop)]
 pub struct Serving {
     /// The line that serves without these. Its port is 8080 where none is given.
@@ -74,6 +75,8 @@ pub struct Serving {
     pub socket: Option<Text>,
     /// The path of the log, if it keeps one.
     pub log: Option<Text>,
+    /// Whether it answers npm's own requests, too.
+    pub answers_npm: bool,
 }
 
 /// A token that is to be made for a user.
@@ -423,10 +426,11 @@ fn serve(
         has_port: listens_at_port(found),
         socket: given_text(alloc, found, "SOCKET")?,
         log: given_text(alloc, found, "LOG")?,
+        answers_npm: has_flag(found, "npm"),
     })))
 }
 
-// The line that serves, without a socket or a log.
+// The line that serves, without a socket, a log or npm's own requests.
 fn serving_line(
     alloc: Global,
     matches: &ArgMatches<'_>,

@@ -419,7 +419,7 @@ static SERVE: [Subcommand; 1] = [Subcommand {
     name: "serve",
     parameters: &[PORT, CONNECTIONS],
     about: "Serve npm over HTTP on 127.0.0.1: up to 512 connections at once, a request at a time",
-    example: "Example: registry serve --port 8080\n\nWith --log FILE a line is written to the end of FILE for each request, too. With --socket PATH it\nlistens at a Unix socket: registry serve --socket PATH --help",
+    example: "Example: registry serve --port 8080\n\nMore options are --socket PATH, --log FILE, and --npm, with which npm owner, unpublish, deprecate,\naccess, org and team work, too: registry serve --npm --help",
 }];
 
 const PORT_BESIDE: Parameter = Parameter {
@@ -441,6 +441,12 @@ const LOG: Parameter = Parameter {
     id: "LOG",
     help: "The file to whose end a line is written for each request",
     need: Need::WordIfSaid { option: "log" },
+};
+
+const NPM: Parameter = Parameter {
+    id: "npm",
+    help: "Answer npm owner, unpublish, deprecate, access, org, team, whoami and logout, too",
+    need: Need::Flag { option: "npm" },
 };
 
 const NO_CHECK: Parameter = Parameter {
@@ -488,9 +494,9 @@ static ERRANDS: [Subcommand; 6] = [
     },
     Subcommand {
         name: "serve",
-        parameters: &[PORT_BESIDE, SOCKET, CONNECTIONS, LOG],
-        about: "Serve npm over HTTP, and keep a log of the requests or listen at a Unix socket",
-        example: "Example: registry serve --socket http.socket --log requests.log",
+        parameters: &[PORT_BESIDE, SOCKET, CONNECTIONS, LOG, NPM],
+        about: "Serve npm over HTTP at a Unix socket, with a log of the requests, or for more of npm",
+        example: "Example: registry serve --socket http.socket --log requests.log --npm",
     },
 ];
 

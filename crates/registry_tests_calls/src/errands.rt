@@ -92,6 +92,7 @@ fn a_server_can_keep_a_log(rt: HostRuntime) {
         has_port,
         socket,
         log,
+        answers_npm,
     } = serving;
     let Ok(wanted) = line(alloc, &texts(&rt, alloc, &arguments[..5])) else {
         panic!(rt; "nothing is served without a log");
@@ -106,6 +107,7 @@ fn a_server_can_keep_a_log(rt: HostRuntime) {
     same(&rt, "a port", has_port, true);
     same(&rt, "socket", socket.is_none(), true);
     same(&rt, "log", said(&log), "l");
+    same(&rt, "npm", answers_npm, false);
 }
 
 fn said(text: &Option<Text>) -> &str {
@@ -146,6 +148,23 @@ fn a_server_listens_where_it_is_said(rt: HostRuntime) {
     }
 }
 
+/// Words of a server, and whether it answers npm's own requests, too.
+static MODES: [(&'static [&'static str], bool); 3] = [
+    (&["serve", "--npm"], true),
+    (&["serve", "--npm", "--port", "81", "--log", "l"], true),
+    (&["serve", "--socket", "s"], false),
+];
+
+#[test]
+fn a_server_answers_npm_where_it_is_said(rt: HostRuntime) {
+    for (arguments, answers_npm) in &MODES {
+        let Errand::Serve(serving) = errand(&rt, rt.alloc(), arguments) else {
+            panic!(rt; "{arguments:?} serve nothing");
+        };
+        same(&rt, *arguments, serving.answers_npm, *answers_npm);
+    }
+}
+
 const TOKEN: &str = "npm_000102030405060708090a0b0c0d0e0f7f80abff";
 
 /// Tokens that are made, whoever asks, for any user and at any moment.
@@ -178,12 +197,13 @@ fn a_server_is_asked_for_the_same_line(rt: HostRuntime) {
 }
 
 /// Lines, and arguments that are wrong as requests.
-static NO_ERRANDS: [&'static [&'static str]; 8] = [
+static NO_ERRANDS: [&'static [&'static str]; 9] = [
     &["tags", "kit"],
     &["serve"],
     &["serve", "8080"],
     &["serve", "--port", "0"],
     &["tags", "kit", "--log", "l"],
+    &["tags", "kit", "--npm"],
     &["tags"],
     &["--help"],
     &["checks"],
@@ -198,7 +218,7 @@ fn a_request_is_no_errand(rt: HostRuntime) {
 }
 
 /// Wrong arguments of errands, and how the message begins.
-static WRONG: [(&'static [&'static str], &'static str); 9] = [
+static WRONG: [(&'static [&'static str], &'static str); 11] = [
     (
         &["check", "more"],
         "error: unexpected argument 'more' found",
@@ -224,7 +244,15 @@ static WRONG: [(&'static [&'static str], &'static str); 9] = [
     ),
     (
         &["serve", "--log", "l", "--help"],
-        "Serve npm over HTTP, and keep a log of the requests or listen",
+        "Serve npm over HTTP at a Unix socket, with a log of the requests,",
+    ),
+    (
+        &["serve", "--log", "--npm"],
+        "error: a value is required for '--log <LOG>'",
+    ),
+    (
+        &["serve", "--npm=yes"],
+        "error: unexpected value 'yes' for '--npm' found",
     ),
 ];
 
