@@ -299,18 +299,18 @@ fn serve_with<S: Alter + Drop, K: LogClock + Drop, W: LineSink + Drop, O: ByteOu
 
 /// A service that says in its log, if it keeps one, when its server begins and ends.
 trait Told: Service {
-    fn say(&mut self, text: &str);
+    fn tell(&mut self, text: &str);
 }
 
 impl<S: Alter, K: LogClock, W: LineSink> Told for LoggedService<S, K, W> {
-    fn say(&mut self, text: &str) {
-        LoggedService::say(self, text)
+    fn tell(&mut self, text: &str) {
+        self.say(text)
     }
 }
 
 impl<D: Told> Told for NpmService<D> {
-    fn say(&mut self, text: &str) {
-        self.service.say(text)
+    fn tell(&mut self, text: &str) {
+        self.service.tell(text)
     }
 }
 
@@ -400,13 +400,13 @@ fn run<D: Told>(
     service: &mut D,
     listener: &mut CommandListener,
 ) -> Result<Ended, Ending> {
-    service.say("begun");
+    service.tell("begun");
     let ended = server.run_beside(rt, alloc, at, service, listener);
     let said = match &ended {
         Ok(ended) => end_text(*ended),
         Err(_) => "ended: a fault",
     };
-    service.say(said);
+    service.tell(said);
     Ok(ended?)
 }
 
