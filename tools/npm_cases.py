@@ -20,7 +20,7 @@ class Run:
 
     def text(self):
         place = f' in {self.folder}' if self.folder else ''
-        return f'{self.user}{place}$ {self.tool} {shlex.join(self.words)}'
+        return f'{self.user}{place}$ {self.tool} {shlex.join(self.words)}'[:200]
 
 
 class Part:
@@ -48,7 +48,6 @@ def read(path):
     """The table in a file."""
     table, reader = Table(), Reader()
     for number, line in enumerate(path.read_text(encoding='utf-8').splitlines(), 1):
-        line = re.sub(r'\{(.)\*(\d+)\}', lambda it: it[1] * int(it[2]), line)
         if line.strip() and not line.startswith('#') and not reader.take(table, number, line):
             raise Wrong(f'{path}:{number}: no line has this form: {line}')
     return table
@@ -99,7 +98,7 @@ class Reader:
     def want(self, line):
         """What is wanted of the last command. Whether the line says that."""
         status = re.fullmatch(r'\[(\d+)\]', line)
-        mark, space, rest = line[:1], line[1:2], line[2:]
+        mark, space, rest = line[:1], line[1:2], whole(line[2:])
         if status:
             self.run.wanted['status'] = int(status[1])
         elif mark in MARKS and space in ('', ' '):
@@ -111,4 +110,9 @@ class Reader:
 
 def run_of(number, line):
     user, folder, tool, words = PROMPT.fullmatch(line).groups()
-    return Run(number, user, folder, tool, shlex.split(words or ''))
+    return Run(number, user, folder, tool, [whole(word) for word in shlex.split(words or '')])
+
+
+def whole(text):
+    """The text with each {x*9} written out."""
+    return re.sub(r'\{(.)\*(\d+)\}', lambda it: it[1] * int(it[2]), text)

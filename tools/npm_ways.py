@@ -82,12 +82,18 @@ def is_like(pattern, request):
     return re.fullmatch(re.escape(pattern).replace('REV', '[^/]+'), request) is not None
 
 
+class Door(http.server.ThreadingHTTPServer):
+    daemon_threads = True
+
+    def handle_error(self, *_):
+        """npm may end a connection at any time."""
+
+
 @contextlib.contextmanager
 def relay(port):
     """A relay before the registry at a port, and its own port."""
     it = Relay(port)
-    server = http.server.ThreadingHTTPServer(('127.0.0.1', 0), passing(it))
-    server.daemon_threads = True
+    server = Door(('127.0.0.1', 0), passing(it))
     threading.Thread(target=server.serve_forever, kwargs={'poll_interval': 0.05}, daemon=True).start()
     try:
         yield it, server.server_address[1]
@@ -148,7 +154,9 @@ def asked(port, method, target, headers, body):
                 link.putheader(name, value)
         if body:
             link.putheader('content-length', str(len(body)))
-        link.endheaders(body or None)
+        # A body that is too large is answered before it has come.
+        with contextlib.suppress(BrokenPipeError, ConnectionResetError):
+            link.endheaders(body or None)
         answer = link.getresponse()
         return answer.status, [it for it in answer.getheaders() if it[0].lower() not in OF_A_CONNECTION], answer.read()
     finally:
