@@ -45,9 +45,19 @@ def started(words, log, is_ready):
 
 
 def served(program, db, port, folder):
-    """A server of the registry in a file, with --npm."""
-    words = [program, '--db', db, 'serve', '--port', port, '--npm']
+    """A server of the registry in a file, with --npm and a log of requests."""
+    words = [program, '--db', db, 'serve', '--port', port, '--npm', '--log', log_of(folder)]
     return started(words, folder / 'server.log', lambda said: 'listening' in said)
+
+
+def log_of(folder):
+    return folder / 'requests.log'
+
+
+def logged(folder):
+    """Who asked for what method, and the status, of each request in the log."""
+    rows = [line.split(' ') for line in log_of(folder).read_text().splitlines()]
+    return sorted((row[1], row[2], row[4]) for row in rows if row[1] != '#' and row[2] != 'command')
 
 
 # ---- the relay
@@ -59,7 +69,14 @@ class Relay:
 
     def __init__(self, port):
         self.port, self.lock = port, threading.Lock()
-        self.meanwhile, self.lost = None, None
+        self.meanwhile, self.lost, self.passed = None, None, []
+
+    def note(self, headers, method, status):
+        """A request was passed on, and answered: who asked, as the log says it, the method and the status."""
+        token = re.fullmatch(r'Bearer npm_(\w+)_000000001', headers.get('authorization', ''))
+        user = token[1] if token and status != 401 else '-'
+        with self.lock:
+            self.passed.append((user, method, str(status)))
 
     def held(self, request):
         """What is to be done before this request goes on."""
@@ -114,6 +131,7 @@ def passing(it):
             if work := it.held(request):
                 work()
             status, fields, answer = asked(it.port, self.command, self.path, self.headers, body)
+            it.note(self.headers, self.command, status)
             if it.is_lost(request):
                 self.close_connection = True
                 return
