@@ -149,12 +149,18 @@ def calls_of(crate):
 
 
 def exports_of(crate):
-    """The names that the root of a crate gives away."""
+    """The names that the root of a crate gives away, its own and those of its modules."""
     text = root_of(crate).read_text(encoding='utf-8')
     names = set()
     for group in re.findall(r'^pub use [\w:]+::(?:\{([^}]*)\}|(\w+));', text, re.M):
         names |= set(re.findall(r'\w+', group[0] or group[1]))
-    return names
+    own = re.findall(r'^pub (?:const |unsafe )*(?:fn|struct|enum|trait|type|const|static) (\w+)', text, re.M)
+    return names | set(own)
+
+
+def public_modules(crate):
+    """The modules beside `laws` that the root of a crate gives away whole: what is in them isn't seen here."""
+    return [name for name in re.findall(r'^pub mod (\w+)', root_of(crate).read_text(encoding='utf-8'), re.M) if name != 'laws']
 
 
 def has_laws(crate):
@@ -174,6 +180,12 @@ def public_calls(crate):
         elif (call.owner or call.name) in names:
             calls.append(call)
     return calls + laws
+
+
+def last_seen():
+    """How tools/plants last saw each wrong body refused, by CRATE/NAME."""
+    lines = (TOP / 'tools/plants_seen.txt').read_text(encoding='utf-8').splitlines()
+    return {line.split()[0]: line.split()[-1] for line in lines if line.strip() and not line.startswith('#')}
 
 
 class Edit:

@@ -2,13 +2,12 @@
 use Rattle.std.proofs.Common.{◌≡◌, ◌⊎◌, ◌++◌, ◌∷◌, ◌∙◌, [], ℕ, Bool, List, Option, Some, None, refl, sym, ap, subst, inl, inr, append_assoc}
 use Rattle.std.specs.Prelude.{IfSome}
 use Rattle.std.specs.Io.KnownBytes.{append_known}
-use Rattle.registry_wire.specs.declared.wanted.Wanted.{Wanted}
 use Rattle.registry_service.specs.HttpAnswers.{Outcome}
-use Rattle.registry_service.specs.Turns.{Answering, Cause, IsAnswered, IsTurnFor, bad_input, no_memory, request}
+use Rattle.registry_service.specs.Turns.{Answering, AnswersEach, Cause, Dialect, Exchange, IsTurnFor, bad_input, no_memory, request, spoken}
 use Rattle.registry_service.specs.declared.turning.End.{End}
 use Rattle.registry_service.proofs.HistoryFacts.{one-history}
 use Rattle.registry_server.specs.ConnectionStates.{Pending, TakesTurn}
-use Rattle.registry_guests.specs.Beside.{AnswersAll, AnswersOnce, Beside, GuestTurn, GuestsFollow, GuestsGoOn, GuestsLead, GuestsTurn, MakeOneHistory, ShowsGuest, TakesNone, TakesOne, VisitsFollow, beside, beside_guests}
+use Rattle.registry_guests.specs.Beside.{AnswersAll, AnswersBeside, AnswersOnce, Beside, GuestTurn, GuestsFollow, GuestsGoOn, GuestsLead, GuestsTurn, MakeOneHistory, ShowsGuest, TakesNone, TakesOne, VisitsFollow, beside, beside_guests}
 use Rattle.registry_guests.specs.GuestTurns.{on_memory}
 use Rattle.registry_guests.specs.Guests as guests
 use Rattle.registry_guests.specs.Guests.{Begins, Receives, ReceivesMore, OpenGuest, Starves, VisitsIn}
@@ -27,36 +26,34 @@ module _ {D : Type 0} (answers : Answering D) where
   pub go-on : GuestsGoOn answers
   go-on M N P t lead turn = (t ∷ lead.0, (N.service, lead.1, turn), ap (λ (ts : List GuestTurn). t ∷ ts) lead.2)
 
-  pub make-one : MakeOneHistory answers
-  make-one M w r = one-history (beside_guests answers) M w r
+  -- what a turn asks at what guests left may be asked beside them
+  each-beside : (M K : Beside D) (es : List Exchange) (N : D) → GuestsLead answers M K → AnswersEach answers K.service es N → (P : Beside D) × AnswersBeside answers M es P × GuestsLead answers P (beside N K.turns)
+  each-beside M K [] N lead same = (M, refl, lead-same M K N lead same)
+  each-beside M K (e ∷ es) N lead asks = (beside N K.turns, (K.service, lead, asks), lead-none N K.turns)
 
-  answered-beside : (M K : Beside D) (N : D) (w : Wanted) (at : ℕ) (o : Outcome) → GuestsLead answers M K → IsAnswered answers K.service w at o N
-      → (P : Beside D) × IsAnswered (beside_guests answers) M w at o P × GuestsLead answers P (beside N K.turns)
-  answered-beside M K N w at o lead a =
-      elim a [
-        | inl (r, reads, is) ↦ (beside N K.turns, inl (r, reads, (K.service, lead, is)), lead-none N K.turns)
-        | inr (s, reads, is, same) ↦ (M, inr (s, reads, is, refl), lead-same M K N lead same)
-      ]
+module _ (speaks : Dialect) {D : Type 0} (answers : Answering D) where
+  pub make-one : MakeOneHistory speaks answers
+  make-one M w r = one-history (beside_guests speaks answers) M w r
 
-  turn-beside : (M K : Beside D) (N : D) (c : Cause) (last : Bool) (o : Outcome) (ended : Option End) → GuestsLead answers M K → IsTurnFor answers c K.service last o ended N
-      → (P : Beside D) × IsTurnFor (beside_guests answers) c M last o ended P × GuestsLead answers P (beside N K.turns)
-  turn-beside M K N (request w at) last o ended lead t =
-      let a = answered-beside M K N w at o lead t.answered in
-      (a.0, record { answered = a.1; ends = t.ends }, a.2)
-  turn-beside M K N (bad_input r) last o ended lead t = (M, (t.0, refl), lead-same M K N lead t.1)
-  turn-beside M K N no_memory last o ended lead t = (M, (t.0, refl), lead-same M K N lead t.1)
+  turn-beside : (M K : Beside D) (N : D) (c : Cause) (last : Bool) (es : List Exchange) (o : Outcome) (ended : Option End) → GuestsLead answers M K → IsTurnFor (spoken speaks answers) c K.service last es o ended N
+      → (P : Beside D) × IsTurnFor (beside_guests speaks answers) c M last es o ended P × GuestsLead answers P (beside N K.turns)
+  turn-beside M K N (request w at) last es o ended lead t =
+      let a = each-beside answers M K es N lead t.answered.1 in
+      (a.0, record { answered = (t.answered.0, a.1); ends = t.ends }, a.2)
+  turn-beside M K N (bad_input r) last es o ended lead t = (M, (t.0, refl, t.2), lead-same answers M K N lead t.1)
+  turn-beside M K N no_memory last es o ended lead t = (M, (t.0, refl, t.2), lead-same answers M K N lead t.1)
 
-  takes-beside : (M K : Beside D) (N : D) (old new : Pending) (r r2 : Option (List ℕ)) (over : Bool) → GuestsLead answers M K → TakesTurn answers old new K.service N r r2 over
-      → (P : Beside D) × TakesTurn (beside_guests answers) old new M P r r2 over × GuestsLead answers P (beside N K.turns)
+  takes-beside : (M K : Beside D) (N : D) (old new : Pending) (r r2 : Option (List ℕ)) (over : Bool) → GuestsLead answers M K → TakesTurn (spoken speaks answers) old new K.service N r r2 over
+      → (P : Beside D) × TakesTurn (beside_guests speaks answers) old new M P r r2 over × GuestsLead answers P (beside N K.turns)
   takes-beside M K N old new r r2 over lead t =
       let u = t.turns in
-      let b = turn-beside M K N t.cause _ u.outcome t.turned.end lead u.is_turn in (
+      let b = turn-beside M K N t.cause _ u.exchanges u.outcome t.turned.end lead u.is_turn in (
         b.0,
         record {
           cause = t.cause;
           turned = t.turned;
           took = t.took;
-          turns = record { outcome = u.outcome; is_turn = b.1; answer = u.answer; counts = u.counts };
+          turns = record { exchanges = u.exchanges; outcome = u.outcome; is_turn = b.1; answer = u.answer; counts = u.counts };
           asked = t.asked;
           outgoing = t.outgoing;
           ends = t.ends;
@@ -65,12 +62,12 @@ module _ {D : Type 0} (answers : Answering D) where
         b.2,
       )
 
-module _ {S : Type 0} (received sent : S → Option (List ℕ)) {D : Type 0} (answers : Answering D) where
-  pub visits-follow : VisitsFollow received sent answers
+module _ {S : Type 0} (received sent : S → Option (List ℕ)) (speaks : Dialect) {D : Type 0} (answers : Answering D) where
+  pub visits-follow : VisitsFollow received sent speaks answers
   visits-follow M K N now most old new r r2 lead v =
       elim v.turns [
         | inl t ↦
-            (let b = takes-beside answers M K N v.read v.due r r2 new.is_over lead t.0.takes in (
+            (let b = takes-beside speaks answers M K N v.read v.due r r2 new.is_over lead t.0.takes in (
               b.0,
               record {
                 got = v.got;

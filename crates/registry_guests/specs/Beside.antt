@@ -3,7 +3,7 @@ use Rattle.std.specs.Prelude.{◌≡◌, ◌⊎◌, ◌++◌, ◌∷◌, ℕ, Bo
 use Rattle.clap.specs.Walk.{Text}
 use Rattle.registry_service.specs.Courses.{Gave}
 use Rattle.registry_service.specs.Histories.{IsOneHistory, Reached, World}
-use Rattle.registry_service.specs.Turns.{Answering}
+use Rattle.registry_service.specs.Turns.{Answering, AnswersEach, Dialect, Dialogue, Exchange, spoken}
 use Rattle.registry_server.specs.Connections.{OpenConnection}
 use Rattle.registry_server.specs.Connections as connections
 use Rattle.registry_guests.specs.Guests as guests
@@ -37,27 +37,34 @@ module _ {D : Type 0} (answers : Answering D) where
   abbrev pub GuestsLead : Beside D → Beside D → Type 0
   GuestsLead M N = (ts : List GuestTurn) × GuestsTurn M.service ts N.service × (N.turns ≡ ts ++ M.turns)
 
-  -- a request is answered after turns of guests
-  abbrev pub beside_guests : Answering (Beside D)
-  beside_guests M r o N = (K : D) × GuestsLead M (beside K N.turns) × answers K r o N.service
+  -- The requests of a turn are asked after turns of guests; no guest takes a turn between two of them
+  abbrev pub AnswersBeside : Beside D → List Exchange → Beside D → Type 0
+  AnswersBeside M [] N = N ≡ M
+  AnswersBeside M (e ∷ es) N = (K : D) × GuestsLead M (beside K N.turns) × AnswersEach answers K (e ∷ es) N.service
 
   -- one more guest took a turn
   abbrev pub GuestsGoOn : Type 0
   GuestsGoOn = (M N : Beside D) (P : D) (t : GuestTurn) → GuestsLead M N → IsGuestTurn answers N.service t.arguments t.body t.at (prints t.output) P → GuestsLead M (beside P (t ∷ N.turns))
 
+module _ (speaks : Dialect) {D : Type 0} (answers : Answering D) where
+  -- a service that lets guests take turns before the requests of a turn
+  abbrev pub beside_guests : Dialogue (Beside D)
+  beside_guests = record { speaks = speaks; answers = AnswersBeside answers }
+
   -- connections that take turns beside guests make one history
   abbrev pub MakeOneHistory : Type 0
   MakeOneHistory = (M : Beside D) (w : World (Beside D)) → Reached beside_guests M w → IsOneHistory beside_guests M w
 
-module _ {S : Type 0} (received sent : S → Option (List ℕ)) {D : Type 0} (answers : Answering D) where
+module _ {S : Type 0} (received sent : S → Option (List ℕ)) (speaks : Dialect) {D : Type 0} (answers : Answering D) where
   -- A visit of a connection at what guests left is also one beside guests, at what was there before
   -- they took their turns. Where the visit asked nothing, the guests' turns may still come after
   -- it. No guest takes a turn in it.
   abbrev pub VisitsFollow : Type 0
   VisitsFollow = (M K : Beside D) (N : D) (now most : ℕ) (old new : OpenConnection S) (readings readings2 : Option (List ℕ)) → GuestsLead answers M K
-      → connections.Visits received sent answers now most old new K.service N readings readings2
-      → (P : Beside D) × connections.Visits received sent (beside_guests answers) now most old new M P readings readings2 × GuestsLead answers P (beside N K.turns)
+      → connections.Visits received sent (spoken speaks answers) now most old new K.service N readings readings2
+      → (P : Beside D) × connections.Visits received sent (beside_guests speaks answers) now most old new M P readings readings2 × GuestsLead answers P (beside N K.turns)
 
+module _ {S : Type 0} (received sent : S → Option (List ℕ)) {D : Type 0} (answers : Answering D) where
   -- what is known of the bytes of a guest's socket: before it is answered all that was received is
   -- held, and nothing was sent but that the server is ready; then what was sent, and what is left, is
   -- that and the one answer

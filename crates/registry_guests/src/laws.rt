@@ -27,8 +27,8 @@ pub fn guests_hold_little<S: Socket, D: Service>()
 {}
 
 /// Connections and guests have one history. A connection's visit at what guests left is one of a
-/// service that lets guests take turns before a request; by such visits each connection's world is
-/// reached; and in it there is one list of turns such that the service is what they leave, each
+/// service that lets guests take turns before a request of HTTP, and not between two requests that it
+/// asks; by such visits each connection's world is reached; and in it there is one list of turns such that the service is what they leave, each
 /// taken at what all older ones and the guests' turns before it left. The turns of guests are kept
 /// beside the service, and are those that guests are answered by: a visit of a guest adds the turn
 /// that is taken in it, if one is, at the moment that the clock gives in it, and nothing else adds a
@@ -36,9 +36,9 @@ pub fn guests_hold_little<S: Socket, D: Service>()
 pub fn guests_share_one_history<S: Socket, D: Service>()
     ensures guests { GuestsGoOn D.answers }
     ensures answered { GuestsFollow S.received S.sent D.answers S.has_none }
-    ensures follows { VisitsFollow S.received S.sent D.answers }
-    ensures leads { VisitsLead S.received S.sent (beside_guests D.answers) }
-    ensures one { MakeOneHistory D.answers }
+    ensures follows { VisitsFollow S.received S.sent D.speaks D.answers }
+    ensures leads { VisitsLead S.received S.sent (beside_guests D.speaks D.answers) }
+    ensures one { MakeOneHistory D.speaks D.answers }
 {}
 
 /// Whoever holds a server, whatever has happened before, asked to by its first byte, and was told

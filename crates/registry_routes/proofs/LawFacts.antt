@@ -26,7 +26,7 @@ and-right false b e = cc e
 
 -- ---- queries
 
-query-path : (path query : Text) → path_of (path ++ 63 ∷ query) ≡ path_of path
+pub query-path : (path query : Text) → path_of (path ++ 63 ∷ query) ≡ path_of path
 query-path [] query = refl
 query-path (b ∷ path) query = elim (cases_Bool (b == 63)) [
   | inl hit ↦
@@ -46,7 +46,7 @@ queries m path query = ap (λ (p : Text). option_and_then (route_in table m) (se
 -- ---- at most one row
 
 -- no segments are made of the pieces of both, as far as their places show it
-abbrev is_apart : List Piece → List Piece → Bool
+abbrev pub is_apart : List Piece → List Piece → Bool
 is_apart [] [] = false
 is_apart [] (q ∷ qs) = true
 is_apart (p ∷ ps) [] = true
@@ -67,7 +67,7 @@ is_apart (file ∷ ps) (q ∷ qs) = false
 pub same-text : (a b : Text) → bytes_eq a b ≡ true → a ≡ b
 same-text a b e = (bytes_eq-Decides a b).0 e
 
-none-kept : (p : Piece) (v : Text) (o : Option Values) → o ≡ None → option_map (with_piece p v) o ≡ None
+pub none-kept : (p : Piece) (v : Text) (o : Option Values) → o ≡ None → option_map (with_piece p v) o ≡ None
 none-kept p v o e = rw e refl
 
 some-kept : (p : Piece) (v : Text) (o : Option Values) → IsSome (option_map (with_piece p v) o) → IsSome o
@@ -75,7 +75,7 @@ some-kept p v None e = e
 some-kept p v (Some vs) e = refl
 
 -- segments that are made of a piece and others: what takes the place of the piece, and the others
-record Made (p : Piece) (ps : List Piece) (ss : List Text) : Type 0 where
+pub record Made (p : Piece) (ps : List Piece) (ss : List Text) : Type 0 where
   pub v : Text
   pub rest : List Text
   pub front : piece_of p ss ≡ Some (v, rest)
@@ -86,7 +86,7 @@ made-next : (p : Piece) (ps : List Piece) (ss : List Text) (o : Option (Text × 
 made-next p ps ss None e h = cc h
 made-next p ps ss (Some v) e h = record { v = v.0; rest = v.1; front = e; later = some-kept p v.0 (values_in ps v.1) h }
 
-made : (p : Piece) (ps : List Piece) (ss : List Text) → IsSome (values_in (p ∷ ps) ss) → Made p ps ss
+pub made : (p : Piece) (ps : List Piece) (ss : List Text) → IsSome (values_in (p ∷ ps) ss) → Made p ps ss
 made p ps ss h = made-next p ps ss (piece_of p ss) refl h
 
 none-next : (p : Piece) (ps : List Piece) (ss : List Text) (v : Text) (rest : List Text) → piece_of p ss ≡ Some (v, rest) → values_in ps rest ≡ None → values_in (p ∷ ps) ss ≡ None
@@ -96,11 +96,11 @@ none-here : (p : Piece) (ps : List Piece) (ss : List Text) → piece_of p ss ≡
 none-here p ps ss e = ap (option_and_then (with_later p (values_in ps))) e
 
 -- what a literal segment takes
-record Literal (t : Text) (ss : List Text) (v : Text) (rest : List Text) : Type 0 where
+pub record Literal (t : Text) (ss : List Text) (v : Text) (rest : List Text) : Type 0 where
   pub is_value : v ≡ t
   pub is_front : ss ≡ t ∷ rest
 
-literal-front : (t : Text) (ss : List Text) (v : Text) (rest : List Text) → piece_of (literal t) ss ≡ Some (v, rest) → Literal t ss v rest
+pub literal-front : (t : Text) (ss : List Text) (v : Text) (rest : List Text) → piece_of (literal t) ss ≡ Some (v, rest) → Literal t ss v rest
 literal-front t [] v rest e = cc e
 literal-front t (s ∷ ss) v rest e = elim (cases_Bool (bytes_eq s t)) [
   | inl y ↦
@@ -130,11 +130,11 @@ literals a b ss qs rest e more = elim (cases_Bool (bytes_eq a b)) [
       none-here (literal b) qs ss front
 ]
 
-or-right : (a b : Bool) → (not a || b) ≡ true → a ≡ true → b ≡ true
+pub or-right : (a b : Bool) → (not a || b) ≡ true → a ≡ true → b ≡ true
 or-right true b e h = e
 or-right false b e h = cc h
 
-value-whole : (ss : List Text) (v : Text) (rest : List Text) → piece_of value ss ≡ Some (v, rest) → ss ≡ v ∷ rest
+pub value-whole : (ss : List Text) (v : Text) (rest : List Text) → piece_of value ss ≡ Some (v, rest) → ss ≡ v ∷ rest
 value-whole [] v rest e = cc e
 value-whole (s ∷ ss) v rest e =
     let pair : ◌≡◌ {A = Text × List Text} (s, ss) (v, rest) = cc e in
@@ -151,7 +151,7 @@ name-not_dash b (s ∷ ss) v rest d e = elim (cases_Bool (bytes_eq s b)) [
   | inr n ↦ rw n refl
 ]
 
-apart : (ps qs : List Piece) (ss : List Text) → is_apart ps qs ≡ true → IsSome (values_in ps ss) → values_in qs ss ≡ None
+pub apart : (ps qs : List Piece) (ss : List Text) → is_apart ps qs ≡ true → IsSome (values_in ps ss) → values_in qs ss ≡ None
 apart [] [] ss a h = cc a
 apart [] (q ∷ qs) [] a h = refl
 apart [] (q ∷ qs) (s ∷ ss) a h = cc h
@@ -188,14 +188,14 @@ apart (value ∷ ps) (value ∷ qs) ss a h =
 apart (value ∷ ps) (file ∷ qs) ss a h = cc a
 apart (file ∷ ps) (q ∷ qs) ss a h = cc a
 
-abbrev rows_apart : Row → Row → Bool
+abbrev pub rows_apart : Row → Row → Bool
 rows_apart r s = not (is_same r.method s.method) || is_apart r.pieces s.pieces
 
 abbrev all_apart : List Row → Bool
 all_apart [] = true
 all_apart (r ∷ rows) = list_all (rows_apart r) rows && all_apart rows
 
-one-method : (a b : Method) → is_same a b ≡ true → a ≡ b
+pub one-method : (a b : Method) → is_same a b ≡ true → a ≡ b
 one-method Get Get e = refl
 one-method Get Put e = cc e
 one-method Get Post e = cc e
@@ -222,17 +222,17 @@ one-method Other Post e = cc e
 one-method Other Delete e = cc e
 one-method Other Other e = refl
 
-its-method : (a : Method) → is_same a a ≡ true
+pub its-method : (a : Method) → is_same a a ≡ true
 its-method Get = refl
 its-method Put = refl
 its-method Post = refl
 its-method Delete = refl
 its-method Other = refl
 
-same-method : (a b m : Method) → is_same a m ≡ true → is_same b m ≡ true → is_same a b ≡ true
+pub same-method : (a b m : Method) → is_same a m ≡ true → is_same b m ≡ true → is_same a b ≡ true
 same-method a b m e f = rw (one-method a m e, one-method b m f) (its-method m)
 
-excludes : (r s : Row) → rows_apart r s ≡ true → Excludes r s
+pub excludes : (r s : Row) → rows_apart r s ≡ true → Excludes r s
 excludes r s a m ss h = elim (cases_Bool (is_same s.method m)) [
   | inl y ↦ elim (cases_Bool (is_same r.method m)) [
     | inl x ↦

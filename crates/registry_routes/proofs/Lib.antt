@@ -3,6 +3,7 @@ pub mod DeprecationFacts
 pub mod EscapeFacts
 pub mod FileFacts
 pub mod LawFacts
+pub mod NpmFacts
 pub mod PairFacts
 pub mod ReadingFacts
 pub mod SegmentFacts

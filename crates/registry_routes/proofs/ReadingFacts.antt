@@ -135,7 +135,7 @@ pieces-read : (p : Piece) (ps : List Piece) → ((path : Text) → values_at ps 
 pieces-read p ps ih None = refl
 pieces-read p ps ih (Some v) = ap (option_map (with_piece p v.0)) (ih v.1) ∙ later-read p ps v.0 v.1 (segments_of v.1)
 
-values-read : (ps : List Piece) (path : Text) → values_at ps path ≡ option_and_then (values_in ps) (segments_of path)
+pub values-read : (ps : List Piece) (path : Text) → values_at ps path ≡ option_and_then (values_in ps) (segments_of path)
 values-read [] [] = rw no-segments refl
 values-read [] (b ∷ path) = rw (more-segments b path) (ends-read_next (segment_at (b ∷ path)))
 values-read (p ∷ ps) path =

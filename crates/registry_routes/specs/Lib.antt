@@ -2,6 +2,9 @@ pub mod Authorization
 pub mod Bodies
 pub mod Files
 pub mod Laws
+pub mod NpmLaws
+pub mod NpmRoutes
+pub mod NpmTable
 pub mod Paths
 pub mod Pieces
 pub mod Readings

@@ -4,6 +4,9 @@ use Rattle.std.specs.Prelude.{ℕ, ◌&&◌, not, Bool, List, [], ◌∷◌, len
 use Rattle.std.specs.Borrow.{Bor}
 use Rattle.registry_names.specs.Texts.{Text}
 use Rattle.registry_names.specs.declared.method.Method.{Method}
+use Rattle.registry_routes.specs.NpmRoutes as npm_routes
+use Rattle.registry_routes.specs.NpmRoutes.{or_later_npm}
+use Rattle.registry_routes.specs.NpmTable as npm_rows
 use Rattle.registry_routes.specs.Paths.{is_slash, has_bytes, is_scope}
 use Rattle.registry_routes.specs.Pieces as piece
 use Rattle.registry_routes.specs.Pieces.{is_dash}
@@ -11,6 +14,8 @@ use Rattle.registry_routes.specs.Routes as route
 use Rattle.registry_routes.specs.Routes.{joined, no_values, with_piece, is_same, or_later}
 use Rattle.registry_routes.specs.Table as rows
 use Rattle.registry_routes.specs.declared.endpoint.Endpoint.{Endpoint}
+use Rattle.registry_routes.specs.declared.npm_endpoint.NpmEndpoint.{NpmEndpoint}
+use Rattle.registry_routes.specs.declared.npm_route.NpmRoute.{NpmRoute}
 use Rattle.registry_routes.specs.declared.route.Route.{Route}
 use Rattle.registry_routes.specs.declared.route.Values.{Values}
 use Rattle.registry_routes.specs.declared.table.Piece.{Piece}
@@ -41,6 +46,13 @@ some_values_view (Some v) = Some (values_view v)
 abbrev pub route_view : Option Route → Option route.Route
 route_view None = None
 route_view (Some r) = Some (record { endpoint = r.endpoint; values = values_view r.values })
+
+abbrev pub npm_row_view : Method × Bor (List Piece) × NpmEndpoint → npm_rows.NpmRow
+npm_row_view r = npm_rows.npm_row r.0 (map piece_view r.1.now) r.2
+
+abbrev pub npm_route_view : Option NpmRoute → Option npm_routes.NpmRoute
+npm_route_view None = None
+npm_route_view (Some r) = Some (record { endpoint = r.endpoint; values = values_view r.values })
 
 -- ---- segments
 
@@ -103,3 +115,12 @@ values_at_row r method path = if is_same r.method method then values_at r.pieces
 abbrev pub route_at : List rows.Row → Method → Text → Option route.Route
 route_at [] method path = None
 route_at (r ∷ rows) method path = or_later r.endpoint (values_at_row r method path) (route_at rows method path)
+
+-- ---- the rows of npm's own requests
+
+abbrev pub values_at_npm : npm_rows.NpmRow → Method → Text → Option route.Values
+values_at_npm r method path = if is_same r.method method then values_at r.pieces path else None
+
+abbrev pub npm_route_at : List npm_rows.NpmRow → Method → Text → Option npm_routes.NpmRoute
+npm_route_at [] method path = None
+npm_route_at (r ∷ rows) method path = or_later_npm r.endpoint (values_at_npm r method path) (npm_route_at rows method path)

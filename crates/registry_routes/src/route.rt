@@ -111,7 +111,7 @@ fn at_end(path: &[u8]) -> Option<Values<'_>>
 }
 
 // The values of a path, where it is made of these pieces.
-fn values_at<'a>(pieces: &[Piece], path: &'a [u8]) -> Option<Values<'a>>
+pub(crate) fn values_at<'a>(pieces: &[Piece], path: &'a [u8]) -> Option<Values<'a>>
     ensures { some_values_view result ≡ spec.values_at (map piece_view pieces.now) path.entry.now }
 {
     let [piece, pieces @ ..] = pieces else {
@@ -122,7 +122,7 @@ fn values_at<'a>(pieces: &[Piece], path: &'a [u8]) -> Option<Values<'a>>
     Some(before(*piece, value, later))
 }
 
-fn is_method(method: Method, other: Method) -> bool
+pub(crate) fn is_method(method: Method, other: Method) -> bool
     ensures { result ≡ is_same method other }
 {
     method == other

@@ -25,19 +25,19 @@ pub(crate) enum Piece {
 /// A row of the table: a method, the pieces of a path, and what is asked for.
 pub(crate) type Row = (Method, &'static [Piece], Endpoint);
 
-const DASH: Piece = Piece::Literal(b"-");
+pub(crate) const DASH: Piece = Piece::Literal(b"-");
 
-const PACKAGE: Piece = Piece::Literal(b"package");
+pub(crate) const PACKAGE: Piece = Piece::Literal(b"package");
 
-const ORG: Piece = Piece::Literal(b"org");
+pub(crate) const ORG: Piece = Piece::Literal(b"org");
 
-const TEAM: Piece = Piece::Literal(b"team");
+pub(crate) const TEAM: Piece = Piece::Literal(b"team");
 
 const GRANT: Piece = Piece::Literal(b"grant");
 
 const TAGS: Piece = Piece::Literal(b"dist-tags");
 
-const ACCESS: Piece = Piece::Literal(b"access");
+pub(crate) const ACCESS: Piece = Piece::Literal(b"access");
 
 const OWNERS: Piece = Piece::Literal(b"owners");
 
@@ -45,9 +45,9 @@ const DEPRECATE: Piece = Piece::Literal(b"deprecate");
 
 const VERSIONS: Piece = Piece::Literal(b"versions");
 
-const NAME: Piece = Piece::Name;
+pub(crate) const NAME: Piece = Piece::Name;
 
-const VALUE: Piece = Piece::Value;
+pub(crate) const VALUE: Piece = Piece::Value;
 
 const FILE: Piece = Piece::File;
 

@@ -13,7 +13,7 @@ use Rattle.registry_wire.specs.declared.inbox.Taken.{Taken}
 use Rattle.registry_wire.specs.declared.inbox.Taken.TheVariants as taken
 use Rattle.registry_wire.proofs.LengthFacts.{bounded-more}
 use Rattle.registry_service.specs.Courses.{taken_for}
-use Rattle.registry_service.specs.Turns.{Answering}
+use Rattle.registry_service.specs.Turns.{Dialogue}
 use Rattle.registry_server.specs.ConnectionStates.{Pending, TakesNone}
 use Rattle.registry_server.specs.Connections.{Keeps, LeavesLittle, MayReceive, OpenConnection, ReceivesLean, TakesOne, Visits, body_least, has_body, has_body_in}
 use Rattle.registry_server.specs.Phases.{is_late}
@@ -40,13 +40,13 @@ kept-few got old over read due most (inl kept) few =
     let size = ap (λ (p : Pending). length p.held) kept.1 in omega (arith, size, length-append old.held got, few)
 kept-few got old over read due most (inr lost) few = let size = ap (λ (p : Pending). length p.held) lost.0 in omega (arith, size)
 
-module _ {D : Type 0} (answers : Answering D) where
+module _ {D : Type 0} (answers : Dialogue D) where
   turned-few : (read due : Pending) (M N : D) (r r2 : Option (List ℕ)) (over : Bool) (A B : Type 0)
       → (TakesOne answers read due M N r r2 over × A) ⊎ (TakesNone answers read due M N r r2 × B) → length due.held ≤ length read.held
   turned-few read due M N r r2 over A B (inl one) = taken-few read.held due.held (over ≡ true) (taken_for one.0.takes.cause) one.0.takes.took
   turned-few read due M N r r2 over A B (inr none) = let size = ap (λ (p : Pending). length p.held) none.0.state in omega (arith, size)
 
-module _ {S : Type 0} (received sent : S → Option (List ℕ)) {D : Type 0} (answers : Answering D) where
+module _ {S : Type 0} (received sent : S → Option (List ℕ)) {D : Type 0} (answers : Dialogue D) where
   visit-few : (now most : ℕ) (c d : OpenConnection S) (M N : D) (r r2 : Option (List ℕ)) → Visits received sent answers now most c d M N r r2 → length d.state.held ≤ length c.state.held + most
   visit-few now most c d M N r r2 v =
       let turned = turned-few answers v.read v.due M N r r2 d.is_over _ _ v.turns in
@@ -180,7 +180,7 @@ module _ (S : Type 0) where
 
 -- ---- the visits of a round
 
-module _ {S : Type 0} (received sent : S → Option (List ℕ)) (has_none is_full has_more is_ended is_broken : S → Bool) {D : Type 0} (answers : Answering D) (over : D → Bool) where
+module _ {S : Type 0} (received sent : S → Option (List ℕ)) (has_none is_full has_more is_ended is_broken : S → Bool) {D : Type 0} (answers : Dialogue D) (over : D → Bool) where
   after-few : (v : Visit) (p : Place S) (d : OpenConnection S) (n : ℕ) → length d.state.held ≤ n → held_at (after_visit v p d) ≤ n
   after-few Again p d n few = few
   after-few Rests p d n few = few
@@ -301,7 +301,7 @@ grows-lean s most got old over read due after keeps few left (inl none) =
     inl (omega (arith, same, left))
 grows-lean s most got old over read due after keeps few left (inr may) = grows-kept s most got old over read due after keeps few left (receive-small s old may)
 
-module _ {S : Type 0} (received sent : S → Option (List ℕ)) {D : Type 0} (answers : Answering D) where
+module _ {S : Type 0} (received sent : S → Option (List ℕ)) {D : Type 0} (answers : Dialogue D) where
   visit-grows : (now most : ℕ) (c d : OpenConnection S) (M N : D) (r r2 : Option (List ℕ)) → Visits received sent answers now most c d M N r r2
       → GrowsLittle c.phase.stage most (length c.state.held) (length d.state.held)
   visit-grows now most c d M N r r2 v =
@@ -437,7 +437,7 @@ few-counted false after before most least few = omega (arith, few)
 bounded : (a b limit n m : ℕ) → a ≤ b + n * m → b < limit → a ≤ limit + n * m
 bounded a b limit n m few low = omega (arith, few, low)
 
-module _ {S : Type 0} (received sent : S → Option (List ℕ)) (has_none is_full has_more is_ended is_broken : S → Bool) {D : Type 0} (answers : Answering D) (over : D → Bool) where
+module _ {S : Type 0} (received sent : S → Option (List ℕ)) (has_none is_full has_more is_ended is_broken : S → Bool) {D : Type 0} (answers : Dialogue D) (over : D → Bool) where
   after-counts : (most : ℕ) (v : Visit) (p : Place S) (d : OpenConnection S) (before : ℕ) → (p.is_chosen ≡ false → max (length d.state.held) (held_before most) ≤ max before (held_before most))
       → counted_at most (after_visit v p d) ≤ (if p.is_chosen then held_before most else max before (held_before most))
   after-counts most Again p d before less = counts-less p.is_chosen (length d.state.held) before (held_before most) less

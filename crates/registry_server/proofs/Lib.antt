@@ -12,3 +12,4 @@ mod HeldFacts
 mod RemainderFacts
 mod WokenFacts
 mod QueryFacts
+mod ComingFacts

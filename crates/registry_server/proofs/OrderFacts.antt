@@ -3,7 +3,7 @@ use Rattle.std.proofs.Common.{◌≡◌, ◌≢◌, ◌<◌, ◌==◌, ◌++◌,
 use Rattle.std.proofs.lemmas.Bool.Decides.{nat_tests}
 use Rattle.registry_wire.specs.Spelling.{IsUnfinished}
 use Rattle.registry_service.specs.Servings.{bytes_of}
-use Rattle.registry_service.specs.Turns.{Answering}
+use Rattle.registry_service.specs.Turns.{Dialogue}
 use Rattle.registry_service.specs.declared.turning.End.{End}
 use Rattle.registry_service.specs.declared.turning.Turned.{Turned}
 use Rattle.registry_server.specs.ConnectionStates.{IsStarved, MayTakeTurn, Pending, TakesTurn, fresh, holding, pending}
@@ -161,7 +161,7 @@ begun-in-order s p q is same unfinished may some =
     order-begun s q is (some-held q.held some) (subst (λ (x : Pending). IsUnfinished x.held) (sym same) unfinished) (subst MayTakeTurn (sym same) may)
 
 -- a turn was taken
-pub answered-in-order : {D : Type 0} (answers : Answering D) (s : Stage) (p q : Pending) (M N : D) (r r2 : Option (List ℕ)) (over : Bool) → s ≡ Sends
+pub answered-in-order : {D : Type 0} (answers : Dialogue D) (s : Stage) (p q : Pending) (M N : D) (r r2 : Option (List ℕ)) (over : Bool) → s ≡ Sends
     → TakesTurn answers p q M N r r2 over → IsInOrder s q
 answered-in-order answers s p q M N r r2 over is t = order-sends s q is (response-due q t.turned t.outgoing)
 

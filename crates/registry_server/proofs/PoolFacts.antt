@@ -5,7 +5,7 @@ use Rattle.std.proofs.lemmas.Bool.{and_parts, false≢true}
 use Rattle.std.proofs.lemmas.Bool.Decides.{nat_tests}
 use Rattle.std.proofs.lemmas.Option.{slice_get_read}
 use Rattle.std.proofs.lemmas.List.{drop-drop, drop-set-lt, drop_all, get_or-drop, take_all, take_more, take_more_set}
-use Rattle.registry_service.specs.Turns.{Answering}
+use Rattle.registry_service.specs.Turns.{Dialogue}
 use Rattle.registry_server.specs.Pools.{ChoosesIf, ChoosesNext, EndsIdle, IsEarliestOf, IsFirstOfEarliest, LooksAtBodies, VisitsAll, VisitsAt, VisitsIf, VisitsThere, after_visit, at_place, body_with, chosen, command_with, earlier, emptied, has_body_at, has_room, held_at, held_limit, idle_at, idle_in, idle_times, is_busy, is_crowd, is_due, is_held_back, is_to_visit, may_command_at, read_count, read_together, settled, waiting_at, waiting_times, waits_since, waits_since_at, with_connection}
 use Rattle.registry_server.specs.Connections.{IsDone, IsLost, LeavesLittle, OpenConnection, Visits, has_body, has_body_in, may_command, must_wait}
 use Rattle.registry_server.specs.declared.connection.Visit.{Visit}
@@ -191,7 +191,7 @@ query-there paused p c at is waits = sym (ap command_with at) ∙ no-command p.i
 
 -- ---- the visits of the places, one after the other
 
-module _ {S : Type 0} (received sent : S → Option (List ℕ)) (has_none is_full has_more is_ended is_broken : S → Bool) {D : Type 0} (answers : Answering D) (over : D → Bool) where
+module _ {S : Type 0} (received sent : S → Option (List ℕ)) (has_none is_full has_more is_ended is_broken : S → Bool) {D : Type 0} (answers : Dialogue D) (over : D → Bool) where
   -- no connection is to be visited there, or the service is over
   pub visits-none : (paused crowd : Bool) (now most : ℕ) (p : Place S) (M : D) (r : Option (List ℕ)) → (is_to_visit paused p && not (over M)) ≡ false → VisitsAt received sent has_none is_full has_more is_ended is_broken answers over paused crowd now most p p M M r r
   visits-none paused crowd now most p M r is = subst (λ (b : Bool). VisitsIf received sent has_none is_full has_more is_ended is_broken answers b (is_held_back crowd p) now most p p M M r r) (sym is) (record { place = refl; service = refl; unasked = refl })

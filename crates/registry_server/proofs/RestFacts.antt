@@ -5,7 +5,7 @@ use Rattle.std.proofs.lemmas.Bool.{false≢true}
 use Rattle.std.proofs.lemmas.List.Elements.{All-cons, All-head, All-map, All-replicate, All-tail, All-weaker}
 use Rattle.std.proofs.lemmas.List.Quantifiers.{position-Some}
 use Rattle.std.proofs.lemmas.Option.{get_or_from_slice_get, slice_get_within}
-use Rattle.registry_service.specs.Turns.{Answering}
+use Rattle.registry_service.specs.Turns.{Dialogue}
 use Rattle.registry_server.specs.Connections.{OpenConnection, finishing, must_wait, must_wait_in, waiting}
 use Rattle.registry_server.specs.Phases.{idle_from, is_late}
 use Rattle.registry_server.specs.Pools.{AllIdleEndsLeaveRest, ChoosesIf, EndsLeaveRest, FinishesLeaveRest, IdleEndsLeaveRest, IsAtRest, IsFirstOfEarliest, IsUnderWay, MayHaveOne, NewConnectionsLeaveRest, NewPoolRests, NewcomersEndIdle, StopsEndIdle, StopsLeaveUnderWay, VisitsAll, VisitsIf, VisitsLeaveRest, VisitsThere, WakesLeaveRest, WantOfRoomEndsIdle, after_visit, at_place, chosen, chosen_of, emptied, emptied_of, finishing_at, finishing_with, free, has_room, idle_at, idle_in, idle_times, idle_with, in_time, is_crowd, is_free, is_held_back, is_to_visit, kept_at, left_with, new_at, place_count, settled, unless_idle, waiting_at, waiting_with, woken}
@@ -214,7 +214,7 @@ pub finishes-leave-one : {S : Type 0} (places : List (Place S)) → All MayHaveO
 finishes-leave-one {S} places = All-map (MayHaveOne {S = S}) finishing_at places
     (λ k d lt. finishing-one (get_or places k d).connection)
 
-module _ {S : Type 0} (received sent : S → Option (List ℕ)) (has_none is_full has_more is_ended is_broken : S → Bool) {D : Type 0} (answers : Answering D) (over : D → Bool) where
+module _ {S : Type 0} (received sent : S → Option (List ℕ)) (has_none is_full has_more is_ended is_broken : S → Bool) {D : Type 0} (answers : Dialogue D) (over : D → Bool) where
   there-rests : (now most : ℕ) (p : Place S) (o : Option (OpenConnection S)) (q : Place S) (M N : D) (r r2 : Option (List ℕ))
       → VisitsThere received sent has_none is_full has_more is_ended is_broken answers now most p o q M N r r2 → IsAtRest has_none is_full q
   there-rests now most p None q M N r r2 v = subst (IsAtRest has_none is_full) (sym v.place) (λ c ready at. none-some c at)

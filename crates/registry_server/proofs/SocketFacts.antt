@@ -3,7 +3,7 @@ use Rattle.std.proofs.Common.{◌≡◌, ◌⊎◌, ◌++◌, ◌∙◌, [], ℕ
 use Rattle.std.proofs.lemmas.Bool.{false≢true}
 use Rattle.std.specs.Io.KnownBytes.{append_known}
 use Rattle.registry_service.specs.Histories.{LogEntry, Reached, Transcript, World}
-use Rattle.registry_service.specs.Turns.{Answering}
+use Rattle.registry_service.specs.Turns.{Dialogue}
 use Rattle.registry_service.specs.declared.turning.End.{End}
 use Rattle.registry_server.specs.ConnectionStates.{IsStarved, Pending, TakesNone, TakesTurn, holding, sending}
 use Rattle.registry_server.specs.Connections.{Keeps, OpenConnection, TakesOne, Visits}
@@ -46,7 +46,7 @@ sent-more (Some bytes) l m put shown sent = ap (λ (b : List ℕ). b ++ put) sho
 
 -- ---- the steps of a visit, one after the other
 
-module _ {D : Type 0} (answers : Answering D) where
+module _ {D : Type 0} (answers : Dialogue D) where
   chained : (M : D) (w : World D) (k : ℕ) (over over2 : Bool) (p q : Pending) (came sent came2 sent2 came3 sent3 : List ℕ) (log log2 log3 : List LogEntry) (N N2 : D)
       → (g : Goes answers M w k over p came sent log N) → Goes answers M g.world k over2 q came2 sent2 log2 N2 → came2 ≡ came3 → sent2 ≡ sent3 → log2 ≡ log3
       → Goes answers M w k over2 q came3 sent3 log3 N2
@@ -145,7 +145,7 @@ module _ {D : Type 0} (answers : Answering D) where
   drops-ended old read due A B M N readings readings2 over (inr t) same (inl some) =
       subst IsSome (ap (λ (p : Pending). p.ends) (sym (t.0.state ∙ same))) some
 
-module _ {S : Type 0} (received sent : S → Option (List ℕ)) {D : Type 0} (answers : Answering D) where
+module _ {S : Type 0} (received sent : S → Option (List ℕ)) {D : Type 0} (answers : Dialogue D) where
   shows-still : (w v : World D) (j : ℕ) (c : OpenConnection S) → IsSame w v j → SocketShows received sent w j c → SocketShows received sent v j c
   shows-still w v j c same s = record {
     state = stands-still w v j c.is_over c.state same.transcript same.turned s.state;

@@ -4,7 +4,7 @@ use Rattle.std.proofs.lemmas.Bool.{false≢true}
 use Rattle.std.proofs.lemmas.List.{length-take, take-append-drop}
 use Rattle.std.specs.Io.KnownBytes.{append_known}
 use Rattle.registry_wire.specs.Spelling.{IsUnfinished}
-use Rattle.registry_service.specs.Turns.{Answering}
+use Rattle.registry_service.specs.Turns.{Dialogue}
 use Rattle.registry_service.specs.declared.turning.End.{End}
 use Rattle.registry_server.specs.ConnectionStates.{IsStarved, MayTakeTurn, Pending, TakesNone, holding, sending}
 use Rattle.registry_server.specs.Connections.{AnswersOnce, Drops, Keeps, MayReceive, OpenConnection, Receives, SendsDue, StarvesOnce, TakesOne, Visits, connected, must_wait_in}
@@ -111,7 +111,7 @@ module _ {S : Type 0} (received sent : S → Option (List ℕ)) where
     times = refl;
   }
 
-module _ {S : Type 0} (received sent : S → Option (List ℕ)) {D : Type 0} (answers : Answering D) where
+module _ {S : Type 0} (received sent : S → Option (List ℕ)) {D : Type 0} (answers : Dialogue D) where
   none-taken : (p : Pending) (M : D) (r : Option (List ℕ)) → TakesNone answers p p M M r r
   none-taken p M r = record { state = refl; service = refl; unasked = refl }
 

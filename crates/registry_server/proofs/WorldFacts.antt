@@ -5,7 +5,7 @@ use Rattle.std.proofs.lemmas.List.{take-append-drop}
 use Rattle.registry_wire.specs.Reading.{TakenOf}
 use Rattle.registry_service.specs.Courses.{count_of, taken_for}
 use Rattle.registry_service.specs.Histories.{LogEntry, Transcript, Reached, World, at_end, comes, is_last, on_connection, sends, shuts, turned_on, turns, turns_of, with_bytes, with_sent, with_turn}
-use Rattle.registry_service.specs.Turns.{Answering, Cause, IsTurn, IsTurnFor, Turn, bad_input, is_request, no_memory, request, response_of}
+use Rattle.registry_service.specs.Turns.{Cause, Dialogue, IsTurn, IsTurnFor, Turn, bad_input, is_request, no_memory, request, response_of}
 use Rattle.registry_service.proofs.CourseFacts.{bytes-same, on-not_last, on-request}
 use Rattle.registry_server.specs.ConnectionStates.{Pending, TakesTurn, holding, sending}
 use Rattle.registry_server.specs.Worlds.{AddsNone, AddsOne, Begins, Comes, Lasts, LeadsTo, MayHave, Sends, Shuts, StateShows, TakesTurns}
@@ -103,7 +103,7 @@ pub record IsSame {D : Type 0} (w v : World D) (j : ℕ) : Type 0 where
 pub same-after : {D : Type 0} (u v w : World D) (j : ℕ) → IsSame u v j → IsSame v w j → IsSame u w j
 same-after u v w j first second = record { transcript = second.transcript ∙ first.transcript; turned = second.turned ∙ first.turned }
 
-module _ {D : Type 0} (answers : Answering D) where
+module _ {D : Type 0} (answers : Dialogue D) where
   -- From a world another is reached, at this service and with these turns, in which this state shows
   -- this connection, on which so much came and was sent. Each other one is what it was.
   pub record Goes (M : D) (w : World D) (k : ℕ) (over : Bool) (p : Pending) (came sent : List ℕ) (log : List LogEntry) (N : D) : Type 0 where
@@ -186,13 +186,13 @@ module _ {D : Type 0} (answers : Answering D) where
       let l = w.transcripts k in
       let ts = turns_of k w.log in
       let may = s.may_have going in
-      let turn : Turn = record { cause = t.cause; outcome = t.turns.outcome; ended = t.turned.end } in
+      let turn : Turn = record { cause = t.cause; exchanges = t.turns.exchanges; outcome = t.turns.outcome; ended = t.turned.end } in
       let took : TakenOf l.rest q.held (l.shut ≡ true) (taken_for t.cause) =
       subst (λ (bs : List ℕ). TakenOf bs q.held (l.shut ≡ true) (taken_for t.cause)) (sym s.held)
       (subst (λ (b : Bool). TakenOf p.held q.held (b ≡ true) (taken_for t.cause)) (sym s.shut) t.took) in
       let stops = (p.left == 1) && not (length ts + 1 == 1000) in
       let is_turn : IsTurn answers w.service (is_last stops ts) turn N =
-      subst (λ (b : Bool). IsTurnFor answers t.cause w.service b t.turns.outcome t.turned.end N) (same-last (length ts) p.left may.some may.all) t.turns.is_turn in
+      subst (λ (b : Bool). IsTurnFor answers t.cause w.service b t.turns.exchanges t.turns.outcome t.turned.end N) (same-last (length ts) p.left may.some may.all) t.turns.is_turn in
       let v = turned_on w k stops turn q.held N in
       let sent : l.out ≡ l.sent = s.outgoing ∙ ap (λ (u : List ℕ). l.sent ++ u) none ∙ append-nil l.sent in
       let outgoing : l.out ++ response_of turn ≡ l.sent ++ q.outgoing =
@@ -200,8 +200,8 @@ module _ {D : Type 0} (answers : Answering D) where
       ∙ ap (λ (u : List ℕ). l.sent ++ u) (sym (t.outgoing ∙ bytes-same t.turns.outcome t.turned.answer (is_some t.turned.end) t.turns.answer)) in
       let later : q.ends ≡ None → MayHave (turn ∷ ts) q.left = λ stays.
       let ended = sym t.ends ∙ stays in
-      let one = count-one t.cause (on-request answers t.cause w.service (p.left == 1) t.turns.outcome t.turned.end N t.turns.is_turn ended) in
-      let last = on-not_last answers t.cause w.service (p.left == 1) t.turns.outcome t.turned.end N t.turns.is_turn ended in
+      let one = count-one t.cause (on-request answers t.cause w.service (p.left == 1) t.turns.exchanges t.turns.outcome t.turned.end N t.turns.is_turn ended) in
+      let last = on-not_last answers t.cause w.service (p.left == 1) t.turns.exchanges t.turns.outcome t.turned.end N t.turns.is_turn ended in
       may-more ts turn p.left q.left may ended last (t.left ∙ ap (λ (n : ℕ). p.left - n) one) in
       let changed = pick-first (k == k) (with_turn turn q.held l) l (at-same k) in
       let log = record { from = k; stops = stops; turn = turn } ∷ w.log in (

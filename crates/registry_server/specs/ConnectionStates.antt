@@ -6,7 +6,7 @@ use Rattle.registry_wire.specs.Spelling.{IsUnfinished}
 use Rattle.registry_service.specs.HttpAnswers.{body_bytes}
 use Rattle.registry_service.specs.Courses.{Gave, count_of, moment_of, taken_for}
 use Rattle.registry_service.specs.Servings.{bytes_of}
-use Rattle.registry_service.specs.Turns.{Answering, Cause, Turns, TurnsAway, no_memory, request_limit}
+use Rattle.registry_service.specs.Turns.{Cause, Dialogue, Turns, TurnsAway, no_memory, request_limit}
 use Rattle.registry_service.specs.declared.turning.End.{End}
 use Rattle.registry_service.specs.declared.turning.Turned.{Turned}
 use Rattle.registry_server.specs.declared.state.Progress.{Progress}
@@ -59,7 +59,7 @@ pub record IsStarved (old new : Pending) : Type 0 where
   pub away : TurnsAway no_memory turned
   pub state : new ≡ pending old.held (bytes_of turned) old.left turned.end
 
-module _ {D : Type 0} (answers : Answering D) where
+module _ {D : Type 0} (answers : Dialogue D) where
   -- One turn was taken of what was held, by a service and a clock, and its response is to be sent.
   -- `over` says that no more bytes come.
   pub record TakesTurn (old new : Pending) (M N : D) (readings readings2 : Option (List ℕ)) (over : Bool) : Type 0 where

@@ -4,7 +4,7 @@ use Rattle.std.specs.Io.KnownBytes.{append_known}
 use Rattle.std.specs.List.{starts_with}
 use Rattle.registry_wire.specs.Spelling.{HasRequest, IsUnfinished, head_limit}
 use Rattle.registry_wire.specs.declared.wanted.Wanted.{Wanted}
-use Rattle.registry_service.specs.Turns.{Answering}
+use Rattle.registry_service.specs.Turns.{Dialogue}
 use Rattle.registry_service.specs.declared.turning.End.{End}
 use Rattle.registry_server.specs.ConnectionStates.{IsStarved, MayTakeTurn, Pending, TakesNone, TakesTurn, holding, lasting, sending}
 use Rattle.registry_server.specs.Phases.{HeardAt, LookedAt, SentAt, entered, is_under_way, receives, takes_turns, waited}
@@ -182,13 +182,13 @@ MayReceive Drains p = (p.outgoing ≡ []) × IsSome p.ends
 abbrev pub ReceivesLean : List ℕ → Stage → Pending → Type 0
 ReceivesLean got stage old = (got ≡ []) ⊎ MayReceive stage old
 
-module _ {D : Type 0} (answers : Answering D) where
+module _ {D : Type 0} (answers : Dialogue D) where
   -- A turn is taken, where everything is sent and the connection goes on.
   pub record TakesOne (old new : Pending) (M N : D) (readings readings2 : Option (List ℕ)) (over : Bool) : Type 0 where
     pub may : MayTakeTurn old
     pub takes : TakesTurn answers old new M N readings readings2 over
 
-module _ {S : Type 0} (received sent : S → Option (List ℕ)) {D : Type 0} (answers : Answering D) where
+module _ {S : Type 0} (received sent : S → Option (List ℕ)) {D : Type 0} (answers : Dialogue D) where
   -- A turn was taken, or none, and the socket took some of what is due then.
   pub record AnswersOnce (now : ℕ) (old new : OpenConnection S) (M N : D) (readings readings2 : Option (List ℕ)) : Type 0 where
     pub due : Pending

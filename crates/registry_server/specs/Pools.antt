@@ -2,7 +2,7 @@
 use Rattle.std.specs.Prelude.{◌≡◌, ◌≢◌, ◌<◌, ◌≤◌, ◌+◌, ◌*◌, ◌∷◌, ◌⊎◌, ⊤, [], ℕ, zero, suc, Bool, true, false, List, Option, Some, None, is_none, is_some, All, count_by, length, map, max, nat_le, nat_lt, position, replicate, slice_get, sum_by, MatchOption, ◌&&◌, ◌||◌, not, if◌then◌else◌}
 use Rattle.std.specs.List.{list_all, list_any}
 use Rattle.registry_wire.specs.Spelling.{request_limit}
-use Rattle.registry_service.specs.Turns.{Answering, AnswersAsBefore}
+use Rattle.registry_service.specs.Turns.{Answering, AnswersAsBefore, Dialect, Dialogue, spoken}
 use Rattle.registry_server.specs.ConnectionStates.{fresh}
 use Rattle.registry_server.specs.Connections.{IsDone, IsLost, LeavesLittle, OpenConnection, Visits, body_least, body_since, connected, finishing, has_body, is_answered, may_command, must_wait, waiting}
 use Rattle.registry_server.specs.Queries.{IsQueried, queries}
@@ -123,6 +123,17 @@ pub record EndsIdle {S : Type 0} (old new : List (Place S)) (was : Bool) : Type 
   pub first : IsFirstOfEarliest (idle_times old) (length old) which
   pub places : new ≡ emptied_of old which
   pub found : was ≡ is_some which
+
+-- ---- who comes in
+
+-- Connections come in at this moment. For each it may be looked who is to be visited, and the one may
+-- end on which nothing has been begun for longest, because room is lacking. Nothing else happens at
+-- the places.
+pub data LetsIn {S : Type 0} (now : ℕ) (old : List (Place S)) : List (Place S) → Type 0 where
+  nobody_comes : LetsIn now old old
+  is_looked : (between new : List (Place S)) → LetsIn now old between → AreWoken between new → LetsIn now old new
+  one_comes : (between : List (Place S)) (k : ℕ) (socket : S) → LetsIn now old between → IsPlaceFor between (Some k) → LetsIn now old (at_place (λ _. new_at now socket) between k)
+  idle_ends : (between new : List (Place S)) (was : Bool) → LetsIn now old between → EndsIdle between new was → LetsIn now old new
 
 -- ---- where a server is about to end
 
@@ -291,7 +302,7 @@ after_visit Again p c = with_connection p (Some c) true
 after_visit Rests p c = with_connection p (Some c) false
 after_visit Over p c = with_connection p None false
 
-module _ {S : Type 0} (received sent : S → Option (List ℕ)) (has_none is_full has_more is_ended is_broken : S → Bool) {D : Type 0} (answers : Answering D) where
+module _ {S : Type 0} (received sent : S → Option (List ℕ)) (has_none is_full has_more is_ended is_broken : S → Bool) {D : Type 0} (answers : Dialogue D) where
   -- A connection was visited: it goes on at once, rests, or ends. It rests only where its socket
   -- takes nothing of a response that is due, or where no response is due and its socket gives
   -- nothing; and then what is held of a next request was looked at. Within a request it goes on
@@ -328,7 +339,7 @@ module _ {S : Type 0} (received sent : S → Option (List ℕ)) (has_none is_ful
   VisitsIf true false now most old new M N readings readings2 = VisitsThere now most old old.connection new M N readings readings2
   VisitsIf false held now most old new M N readings readings2 = VisitsNone old new M N readings readings2
 
-module _ {S : Type 0} (received sent : S → Option (List ℕ)) (has_none is_full has_more is_ended is_broken : S → Bool) {D : Type 0} (answers : Answering D) (over : D → Bool) where
+module _ {S : Type 0} (received sent : S → Option (List ℕ)) (has_none is_full has_more is_ended is_broken : S → Bool) {D : Type 0} (answers : Dialogue D) (over : D → Bool) where
   -- A place is visited where it is to be and isn't held back, unless the service is over. `paused`
   -- says that commands wait.
   abbrev pub VisitsAt : Bool → Bool → ℕ → ℕ → Place S → Place S → D → D → Option (List ℕ) → Option (List ℕ) → Type 0
@@ -353,32 +364,59 @@ module _ {S : Type 0} (received sent : S → Option (List ℕ)) (has_none is_ful
     pub looks : LooksAtBodies old looked
     pub visits : VisitsAll paused (is_crowd old) now most looked new M N readings readings2
 
+-- ---- who stays
+
+-- each connection at whose place this holds stays there as it is, and it still holds
+abbrev pub Stay : {S : Type 0} → (Place S → Type 0) → List (Place S) → List (Place S) → Type 0
+Stay P [] [] = ⊤
+Stay P (p ∷ places) (q ∷ places2) = (P p → (q.connection ≡ p.connection) × P q) × Stay P places places2
+Stay P [] (q ∷ places2) = ⊥
+Stay P (p ∷ places) [] = ⊥
+
+-- somebody is there, and something is begun there, or it is to be visited
+abbrev pub IsBusyThere : {S : Type 0} → Place S → Type 0
+IsBusyThere p = (is_free p ≡ false) × IsUnderWay p
+
+-- a request is under way there that may be a command
+abbrev pub MayCommand : {S : Type 0} → Place S → Type 0
+MayCommand p = may_command_at p ≡ true
+
+-- whoever comes in takes the place of nobody who is under way
+abbrev pub NewcomersLeaveBusy : Type 0 → Type 0
+NewcomersLeaveBusy S = (now : ℕ) (old new : List (Place S)) → LetsIn now old new → Stay IsBusyThere old new
+
 -- ---- while a server is held
 
-module _ {S : Type 0} (received sent : S → Option (List ℕ)) (has_none is_full has_more is_ended is_broken : S → Bool) {D : Type 0} (answers : Answering D) (over : D → Bool) where
+module _ {S : Type 0} (received sent : S → Option (List ℕ)) (has_none is_full has_more is_ended is_broken : S → Bool) (speaks : Dialect) {D : Type 0} (answers : Answering D) (over : D → Bool) where
   -- Commands wait: in a round of visits the service is asked queries alone. Then it may look something
-  -- up.
-  pub record ServesQueries (now most : ℕ) (old : List (Place S)) (M N : D) (readings readings2 : Option (List ℕ)) : Type 0 where
+  -- up, and connections come in. Nothing else happens at the places.
+  pub record ServesQueries (now most : ℕ) (old new : List (Place S)) (M N : D) (readings readings2 : Option (List ℕ)) : Type 0 where
     pub visited : List (Place S)
     pub between : D
-    pub round : VisitsRound received sent has_none is_full has_more is_ended is_broken (queries answers) over true now most old visited M between readings readings2
+    pub round : VisitsRound received sent has_none is_full has_more is_ended is_broken (spoken speaks (queries answers)) over true now most old visited M between readings readings2
     pub looks : AnswersAsBefore answers between N
+    pub comes : LetsIn now visited new
 
-  -- Any number of such rounds, one after the other: what a server does with its service while it is
-  -- held.
-  pub data ServesHeld (M : D) : D → Type 0 where
-    no_round : ServesHeld M M
-    one_round : (K N : D) (now most : ℕ) (old : List (Place S)) (readings readings2 : Option (List ℕ)) → ServesHeld M K → ServesQueries now most old K N readings readings2 → ServesHeld M N
+  -- Any number of such rounds, one after the other: what a server does with its connections and its
+  -- service while it is held. Before each round some connections are to be visited.
+  pub data ServesHeld (old : List (Place S)) (M : D) : List (Place S) → D → Type 0 where
+    no_round : ServesHeld old M old M
+    one_round : (between ready new : List (Place S)) (K N : D) (now most : ℕ) (readings readings2 : Option (List ℕ))
+        → ServesHeld old M between K → AreWoken between ready → ServesQueries now most ready new K N readings readings2 → ServesHeld old M new N
 
   -- so in a whole hold it is asked queries alone
   abbrev pub HoldsAskQueries : Type 0
-  HoldsAskQueries = (M N : D) → ServesHeld M N → IsQueried answers M N
+  HoldsAskQueries = (old : List (Place S)) (M : D) (new : List (Place S)) (N : D) → ServesHeld old M new N → IsQueried answers M N
+
+  -- and each connection on which a request is under way that may be a command stays as it is
+  abbrev pub HoldsKeepCommands : Type 0
+  HoldsKeepCommands = (old : List (Place S)) (M : D) (new : List (Place S)) (N : D) → ServesHeld old M new N → Stay MayCommand old new
 
   -- and such a round is one as any other
   abbrev pub QueriesAreAnswers : Type 0
   QueriesAreAnswers = (paused : Bool) (now most : ℕ) (old new : List (Place S)) (M N : D) (readings readings2 : Option (List ℕ))
-      → VisitsRound received sent has_none is_full has_more is_ended is_broken (queries answers) over paused now most old new M N readings readings2
-      → VisitsRound received sent has_none is_full has_more is_ended is_broken answers over paused now most old new M N readings readings2
+      → VisitsRound received sent has_none is_full has_more is_ended is_broken (spoken speaks (queries answers)) over paused now most old new M N readings readings2
+      → VisitsRound received sent has_none is_full has_more is_ended is_broken (spoken speaks answers) over paused now most old new M N readings readings2
 
 -- ---- how much is held after a round
 
@@ -430,7 +468,7 @@ FinishesLeaveFew S = (places : List (Place S)) → FewChosen places → FewChose
 abbrev pub WhoWaitsHasBegun : Type 0 → Type 0
 WhoWaitsHasBegun S = (crowd : Bool) (p : Place S) (c : OpenConnection S) → is_held_back crowd p ≡ true → p.connection ≡ Some c → c.phase.stage ≡ Begun
 
-module _ {S : Type 0} (received sent : S → Option (List ℕ)) (has_none is_full has_more is_ended is_broken : S → Bool) {D : Type 0} (answers : Answering D) (over : D → Bool) where
+module _ {S : Type 0} (received sent : S → Option (List ℕ)) (has_none is_full has_more is_ended is_broken : S → Bool) {D : Type 0} (answers : Dialogue D) (over : D → Bool) where
   -- and in a round, also after it is decided which bodies are read
   abbrev pub RoundsReadFew : Type 0
   RoundsReadFew = (paused : Bool) (now most : ℕ) (old new : List (Place S)) (M N : D) (readings readings2 : Option (List ℕ)) → FewChosen old
@@ -503,7 +541,7 @@ AllIdleEndsLeaveLittle S = (most : ℕ) (places : List (Place S)) → HoldLittle
 abbrev pub FinishesLeaveLittle : Type 0 → Type 0
 FinishesLeaveLittle S = (most : ℕ) (places : List (Place S)) → HoldLittle most places → HoldLittle most (map finishing_at places)
 
-module _ {S : Type 0} (received sent : S → Option (List ℕ)) (has_none is_full has_more is_ended is_broken : S → Bool) {D : Type 0} (answers : Answering D) (over : D → Bool) where
+module _ {S : Type 0} (received sent : S → Option (List ℕ)) (has_none is_full has_more is_ended is_broken : S → Bool) {D : Type 0} (answers : Dialogue D) (over : D → Bool) where
   -- and after a round
   abbrev pub RoundsLeaveLittle : Type 0
   RoundsLeaveLittle = (paused : Bool) (now most : ℕ) (old new : List (Place S)) (M N : D) (readings readings2 : Option (List ℕ)) → HoldLittle most old
@@ -563,7 +601,7 @@ AllIdleEndsLeaveRest {S} has_none is_full = (places : List (Place S)) → All (I
 abbrev pub FinishesLeaveRest : {S : Type 0} → (S → Bool) → (S → Bool) → Type 0
 FinishesLeaveRest {S} has_none is_full = (places : List (Place S)) → All (IsAtRest has_none is_full) places → All (IsAtRest has_none is_full) (map finishing_at places)
 
-module _ {S : Type 0} (received sent : S → Option (List ℕ)) (has_none is_full has_more is_ended is_broken : S → Bool) {D : Type 0} (answers : Answering D) (over : D → Bool) where
+module _ {S : Type 0} (received sent : S → Option (List ℕ)) (has_none is_full has_more is_ended is_broken : S → Bool) {D : Type 0} (answers : Dialogue D) (over : D → Bool) where
   -- and after visits
   abbrev pub VisitsLeaveRest : Type 0
   VisitsLeaveRest = (paused : Bool) (now most : ℕ) (old new : List (Place S)) (M N : D) (readings readings2 : Option (List ℕ)) → All (IsAtRest has_none is_full) old

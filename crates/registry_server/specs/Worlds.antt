@@ -3,7 +3,7 @@
 use Rattle.std.specs.Prelude.{◌≡◌, ◌+◌, ◌==◌, ◌<◌, ◌⊎◌, ◌++◌, ◌∷◌, [], ℕ, Bool, true, false, List, Option, Some, None, length, drop}
 use Rattle.registry_service.specs.Courses.{Gave, GoOn, moment_of}
 use Rattle.registry_service.specs.Histories.{LogEntry, Reached, Transcript, World, start, turns_of}
-use Rattle.registry_service.specs.Turns.{Answering, Turn, request_limit}
+use Rattle.registry_service.specs.Turns.{Dialogue, Turn, request_limit}
 use Rattle.registry_service.specs.declared.turning.End.{End}
 use Rattle.registry_server.specs.ConnectionStates.{IsStarved, Pending, TakesTurn, fresh, holding, lasting, sending}
 use Rattle.registry_server.specs.Connections.{OpenConnection, Visits, finishing}
@@ -44,7 +44,7 @@ AddsTurn k readings readings2 old new = AddsOne k readings readings2 old new ⊎
 
 -- ---- without sockets
 
-module _ {D : Type 0} (answers : Answering D) where
+module _ {D : Type 0} (answers : Dialogue D) where
   -- From this world and service another is reached, in which this state shows this connection. This
   -- is what is added to the list of turns. A state that showed another connection still does.
   pub record LeadsTo (Adds : List LogEntry → List LogEntry → Type 0) (M : D) (w : World D) (k : ℕ) (over : Bool) (p : Pending) (N : D) : Type 0 where
@@ -112,7 +112,7 @@ module _ {S : Type 0} (received sent : S → Option (List ℕ)) {D : Type 0} whe
 abbrev pub Finishes : Type 0 → {S : Type 0} → (S → Option (List ℕ)) → (S → Option (List ℕ)) → Type 0
 Finishes D {S} received sent = (w : World D) (k : ℕ) (c : OpenConnection S) → SocketShows received sent w k c → SocketShows received sent w k (finishing c)
 
-module _ {S : Type 0} (received sent : S → Option (List ℕ)) {D : Type 0} (answers : Answering D) where
+module _ {S : Type 0} (received sent : S → Option (List ℕ)) {D : Type 0} (answers : Dialogue D) where
   -- From this world and service another is reached, in which this open connection is the one of
   -- this number. To the list of turns that of the visit is added, at the moment that the clock gives
   -- in it, or none. What showed another connection still does.

@@ -5,6 +5,7 @@ ghost use Rattle.registry_wire.specs.Spelling.{IsUnfinished};
 ghost use Rattle.registry_server.specs.ConnectionStates.{Does, MayTakeTurn, fresh};
 ghost use Rattle.registry_server.specs.Connections.{AnswersOnce, Drops, IsDone, IsLost, LeavesLittle, LeavesRest, Receives, SendsDue, StarvesOnce, Visits, body_since, connected, finishing, has_body, is_answered, may_command, must_wait, stage_after, waiting};
 ghost use Rattle.registry_server.specs.Phases as phases;
+ghost use Rattle.registry_service.specs.Turns.{spoken};
 ghost use Rattle.registry_server.specs.Queries.{queries};
 ghost use Rattle.registry_server.specs.declared.connection.Visit.TheVariants as visits;
 ghost use Rattle.registry_server.specs.declared.phase.Stage.TheVariants as stages;
@@ -157,7 +158,7 @@ impl<S: Socket> Connection<S> {
         buffer: &mut [u8],
         now: u64,
     ) -> Visit
-        ensures visits { Visits S.received S.sent D.answers now (length buffer.old) self.old self.new
+        ensures visits { Visits S.received S.sent (spoken D.speaks D.answers) now (length buffer.old) self.old self.new
             service.old service.new (C.readings clock.old) (C.readings clock.new) }
         ensures rests { result ≡ visits.Rests → self.new.phase.stage ≢ stages.Next }
         ensures waits { result ≡ visits.Rests → must_wait S.has_none S.is_full self.new ≡ true }
@@ -191,7 +192,7 @@ impl<S: Socket> Connection<S> {
         buffer: &mut [u8],
         now: u64,
     ) -> Visit
-        ensures visits { may_command self.old ≡ false → Visits S.received S.sent (queries D.answers) now (length buffer.old) self.old self.new
+        ensures visits { may_command self.old ≡ false → Visits S.received S.sent (spoken D.speaks (queries D.answers)) now (length buffer.old) self.old self.new
             service.old service.new (C.readings clock.old) (C.readings clock.new) }
         ensures rests { result ≡ visits.Rests → self.new.phase.stage ≢ stages.Next }
         ensures waits { result ≡ visits.Rests → must_wait S.has_none S.is_full self.new ≡ true }
@@ -210,7 +211,7 @@ impl<S: Socket> Connection<S> {
     // Receives the first bytes of a request, and takes no turn yet.
     fn receive_first<D: Service>(&mut self, service: &mut D, buffer: &mut [u8], now: u64) -> Visit
         requires { self.old.phase.stage ≡ stages.Idle }
-        ensures visits { (readings : Option (List ℕ)) → Visits S.received S.sent (queries D.answers) now (length buffer.old) self.old self.new
+        ensures visits { (readings : Option (List ℕ)) → Visits S.received S.sent (spoken D.speaks (queries D.answers)) now (length buffer.old) self.old self.new
             service.old service.new readings readings }
         ensures rests { result ≡ visits.Rests → self.new.phase.stage ≢ stages.Next }
         ensures waits { result ≡ visits.Rests → must_wait S.has_none S.is_full self.new ≡ true }
@@ -275,7 +276,7 @@ impl<S: Socket> Connection<S> {
     ) -> Visit
         requires { phases.takes_turns self.old.phase.stage ≡ true }
         ensures may { MayTakeTurn self.old.state }
-        ensures answers { AnswersOnce S.received S.sent D.answers now self.old self.new
+        ensures answers { AnswersOnce S.received S.sent (spoken D.speaks D.answers) now self.old self.new
             service.old service.new (C.readings clock.old) (C.readings clock.new) }
         ensures rests { result ≡ visits.Rests → self.new.phase.stage ≢ stages.Next }
         ensures waits { result ≡ visits.Rests → must_wait S.has_none S.is_full self.new ≡ true }
@@ -319,7 +320,7 @@ impl<S: Socket> Connection<S> {
     ) -> Progress
         requires { phases.takes_turns self.old.phase.stage ≡ true }
         ensures may { MayTakeTurn self.old.state }
-        ensures does { Does D.answers self.old.state self.new.state service.old service.new
+        ensures does { Does (spoken D.speaks D.answers) self.old.state self.new.state service.old service.new
             (C.readings clock.old) (C.readings clock.new) self.old.is_over result }
         ensures sends { result ≡ progress.Answered → self.new.phase ≡ phases.entered self.old.phase stages.Sends now }
         ensures looked { result ≢ progress.Answered → phases.LookedAt now self.old.phase self.new.phase }

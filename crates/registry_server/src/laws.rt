@@ -1,7 +1,8 @@
 //! Laws of connections. Each is the contract of a function that does nothing.
 
 ghost use Rattle.registry_server.specs.Phases.{BytesGive, EnteredEndsInTime, NeverGiveMore, NewPhasesEndInTime, PaidEndsInTime, ResponseTimePasses, StagesGiveNone, WaitedEndsInTime, WaitsGiveNone};
-ghost use Rattle.registry_server.specs.Pools.{AllHoldLittle, AllIdleEndsLeaveFew, AllIdleEndsLeaveLittle, AllIdleEndsLeaveRest, EndsLeaveFew, EndsLeaveLittle, EndsLeaveRest, FinishesLeaveFew, FinishesLeaveLittle, FinishesLeaveRest, HoldsAskQueries, IdleEndsLeaveFew, IdleEndsLeaveLittle, IdleEndsLeaveRest, NewConnectionsLeaveFew, NewConnectionsLeaveLittle, NewConnectionsLeaveRest, NewPoolHoldsLittle, NewPoolReadsFew, NewPoolRests, NewcomersEndIdle, QueriesAreAnswers, RoundsHoldLittleMore, RoundsLeaveLittle, RoundsReadFew, ServersHoldLittle, StopsEndIdle, StopsLeaveUnderWay, UnreadHoldLittle, VisitsLeaveRest, WakesLeaveFew, WakesLeaveLittle, WakesLeaveRest, WantOfRoomEndsIdle, WhoWaitsHasBegun};
+ghost use Rattle.registry_server.specs.Pools.{AllHoldLittle, AllIdleEndsLeaveFew, AllIdleEndsLeaveLittle, AllIdleEndsLeaveRest, EndsLeaveFew, EndsLeaveLittle, EndsLeaveRest, FinishesLeaveFew, FinishesLeaveLittle, FinishesLeaveRest, HoldsAskQueries, HoldsKeepCommands, IdleEndsLeaveFew, IdleEndsLeaveLittle, IdleEndsLeaveRest, NewConnectionsLeaveFew, NewConnectionsLeaveLittle, NewConnectionsLeaveRest, NewPoolHoldsLittle, NewPoolReadsFew, NewPoolRests, NewcomersEndIdle, NewcomersLeaveBusy, QueriesAreAnswers, RoundsHoldLittleMore, RoundsLeaveLittle, RoundsReadFew, ServersHoldLittle, StopsEndIdle, StopsLeaveUnderWay, UnreadHoldLittle, VisitsLeaveRest, WakesLeaveFew, WakesLeaveLittle, WakesLeaveRest, WantOfRoomEndsIdle, WhoWaitsHasBegun};
+ghost use Rattle.registry_service.specs.Turns.{spoken};
 ghost use Rattle.registry_server.specs.Worlds.{Begins, Comes, Finishes, Lasts, Sends, Shuts, Starves, TakesTurns, VisitsLead};
 
 use crate::socket::Socket;
@@ -14,12 +15,12 @@ use registry_service::Service;
 /// A turn that is taken is added to it (`turns`), and its request is asked at the moment that the
 /// clock gives. Nothing else adds a turn.
 pub fn connections_make_one_history<D: Service>()
-    ensures begins { Begins D.answers }
-    ensures comes { Comes D.answers }
-    ensures shuts { Shuts D.answers }
-    ensures turns { TakesTurns D.answers }
-    ensures starves { Starves D.answers }
-    ensures sends { Sends D.answers }
+    ensures begins { Begins (spoken D.speaks D.answers) }
+    ensures comes { Comes (spoken D.speaks D.answers) }
+    ensures shuts { Shuts (spoken D.speaks D.answers) }
+    ensures turns { TakesTurns (spoken D.speaks D.answers) }
+    ensures starves { Starves (spoken D.speaks D.answers) }
+    ensures sends { Sends (spoken D.speaks D.answers) }
     ensures lasts { Lasts D }
 {}
 
@@ -30,7 +31,7 @@ pub fn connections_make_one_history<D: Service>()
 /// connection where its next request is its last (`finishes`). A visit adds the turn that is taken
 /// in it, if one is, at the moment that the clock gives in that visit.
 pub fn visits_make_one_history<S: Socket, D: Service>()
-    ensures visits { VisitsLead S.received S.sent D.answers }
+    ensures visits { VisitsLead S.received S.sent (spoken D.speaks D.answers) }
     ensures finishes { Finishes D S.received S.sent }
 {}
 
@@ -70,7 +71,7 @@ pub fn newcomers_end_idle_connections<S: Socket, D: Service>()
     ensures room { IdleEndsLeaveRest S.has_none S.is_full }
     ensures idle { AllIdleEndsLeaveRest S.has_none S.is_full }
     ensures finishes { FinishesLeaveRest S.has_none S.is_full }
-    ensures visits { VisitsLeaveRest S.received S.sent S.has_none S.is_full S.has_more S.is_ended S.is_broken D.answers D.over }
+    ensures visits { VisitsLeaveRest S.received S.sent S.has_none S.is_full S.has_more S.is_ended S.is_broken (spoken D.speaks D.answers) D.over }
     ensures ended { NewcomersEndIdle S.has_none S.is_full }
     ensures lacks { WantOfRoomEndsIdle S.has_none S.is_full }
     ensures stops { StopsEndIdle S.has_none S.is_full }
@@ -89,8 +90,8 @@ pub fn a_crowd_holds_little_more<S: Socket, D: Service>()
     ensures room { IdleEndsLeaveFew S }
     ensures idle { AllIdleEndsLeaveFew S }
     ensures finishes { FinishesLeaveFew S }
-    ensures rounds { RoundsReadFew S.received S.sent S.has_none S.is_full S.has_more S.is_ended S.is_broken D.answers D.over }
-    ensures few { RoundsHoldLittleMore S.received S.sent S.has_none S.is_full S.has_more S.is_ended S.is_broken D.answers D.over }
+    ensures rounds { RoundsReadFew S.received S.sent S.has_none S.is_full S.has_more S.is_ended S.is_broken (spoken D.speaks D.answers) D.over }
+    ensures few { RoundsHoldLittleMore S.received S.sent S.has_none S.is_full S.has_more S.is_ended S.is_broken (spoken D.speaks D.answers) D.over }
     ensures waits { WhoWaitsHasBegun S }
 {}
 
@@ -108,7 +109,7 @@ pub fn connections_hold_little<S: Socket, D: Service>()
     ensures room { IdleEndsLeaveLittle S }
     ensures idle { AllIdleEndsLeaveLittle S }
     ensures finishes { FinishesLeaveLittle S }
-    ensures rounds { RoundsLeaveLittle S.received S.sent S.has_none S.is_full S.has_more S.is_ended S.is_broken D.answers D.over }
+    ensures rounds { RoundsLeaveLittle S.received S.sent S.has_none S.is_full S.has_more S.is_ended S.is_broken (spoken D.speaks D.answers) D.over }
     ensures unread { UnreadHoldLittle S }
     ensures all { AllHoldLittle S }
     ensures servers { ServersHoldLittle S }
@@ -118,6 +119,15 @@ pub fn connections_hold_little<S: Socket, D: Service>()
 /// (`queried`): it is what these queries leave, except for what it has looked up since. The other laws
 /// of rounds hold of these rounds too (`rounds`).
 pub fn held_servers_ask_queries<S: Socket, D: Service>()
-    ensures queried { HoldsAskQueries S.received S.sent S.has_none S.is_full S.has_more S.is_ended S.is_broken D.answers D.over }
-    ensures rounds { QueriesAreAnswers S.received S.sent S.has_none S.is_full S.has_more S.is_ended S.is_broken D.answers D.over }
+    ensures queried { HoldsAskQueries S.received S.sent S.has_none S.is_full S.has_more S.is_ended S.is_broken D.speaks D.answers D.over }
+    ensures rounds { QueriesAreAnswers S.received S.sent S.has_none S.is_full S.has_more S.is_ended S.is_broken D.speaks D.answers D.over }
+{}
+
+/// Over a whole hold, however many rounds it takes and whoever comes in meanwhile, no waiting command
+/// is lost: each connection on which a request is under way that may be a command stays at its place as
+/// it is, with all that was received (`waits`). Who comes in takes the place of nobody on whose
+/// connection something is begun, or who is to be visited (`comes`).
+pub fn held_servers_keep_commands<S: Socket, D: Service>()
+    ensures waits { HoldsKeepCommands S.received S.sent S.has_none S.is_full S.has_more S.is_ended S.is_broken D.speaks D.answers D.over }
+    ensures comes { NewcomersLeaveBusy S }
 {}

@@ -5,6 +5,7 @@ ghost use Rattle.std.specs.List.{list_all, list_any};
 ghost use Rattle.registry_server.specs.Connections.{IsDone, IsLost, LeavesLittle, Visits, may_command, must_wait};
 ghost use Rattle.registry_server.specs.Pools as spec;
 ghost use Rattle.registry_server.specs.Pools.{ChoosesIf, ChoosesNext, EndsIdle, IsFirstOfEarliest, IsPlaceFor, LooksAtBodies, VisitsAll, VisitsAt, VisitsRound, at_place, idle_times, new_at, place_count, waiting_times};
+ghost use Rattle.registry_service.specs.Turns.{spoken};
 ghost use Rattle.registry_server.specs.Queries.{answering, queries};
 ghost use Rattle.registry_server.specs.declared.connection.Visit.TheVariants as visits;
 ghost use Rattle.registry_server.specs.declared.phase.Stage.TheVariants as stages;
@@ -171,7 +172,7 @@ impl<S: Socket> Place<S> {
         is_crowd: bool,
     )
         ensures { VisitsAt S.received S.sent S.has_none S.is_full S.has_more S.is_ended S.is_broken
-            (answering commands_wait D.answers) D.over commands_wait is_crowd now (length buffer.old) self.old self.new
+            (spoken D.speaks (answering commands_wait D.answers)) D.over commands_wait is_crowd now (length buffer.old) self.old self.new
             service.old service.new (C.readings clock.old) (C.readings clock.new) }
     {
         if !self.is_to_visit(commands_wait) || service.is_over() {
@@ -243,7 +244,7 @@ fn visited<S: Socket, D: Service, C: Clock>(
     commands_wait: bool,
 ) -> Visit
     requires query { commands_wait ≡ true → may_command connection.old ≡ false }
-    ensures visits { Visits S.received S.sent (answering commands_wait D.answers) now (length buffer.old)
+    ensures visits { Visits S.received S.sent (spoken D.speaks (answering commands_wait D.answers)) now (length buffer.old)
         connection.old connection.new service.old service.new (C.readings clock.old) (C.readings clock.new) }
     ensures rests { result ≡ visits.Rests → connection.new.phase.stage ≢ stages.Next }
     ensures waits { result ≡ visits.Rests → must_wait S.has_none S.is_full connection.new ≡ true }
@@ -421,7 +422,7 @@ impl<S: Socket> ConnectionPool<S> {
         buffer: &mut [u8],
         now: u64,
     )
-        ensures { VisitsRound S.received S.sent S.has_none S.is_full S.has_more S.is_ended S.is_broken D.answers D.over
+        ensures { VisitsRound S.received S.sent S.has_none S.is_full S.has_more S.is_ended S.is_broken (spoken D.speaks D.answers) D.over
             false now (length buffer.old) self.old.places.items self.new.places.items service.old service.new
             (C.readings clock.old) (C.readings clock.new) }
     {
@@ -440,7 +441,7 @@ impl<S: Socket> ConnectionPool<S> {
         buffer: &mut [u8],
         now: u64,
     )
-        ensures { VisitsRound S.received S.sent S.has_none S.is_full S.has_more S.is_ended S.is_broken (queries D.answers) D.over
+        ensures { VisitsRound S.received S.sent S.has_none S.is_full S.has_more S.is_ended S.is_broken (spoken D.speaks (queries D.answers)) D.over
             true now (length buffer.old) self.old.places.items self.new.places.items service.old service.new
             (C.readings clock.old) (C.readings clock.new) }
     {
@@ -460,7 +461,7 @@ impl<S: Socket> ConnectionPool<S> {
         is_crowd: bool,
     )
         ensures { VisitsAll S.received S.sent S.has_none S.is_full S.has_more S.is_ended S.is_broken
-            (answering commands_wait D.answers) D.over commands_wait is_crowd now (length buffer.old) self.old.places.items self.new.places.items
+            (spoken D.speaks (answering commands_wait D.answers)) D.over commands_wait is_crowd now (length buffer.old) self.old.places.items self.new.places.items
             service.old service.new (C.readings clock.old) (C.readings clock.new) }
     {
         for place in self.places.iter_mut() {

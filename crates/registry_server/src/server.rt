@@ -1,11 +1,11 @@
 //! The loop over all connections.
 
-ghost use Rattle.std.specs.Prelude.{◌≡◌, ◌≤◌, ◌||◌, ◌⊎◌, All, true, false, not, length, IfOk, OnOk, if◌then◌else◌};
+ghost use Rattle.std.specs.Prelude.{◌≡◌, ◌≤◌, ◌||◌, ◌⊎◌, ℕ, All, true, false, not, length, IfOk, OnOk, if◌then◌else◌};
 ghost use Rattle.mio.specs.declared.net.stream.TcpStream.{TcpStream};
 ghost use Rattle.registry_service.specs.Turns.{AnswersAsBefore};
 ghost use Rattle.registry_server.specs.Listening.{lets_in};
 ghost use Rattle.registry_server.specs.Pools as spec;
-ghost use Rattle.registry_server.specs.Pools.{AreWoken, IsPlaceFor, IsUnderWay, MayHaveOne, ServesQueries, at_place, new_at};
+ghost use Rattle.registry_server.specs.Pools.{AreWoken, IsPlaceFor, IsUnderWay, LetsIn, MayHaveOne, ServesQueries, at_place, new_at};
 
 use crate::clocks::{Timer, WallClock};
 use crate::guests::{FIRST_GUEST, GUEST_TOKENS, Guests, NoGuests};
@@ -214,8 +214,8 @@ impl Server {
         now: u64,
     ) -> io::Result<bool>
         ensures held { G.holds guests.old ≡ true → ServesQueries ⟦<TcpStream as Socket>⟧.received ⟦<TcpStream as Socket>⟧.sent ⟦<TcpStream as Socket>⟧.has_none ⟦<TcpStream as Socket>⟧.is_full
-            ⟦<TcpStream as Socket>⟧.has_more ⟦<TcpStream as Socket>⟧.is_ended ⟦<TcpStream as Socket>⟧.is_broken D.answers D.over now (length buffer.old)
-            self.old.pool.places.items service.old service.new (C.readings clock.old) (C.readings clock.new) }
+            ⟦<TcpStream as Socket>⟧.has_more ⟦<TcpStream as Socket>⟧.is_ended ⟦<TcpStream as Socket>⟧.is_broken D.speaks D.answers D.over now (length buffer.old)
+            self.old.pool.places.items self.new.pool.places.items service.old service.new (C.readings clock.old) (C.readings clock.new) }
         ensures goes_on { IfOk result (λ goes. goes ≡ spec.goes_on (D.over service.new) (G.holds guests.old)
             (lets_in self.new.listener.left) self.new.pool.places.items (G.empty guests.new)) }
         ensures shut { OnOk result (G.holds guests.old ≡ false → G.stops guests.old ≡ true
@@ -238,8 +238,8 @@ impl Server {
         now: u64,
     ) -> io::Result<bool>
         ensures serves { ServesQueries ⟦<TcpStream as Socket>⟧.received ⟦<TcpStream as Socket>⟧.sent ⟦<TcpStream as Socket>⟧.has_none ⟦<TcpStream as Socket>⟧.is_full
-            ⟦<TcpStream as Socket>⟧.has_more ⟦<TcpStream as Socket>⟧.is_ended ⟦<TcpStream as Socket>⟧.is_broken D.answers D.over now (length buffer.old)
-            self.old.pool.places.items service.old service.new (C.readings clock.old) (C.readings clock.new) }
+            ⟦<TcpStream as Socket>⟧.has_more ⟦<TcpStream as Socket>⟧.is_ended ⟦<TcpStream as Socket>⟧.is_broken D.speaks D.answers D.over now (length buffer.old)
+            self.old.pool.places.items self.new.pool.places.items service.old service.new (C.readings clock.old) (C.readings clock.new) }
         ensures goes_on { IfOk result (λ goes. goes ≡ not (D.over service.new)) }
     {
         self.pool.visit_queries(alloc, service, clock, buffer, now);
@@ -325,6 +325,7 @@ impl Server {
 
     // Lets in those who are there, and leaves the system a descriptor.
     fn let_in<G: Guests>(&mut self, alloc: Global, now: u64, guests: &mut G) -> io::Result<()>
+        ensures comes { LetsIn now self.old.pool.places.items self.new.pool.places.items }
         ensures shut { lets_in self.old.listener.left ≡ false → self.new.listener ≡ self.old.listener }
     {
         if self.listener.is_asked() {
@@ -336,7 +337,9 @@ impl Server {
 
     // Checks that the new connections left the system a descriptor, by which a guest may come in.
     // Otherwise the connection ends on which nothing has been begun for longest, if there is one.
-    fn leave_descriptor<G: Guests>(&mut self, guests: &mut G) -> io::Result<()> {
+    fn leave_descriptor<G: Guests>(&mut self, guests: &mut G) -> io::Result<()>
+        ensures comes { (now : ℕ) → LetsIn now self.old.pool.places.items self.new.pool.places.items }
+    {
         if self.poll.registry().try_clone().is_err() {
             let _ = self.end_idle(guests)?;
         }
@@ -346,7 +349,9 @@ impl Server {
     // Lets in those who are there, as long as there are places. Where the system has no descriptor
     // left for one, the connection ends on which nothing has been begun for longest. If that gives
     // none, it is tried again in the next round.
-    fn admit<G: Guests>(&mut self, alloc: Global, now: u64, guests: &mut G) -> io::Result<()> {
+    fn admit<G: Guests>(&mut self, alloc: Global, now: u64, guests: &mut G) -> io::Result<()>
+        ensures comes { LetsIn now self.old.pool.places.items self.new.pool.places.items }
+    {
         let mut may_end = true;
         for _ in 0..2 * CONNECTION_COUNT {
             if !self.listener.is_asked() {
@@ -388,7 +393,9 @@ impl Server {
 
     // Ends the connection on which nothing has been begun for longest, and says whether there is
     // one. First it looks on which connections something has come, so that none of these ends.
-    fn end_idle<G: Guests>(&mut self, guests: &mut G) -> io::Result<bool> {
+    fn end_idle<G: Guests>(&mut self, guests: &mut G) -> io::Result<bool>
+        ensures comes { (now : ℕ) → LetsIn now self.old.pool.places.items self.new.pool.places.items }
+    {
         self.look(0, guests)?;
         Ok(self.pool.end_idle())
     }

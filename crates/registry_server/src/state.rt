@@ -5,7 +5,7 @@ ghost use Rattle.std.specs.List.{starts_with};
 ghost use Rattle.registry_wire.specs.Spelling.{EndsWith, IsUnfinished, Says};
 ghost use Rattle.registry_service.specs.Courses.{Gave};
 ghost use Rattle.registry_service.specs.Servings.{bytes_of};
-ghost use Rattle.registry_service.specs.Turns.{Turns, request};
+ghost use Rattle.registry_service.specs.Turns.{Turns, request, spoken};
 ghost use Rattle.registry_server.specs.declared.state.Progress.TheVariants.{Answered, Closed};
 ghost use Rattle.registry_server.specs.ConnectionStates.{Does, IsStarved, MayTakeTurn, fresh, holding, lasting, pending, sending};
 ghost use Rattle.registry_server.specs.Connections.{query_start};
@@ -13,7 +13,7 @@ ghost use Rattle.registry_server.specs.Connections.{query_start};
 use crate::outgoing::Outgoing;
 use registry_names::Fault;
 use registry_service::{
-    Clock, End, REQUESTS_PER_CONNECTION, Service, Turned, turn, turn_away, turn_starved,
+    Clock, End, REQUESTS_PER_CONNECTION, Service, Turned, turn_away, turn_starved,
 };
 use registry_wire::{Ending, First, Incoming, Wanted, ending_of};
 use std::alloc::{AllocError, Global};
@@ -143,7 +143,7 @@ impl ConnectionState {
         is_over: bool,
     ) -> Progress
         requires { MayTakeTurn self.old }
-        ensures does { Does D.answers self.old self.new service.old service.new
+        ensures does { Does (spoken D.speaks D.answers) self.old self.new service.old service.new
             (C.readings clock.old) (C.readings clock.new) is_over result }
         ensures closes { is_over ≡ true → self.old.held ≡ [] → result ≡ Closed }
     {
@@ -197,7 +197,7 @@ impl ConnectionState {
         clock: &mut C,
         wanted: &Wanted,
     ) -> Turned
-        ensures turns { (at : ℕ) × Turns D.answers service.old (request wanted.now at)
+        ensures turns { (at : ℕ) × Turns (spoken D.speaks D.answers) service.old (request wanted.now at)
             (self.old.left == 1) result service.new
             × Gave (C.readings clock.old) (C.readings clock.new) (at ∷ []) }
         ensures state { self.new
@@ -205,7 +205,7 @@ impl ConnectionState {
     {
         let is_last = self.left == 1;
         self.left = self.left.saturating_sub(1);
-        let turned = turn(alloc, service, wanted, clock.now(), is_last);
+        let turned = service.turn(alloc, wanted, clock.now(), is_last);
         service.note(Some(wanted), &turned);
         turned
     }

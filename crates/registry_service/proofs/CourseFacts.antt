@@ -13,7 +13,7 @@ use Rattle.registry_wire.proofs.RequestFacts.{request-more, bad-more}
 use Rattle.registry_service.specs.HttpAnswers.{AnswersSo, Outcome, answer_bytes, response_to}
 use Rattle.registry_service.specs.Courses.{AtEndOf, Course, EndsAs, EndsUnasked, Follow, Gave, GoOn, GoesTo, IsServed, ReadsFor, ReadsOn, Rests, Side, Took, count_of, moments, requests, taken_for, written}
 use Rattle.registry_service.specs.Responses.{MayBegin, turn_of}
-use Rattle.registry_service.specs.Turns.{Answering, Cause, IsTurn, IsTurnFor, Turn, bad_input, end_of, is_request, no_memory, request}
+use Rattle.registry_service.specs.Turns.{Cause, Dialogue, Exchange, IsTurn, IsTurnFor, Turn, bad_input, end_of, is_request, no_memory, request}
 use Rattle.registry_service.specs.declared.answer.Answer.{Answer}
 use Rattle.registry_service.specs.declared.responding.Responded.{Responded}
 use Rattle.registry_service.specs.declared.responding.Responded.TheVariants.{Whole, BrokenOff, CutShort}
@@ -135,52 +135,52 @@ bytes-same o a closes is = rw (is.status, is.kind, is.body) refl
 
 -- ---- one turn more
 
-module _ {D : Type 0} (answers : Answering D) where
-  pub on-request : (c : Cause) (K : D) (last : Bool) (o : Outcome) (ended : Option End) (N : D) → IsTurnFor answers c K last o ended N → ended ≡ None → is_request c ≡ true
-  on-request (request w at) K last o ended N turn stays = refl
-  on-request (bad_input r) K last o ended N turn stays = let shut = turn.0.1 in cc
-  on-request no_memory K last o ended N turn stays = let shut = turn.0.1 in cc
+module _ {D : Type 0} (dialogue : Dialogue D) where
+  pub on-request : (c : Cause) (K : D) (last : Bool) (es : List Exchange) (o : Outcome) (ended : Option End) (N : D) → IsTurnFor dialogue c K last es o ended N → ended ≡ None → is_request c ≡ true
+  on-request (request w at) K last es o ended N turn stays = refl
+  on-request (bad_input r) K last es o ended N turn stays = let shut = turn.0.1 in cc
+  on-request no_memory K last es o ended N turn stays = let shut = turn.0.1 in cc
 
-  pub on-not_last : (c : Cause) (K : D) (last : Bool) (o : Outcome) (ended : Option End) (N : D) → IsTurnFor answers c K last o ended N → ended ≡ None → last ≡ false
-  on-not_last (request w at) K last o ended N turn stays = goes-on_false o last w.closes (sym turn.ends ∙ stays)
-  on-not_last (bad_input r) K last o ended N turn stays = let shut = turn.0.1 in cc
-  on-not_last no_memory K last o ended N turn stays = let shut = turn.0.1 in cc
+  pub on-not_last : (c : Cause) (K : D) (last : Bool) (es : List Exchange) (o : Outcome) (ended : Option End) (N : D) → IsTurnFor dialogue c K last es o ended N → ended ≡ None → last ≡ false
+  on-not_last (request w at) K last es o ended N turn stays = goes-on_false o last w.closes (sym turn.ends ∙ stays)
+  on-not_last (bad_input r) K last es o ended N turn stays = let shut = turn.0.1 in cc
+  on-not_last no_memory K last es o ended N turn stays = let shut = turn.0.1 in cc
 
-  not-read_fault : (c : Cause) (K : D) (last : Bool) (o : Outcome) (ended : Option End) (N : D) → IsTurnFor answers c K last o ended N → ended ≡ Some ReadFault → ⊥
-  not-read_fault (request w at) K last o ended N turn e = never-fails_read o last w.closes (sym turn.ends ∙ e)
-  not-read_fault (bad_input r) K last o ended N turn e = let shut = turn.0.1 in cc
-  not-read_fault no_memory K last o ended N turn e = let shut = turn.0.1 in cc
+  not-read_fault : (c : Cause) (K : D) (last : Bool) (es : List Exchange) (o : Outcome) (ended : Option End) (N : D) → IsTurnFor dialogue c K last es o ended N → ended ≡ Some ReadFault → ⊥
+  not-read_fault (request w at) K last es o ended N turn e = never-fails_read o last w.closes (sym turn.ends ∙ e)
+  not-read_fault (bad_input r) K last es o ended N turn e = let shut = turn.0.1 in cc
+  not-read_fault no_memory K last es o ended N turn e = let shut = turn.0.1 in cc
 
-  not-write_fault : (c : Cause) (K : D) (last : Bool) (o : Outcome) (ended : Option End) (N : D) → IsTurnFor answers c K last o ended N → ended ≡ Some WriteFault → ⊥
-  not-write_fault (request w at) K last o ended N turn e = never-fails_write o last w.closes (sym turn.ends ∙ e)
-  not-write_fault (bad_input r) K last o ended N turn e = let shut = turn.0.1 in cc
-  not-write_fault no_memory K last o ended N turn e = let shut = turn.0.1 in cc
+  not-write_fault : (c : Cause) (K : D) (last : Bool) (es : List Exchange) (o : Outcome) (ended : Option End) (N : D) → IsTurnFor dialogue c K last es o ended N → ended ≡ Some WriteFault → ⊥
+  not-write_fault (request w at) K last es o ended N turn e = never-fails_write o last w.closes (sym turn.ends ∙ e)
+  not-write_fault (bad_input r) K last es o ended N turn e = let shut = turn.0.1 in cc
+  not-write_fault no_memory K last es o ended N turn e = let shut = turn.0.1 in cc
 
   -- the turn by which a connection ends
-  pub ends-as : (s : Side D) (t : Turn) (ts : List Turn) (e : End) (K : D) (last : Bool) (N : D) → IsTurn answers K last t N → t.ended ≡ Some e → GoOn ts → EndsAs s (t ∷ ts) e
+  pub ends-as : (s : Side D) (t : Turn) (ts : List Turn) (e : End) (K : D) (last : Bool) (N : D) → IsTurn dialogue K last t N → t.ended ≡ Some e → GoOn ts → EndsAs s (t ∷ ts) e
   ends-as s t ts Closed K last N turn ended on = inl (ended, on)
   ends-as s t ts Limit K last N turn ended on = (ended, on)
   ends-as s t ts BadInput K last N turn ended on = (ended, on)
-  ends-as s t ts ReadFault K last N turn ended on = absurd (not-read_fault t.cause K last t.outcome t.ended N turn ended)
-  ends-as s t ts WriteFault K last N turn ended on = absurd (not-write_fault t.cause K last t.outcome t.ended N turn ended)
+  ends-as s t ts ReadFault K last N turn ended on = absurd (not-read_fault t.cause K last t.exchanges t.outcome t.ended N turn ended)
+  ends-as s t ts WriteFault K last N turn ended on = absurd (not-write_fault t.cause K last t.exchanges t.outcome t.ended N turn ended)
   ends-as s t ts (Faulted fault) K last N turn ended on = (ended, on)
 
   -- turns that go on are those of requests
-  pub requests-all : (M : D) (ts : List Turn) (N : D) → Follow answers M ts N → GoOn ts → requests ts ≡ length ts
+  pub requests-all : (M : D) (ts : List Turn) (N : D) → Follow dialogue M ts N → GoOn ts → requests ts ≡ length ts
   requests-all M [] N follow on = refl
   requests-all M (t ∷ ts) N follow on =
       let older = requests-all M ts follow.0 follow.1 on.1 in
-      let one = count-one t.cause (on-request t.cause follow.0 _ t.outcome t.ended N follow.2 on.0) in
+      let one = count-one t.cause (on-request t.cause follow.0 _ t.exchanges t.outcome t.ended N follow.2 on.0) in
       omega (arith, older, one)
 
-  took-open : (M : D) (ts : List Turn) (N : D) (came held : List ℕ) (AtEnd : Type 0) → Follow answers M ts N → GoOn ts → Took came ts held AtEnd → Took came ts held ⊥
+  took-open : (M : D) (ts : List Turn) (N : D) (came held : List ℕ) (AtEnd : Type 0) → Follow dialogue M ts N → GoOn ts → Took came ts held AtEnd → Took came ts held ⊥
   took-open M [] N came held AtEnd follow on took = took
   took-open M (t ∷ ts) N came held AtEnd follow on took =
-      (took.0, took.1, taken-open took.0 held AtEnd t.cause (on-request t.cause follow.0 _ t.outcome t.ended N follow.2 on.0) took.2)
+      (took.0, took.1, taken-open took.0 held AtEnd t.cause (on-request t.cause follow.0 _ t.exchanges t.outcome t.ended N follow.2 on.0) took.2)
 
   -- turns for which no more was read than their requests needed
   pub record Led (old new : Side D) (ts : List Turn) : Type 0 where
-    pub course : Course answers old new ts
+    pub course : Course dialogue old new ts
     pub lean : ReadsFor old.held ts course.got
 
   -- what is read after turns that go on
@@ -198,11 +198,11 @@ module _ {D : Type 0} (answers : Answering D) where
       }
 
   -- the turn that was taken
-  abbrev taken_turn : (mid new : Side D) (last : Bool) (out out2 : Option (List ℕ)) (out_unknown : Bool) (responded : Responded) → GoesTo answers mid new last out out2 out_unknown responded → Turn
-  taken_turn mid new last out out2 out_unknown responded goes = turn_of goes.cause goes.responds.outcome goes.responds.ended
+  abbrev taken_turn : (mid new : Side D) (last : Bool) (out out2 : Option (List ℕ)) (out_unknown : Bool) (responded : Responded) → GoesTo dialogue mid new last out out2 out_unknown responded → Turn
+  taken_turn mid new last out out2 out_unknown responded goes = turn_of goes.cause goes.responds.exchanges goes.responds.outcome goes.responds.ended
 
   course-on : (old mid new : Side D) (ts : List Turn) (last : Bool) (out out2 : Option (List ℕ)) (out_unknown : Bool) (responded : Responded) → Led old mid ts → GoOn ts → (mid.unknown ≡ true → new.unknown ≡ true)
-      → last ≡ (length ts + 1 == 1000) → (goes : GoesTo answers mid new last out out2 out_unknown responded) → Led old new (taken_turn mid new last out out2 out_unknown responded goes ∷ ts)
+      → last ≡ (length ts + 1 == 1000) → (goes : GoesTo dialogue mid new last out out2 out_unknown responded) → Led old new (taken_turn mid new last out out2 out_unknown responded goes ∷ ts)
   course-on old mid new ts last out out2 out_unknown responded led on stays is_last goes =
       let c = led.course in
       record {
@@ -215,7 +215,7 @@ module _ {D : Type 0} (answers : Answering D) where
                 (took-more (old.held ++ c.got) goes.got ts mid.held (took-open old.service ts mid.service (old.held ++ c.got) mid.held _ c.follow on c.took)),
             goes.took,
           );
-          follow = (mid.service, c.follow, subst (λ (b : Bool). IsTurn answers mid.service b (taken_turn mid new last out out2 out_unknown responded goes) new.service) is_last goes.responds.is_turn);
+          follow = (mid.service, c.follow, subst (λ (b : Bool). IsTurn dialogue mid.service b (taken_turn mid new last out out2 out_unknown responded goes) new.service) is_last goes.responds.is_turn);
           asked = gave-on old.readings mid.readings new.readings (moments ts) _ c.asked goes.asked;
         };
         lean = reads-on old mid ts led goes.got on goes.lean;
@@ -254,7 +254,7 @@ module _ {D : Type 0} (answers : Answering D) where
 
   -- a connection that ends without one more turn
   pub rest-on : (old mid new : Side D) (out out2 : Option (List ℕ)) (out_unknown : Bool) (n : ℕ) (e : End) → Going old mid out out2 out_unknown n → (mid.unknown ≡ true → new.unknown ≡ true)
-      → Rests answers mid new e → IsServed answers old new out out2 out_unknown (served n e)
+      → Rests dialogue mid new e → IsServed dialogue old new out out2 out_unknown (served n e)
   rest-on old mid new out out2 out_unknown n e going stays rests =
       let ts = going.turns in
       let c = going.led.course in
@@ -266,7 +266,7 @@ module _ {D : Type 0} (answers : Answering D) where
           got = c.got ++ rests.got;
           gave = Reads-append c.gave rests.gave stays;
           took = took-any _ ts new.held (AtEndOf new) (subst (λ (held : List ℕ). Took (old.held ++ (c.got ++ rests.got)) ts held ⊥) (sym rests.held) all);
-          follow = subst (λ (M : D). Follow answers old.service ts M) (sym rests.service) c.follow;
+          follow = subst (λ (M : D). Follow dialogue old.service ts M) (sym rests.service) c.follow;
           asked = subst (λ (readings : Option (List ℕ)). Gave old.readings readings (moments ts)) (sym rests.readings) c.asked;
         };
         lean = inr (going.go_on, reads-on old mid ts going.led rests.got going.go_on rests.lean);
@@ -277,8 +277,8 @@ module _ {D : Type 0} (answers : Answering D) where
 
   -- one more turn, of which all is written, and by which the connection ends
   pub end-on : (old mid new : Side D) (out out2 out3 : Option (List ℕ)) (out_unknown mute2 : Bool) (n k : ℕ) (last : Bool) (ended : Option End) (counts : Bool) (e : End) → Going old mid out out2 out_unknown n
-      → (mid.unknown ≡ true → new.unknown ≡ true) → (out_unknown ≡ true → mute2 ≡ true) → last ≡ (n + 1 == 1000) → GoesTo answers mid new last out2 out3 mute2 (Whole ended counts)
-      → k ≡ from_bool counts → ended ≡ Some e → IsServed answers old new out out3 mute2 (served (n + k) e)
+      → (mid.unknown ≡ true → new.unknown ≡ true) → (out_unknown ≡ true → mute2 ≡ true) → last ≡ (n + 1 == 1000) → GoesTo dialogue mid new last out2 out3 mute2 (Whole ended counts)
+      → k ≡ from_bool counts → ended ≡ Some e → IsServed dialogue old new out out3 mute2 (served (n + k) e)
   end-on old mid new out out2 out3 out_unknown mute2 n k last ended counts e going stays still is_last goes one is =
       let ts = going.turns in
       let t = taken_turn mid new last out2 out3 mute2 (Whole ended counts) goes in
@@ -297,8 +297,8 @@ module _ {D : Type 0} (answers : Answering D) where
 
   -- one more turn, of which not all is written
   pub break-on : (old mid new : Side D) (out out2 out3 : Option (List ℕ)) (out_unknown mute2 : Bool) (n : ℕ) (last : Bool) → Going old mid out out2 out_unknown n
-      → (mid.unknown ≡ true → new.unknown ≡ true) → (out_unknown ≡ true → mute2 ≡ true) → last ≡ (n + 1 == 1000) → GoesTo answers mid new last out2 out3 mute2 BrokenOff
-      → IsServed answers old new out out3 mute2 (served n WriteFault)
+      → (mid.unknown ≡ true → new.unknown ≡ true) → (out_unknown ≡ true → mute2 ≡ true) → last ≡ (n + 1 == 1000) → GoesTo dialogue mid new last out2 out3 mute2 BrokenOff
+      → IsServed dialogue old new out out3 mute2 (served n WriteFault)
   break-on old mid new out out2 out3 out_unknown mute2 n last going stays still is_last goes =
       let ts = going.turns in
       let place = is_last ∙ ap (λ (n : ℕ). n + 1 == 1000) going.count in
@@ -319,8 +319,8 @@ module _ {D : Type 0} (answers : Answering D) where
 
   -- one more turn, which a fault cut short in the midst of a packument
   pub cut-on : (old mid new : Side D) (out out2 out3 : Option (List ℕ)) (out_unknown mute2 : Bool) (n : ℕ) (last : Bool) (fault : Fault) → Going old mid out out2 out_unknown n
-      → (mid.unknown ≡ true → new.unknown ≡ true) → (out_unknown ≡ true → mute2 ≡ true) → last ≡ (n + 1 == 1000) → GoesTo answers mid new last out2 out3 mute2 (CutShort fault)
-      → IsServed answers old new out out3 mute2 (served n (Faulted fault))
+      → (mid.unknown ≡ true → new.unknown ≡ true) → (out_unknown ≡ true → mute2 ≡ true) → last ≡ (n + 1 == 1000) → GoesTo dialogue mid new last out2 out3 mute2 (CutShort fault)
+      → IsServed dialogue old new out out3 mute2 (served n (Faulted fault))
   unfolding course-on
   cut-on old mid new out out2 out3 out_unknown mute2 n last fault going stays still is_last goes =
       let ts = going.turns in
@@ -338,7 +338,7 @@ module _ {D : Type 0} (answers : Answering D) where
         fault = fault;
         is_fault = comes.0;
         begun = begun;
-        may_begin = subst (λ (b : Bool). MayBegin answers mid.service b goes.cause begun fault new.service) place comes.1.1;
+        may_begin = subst (λ (b : Bool). MayBegin dialogue mid.service b goes.cause begun fault new.service) place comes.1.1;
         sent = part.count;
         some = part.some;
         is_within = part.is_within;
@@ -349,7 +349,7 @@ module _ {D : Type 0} (answers : Answering D) where
 
   -- one more turn, of which all is written, and the connection goes on
   pub go-on : (old mid new : Side D) (out out2 out3 : Option (List ℕ)) (out_unknown mute2 : Bool) (n k : ℕ) (last : Bool) (ended : Option End) (counts : Bool) → Going old mid out out2 out_unknown n
-      → (mid.unknown ≡ true → new.unknown ≡ true) → (out_unknown ≡ true → mute2 ≡ true) → last ≡ (n + 1 == 1000) → GoesTo answers mid new last out2 out3 mute2 (Whole ended counts)
+      → (mid.unknown ≡ true → new.unknown ≡ true) → (out_unknown ≡ true → mute2 ≡ true) → last ≡ (n + 1 == 1000) → GoesTo dialogue mid new last out2 out3 mute2 (Whole ended counts)
       → k ≡ from_bool counts → ended ≡ None → Going old new out out3 mute2 (n + k) × (k ≡ 1) × (last ≡ false)
   go-on old mid new out out2 out3 out_unknown mute2 n k last ended counts going stays still is_last goes one is =
       let ts = going.turns in
@@ -358,7 +358,7 @@ module _ {D : Type 0} (answers : Answering D) where
       let led = course-on old mid new ts last out2 out3 mute2 (Whole ended counts) going.led going.go_on stays place goes in
       let comes = goes.responds.comes in
       let open_still : t.ended ≡ None = sym comes.1 ∙ is in
-      let single = one-more k counts goes.cause (on-request goes.cause mid.service last goes.responds.outcome t.ended new.service goes.responds.is_turn open_still) one comes.2 in (
+      let single = one-more k counts goes.cause (on-request goes.cause mid.service last goes.responds.exchanges goes.responds.outcome t.ended new.service goes.responds.is_turn open_still) one comes.2 in (
         record {
           turns = t ∷ ts;
           led = led;
@@ -367,11 +367,11 @@ module _ {D : Type 0} (answers : Answering D) where
           count = omega (arith, going.count, single);
         },
         single,
-        on-not_last goes.cause mid.service last goes.responds.outcome t.ended new.service goes.responds.is_turn open_still,
+        on-not_last goes.cause mid.service last goes.responds.exchanges goes.responds.outcome t.ended new.service goes.responds.is_turn open_still,
       )
 
   -- a turn whose response was written whole never ends a connection as a failed read does
-  pub ended-unread : (mid new : Side D) (last : Bool) (out out2 : Option (List ℕ)) (out_unknown : Bool) (ended : Option End) (counts : Bool) (e : End) → GoesTo answers mid new last out out2 out_unknown (Whole ended counts)
+  pub ended-unread : (mid new : Side D) (last : Bool) (out out2 : Option (List ℕ)) (out_unknown : Bool) (ended : Option End) (counts : Bool) (e : End) → GoesTo dialogue mid new last out out2 out_unknown (Whole ended counts)
       → ended ≡ Some e → ¬ (e ≡ ReadFault)
   ended-unread mid new last out out2 out_unknown ended counts e goes is same =
-      not-read_fault goes.cause mid.service last goes.responds.outcome goes.responds.ended new.service goes.responds.is_turn (sym goes.responds.comes.1 ∙ is ∙ ap (λ (e : End). Some e) same)
+      not-read_fault goes.cause mid.service last goes.responds.exchanges goes.responds.outcome goes.responds.ended new.service goes.responds.is_turn (sym goes.responds.comes.1 ∙ is ∙ ap (λ (e : End). Some e) same)

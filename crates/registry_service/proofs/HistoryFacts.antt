@@ -7,7 +7,7 @@ use Rattle.registry_wire.specs.Spelling.{EndsWith, IsBad}
 use Rattle.registry_wire.specs.declared.first.Ending.TheVariants as ending
 use Rattle.registry_service.specs.Courses.{GoOn, Took, taken_for}
 use Rattle.registry_service.specs.Histories.{EndsOnce, FollowAll, IsTranscript, IsOneHistory, Transcript, Reached, World, at_end, is_last, turned_on, begins, comes, sends, shuts, turns, turns_of, with_bytes, with_sent, with_turn}
-use Rattle.registry_service.specs.Turns.{Answering, Cause, IsTurn, Turn, bad_input, is_request, no_memory, request, response_of}
+use Rattle.registry_service.specs.Turns.{Cause, Dialogue, IsTurn, Turn, bad_input, is_request, no_memory, request, response_of}
 use Rattle.registry_service.proofs.CourseFacts.{on-request, taken-open, took-any, took-more}
 
 -- ---- one connection
@@ -93,9 +93,9 @@ either-turns P false ts us f g = g refl
 is-same : (k on : ℕ) → (k == on) ≡ true → k ≡ on
 is-same k on e = grind (arith, nat_tests, e)
 
-module _ {D : Type 0} (answers : Answering D) where
+module _ {D : Type 0} (dialogue : Dialogue D) where
   record Holds (M : D) (w : World D) : Type 0 where
-    service : FollowAll answers M w.log w.service
+    service : FollowAll dialogue M w.log w.service
     transcripts : (k : ℕ) → IsTranscript (turns_of k w.log) (w.transcripts k)
     once : (k : ℕ) → EndsOnce (turns_of k w.log)
     asked : (k : ℕ) → OpensAsked (turns_of k w.log)
@@ -113,7 +113,7 @@ module _ {D : Type 0} (answers : Answering D) where
   }
 
   on-turn : (M : D) (w : World D) (on : ℕ) (stops : Bool) (t : Turn) (rest : List ℕ) (N : D) → GoOn (turns_of on w.log) → TakenOf (w.transcripts on).rest rest ((w.transcripts on).shut ≡ true) (taken_for t.cause)
-      → IsTurn answers w.service (is_last stops (turns_of on w.log)) t N → Holds M w → Holds M (turned_on w on stops t rest N)
+      → IsTurn dialogue w.service (is_last stops (turns_of on w.log)) t N → Holds M w → Holds M (turned_on w on stops t rest N)
   on-turn M w on stops t rest N go took turn h = record {
     service = (w.service, h.service, turn);
     transcripts = λ k. either IsTranscript (k == on) (t ∷ turns_of k w.log) (turns_of k w.log) (with_turn t rest (w.transcripts k)) (w.transcripts k)
@@ -123,11 +123,11 @@ module _ {D : Type 0} (answers : Answering D) where
         (λ e. subst (λ (j : ℕ). GoOn (turns_of j w.log)) (sym (is-same k on e)) go)
         (λ _. h.once k);
     asked = λ k. either-turns OpensAsked (k == on) (t ∷ turns_of k w.log) (turns_of k w.log)
-        (λ _. (on-request answers t.cause w.service _ t.outcome t.ended N turn, h.asked k))
+        (λ _. (on-request dialogue t.cause w.service _ t.exchanges t.outcome t.ended N turn, h.asked k))
         (λ _. h.asked k);
   }
 
-  holds : (M : D) (w : World D) → Reached answers M w → Holds M w
+  holds : (M : D) (w : World D) → Reached dialogue M w → Holds M w
   holds M _ begins = record {
     service = refl;
     transcripts = λ k. record { took = refl; answered = refl; prefix = ([], refl) };
@@ -139,5 +139,5 @@ module _ {D : Type 0} (answers : Answering D) where
   holds M _ (turns w r on stops t rest N go took turn) = on-turn M w on stops t rest N go took turn (holds M w r)
   holds M _ (sends w r on sent later prefix) = on-transcript M w on (with_sent sent) (transcript-sends (turns_of on w.log) (w.transcripts on) sent later prefix) (holds M w r)
 
-  pub one-history : (M : D) (w : World D) → Reached answers M w → IsOneHistory answers M w
+  pub one-history : (M : D) (w : World D) → Reached dialogue M w → IsOneHistory dialogue M w
   one-history M w r = let h = holds M w r in record { service = h.service; transcripts = h.transcripts; once = h.once }

@@ -10,7 +10,7 @@ use Rattle.registry_wire.proofs.RequestFacts.{request-more, bad-more}
 use Rattle.registry_service.specs.Courses.{AtEndOf, Took, taken_for}
 use Rattle.registry_service.specs.HttpAnswers.{Outcome}
 use Rattle.registry_service.specs.Laws.{LookUpsAreUnseen, TakenOfAll, TurnsAreSpelled, wanted_by, wanted_of}
-use Rattle.registry_service.specs.Turns.{Answering, AnswersAsBefore, Cause, IsAnswered, IsTurnFor, Serves, Turn, bad_input, no_memory, request}
+use Rattle.registry_service.specs.Turns.{Answering, AnswersAsBefore, AnswersEach, Cause, Dialect, Dialogue, Exchange, IsTurnFor, Turn, bad_input, no_memory, request, spoken}
 use Rattle.registry_service.specs.declared.turning.End.{End}
 use Rattle.registry_service.proofs.CourseFacts.{took-more}
 
@@ -49,8 +49,8 @@ took-end : (came more : List ℕ) (ts : List Turn) (held : List ℕ) (AtEnd : Ty
 took-end came more [] held AtEnd none took = ap (λ (l : List ℕ). l ++ more) took
 took-end came more (t ∷ ts) held AtEnd none took = (took.0 ++ more, took-more came more ts took.0 took.1, taken-end took.0 more held t.cause AtEnd none took.2)
 
-pub taken-of_all : {D : Type 0} (answers : Answering D) → TakenOfAll answers
-taken-of_all answers old new ts left left2 c told told2 loud =
+pub taken-of_all : {D : Type 0} (dialogue : Dialogue D) → TakenOfAll dialogue
+taken-of_all dialogue old new ts left left2 c told told2 loud =
     let gave = c.gave.told loud in
     let whole : left ≡ c.got ++ left2 = rw (told, told2) at gave in
     subst (λ (bytes : List ℕ). Took bytes ts (new.held ++ left2) (left2 ≡ [])) (append_assoc old.held c.got left2 ∙ ap (λ (l : List ℕ). old.held ++ l) (sym whole))
@@ -58,22 +58,23 @@ taken-of_all answers old new ts left left2 c told told2 loud =
 
 -- ---- after a look-up
 
-module _ {D : Type 0} (answers : Answering D) (M K : D) (before : AnswersAsBefore answers M K) where
+module _ {D : Type 0} (speaks : Dialect) (answers : Answering D) (M K : D) (before : AnswersAsBefore answers M K) where
   -- what is left where nothing was asked
   unasked : (N : D) → N ≡ K → AnswersAsBefore answers M N
   unasked N same = subst (λ (left : D). AnswersAsBefore answers M left) (sym same) before
 
-  answered-unseen : (w : Wanted) (at : ℕ) (o : Outcome) (N : D) → IsAnswered answers K w at o N → (left : D) × IsAnswered answers M w at o left × AnswersAsBefore answers left N
-  answered-unseen w at o N (inl asked) = (N, inl (asked.0, asked.1, before asked.0 o N asked.2), λ r p left a. a)
-  answered-unseen w at o N (inr stopped) = (M, inr (stopped.0, stopped.1, stopped.2, refl), unasked N stopped.3)
+  -- what may be asked after the look-up might have been asked without it
+  each-unseen : (es : List Exchange) (N : D) → AnswersEach answers K es N → (left : D) × AnswersEach answers M es left × AnswersAsBefore answers left N
+  each-unseen [] N same = (M, refl, unasked N same)
+  each-unseen (e ∷ es) N (P, first, rest) = (N, (P, before e.asked e.outcome P first, rest), λ r o left a. a)
 
-  turn-unseen : (c : Cause) (last : Bool) (o : Outcome) (ended : Option End) (N : D) → IsTurnFor answers c K last o ended N
-      → (left : D) × IsTurnFor answers c M last o ended left × AnswersAsBefore answers left N
-  turn-unseen (request w at) last o ended N serves =
-      let it = answered-unseen w at o N serves.answered in
-      (it.0, record { answered = it.1; ends = serves.ends }, it.2)
-  turn-unseen (bad_input r) last o ended N away = (M, (away.0, refl), unasked N away.1)
-  turn-unseen no_memory last o ended N away = (M, (away.0, refl), unasked N away.1)
+  turn-unseen : (c : Cause) (last : Bool) (es : List Exchange) (o : Outcome) (ended : Option End) (N : D) → IsTurnFor (spoken speaks answers) c K last es o ended N
+      → (left : D) × IsTurnFor (spoken speaks answers) c M last es o ended left × AnswersAsBefore answers left N
+  turn-unseen (request w at) last es o ended N serves =
+      let it = each-unseen es N serves.answered.1 in
+      (it.0, record { answered = (serves.answered.0, it.1); ends = serves.ends }, it.2)
+  turn-unseen (bad_input r) last es o ended N away = (M, (away.0, refl, away.2), unasked N away.1)
+  turn-unseen no_memory last es o ended N away = (M, (away.0, refl, away.2), unasked N away.1)
 
-pub look-up-unseen : {D : Type 0} (answers : Answering D) → LookUpsAreUnseen answers
-look-up-unseen answers M K N last t before turn = turn-unseen answers M K before t.cause last t.outcome t.ended N turn
+pub look-up-unseen : {D : Type 0} (speaks : Dialect) (answers : Answering D) → LookUpsAreUnseen speaks answers
+look-up-unseen speaks answers M K N last t before turn = turn-unseen speaks answers M K before t.cause last t.exchanges t.outcome t.ended N turn

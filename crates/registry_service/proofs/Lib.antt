@@ -2,6 +2,7 @@ pub mod AnswerFacts
 pub mod BodyFacts
 pub mod CountFacts
 pub mod CourseFacts
+pub mod DialectFacts
 pub mod HeadFacts
 pub mod HistoryFacts
 pub mod LawFacts

@@ -12,7 +12,7 @@ use Rattle.registry_wire.specs.declared.first.Ending.TheVariants as ending
 use Rattle.registry_wire.specs.declared.inbox.Taken.{Taken}
 use Rattle.registry_wire.specs.declared.inbox.Taken.TheVariants as taken
 use Rattle.registry_service.specs.Responses.{MayBegin, Responds}
-use Rattle.registry_service.specs.Turns.{Answering, Cause, IsTurn, Turn, bad_input, is_request, no_memory, request, request_limit, response_of}
+use Rattle.registry_service.specs.Turns.{Cause, Dialogue, IsTurn, Turn, bad_input, is_request, no_memory, request, request_limit, response_of}
 use Rattle.registry_service.specs.declared.responding.Responded.{Responded}
 use Rattle.registry_service.specs.declared.serving.Served.{Served}
 use Rattle.registry_service.specs.declared.turning.End.{End}
@@ -138,11 +138,11 @@ ReadsFail ReadFault count count2 failures failures2 = RisesBetween 1 (failures_a
 ReadsFail WriteFault count count2 failures failures2 = CountsInterrupted count count2 failures failures2
 ReadsFail (Faulted fault) count count2 failures failures2 = CountsInterrupted count count2 failures failures2
 
-module _ {D : Type 0} (answers : Answering D) where
+module _ {D : Type 0} (dialogue : Dialogue D) where
   -- the turns by a service, each on what the older ones left, and the service that they leave
   abbrev pub Follow : D → List Turn → D → Type 0
   Follow M [] N = N ≡ M
-  Follow M (t ∷ ts) N = (K : D) × Follow M ts K × IsTurn answers K (length ts + 1 == request_limit) t N
+  Follow M (t ∷ ts) N = (K : D) × Follow M ts K × IsTurn dialogue K (length ts + 1 == request_limit) t N
 
   -- the turns, of everything that was held at first or that the reader has given since
   pub record Course (old new : Side D) (ts : List Turn) : Type 0 where
@@ -159,7 +159,7 @@ module _ {D : Type 0} (answers : Answering D) where
     pub gave : Reads old.left new.left new.unknown got
     pub lean : ReadsWhileUnfinished old.held got
     pub took : TakenOf (old.held ++ got) new.held (AtEndOf new) (taken_for cause)
-    pub responds : Responds answers old.service cause last new.service out out2 out_unknown responded
+    pub responds : Responds dialogue old.service cause last new.service out out2 out_unknown responded
     pub asked : Gave old.readings new.readings (moment_of cause)
 
   -- no turn
@@ -210,7 +210,7 @@ module _ {D : Type 0} (answers : Answering D) where
     pub fault : Fault
     pub is_fault : newest.outcome ≡ Err fault
     pub begun : Turn
-    pub may_begin : MayBegin answers course.follow.0 (length older + 1 == request_limit) newest.cause begun fault new.service
+    pub may_begin : MayBegin dialogue course.follow.0 (length older + 1 == request_limit) newest.cause begun fault new.service
     pub sent : ℕ
     pub some : 0 < sent
     pub is_within : sent < length (response_of begun)

@@ -3,7 +3,7 @@
 use Rattle.std.specs.Prelude.{◌≡◌, ◌+◌, ◌==◌, ◌||◌, ◌++◌, ◌∷◌, [], ℕ, Bool, true, false, List, length, if◌then◌else◌}
 use Rattle.registry_wire.specs.Reading.{TakenOf}
 use Rattle.registry_service.specs.Courses.{GoOn, Took, taken_for, written}
-use Rattle.registry_service.specs.Turns.{Answering, IsTurn, Turn, request_limit, response_of}
+use Rattle.registry_service.specs.Turns.{Dialogue, IsTurn, Turn, request_limit, response_of}
 
 -- a connection
 pub record Transcript : Type 0 where
@@ -84,7 +84,7 @@ abbrev pub EndsOnce : List Turn → Type 0
 EndsOnce [] = Unit {0}
 EndsOnce (t ∷ ts) = GoOn ts
 
-module _ {D : Type 0} (answers : Answering D) where
+module _ {D : Type 0} (dialogue : Dialogue D) where
   -- What may happen, from a service: bytes come on a connection, or their end; a turn is taken on a
   -- connection that goes on, and is its last where the server is to end; some of what was answered
   -- is sent
@@ -93,14 +93,14 @@ module _ {D : Type 0} (answers : Answering D) where
     comes : (w : World D) → Reached M w → (on : ℕ) (bytes : List ℕ) → (w.transcripts on).shut ≡ false → Reached M (on_connection w on (with_bytes bytes))
     shuts : (w : World D) → Reached M w → (on : ℕ) → Reached M (on_connection w on at_end)
     turns : (w : World D) → Reached M w → (on : ℕ) (stops : Bool) (t : Turn) (rest : List ℕ) (N : D) → GoOn (turns_of on w.log)
-        → TakenOf (w.transcripts on).rest rest ((w.transcripts on).shut ≡ true) (taken_for t.cause) → IsTurn answers w.service (is_last stops (turns_of on w.log)) t N
+        → TakenOf (w.transcripts on).rest rest ((w.transcripts on).shut ≡ true) (taken_for t.cause) → IsTurn dialogue w.service (is_last stops (turns_of on w.log)) t N
         → Reached M (turned_on w on stops t rest N)
     sends : (w : World D) → Reached M w → (on : ℕ) (sent later : List ℕ) → (w.transcripts on).out ≡ sent ++ later → Reached M (on_connection w on (with_sent sent))
 
   -- each turn was taken at the service that all older ones left, whichever connection they were on
   abbrev pub FollowAll : D → List LogEntry → D → Type 0
   FollowAll M [] N = N ≡ M
-  FollowAll M (e ∷ es) N = (K : D) × FollowAll M es K × IsTurn answers K (is_last e.stops (turns_of e.from es)) e.turn N
+  FollowAll M (e ∷ es) N = (K : D) × FollowAll M es K × IsTurn dialogue K (is_last e.stops (turns_of e.from es)) e.turn N
 
   -- There is one list of turns: the service is what they leave, and each connection is what its own
   -- turns among them leave

@@ -11,3 +11,4 @@ pub mod Responses
 pub mod Sendings
 pub mod Servings
 pub mod Turns
+pub mod Dialects

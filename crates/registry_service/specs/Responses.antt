@@ -10,7 +10,7 @@ use Rattle.registry_wire.specs.declared.wanted.Wanted.{Wanted}
 use Rattle.registry_service.specs.HttpAnswers.{Outcome}
 use Rattle.registry_service.specs.Requests.{reads_request}
 use Rattle.registry_service.specs.Sendings.{IsPackument}
-use Rattle.registry_service.specs.Turns.{Answering, Cause, IsTurn, IsTurnFor, Turn, bad_input, is_request, no_memory, request, response_of}
+use Rattle.registry_service.specs.Turns.{Cause, Dialogue, Exchange, IsTurn, IsTurnFor, Turn, bad_input, is_request, no_memory, request, response_of}
 use Rattle.registry_service.specs.declared.responding.Responded.{Responded}
 use Rattle.registry_service.specs.declared.responding.Responded.TheVariants.{Whole, BrokenOff, CutShort}
 use Rattle.registry_service.specs.declared.turning.End.{End}
@@ -22,10 +22,10 @@ AsksPackument (request w at) = (r : Request) × reads_request w at (Ok r) × IsP
 AsksPackument (bad_input r) = ⊥
 AsksPackument no_memory = ⊥
 
-abbrev pub turn_of : Cause → Outcome → Option End → Turn
-turn_of c o ended = record { cause = c; outcome = o; ended = ended }
+abbrev pub turn_of : Cause → List Exchange → Outcome → Option End → Turn
+turn_of c es o ended = record { cause = c; exchanges = es; outcome = o; ended = ended }
 
-module _ {D : Type 0} (answers : Answering D) where
+module _ {D : Type 0} (dialogue : Dialogue D) where
   -- A turn with the same cause that would have answered a packument; and after it a turn of the
   -- same request, which answers the fault and leaves N
   pub record MayBegin (M : D) (last : Bool) (c : Cause) (begun : Turn) (fault : Fault) (N : D) : Type 0 where
@@ -33,8 +33,9 @@ module _ {D : Type 0} (answers : Answering D) where
     pub asks : AsksPackument c
     pub document : (text : Text) × (begun.outcome ≡ Ok (Doc text))
     pub between : D
-    pub may : IsTurn answers M last begun between
-    pub after : IsTurnFor answers c between last (Err fault) (Some (Faulted fault)) N
+    pub may : IsTurn dialogue M last begun between
+    pub exchanges : List Exchange
+    pub after : IsTurnFor dialogue c between last exchanges (Err fault) (Some (Faulted fault)) N
 
   -- Its response was written whole; or a part of it, before a write failed; or it answers a fault
   -- that came in the middle of a packument, of which a part was written
@@ -45,10 +46,11 @@ module _ {D : Type 0} (answers : Answering D) where
 
   -- a turn was taken for a cause, and this is what happened to its response
   pub record Responds (M : D) (c : Cause) (last : Bool) (N : D) (out out2 : Option (List ℕ)) (unknown : Bool) (responded : Responded) : Type 0 where
+    pub exchanges : List Exchange
     pub outcome : Outcome
     pub ended : Option End
-    pub is_turn : IsTurnFor answers c M last outcome ended N
-    pub comes : Comes M last (turn_of c outcome ended) N out out2 unknown responded
+    pub is_turn : IsTurnFor dialogue c M last exchanges outcome ended N
+    pub comes : Comes M last (turn_of c exchanges outcome ended) N out out2 unknown responded
 
   -- the same of a request in form, whichever whole request spells it
   abbrev pub RespondsTo : D → Request → Bool → Bool → D → Option (List ℕ) → Option (List ℕ) → Bool → Responded → Type 0

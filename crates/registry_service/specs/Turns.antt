@@ -1,6 +1,6 @@
--- What one turn of a connection is: what it is taken for, what is answered, and whether the
--- connection ends.
-use Rattle.std.specs.Prelude.{◌≡◌, ◌⊎◌, ℕ, Bool, true, false, List, Option, Some, None, is_some, Ok, Err, if◌then◌else◌}
+-- What one turn of a connection is: what it is taken for, what is asked of the registry in it, what is
+-- answered, and whether the connection ends.
+use Rattle.std.specs.Prelude.{◌≡◌, ◌∷◌, ◌⊎◌, [], ℕ, Bool, true, false, List, Option, Some, None, is_some, map, Ok, Err, if◌then◌else◌}
 use Rattle.registry_names.specs.declared.refusal.Refusal.{Refusal}
 use Rattle.registry_names.specs.declared.stop.Fault.TheVariants.{Memory}
 use Rattle.registry_names.specs.declared.stop.Stop.{Stop}
@@ -25,8 +25,25 @@ pub data Cause : Type 0 where
   bad_input : Refusal → Cause
   no_memory : Cause
 
+-- a request of the registry, and what it came to
+pub record Exchange : Type 0 where
+  pub asked : Request
+  pub outcome : Outcome
+
+abbrev pub exchange : Request → Outcome → Exchange
+exchange r o = record { asked = r; outcome = o }
+
+-- the requests of exchanges, in their order, and their outcomes
+abbrev pub asked_in : List Exchange → List Request
+asked_in es = map (λ (e : Exchange). e.asked) es
+
+abbrev pub outcomes_in : List Exchange → List Outcome
+outcomes_in es = map (λ (e : Exchange). e.outcome) es
+
+-- a turn, with what was asked of the registry in it, one request after the other
 pub record Turn : Type 0 where
   pub cause : Cause
+  pub exchanges : List Exchange
   pub outcome : Outcome
   pub ended : Option End
 
@@ -50,9 +67,47 @@ abbrev pub end_of : Outcome → Bool → Bool → Option End
 end_of (Err fault) last closes = Some (Faulted fault)
 end_of (Ok reply) last closes = if last then Some Limit else (if closes then Some Closed else None)
 
+-- ---- what requests of HTTP ask of a registry
+
+-- A dialect: a turn for this request of HTTP, at this moment, asked these requests of the registry,
+-- one after the other, which came to these outcomes; and the turn came to this outcome
+abbrev pub Dialect : Type 1
+Dialect = Wanted → ℕ → List Exchange → Outcome → Type 0
+
+-- The dialect of the registry's own routes. A request in form asks the registry for what it spells,
+-- once, and its outcome is that of the turn; any other asks nothing, and comes to its first refusal
+abbrev pub profile : Dialect
+profile w at es o = ((r : Request) × reads_request w at (Ok r) × (es ≡ exchange r o ∷ []))
+    ⊎ ((s : Stop) × reads_request w at (Err s) × (es ≡ []) × (o ≡ stopped s))
+
+-- ---- what a service answers
+
 -- what holds of a service, a request, its outcome, and the service that it leaves
 abbrev pub Answering : Type 0 → Type 1
 Answering D = D → Request → Outcome → D → Type 0
+
+module _ {D : Type 0} (answers : Answering D) where
+  -- requests are asked one after the other, each of what the earlier ones left, and nothing else is
+  -- asked between them
+  abbrev pub AnswersEach : D → List Exchange → D → Type 0
+  AnswersEach M [] N = N ≡ M
+  AnswersEach M (e ∷ es) N = (K : D) × answers M e.asked e.outcome K × AnswersEach K es N
+
+  -- whatever the new service may answer, and leave, the old one might have
+  abbrev pub AnswersAsBefore : D → D → Type 0
+  AnswersAsBefore M N = (r : Request) (o : Outcome) (K : D) → answers N r o K → answers M r o K
+
+-- a service over HTTP: the dialect of its requests, and what holds of the service, all that is asked
+-- of it in one turn, and the service that this leaves
+pub record Dialogue (D : Type 0) : Type 1 where
+  pub speaks : Dialect
+  pub answers : D → List Exchange → D → Type 0
+
+-- a service that is asked in a dialect
+abbrev pub spoken : {D : Type 0} → Dialect → Answering D → Dialogue D
+spoken speaks answers = record { speaks = speaks; answers = AnswersEach answers }
+
+-- ---- turns
 
 -- the answer to input that isn't a request, after which the connection ends
 abbrev pub IsTurnAway : Cause → Outcome → Option End → Type 0
@@ -60,37 +115,33 @@ IsTurnAway (request w at) o ended = ⊥
 IsTurnAway (bad_input r) o ended = (o ≡ Ok (Refused r)) × (ended ≡ Some BadInput)
 IsTurnAway no_memory o ended = (o ≡ Err Memory) × (ended ≡ Some (Faulted Memory))
 
-module _ {D : Type 0} (answers : Answering D) where
-  -- a request in form is answered by the service; any other is answered by its first refusal, and
-  -- the service isn't asked
-  abbrev pub IsAnswered : D → Wanted → ℕ → Outcome → D → Type 0
-  IsAnswered M w at o N = ((r : Request) × reads_request w at (Ok r) × answers M r o N)
-      ⊎ ((s : Stop) × reads_request w at (Err s) × (o ≡ stopped s) × (N ≡ M))
+module _ {D : Type 0} (dialogue : Dialogue D) where
+  -- the service answers what the request asks in its dialect, and is asked nothing else
+  abbrev pub IsAnswered : D → Wanted → ℕ → List Exchange → Outcome → D → Type 0
+  IsAnswered M w at es o N = dialogue.speaks w at es o × dialogue.answers M es N
 
   -- the turn of a request, which is the last of its connection or not
-  pub record Serves (M : D) (w : Wanted) (at : ℕ) (last : Bool) (o : Outcome) (ended : Option End) (N : D) : Type 0 where
-    pub answered : IsAnswered M w at o N
+  pub record Serves (M : D) (w : Wanted) (at : ℕ) (last : Bool) (es : List Exchange) (o : Outcome) (ended : Option End) (N : D) : Type 0 where
+    pub answered : IsAnswered M w at es o N
     pub ends : ended ≡ end_of o last w.closes
 
-  abbrev pub IsTurnFor : Cause → D → Bool → Outcome → Option End → D → Type 0
-  IsTurnFor (request w at) M last o ended N = Serves M w at last o ended N
-  IsTurnFor (bad_input r) M last o ended N = IsTurnAway (bad_input r) o ended × (N ≡ M)
-  IsTurnFor no_memory M last o ended N = IsTurnAway no_memory o ended × (N ≡ M)
+  -- for anything else the service is asked nothing
+  abbrev pub IsTurnFor : Cause → D → Bool → List Exchange → Outcome → Option End → D → Type 0
+  IsTurnFor (request w at) M last es o ended N = Serves M w at last es o ended N
+  IsTurnFor (bad_input r) M last es o ended N = IsTurnAway (bad_input r) o ended × (N ≡ M) × (es ≡ [])
+  IsTurnFor no_memory M last es o ended N = IsTurnAway no_memory o ended × (N ≡ M) × (es ≡ [])
 
   -- a turn by a service, and the service that it leaves
   abbrev pub IsTurn : D → Bool → Turn → D → Type 0
-  IsTurn M last t N = IsTurnFor t.cause M last t.outcome t.ended N
+  IsTurn M last t N = IsTurnFor t.cause M last t.exchanges t.outcome t.ended N
 
   -- the same for what the code makes of a turn: its answer, and how the connection ends
   pub record Turns (M : D) (c : Cause) (last : Bool) (t : Turned) (N : D) : Type 0 where
+    pub exchanges : List Exchange
     pub outcome : Outcome
-    pub is_turn : IsTurnFor c M last outcome t.end N
+    pub is_turn : IsTurnFor c M last exchanges outcome t.end N
     pub answer : AnswersSo outcome t.answer
     pub counts : t.is_request ≡ is_request c
-
-  -- whatever the new service may answer, and leave, the old one might have
-  abbrev pub AnswersAsBefore : D → D → Type 0
-  AnswersAsBefore M N = (r : Request) (o : Outcome) (K : D) → answers N r o K → answers M r o K
 
 -- the turn of input that isn't a request, for which no service is asked
 pub record TurnsAway (c : Cause) (t : Turned) : Type 0 where

@@ -2,6 +2,7 @@
 
 ghost use Rattle.registry_service.specs.Histories.{IsOneHistory, Reached, World};
 ghost use Rattle.registry_service.specs.Laws.{LookUpsAreUnseen, TakenOfAll, TurnsAreSpelled};
+ghost use Rattle.registry_service.specs.Turns.{profile, spoken};
 
 use crate::turning::Service;
 
@@ -11,7 +12,8 @@ use crate::turning::Service;
 /// or, after the end of the connection, dropped. Its answers are those of its turns, and what was
 /// sent is a prefix of them.
 pub fn one_history<D: Service>()
-    ensures { (M : D) (w : World D) → Reached D.answers M w → IsOneHistory D.answers M w }
+    ensures { (M : D) (w : World D) → Reached (spoken D.speaks D.answers) M w
+        → IsOneHistory (spoken D.speaks D.answers) M w }
 {}
 
 /// The whole requests that the turns of a connection were taken for are the first that its bytes
@@ -23,11 +25,11 @@ pub fn turns_are_spelled()
 /// For a reader whose bytes are known, the turns of a connection were taken of everything that was
 /// held or left, and what follows them is still held or left.
 pub fn turns_are_taken_of_all<D: Service>()
-    ensures { TakenOfAll D.answers }
+    ensures { TakenOfAll (spoken profile D.answers) }
 {}
 
 /// Whatever a service looks up between two turns, nobody can tell by what is answered: each turn after
 /// it might have been taken without it. So turns with look-ups between them are turns without any.
 pub fn look_ups_are_unseen<D: Service>()
-    ensures { LookUpsAreUnseen D.answers }
+    ensures { LookUpsAreUnseen D.speaks D.answers }
 {}

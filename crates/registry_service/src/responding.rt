@@ -4,7 +4,7 @@ ghost use Rattle.std.specs.Prelude.{◌≡◌, true};
 ghost use Rattle.registry_service.specs.Responses.{Responds, RespondsTo};
 ghost use Rattle.registry_service.specs.Sendings.{IsPackument};
 ghost use Rattle.registry_service.specs.Servings.{RespondsWith, response_failures};
-ghost use Rattle.registry_service.specs.Turns.{request as cause};
+ghost use Rattle.registry_service.specs.Turns.{profile, request as cause, spoken};
 
 use crate::heading::Heading;
 use crate::request::request_of;
@@ -44,8 +44,8 @@ pub(crate) fn take_turn<D: PackumentService, W: ByteOut>(
     is_last: bool,
     writer: &mut W,
 ) -> Responded
-    ensures responds { Responds D.answers service.old (cause wanted.now at) is_last service.new
-        (W.bytes writer.old) (W.bytes writer.new) (W.is_unknown writer.new) result }
+    ensures responds { Responds (spoken profile D.answers) service.old (cause wanted.now at) is_last
+        service.new (W.bytes writer.old) (W.bytes writer.new) (W.is_unknown writer.new) result }
     ensures counted { W.failures writer.new ≡ response_failures result (W.failures writer.old) }
     ensures unknown { W.is_unknown writer.old ≡ true → W.is_unknown writer.new ≡ true }
 {
@@ -64,8 +64,8 @@ fn answer<D: PackumentService, W: ByteOut>(
     closes: bool,
     writer: &mut W,
 ) -> Responded
-    ensures responds { RespondsTo D.answers service.old request.now is_last closes service.new
-        (W.bytes writer.old) (W.bytes writer.new) (W.is_unknown writer.new) result }
+    ensures responds { RespondsTo (spoken profile D.answers) service.old request.now is_last closes
+        service.new (W.bytes writer.old) (W.bytes writer.new) (W.is_unknown writer.new) result }
     ensures counted { W.failures writer.new ≡ response_failures result (W.failures writer.old) }
     ensures unknown { W.is_unknown writer.old ≡ true → W.is_unknown writer.new ≡ true }
 {
@@ -88,8 +88,8 @@ fn send<D: PackumentService, W: ByteOut>(
     writer: &mut W,
 ) -> Responded
     requires { IsPackument request.now.what }
-    ensures responds { RespondsTo D.answers service.old request.now is_last closes service.new
-        (W.bytes writer.old) (W.bytes writer.new) (W.is_unknown writer.new) result }
+    ensures responds { RespondsTo (spoken profile D.answers) service.old request.now is_last closes
+        service.new (W.bytes writer.old) (W.bytes writer.new) (W.is_unknown writer.new) result }
     ensures counted { W.failures writer.new ≡ response_failures result (W.failures writer.old) }
     ensures unknown { W.is_unknown writer.old ≡ true → W.is_unknown writer.new ≡ true }
 {

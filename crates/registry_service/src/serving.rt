@@ -4,6 +4,7 @@ ghost use Rattle.std.specs.Prelude.{◌≡◌, ◌≤◌, ◌∷◌, [], ℕ, Li
 ghost use Rattle.registry_wire.specs.Reading.{CountsInterrupted};
 ghost use Rattle.registry_service.specs.Courses.{Gave, GoesTo, IsServed, ReadsFail, Rests, side};
 ghost use Rattle.registry_service.specs.Servings.{response_failures, written_failures};
+ghost use Rattle.registry_service.specs.Turns.{profile, spoken};
 
 use crate::responding::{Responded, respond, take_turn};
 use crate::sending::PackumentService;
@@ -46,7 +47,7 @@ pub fn serve<D: PackumentService, R: ByteIn, W: ByteOut, C: Clock>(
     writer: &mut W,
     clock: &mut C,
 ) -> Served
-    ensures served { IsServed D.answers
+    ensures served { IsServed (spoken profile D.answers)
         (side service.old inbox.old.held (R.bytes inbox.old.reader) (R.is_unknown inbox.old.reader)
         (C.readings clock.old))
         (side service.new inbox.new.held (R.bytes inbox.new.reader) (R.is_unknown inbox.new.reader)
@@ -100,13 +101,13 @@ fn next_turn<D: PackumentService, R: ByteIn, W: ByteOut, C: Clock>(
     is_last: bool,
 ) -> Result<Responded, End>
     ensures turns { MatchResult result
-        (GoesTo D.answers
+        (GoesTo (spoken profile D.answers)
         (side service.old inbox.old.held (R.bytes inbox.old.reader)
         (R.is_unknown inbox.old.reader) (C.readings clock.old))
         (side service.new inbox.new.held (R.bytes inbox.new.reader)
         (R.is_unknown inbox.new.reader) (C.readings clock.new))
         is_last (W.bytes writer.old) (W.bytes writer.new) (W.is_unknown writer.new))
-        (Rests D.answers
+        (Rests (spoken profile D.answers)
         (side service.old inbox.old.held (R.bytes inbox.old.reader)
         (R.is_unknown inbox.old.reader) (C.readings clock.old))
         (side service.new inbox.new.held (R.bytes inbox.new.reader)

@@ -1,12 +1,13 @@
 //! One turn of a connection.
 
-ghost use Rattle.std.specs.Prelude.{◌≡◌, Bool, true, Ok, Result};
+ghost use Rattle.std.specs.Prelude.{◌≡◌, Bool, List, true, Ok, Result};
 ghost use Rattle.registry_names.specs.declared.stop.Fault.{Fault};
 ghost use Rattle.registry_rules.specs.declared.reply.Reply.{Reply};
 ghost use Rattle.registry_rules.specs.declared.request.Request.{Request};
+ghost use Rattle.registry_service.specs.Dialects.{AsksQueriesByGet};
 ghost use Rattle.registry_service.specs.Servings.{IsTurnWith};
 ghost use Rattle.registry_service.specs.Turns as spec;
-ghost use Rattle.registry_service.specs.Turns.{AnswersAsBefore, IsAnswered, Turns, bad_input, no_memory, request};
+ghost use Rattle.registry_service.specs.Turns.{AnswersAsBefore, Dialect, Exchange, IsAnswered, Turns, bad_input, no_memory, profile, request, spoken};
 
 use crate::answer::Answer;
 use crate::request::request_of;
@@ -37,12 +38,24 @@ pub trait Service {
     // What holds of a service, a request, its outcome, and the service that it leaves.
     ghost answers: { Self → Request → Result Reply Fault → Self → Type 0 };
 
+    // What requests of HTTP ask of it.
+    ghost speaks: { Dialect };
+
     // Whether it is over.
     ghost over: { Self → Bool };
 
     /// Answers one request.
     fn answer(&mut self, alloc: Global, request: &Request) -> Result<Reply, Fault>
         ensures { answers self.old request.now result self.new };
+
+    /// The turn of a whole request of HTTP, asked at this moment. What it asks of the registry, in
+    /// the dialect of this service, is answered one request after the other, and nothing else is
+    /// asked. `is_last` says that this is the last request that its connection may have.
+    ///
+    /// A service for the registry's own routes takes the turn by [`turn`].
+    fn turn(&mut self, alloc: Global, wanted: &Wanted, at: Moment, is_last: bool) -> Turned
+        ensures { Turns (spoken speaks answers) self.old (request wanted.now at) is_last result
+            self.new };
 
     /// Whether it is over: nothing more may be asked of it.
     fn is_over(&self) -> bool
@@ -85,6 +98,9 @@ pub trait Service {
     fn rest(&mut self)
         ensures { self.new ≡ self.old }
     {}
+
+    // A request that begins as a query does asks nothing but queries.
+    ghost asks_queries: { AsksQueriesByGet speaks };
 }
 
 /// How a connection ends.
@@ -130,7 +146,8 @@ fn answered<D: Service>(
     wanted: &Wanted,
     at: Moment,
 ) -> Result<Reply, Fault>
-    ensures { IsAnswered D.answers service.old wanted.now at result service.new }
+    ensures { (es : List Exchange) × IsAnswered (spoken profile D.answers) service.old wanted.now
+        at es result service.new }
 {
     match request_of(alloc, wanted, at) {
         Ok(request) => service.answer(alloc, &request),
@@ -182,9 +199,9 @@ pub(crate) fn turn_with(outcome: Result<Reply, Fault>, is_last: bool, closes: bo
     }
 }
 
-/// The turn of a whole request, asked at this moment: the request is formed, the service answers it
-/// where it is in form, and its outcome is put into an answer. `is_last` says that this is the last
-/// request that its connection may have.
+/// The turn of a whole request for one of the registry's own routes, asked at this moment: the
+/// request is formed, the service answers it where it is in form, and its outcome is put into an
+/// answer. `is_last` says that this is the last request that its connection may have.
 ///
 /// The connection ends after a fault, after the last request, and after a request that asks for it.
 pub fn turn<D: Service>(
@@ -194,7 +211,8 @@ pub fn turn<D: Service>(
     at: Moment,
     is_last: bool,
 ) -> Turned
-    ensures { Turns D.answers service.old (request wanted.now at) is_last result service.new }
+    ensures { Turns (spoken profile D.answers) service.old (request wanted.now at) is_last result
+        service.new }
 {
     let outcome = answered(alloc, service, wanted, at);
     turn_with(outcome, is_last, wanted.closes)

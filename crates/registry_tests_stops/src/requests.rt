@@ -45,6 +45,8 @@ token npm_bob_000000001 --at 200 version-doc @lab/kit latest
 --at 200 --as bob archive @lab/kit 2.0.0-beta
 --at 200 --as bob archive @lab/kit 2.0.0-rc.1
 --at 200 --as bob archive @lab/kit 3.0.0
+--at 200 --as eve archive tool 1.0.0
+--at 200 --as eve archive tool 1.1.0
 token npm_bob_000000001 --at 200 tags @lab/kit
 --at 200 --as ann members lab
 --at 200 --as ann teams lab

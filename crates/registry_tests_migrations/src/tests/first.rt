@@ -123,10 +123,9 @@ static SHOWN: [Shown; 18] = [
     ("SELECT * FROM sqlite_sequence ORDER BY name", " archives|3"),
 ];
 
-/// Queries of each kind, as they were answered before, and a withdrawal. `tool` 2.0.0 needs
-/// `@lab/kit`, in a range that doesn't allow 1.0.0. The older schema has only the targets, so the
-/// registry refused the withdrawal before.
-static ASKED: [Asked; 24] = [
+/// Queries of each kind, and a withdrawal. `tool` 2.0.0 needs `@lab/kit`, in a range that doesn't allow
+/// 1.0.0. The older schema has only the targets, so the registry refused the withdrawal before.
+static ASKED: [Asked; 32] = [
     (
         "--at 125 --as bob packument @lab/kit",
         r#"{"_id":"@lab/kit","dist-tags":{"beta":"1.1.0-beta","latest":"1.0.0"},"name":"@lab/kit","time":{"1.0.0":"1970-01-01T00:01:40.000Z","1.1.0-beta":"1970-01-01T00:01:41.000Z","created":"1970-01-01T00:01:30.000Z","modified":"1970-01-01T00:01:41.000Z"},"versions":{"1.0.0":{"dependencies":{"tool":"^1"},"name":"@lab/kit","optionalDependencies":{"@lab/pad":"~2"},"peerDependencies":{"tool":">=1.0.0"},"version":"1.0.0"},"1.1.0-beta":{"dependencies":{"tool":"^2"},"deprecated":"old","name":"@lab/kit","optionalDependencies":{"tool":"2.x"},"version":"1.1.0-beta"}}}"#,
@@ -174,6 +173,26 @@ static ASKED: [Asked; 24] = [
         r#"{"@lab/kit":"read-only"}"#,
     ),
     ("--at 125 --as eve packument @lab/kit", "NotFound"),
+    (
+        "token npm_bob_000000001 --at 125 whoami",
+        r#"{"username":"bob"}"#,
+    ),
+    ("--at 125 --as ann maintainers tool", r#"["eve"]"#),
+    ("--at 125 --as eve maintainers gone", r#"["bob"]"#),
+    (
+        "--at 125 --as ann org-packages lab",
+        r#"{"@lab/kit":"write","@lab/pad":"write"}"#,
+    ),
+    (
+        "--at 125 --as bob my-packages",
+        r#"{"@lab/kit":"write","@lab/pad":"write","gone":"write"}"#,
+    ),
+    ("--at 125 --operator users", r#"{"ann":0,"bob":1,"eve":0}"#),
+    ("--at 125 --operator organisations", r#"["lab"]"#),
+    (
+        "--at 125 --operator packages",
+        r#"{"@lab/kit":{"latest":"1.0.0","status":"restricted"},"@lab/pad":{"latest":"2.0.0","status":"public"},"gone":{"status":"public"},"tool":{"latest":"2.0.0","status":"public"}}"#,
+    ),
     ("--at 130 --as bob withdraw @lab/kit 1.0.0", "done"),
     (
         "--at 130 --as bob packument @lab/kit",

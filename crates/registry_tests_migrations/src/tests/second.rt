@@ -117,10 +117,9 @@ static SHOWN: [Shown; 18] = [
     ("SELECT * FROM sqlite_sequence ORDER BY name", " archives|3"),
 ];
 
-/// Queries of each kind, as they were answered before, and a withdrawal. `tool` 1.1.0 needs
-/// `@lab/kit`, in a range that doesn't allow 1.0.0. The older schema has only the targets, so the
-/// registry refused the withdrawal before.
-static ASKED: [Asked; 20] = [
+/// Queries of each kind, and a withdrawal. `tool` 1.1.0 needs `@lab/kit`, in a range that doesn't allow
+/// 1.0.0. The older schema has only the targets, so the registry refused the withdrawal before.
+static ASKED: [Asked; 28] = [
     (
         "--at 125 --as bob packument @lab/kit",
         r#"{"_id":"@lab/kit","dist-tags":{"latest":"1.0.0"},"name":"@lab/kit","time":{"1.0.0":"1970-01-01T00:01:40.000Z","created":"1970-01-01T00:01:30.000Z","modified":"1970-01-01T00:01:40.000Z"},"versions":{"1.0.0":{"dependencies":{"tool":"^1"},"deprecated":"old","name":"@lab/kit","version":"1.0.0"}}}"#,
@@ -162,6 +161,26 @@ static ASKED: [Asked; 20] = [
     ),
     ("--at 125 --as ann team-packages lab ops", "NotFound"),
     ("--at 125 --as eve packument @lab/kit", "NotFound"),
+    (
+        "token npm_bob_000000001 --at 125 whoami",
+        r#"{"username":"bob"}"#,
+    ),
+    ("--at 125 --as ann maintainers tool", r#"["eve"]"#),
+    ("--at 125 --as eve maintainers gone", r#"["bob"]"#),
+    (
+        "--at 125 --as ann org-packages lab",
+        r#"{"@lab/kit":"write"}"#,
+    ),
+    (
+        "--at 125 --as bob my-packages",
+        r#"{"@lab/kit":"write","gone":"write"}"#,
+    ),
+    ("--at 125 --operator users", r#"{"ann":0,"bob":1,"eve":0}"#),
+    ("--at 125 --operator organisations", r#"["lab"]"#),
+    (
+        "--at 125 --operator packages",
+        r#"{"@lab/kit":{"latest":"1.0.0","status":"restricted"},"gone":{"status":"public"},"tool":{"latest":"1.0.0","status":"public"}}"#,
+    ),
     ("--at 130 --as bob withdraw @lab/kit 1.0.0", "done"),
     ("--at 130 --as bob packument @lab/kit", "NotFound"),
     ("--at 130 --as eve archive tool 1.0.0", "abc"),

@@ -1,7 +1,7 @@
 use Rattle.std.proofs.Common.{refl}
 use Rattle.registry_service.proofs.CourseFacts.{gave-nothing}
 use Rattle.registry_service.proofs.ResponseFacts.{responds-away}
-use Rattle.registry_service.specs.Turns.{bad_input, no_memory}
+use Rattle.registry_service.specs.Turns.{bad_input, no_memory, profile, spoken}
 use Rattle.registry_service.proofs.serving.next_turn.Goals as goal
 
 pub returns-in-Bad-clause-turns : goal.returns-in-Bad-clause-turns
@@ -11,7 +11,7 @@ returns-in-Bad-clause-turns g c = record {
   gave = c.in-Bad.ensures.takes.gave;
   lean = c.in-Bad.ensures.takes.lean;
   took = c.in-Bad.ensures.takes.took;
-  responds = responds-away g.D.Service.answers _ (bad_input c.in-Bad.refusal) _ _ _ _ _ _ c.turn_away.ensures c.respond.ensures.responds;
+  responds = responds-away (spoken profile g.D.Service.answers) _ (bad_input c.in-Bad.refusal) _ _ _ _ _ _ c.turn_away.ensures c.respond.ensures.responds;
   asked = gave-nothing (g.C.Clock.readings c.args.clock.now);
 }
 
@@ -22,6 +22,6 @@ returns-in-Faulted-clause-turns g c = record {
   gave = c.in-Faulted.ensures.takes.gave;
   lean = c.in-Faulted.ensures.takes.lean;
   took = (c.in-Faulted.ensures.takes.took.0, refl);
-  responds = responds-away g.D.Service.answers _ no_memory _ _ _ _ _ _ c.turn_starved.ensures c.respond-in-Faulted.ensures.responds;
+  responds = responds-away (spoken profile g.D.Service.answers) _ no_memory _ _ _ _ _ _ c.turn_starved.ensures c.respond-in-Faulted.ensures.responds;
   asked = gave-nothing (g.C.Clock.readings c.args.clock.now);
 }

@@ -1,12 +1,13 @@
 use Rattle.std.proofs.Common.{◌≡◌, ◌-◌, ◌<◌}
 use Rattle.registry_wire.specs.Reading.{CountsInterrupted}
 use Rattle.registry_service.specs.Courses.{side}
+use Rattle.registry_service.specs.Turns.{profile, spoken}
 use Rattle.registry_service.proofs.CourseFacts.{Going}
 use Rattle.registry_service.proofs.serving.serve.Given as goal
 
 abbrev pub invariant-turns : goal.invariant-turns
 invariant-turns g l = record {
-  going : Going g.D.Service.answers
+  going : Going (spoken profile g.D.Service.answers)
       (side l.fn.service l.fn.inbox.held (g.R.ByteIn.bytes l.fn.inbox.reader) (g.R.ByteIn.is_unknown l.fn.inbox.reader) (g.C.Clock.readings l.fn.clock))
       (side l.service l.inbox.held (g.R.ByteIn.bytes l.inbox.reader) (g.R.ByteIn.is_unknown l.inbox.reader) (g.C.Clock.readings l.clock))
       (g.W.ByteOut.bytes l.fn.writer) (g.W.ByteOut.bytes l.writer) (g.W.ByteOut.is_unknown l.writer) l.requests;

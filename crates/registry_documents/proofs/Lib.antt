@@ -1,0 +1,4 @@
+pub mod FrontFacts
+pub mod LawFacts
+pub mod LoopFacts
+pub mod SameFacts

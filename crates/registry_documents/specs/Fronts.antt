@@ -1,0 +1,45 @@
+-- What comes before the members of a packument where npm reads it: its revision, and its
+-- maintainers.
+use Rattle.std.specs.Prelude.{◌≡◌, ℕ, Bool, true, false, List, [], ◌∷◌, ◌++◌, drop, codes}
+use Rattle.serde_json.specs.Data.{Data, string, array, object, Items, no_items, item, Members, no_members, member}
+use Rattle.json.specs.Print.{quoted}
+use Rattle.serde_json.specs.Written.{comma_if, compact_text}
+use Rattle.registry_names.specs.Texts.{Text}
+
+-- a maintainer, whose address the registry doesn't hold
+abbrev pub person : Text → Data
+person name = object (member (codes "email") (string []) (member (codes "name") (string name) no_members))
+
+abbrev pub people : List Text → Items
+people [] = no_items
+people (n ∷ ns) = item (person n) (people ns)
+
+-- the maintainers in front of other members, where there are some
+abbrev pub with_maintainers : List Text → Members → Members
+with_maintainers [] ms = ms
+with_maintainers (n ∷ ns) ms = member (codes "maintainers") (array (people (n ∷ ns))) ms
+
+-- the members of a packument as npm reads it: first its revision, then its maintainers
+abbrev pub shown : Text → List Text → Members → Members
+shown rev names ms = member (codes "_rev") (string rev) (with_maintainers names ms)
+
+-- ---- the same as a text
+
+-- a member, with a comma where another came earlier
+abbrev pub member_text : Bool → Text → Data → List ℕ
+member_text later k d = comma_if later ++ (quoted k ++ 58 ∷ compact_text d)
+
+-- a comma, and the maintainers where there are some
+abbrev pub maintainers_text : List Text → List ℕ
+maintainers_text [] = []
+maintainers_text (n ∷ ns) = member_text true (codes "maintainers") (array (people (n ∷ ns)))
+
+-- the opening brace, both members, and a comma
+abbrev pub front_text : Text → List Text → List ℕ
+front_text rev names = 123 ∷ (member_text false (codes "_rev") (string rev) ++ (maintainers_text names ++ 44 ∷ []))
+
+-- The front, and a packument's text without its first byte, are the compact JSON of the packument
+-- with both members in front of its own.
+abbrev pub FrontsAreJson : Type 0
+FrontsAreJson = (rev : Text) (names : List Text) (k : Text) (d : Data) (ms : Members)
+    → front_text rev names ++ drop 1 (compact_text (object (member k d ms))) ≡ compact_text (object (shown rev names (member k d ms)))

@@ -1,0 +1,10 @@
+pub mod Claims
+pub mod Differences
+pub mod Documents
+pub mod Fronts
+pub mod Judging
+pub mod Laws
+pub mod Parts
+pub mod Revisions
+pub mod Tags
+pub mod Values

@@ -1,0 +1,103 @@
+//! What npm reads before a packument's members.
+
+ghost use Rattle.std.specs.Prelude.{◌≡◌, ◌++◌, ◌∷◌, [], string_bytes, IfOk, OnOk};
+ghost use Rattle.json.specs.Print.{quoted};
+ghost use Rattle.serde_json.specs.Data.{array, string};
+ghost use Rattle.serde_json.specs.Written.{comma_if, compact_text};
+ghost use Rattle.registry_documents.specs.Fronts.{front_text, maintainers_text, member_text, people, person};
+
+use crate::revision::Revision;
+use registry_names::Text;
+use serde_json::Value;
+use std::alloc::{AllocError, Global};
+
+/// What comes before a packument's text, of which the first byte is left out, where npm reads it:
+/// an opening brace, the members `_rev` and `maintainers`, and a comma. `maintainers` is an array of
+/// objects with an empty `email` and the `name`. It is left out where nobody maintains the package,
+/// as where it has a scope.
+///
+/// An error is returned when no memory is left.
+pub fn front(alloc: Global, revision: &Revision, maintainers: &[Text]) -> Result<String, AllocError>
+    ensures { IfOk result (λ text. string_bytes text ≡ front_text revision.now maintainers.now) }
+{
+    let mut out = String::from_str(alloc, "{")?;
+    push_text_member(alloc, &mut out, false, "_rev", revision.text())?;
+    push_maintainers(alloc, &mut out, maintainers)?;
+    out.push_str(",")?;
+    Ok(out)
+}
+
+// A text in JSON's quotes.
+fn push_quoted(alloc: Global, out: &mut String, text: &str) -> Result<(), AllocError>
+    ensures { OnOk result (string_bytes out.new ≡ string_bytes out.old ++ quoted text.now) }
+{
+    let quoted = Value::try_from_str(alloc, text)?.to_string(alloc)?;
+    out.push_str(quoted.as_str())
+}
+
+// A comma, where something came earlier.
+fn push_comma(out: &mut String, later: bool) -> Result<(), AllocError>
+    ensures { OnOk result (string_bytes out.new ≡ string_bytes out.old ++ comma_if later) }
+{
+    if later { out.push_str(",") } else { Ok(()) }
+}
+
+// The key of a member and its colon, with the comma before it where a member came earlier.
+fn push_key(alloc: Global, out: &mut String, later: bool, key: &str) -> Result<(), AllocError>
+    ensures { OnOk result (string_bytes out.new
+        ≡ string_bytes out.old ++ (comma_if later ++ (quoted key.now ++ 58 ∷ []))) }
+{
+    push_comma(out, later)?;
+    push_quoted(alloc, out, key)?;
+    out.push_str(":")
+}
+
+fn push_text_member(
+    alloc: Global,
+    out: &mut String,
+    later: bool,
+    key: &str,
+    text: &str,
+) -> Result<(), AllocError>
+    ensures { OnOk result (string_bytes out.new
+        ≡ string_bytes out.old ++ member_text later key.now (string text.now)) }
+{
+    push_key(alloc, out, later, key)?;
+    push_quoted(alloc, out, text)
+}
+
+// A comma and the member `maintainers`, where there are some.
+fn push_maintainers(alloc: Global, out: &mut String, maintainers: &[Text]) -> Result<(), AllocError>
+    ensures { OnOk result (string_bytes out.new
+        ≡ string_bytes out.old ++ maintainers_text maintainers.now) }
+{
+    if maintainers.is_empty() {
+        return Ok(());
+    }
+    push_key(alloc, out, true, "maintainers")?;
+    push_people(alloc, out, maintainers)
+}
+
+fn push_people(alloc: Global, out: &mut String, maintainers: &[Text]) -> Result<(), AllocError>
+    ensures { OnOk result (string_bytes out.new
+        ≡ string_bytes out.old ++ compact_text (array (people maintainers.now))) }
+{
+    out.push_str("[")?;
+    let mut later = false;
+    for name in maintainers {
+        push_comma(out, later)?;
+        push_person(alloc, out, name.as_str())?;
+        later = true;
+    }
+    out.push_str("]")
+}
+
+fn push_person(alloc: Global, out: &mut String, name: &str) -> Result<(), AllocError>
+    ensures { OnOk result (string_bytes out.new
+        ≡ string_bytes out.old ++ compact_text (person name.now)) }
+{
+    out.push_str("{")?;
+    push_text_member(alloc, out, false, "email", "")?;
+    push_text_member(alloc, out, true, "name", name)?;
+    out.push_str("}")
+}
