@@ -12,7 +12,7 @@ use registry_log::{LineSink, Log, LogClock, LoggedService};
 use registry_names::{ByteOut, Moment, Text, write_whole};
 use registry_npm::NpmService;
 use registry_server::{Ended, ListenAt, LocalSocket, Server, SocketFile};
-use registry_service::Service;
+use registry_service::HttpService;
 use sqlite::{Alter, FileStore};
 use sqlite_disk::Disk;
 use std::alloc::{AllocError, Global};
@@ -298,7 +298,7 @@ fn serve_with<S: Alter + Drop, K: LogClock + Drop, W: LineSink + Drop, O: ByteOu
 }
 
 /// A service that says in its log, if it keeps one, when its server begins and ends.
-trait Told: Service {
+trait Told: HttpService {
     fn tell(&mut self, text: &str);
 }
 
