@@ -23,8 +23,8 @@ def free_port():
 
 
 def until(is_so, process, what):
-    """Waits until something is so, for twenty seconds at most, or until its process has ended."""
-    end = time.monotonic() + 20
+    """Waits until something is so, for a minute at most, or until its process has ended."""
+    end = time.monotonic() + 60
     while not is_so():
         if time.monotonic() > end or process.poll() is not None:
             raise SystemExit(f'npm_team: {what} does not begin')
