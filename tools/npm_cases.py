@@ -26,8 +26,8 @@ class Run:
 class Part:
     """Some cases over a registry of their own, which begins as the ground left it."""
 
-    def __init__(self, title, way):
-        self.title, self.way, self.runs = title, way, []
+    def __init__(self, title, way, needs=None):
+        self.title, self.way, self.needs, self.runs = title, way, needs, []
 
 
 class Table:
@@ -79,9 +79,11 @@ class Reader:
         return True
 
     def begin(self, table, title):
-        """A part, which may be for one way to the registry alone: `== TITLE (front)`."""
+        """A part, which may be for one way to the registry alone, or need something that is still missing:
+        `== TITLE (front) (needs WORD)`."""
+        title, _, needs = title.rstrip(')').partition(' (needs ') if '(needs ' in title else (title, '', None)
         way = re.search(r' \((direct|front)\)$', title)
-        table.parts.append(Part(title, way[1] if way else None))
+        table.parts.append(Part(title, way[1] if way else None, needs))
         self.run = None
 
     def held(self, number, rest):
