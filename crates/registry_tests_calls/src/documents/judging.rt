@@ -498,7 +498,8 @@ fn asked(rt: &impl Abort, alloc: Global, body: &str, path: Path, maintainers: &[
 fn document(rt: &impl Abort, alloc: Global, edits: &[Edit], maintainers: &[Text]) -> String {
     let revision = revision(rt, alloc, maintainers);
     let front = front(alloc, &revision, maintainers).expect(rt, "memory");
-    let mut whole = concat(rt, alloc, &[front.as_str(), &TOOL[1..]]);
+    let members = TOOL.strip_prefix('{').expect(rt, "a brace");
+    let mut whole = concat(rt, alloc, &[front.as_str(), members]);
     for edit in edits {
         whole = edited(rt, alloc, whole.as_str(), edit);
     }
@@ -557,27 +558,29 @@ fn documents_of_maintainers(rt: HostRuntime) {
     }
 }
 
-// A document of maintainers that says another package, and one that says no package.
+// What a document of maintainers says beside them and its revision, and what it asks for.
+static BESIDE: [(&str, &str); 5] = [
+    (r#""_id":"kit","#, "BadBody"),
+    (r#""name":"tool","#, "+ dan"),
+    (r#""name":"kit","#, "BadBody"),
+    (r#""users":{},"#, "BadBody"),
+    ("", "+ dan"),
+];
+
 #[test]
 fn documents_of_maintainers_that_say_more(rt: HostRuntime) {
     let maintainers = texts(&rt, rt.alloc(), &OWNERS);
     let revision = revision(&rt, rt.alloc(), &maintainers);
-    for (member, wanted) in [
-        (r#""_id":"kit","#, "BadBody"),
-        (r#""name":"tool","#, "+ dan"),
-        (r#""name":"kit","#, "BadBody"),
-        (r#""users":{},"#, "BadBody"),
-        ("", "+ dan"),
-    ] {
+    for (member, wanted) in &BESIDE {
         let parts = [
             "{",
-            member,
+            *member,
             r#""_rev":""#,
             revision.text(),
             r#"","maintainers":[{"name":"bob"},{"name":"eve"},{"name":"dan"}]}"#,
         ];
         let body = concat(&rt, rt.alloc(), &parts);
         let came_out = asked(&rt, rt.alloc(), body.as_str(), Path::Present, &maintainers);
-        same(&rt, member, came_out.as_str(), wanted);
+        same(&rt, *member, came_out.as_str(), *wanted);
     }
 }
