@@ -4,18 +4,21 @@ ghost use Rattle.registry_http.specs.Services.{LogRuns, TurnsRun, shown};
 ghost use Rattle.registry_http.specs.Alone.{OneIsAnsweredTheSame, RunsAreAnsweredAlike};
 ghost use Rattle.registry_http.specs.Hiding.{HiddenAreUnheardOf};
 ghost use Rattle.registry_http.specs.Unseen.{StrangersAreAnsweredTheSame};
+ghost use Rattle.registry_service.specs.Dialects.{IsDetermined};
 ghost use Rattle.registry_service.specs.Turns.{profile};
 
+use registry_service::HttpService;
 use sqlite::Alter;
 
 /// The turns of a connection, or of many that take turns, are one run of the registry: of the
-/// requests in form among them, in their order, with the outcomes that were answered. So everything
-/// that is said of a run holds of them: each outcome is the machine's answer on what the earlier
-/// ones left, no reply is lost in a crash, and where nothing was asked of the registry before, the
-/// headline holds.
-pub fn turns_are_one_run<S: Alter>()
-    ensures connection { TurnsRun profile (shown S.Store) }
-    ensures all { LogRuns profile (shown S.Store) }
+/// requests that were asked in them, in their order, with the outcomes that were answered. So
+/// everything that is said of a run holds of them: each outcome is the machine's answer on what the
+/// earlier ones left, no reply is lost in a crash, and where nothing was asked of the registry before,
+/// the headline holds. It doesn't matter what requests of HTTP ask of the service, nor how many
+/// requests a turn asks: `D` may be any service over HTTP.
+pub fn turns_are_one_run<S: Alter, D: HttpService>()
+    ensures connection { TurnsRun D.speaks (shown S.Store) }
+    ensures all { LogRuns D.speaks (shown S.Store) }
 {}
 
 /// Whatever a caller asks of a package that they don't read (its packument, a version, an archive
@@ -35,9 +38,11 @@ pub fn hidden_packages_are_unheard_of()
 /// package at that point of either world, show the package in both worlds or in neither, and meet
 /// no fault. This holds as long as the package, whoever asks, keeps no withdrawal from being done
 /// in only one of the worlds, and as long as no fault in one world keeps a command undone that
-/// doesn't name the package and that the other world accepts.
-pub fn unread_packages_change_no_byte<S: Alter>()
-    ensures { StrangersAreAnsweredTheSame profile (shown S.Store) }
+/// doesn't name the package and that the other world accepts. So it is by the registry's own routes
+/// (`routes`), and with any service whose answers are determined by what it asked (`services`).
+pub fn unread_packages_change_no_byte<S: Alter, D: HttpService>()
+    ensures routes { StrangersAreAnsweredTheSame profile (shown S.Store) }
+    ensures services { IsDetermined D.speaks → StrangersAreAnsweredTheSame D.speaks (shown S.Store) }
 {}
 
 /// The same holds for a caller who is alone, if they have no level on the package at the start.

@@ -2,11 +2,13 @@
 //! a function that does nothing.
 
 ghost use Rattle.registry_http.specs.Services.{shown};
+ghost use Rattle.registry_service.specs.Dialects.{IsDetermined};
 ghost use Rattle.registry_service.specs.Turns.{profile};
 ghost use Rattle.registry_laws_beside.specs.Beside.{LogRunsBeside, TurnsRunBeside};
 ghost use Rattle.registry_laws_beside.specs.Held.{HoldsLeaveStored, QueriesLeaveStored};
 ghost use Rattle.registry_laws_beside.specs.Unseen.{CommandsPrintTheSame, ConnectionsAreAnsweredTheSame, WorldsAreSuch};
 
+use registry_service::HttpService;
 use sqlite::Alter;
 
 /// The turns of connections and of commands, each taken at what all older ones left, are one run of
@@ -17,10 +19,11 @@ use sqlite::Alter;
 ///
 /// Take connections whose service lets commands take turns before a request, and the commands after
 /// the last of these turns. Together they are such turns: all those of the connections in their
-/// order, all those of the commands in theirs, and no others.
-pub fn turns_beside_guests_are_one_run<S: Alter>()
-    ensures turns { TurnsRunBeside profile (shown S.Store) }
-    ensures all { LogRunsBeside profile (shown S.Store) }
+/// order, all those of the commands in theirs, and no others. `D` may be any service over HTTP,
+/// whatever its requests ask.
+pub fn turns_beside_guests_are_one_run<S: Alter, D: HttpService>()
+    ensures turns { TurnsRunBeside D.speaks (shown S.Store) }
+    ensures all { LogRunsBeside D.speaks (shown S.Store) }
 {}
 
 /// What is asked about a package, on connections and by commands beside them, changes no byte of
@@ -37,11 +40,13 @@ pub fn turns_beside_guests_are_one_run<S: Alter>()
 /// is like that. This holds as long as the package, whoever asks, keeps no withdrawal from being
 /// done in only one of the worlds, and as long as no fault in one world keeps a request undone that
 /// doesn't name the package and that the other world accepts. Each world of a server beside
-/// commands, whose registry is in order, is one that this law speaks of (`worlds`).
-pub fn unread_packages_change_nothing_that_is_told<S: Alter>()
-    ensures worlds { WorldsAreSuch profile (shown S.Store) }
+/// commands, whose registry is in order, is one that this law speaks of (`worlds`). `D` may be any
+/// service over HTTP, and for `services` one whose answers are determined by what it asked.
+pub fn unread_packages_change_nothing_that_is_told<S: Alter, D: HttpService>()
+    ensures worlds { WorldsAreSuch D.speaks (shown S.Store) }
     ensures connections { ConnectionsAreAnsweredTheSame profile (shown S.Store) }
-    ensures commands { CommandsPrintTheSame profile (shown S.Store) }
+    ensures services { IsDetermined D.speaks → ConnectionsAreAnsweredTheSame D.speaks (shown S.Store) }
+    ensures commands { CommandsPrintTheSame D.speaks (shown S.Store) }
 {}
 
 /// While its server is held, a registry keeps what it stores. After any number of queries an open

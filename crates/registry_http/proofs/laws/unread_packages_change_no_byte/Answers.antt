@@ -4,5 +4,8 @@ use Rattle.registry_service.specs.Turns.{profile}
 use Rattle.registry_http.proofs.UnseenFacts.{strangers-answered_the_same}
 use Rattle.registry_http.proofs.laws.unread_packages_change_no_byte.Goals as goal
 
-pub returns : goal.returns
-returns g c = strangers-answered_the_same profile (shown g.S.Store) profile_is_determined
+pub returns-clause-routes : goal.returns-clause-routes
+returns-clause-routes g c = strangers-answered_the_same profile (shown g.S.Store) profile_is_determined
+
+pub returns-clause-services : goal.returns-clause-services
+returns-clause-services g c determined = strangers-answered_the_same g.D.HttpService.speaks (shown g.S.Store) determined

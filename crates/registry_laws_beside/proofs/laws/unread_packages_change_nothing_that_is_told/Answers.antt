@@ -5,10 +5,13 @@ use Rattle.registry_laws_beside.proofs.UnseenFacts.{commands-print_the_same, con
 use Rattle.registry_laws_beside.proofs.laws.unread_packages_change_nothing_that_is_told.Goals as goal
 
 pub returns-clause-worlds : goal.returns-clause-worlds
-returns-clause-worlds g c = worlds-are-such profile (shown g.S.Store)
+returns-clause-worlds g c = worlds-are-such g.D.HttpService.speaks (shown g.S.Store)
 
 pub returns-clause-connections : goal.returns-clause-connections
 returns-clause-connections g c = connections-answered_the_same profile (shown g.S.Store) profile_is_determined
 
+pub returns-clause-services : goal.returns-clause-services
+returns-clause-services g c determined = connections-answered_the_same g.D.HttpService.speaks (shown g.S.Store) determined
+
 pub returns-clause-commands : goal.returns-clause-commands
-returns-clause-commands g c = commands-print_the_same profile (shown g.S.Store)
+returns-clause-commands g c = commands-print_the_same g.D.HttpService.speaks (shown g.S.Store)
