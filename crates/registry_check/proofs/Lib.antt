@@ -3,6 +3,7 @@ mod EachFacts
 mod FormFacts
 mod FoundFacts
 mod LoadFacts
+mod NamedFacts
 mod NumberedFacts
 mod OrderFacts
 mod PremiseFacts

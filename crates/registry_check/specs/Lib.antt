@@ -2,6 +2,7 @@ pub mod Counter
 pub mod FormRules
 pub mod Forms
 pub mod Loaded
+pub mod Naming
 pub mod Numbers
 pub mod Premises
 pub mod Problems

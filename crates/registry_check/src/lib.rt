@@ -15,6 +15,7 @@ mod kinds;
 pub mod laws;
 mod loads;
 mod manifest;
+mod named;
 mod names;
 mod numbers;
 mod order;

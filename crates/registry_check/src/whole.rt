@@ -14,6 +14,7 @@ use crate::archives::{Held, push_archives};
 use crate::checked::{push_broken, push_problems};
 use crate::counter::{Counters, Numbers};
 use crate::loads::load_tables;
+use crate::named::push_needs;
 use crate::names::{
     MaintainerForms, OrganisationForms, PackageForms, TeamForms, TokenForms, UserForms,
 };
@@ -24,7 +25,7 @@ use crate::problem::Problem;
 use crate::releases::{Tags, Targets, VersionForms, Withdrawn};
 use crate::tables::Tables;
 use crate::texts::text_problems;
-use crate::versions::{Live, Needs};
+use crate::versions::Live;
 use registry_names::Fault;
 use sqlite::{Alter, Transaction};
 use std::alloc::Global;
@@ -38,7 +39,8 @@ use std::alloc::Global;
 /// everything holds that the promises of a request suppose of the tables. Nothing is changed. A fault
 /// says nothing about what is stored.
 ///
-/// All rows are held at once but for the bytes of archives, of which only those of one integrity are.
+/// All rows are held at once but for the bytes of archives, of which only those of one integrity are. The
+/// time grows hardly faster than what is stored.
 pub fn check<S: Alter>(alloc: Global, tx: &mut Transaction<'_, S>) -> Result<Vec<Problem>, Fault>
     requires in_form { InForm S.Store tx.old }
     ensures stays { Stays S.Store tx.old tx.new }
@@ -120,7 +122,7 @@ fn push_versions(alloc: Global, problems: &mut Vec<Problem>, all: &Tables) -> Re
         ++ spec.need_problems (rows_of all.now) ++ spec.held_problems (rows_of all.now)) }
 {
     push_problems::<Live>(alloc, problems, &all.versions.live, all)?;
-    push_problems::<Needs>(alloc, problems, &all.versions.needs, all)?;
+    push_needs(alloc, problems, &all.versions.needs, all)?;
     push_problems::<Held>(alloc, problems, &all.versions.held, all)
 }
 
