@@ -1,6 +1,8 @@
 //! Connections without their sockets, and a server over loopback.
 
 ghost use Rattle.std.specs.Prelude.{nat_lt};
+ghost use Rattle.registry_service.proofs.DialectFacts.{profile_asks_queries};
+ghost use Rattle.registry_service.specs.Turns.{profile};
 
 use crate::outcome::same;
 use crate::parts::as_text;
@@ -8,8 +10,8 @@ use crate::talk::connections::{CONNECTIONS, CUT_OUT, Case, FixedTags, Steps, TAG
 use registry_names::{Fault, FromRead, Moment, ToWrite};
 use registry_rules::{Reply, Request};
 use registry_server::{ConnectionState, Ended, Progress, Server};
-use registry_service::{End, Served, Service, serve};
-use registry_wire::Inbox;
+use registry_service::{End, HttpService, Served, Service, Turned, serve, turn};
+use registry_wire::{Inbox, Wanted};
 use std::alloc::Global;
 use std::io::{Read, Write};
 use std::net::{Ipv4Addr, Net, OpenListener, OpenStream, Shutdown, SocketAddr, TcpStream};
@@ -178,6 +180,16 @@ impl Service for Failing {
     fn is_over(&self) -> bool {
         self.asked > 0
     }
+}
+
+impl HttpService for Failing {
+    ghost speaks = { profile };
+
+    fn turn(&mut self, alloc: Global, wanted: &Wanted, at: Moment, is_last: bool) -> Turned {
+        turn(alloc, self, wanted, at, is_last)
+    }
+
+    ghost asks_queries = { profile_asks_queries };
 }
 
 // The answer to a request that meets the fault.

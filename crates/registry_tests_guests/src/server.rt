@@ -1,13 +1,16 @@
 //! The server's side of the sockets: rounds as a server's, with a service that counts.
 
 ghost use Rattle.std.specs.Prelude.{None, false};
+ghost use Rattle.registry_service.proofs.DialectFacts.{profile_asks_queries};
+ghost use Rattle.registry_service.specs.Turns.{profile};
 
 use mio::{Events, Poll};
 use registry_guests::CommandListener;
 use registry_names::{Fault, Moment};
 use registry_rules::{Reply, Request};
 use registry_server::{FIRST_GUEST, GUEST_TOKENS, Guests};
-use registry_service::{AnsweredCommand, Clock, Service};
+use registry_service::{AnsweredCommand, Clock, HttpService, Service, Turned, turn};
+use registry_wire::Wanted;
 use std::alloc::{AllocError, Global};
 use std::marker::Model;
 use std::test::Fail;
@@ -49,6 +52,16 @@ impl Service for Counting {
     fn note_command(&mut self, command: &AnsweredCommand<'_>) {
         let _ = write_down(&mut self.told, command);
     }
+}
+
+impl HttpService for Counting {
+    ghost speaks = { profile };
+
+    fn turn(&mut self, alloc: Global, wanted: &Wanted, at: Moment, is_last: bool) -> Turned {
+        turn(alloc, self, wanted, at, is_last)
+    }
+
+    ghost asks_queries = { profile_asks_queries };
 }
 
 // Who asked, the words that may be seen, and whether the command was done. A command that is done

@@ -1,13 +1,16 @@
 //! A server that listens at a port and at a Unix socket.
 
 ghost use Rattle.std.specs.Prelude.{false};
+ghost use Rattle.registry_service.proofs.DialectFacts.{profile_asks_queries};
+ghost use Rattle.registry_service.specs.Turns.{profile};
 
 use crate::client::{ANSWER, client, heard, send, wait};
 use registry_names::{Fault, Moment};
 use registry_rules::{Action, Reply, Request};
 use registry_server::{Ended, ListenAt, LocalSocket, Server};
-use registry_service::Service;
+use registry_service::{HttpService, Service, Turned, turn};
 use registry_tests_support::same;
+use registry_wire::Wanted;
 use std::alloc::Global;
 use std::io::Write;
 use std::net::Shutdown;
@@ -43,6 +46,16 @@ impl Service for Ordering {
     fn is_over(&self) -> bool {
         false
     }
+}
+
+impl HttpService for Ordering {
+    ghost speaks = { profile };
+
+    fn turn(&mut self, alloc: Global, wanted: &Wanted, at: Moment, is_last: bool) -> Turned {
+        turn(alloc, self, wanted, at, is_last)
+    }
+
+    ghost asks_queries = { profile_asks_queries };
 }
 
 // Three clients wait at the port, and one at the socket, when the server lets in the first.

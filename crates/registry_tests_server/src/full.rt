@@ -1,13 +1,16 @@
 //! A server whose places are all taken.
 
 ghost use Rattle.std.specs.Prelude.{false};
+ghost use Rattle.registry_service.proofs.DialectFacts.{profile_asks_queries};
+ghost use Rattle.registry_service.specs.Turns.{profile};
 
 use crate::client::{ANSWER, client, heard, send, wait};
 use registry_names::{Fault, Moment};
 use registry_rules::{Reply, Request};
 use registry_server::{CONNECTION_COUNT, Ended, Server};
-use registry_service::Service;
+use registry_service::{HttpService, Service, Turned, turn};
 use registry_tests_support::same;
+use registry_wire::Wanted;
 use std::alloc::Global;
 use std::io;
 use std::net::{Shutdown, TcpStream};
@@ -56,6 +59,16 @@ impl Service for Waking<'_> {
     fn is_over(&self) -> bool {
         false
     }
+}
+
+impl HttpService for Waking<'_> {
+    ghost speaks = { profile };
+
+    fn turn(&mut self, alloc: Global, wanted: &Wanted, at: Moment, is_last: bool) -> Turned {
+        turn(alloc, self, wanted, at, is_last)
+    }
+
+    ghost asks_queries = { profile_asks_queries };
 }
 
 // A client that has asked, and sends no more.

@@ -1,14 +1,17 @@
 //! What a server tells its service beside requests.
 
 ghost use Rattle.std.specs.Prelude.{false};
+ghost use Rattle.registry_service.proofs.DialectFacts.{profile_asks_queries};
+ghost use Rattle.registry_service.specs.Turns.{profile};
 
 use crate::client::{ANSWER, client, heard, send};
 use crate::service::one_more;
 use registry_names::{Fault, Moment};
 use registry_rules::{Reply, Request};
 use registry_server::{Ended, Server};
-use registry_service::Service;
+use registry_service::{HttpService, Service, Turned, turn};
 use registry_tests_support::same;
+use registry_wire::Wanted;
 use std::alloc::Global;
 use std::cell::Cell;
 use std::net::Shutdown;
@@ -41,6 +44,16 @@ impl Service for Rounds<'_> {
     fn rest(&mut self) {
         let _rests = one_more(self.rests);
     }
+}
+
+impl HttpService for Rounds<'_> {
+    ghost speaks = { profile };
+
+    fn turn(&mut self, alloc: Global, wanted: &Wanted, at: Moment, is_last: bool) -> Turned {
+        turn(alloc, self, wanted, at, is_last)
+    }
+
+    ghost asks_queries = { profile_asks_queries };
 }
 
 #[test]

@@ -1,10 +1,13 @@
 //! A service that does whatever it is asked.
 
 ghost use Rattle.std.specs.Prelude.{false};
+ghost use Rattle.registry_service.proofs.DialectFacts.{profile_asks_queries};
+ghost use Rattle.registry_service.specs.Turns.{profile};
 
-use registry_names::Fault;
+use registry_names::{Fault, Moment};
 use registry_rules::{Action, Reply, Request};
-use registry_service::Service;
+use registry_service::{HttpService, Service, Turned, turn};
+use registry_wire::Wanted;
 use std::alloc::Global;
 use std::cell::Cell;
 
@@ -33,6 +36,16 @@ impl Service for Counting<'_> {
     fn is_over(&self) -> bool {
         false
     }
+}
+
+impl HttpService for Counting<'_> {
+    ghost speaks = { profile };
+
+    fn turn(&mut self, alloc: Global, wanted: &Wanted, at: Moment, is_last: bool) -> Turned {
+        turn(alloc, self, wanted, at, is_last)
+    }
+
+    ghost asks_queries = { profile_asks_queries };
 }
 
 /// Counts one more, and returns the count.

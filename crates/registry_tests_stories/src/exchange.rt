@@ -8,7 +8,7 @@ use registry_desk::Registry;
 use registry_http::RegistryService;
 use registry_names::{Fault, Moment};
 use registry_server::{ConnectionState, Progress};
-use registry_service::{End, REQUESTS_PER_CONNECTION, Service};
+use registry_service::{End, HttpService, REQUESTS_PER_CONNECTION};
 use sqlite::Alter;
 use std::alloc::{AllocError, Global};
 
@@ -87,7 +87,7 @@ impl Exchange {
     }
 
     // Gives the connection what comes, and then says that no more comes.
-    fn carry<D: Service>(
+    fn carry<D: HttpService>(
         self,
         alloc: Global,
         service: &mut D,
@@ -107,7 +107,7 @@ impl Exchange {
     }
 
     // Gives the connection one piece after the other.
-    fn give_pieces<D: Service>(
+    fn give_pieces<D: HttpService>(
         &mut self,
         alloc: Global,
         service: &mut D,
@@ -121,7 +121,7 @@ impl Exchange {
     }
 
     // Gives the connection one piece. What comes after the end is dropped.
-    fn give<D: Service>(
+    fn give<D: HttpService>(
         &mut self,
         alloc: Global,
         service: &mut D,
@@ -135,7 +135,7 @@ impl Exchange {
     }
 
     // Takes turns until the connection waits for more, or ends. Returns how it ends, if it does.
-    fn take_turns<D: Service>(
+    fn take_turns<D: HttpService>(
         &mut self,
         alloc: Global,
         service: &mut D,

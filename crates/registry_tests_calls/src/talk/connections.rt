@@ -1,6 +1,8 @@
 //! Whole connections, with a service that knows one package and nobody.
 
 ghost use Rattle.std.specs.Prelude.{None, false};
+ghost use Rattle.registry_service.proofs.DialectFacts.{profile_asks_queries};
+ghost use Rattle.registry_service.specs.Turns.{profile};
 
 use crate::outcome::same;
 use crate::parts::{around, as_text, repeated};
@@ -9,8 +11,10 @@ use registry_cache::SharedText;
 use registry_names::{ByteIn, ByteOut, Fault, FromRead, Moment, Refusal, ToWrite};
 use registry_packument::{Opener, Sent};
 use registry_rules::{Action, Credential, Reply, Request};
-use registry_service::{Clock, End, PackumentService, Served, Service, serve};
-use registry_wire::Inbox;
+use registry_service::{
+    Clock, End, HttpService, PackumentService, Served, Service, Turned, serve, turn,
+};
+use registry_wire::{Inbox, Wanted};
 use std::alloc::Global;
 use std::io::ErrorKind;
 use std::process::Abort;
@@ -42,6 +46,16 @@ impl Service for FixedTags {
     fn is_over(&self) -> bool {
         false
     }
+}
+
+impl HttpService for FixedTags {
+    ghost speaks = { profile };
+
+    fn turn(&mut self, alloc: Global, wanted: &Wanted, at: Moment, is_last: bool) -> Turned {
+        turn(alloc, self, wanted, at, is_last)
+    }
+
+    ghost asks_queries = { profile_asks_queries };
 }
 
 impl PackumentService for FixedTags {

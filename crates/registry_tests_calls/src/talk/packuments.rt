@@ -1,16 +1,18 @@
 //! Packuments that are sent as they are made, by a service that may break off in one.
 
 ghost use Rattle.std.specs.Prelude.{false};
+ghost use Rattle.registry_service.proofs.DialectFacts.{profile_asks_queries};
+ghost use Rattle.registry_service.specs.Turns.{profile};
 
 use super::connections::Steps;
 use crate::outcome::same;
 use crate::parts::as_text;
 use crate::wire::reader::Narrow;
-use registry_names::{ByteOut, Fault, FromRead, Refusal, ToWrite, write_whole};
+use registry_names::{ByteOut, Fault, FromRead, Moment, Refusal, ToWrite, write_whole};
 use registry_packument::{Opener, Sent};
 use registry_rules::{Reply, Request};
-use registry_service::{End, PackumentService, Served, Service, serve};
-use registry_wire::Inbox;
+use registry_service::{End, HttpService, PackumentService, Served, Service, Turned, serve, turn};
+use registry_wire::{Inbox, Wanted};
 use std::alloc::Global;
 use std::process::Abort;
 
@@ -44,6 +46,16 @@ impl Service for OnePackument {
     fn is_over(&self) -> bool {
         false
     }
+}
+
+impl HttpService for OnePackument {
+    ghost speaks = { profile };
+
+    fn turn(&mut self, alloc: Global, wanted: &Wanted, at: Moment, is_last: bool) -> Turned {
+        turn(alloc, self, wanted, at, is_last)
+    }
+
+    ghost asks_queries = { profile_asks_queries };
 }
 
 impl PackumentService for OnePackument {

@@ -8,7 +8,7 @@ use registry_http::RegistryService;
 use registry_log::{Entry, Kind, LineSink, Log, LogClock, LoggedService};
 use registry_names::{Method, Moment, Text};
 use registry_server::{ConnectionState, Progress};
-use registry_service::{AnsweredCommand, Clock, Service};
+use registry_service::{AnsweredCommand, Clock, HttpService, Service};
 use registry_tests_requests::{outcomes_of, request_of, requests_of};
 use registry_tests_support::same;
 use sqlite::MemStore;
@@ -225,7 +225,7 @@ fn written(rt: &HostRuntime, path: &str) -> Result<String, Fail> {
 }
 
 // Takes the turns of these bytes, after which the connection gets no more.
-fn serve<D: Service>(alloc: Global, service: &mut D, asks: &[u8]) -> Result<(), Fail> {
+fn serve<D: HttpService>(alloc: Global, service: &mut D, asks: &[u8]) -> Result<(), Fail> {
     let mut clock = Still { micros: 0 };
     let mut state = ConnectionState::new(alloc);
     state.came(asks)?;

@@ -9,7 +9,7 @@ use registry_http::RegistryService;
 use registry_names::{FromRead, Moment, ToWrite, read_whole, write_whole};
 use registry_rules::Request;
 use registry_server::Server;
-use registry_service::Service;
+use registry_service::HttpService;
 use registry_tests_requests::{outcomes_of, requests_of};
 use registry_tests_support::same;
 use sqlite::Alter;
@@ -200,7 +200,7 @@ fn answers_over<S: Alter + Drop>(
     answers_of(rt, jump, &mut service, asks)
 }
 
-fn answers_of<S: Service>(
+fn answers_of<S: HttpService>(
     rt: &HostRuntime,
     jump: u64,
     service: &mut S,
