@@ -23,6 +23,8 @@ mod guests;
 #[cfg(test)]
 mod names;
 #[cfg(test)]
+mod npm;
+#[cfg(test)]
 mod outcome;
 #[cfg(test)]
 mod packument;

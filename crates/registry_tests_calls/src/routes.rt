@@ -3,6 +3,7 @@
 
 mod agreement;
 mod escapes;
+mod npm;
 mod tokens;
 
 use crate::outcome::same;
