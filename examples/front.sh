@@ -149,6 +149,7 @@ placed() {
 configure() {
     mkdir -p "$1"
     placed registry.conf "$@" > "$1/registry.conf"
+    placed without-npm.conf "$@" > "$1/without-npm"
     {
         if [ "$(id -u)" -eq 0 ]; then echo "user $(id -un) $(id -gn);"; fi
         cat << TEXT
@@ -1004,6 +1005,39 @@ waits_a_minute() {
     has '^504 6[0-9]\.'
 }
 try 'what is not answered within 60 s is 504' waits_a_minute
+
+# ---- the registry answers npm's own requests
+
+serves_npm() {
+    registry stop && wait "$server"
+    "$program" --db "$work/registry.db" serve --socket "$work/http.sock" --port "$port" --npm > "$work/server" 2>&1 &
+    server=$!
+    rm "$work/nginx/without-npm"
+    wait_for grep -q listening "$work/server" && reload && [ "$(status_of "$address/@lab%2fkit")" = 200 ]
+}
+try 'a registry that is served with --npm, and a front without without-npm.conf' serves_npm
+owns() {
+    as bob "$work" npm owner add ann older && has '+ ann (older)' && as bob "$work" npm owner ls older && has 'ann' && has 'bob' &&
+        as bob "$work" npm owner rm ann older && as bob "$work" npm owner ls older && has 'bob' && ! has 'ann'
+}
+try 'npm owner add, ls and rm, also where public packages come through it' owns
+message_of() { with_token "http://127.0.0.1:$port/$1" | node -p "JSON.parse(require('fs').readFileSync(0)).versions['$2'].deprecated"; }
+deprecates() {
+    as bob "$work" npm deprecate @lab/kit@3.x old && [ "$(message_of @lab%2fkit 3.0.0)" = old ] &&
+        as bob "$work" npm deprecate older 'of old addresses' && [ "$(message_of older 1.0.0)" = 'of old addresses' ]
+}
+try 'npm deprecate, though the front changed the addresses of archives in what npm sends back' deprecates
+unpublishes() { as bob "$work" npm unpublish older@2.0.0 && [ "$(versions_of older)" = 1.0.0 ]; }
+try 'npm unpublish withdraws a version' unpublishes
+refuses_stale() { [ "$(status_of -X DELETE "$address/older/-rev/undefined")" = 409 ] && has Stale && [ "$(versions_of older)" = 1.0.0 ]; }
+try 'and nothing where its revision is not the present one' refuses_stale
+logs_out() {
+    as ann "$work" npm logout && [ "$(ask -o "$work/out" -w '%{http_code}' -H 'authorization: Bearer npm_ann_000000001' "$address/@lab%2fkit")" = 401 ] || return 1
+    sleep 1
+    tail -n 3 "$work/nginx/registry.log" > "$work/out"
+    has '"DELETE /-/user/token/\*\*\*" 200'
+}
+try 'npm logout ends the token, which is not in the log' logs_out
 
 say "$passed passed, $failed failed"
 [ "$failed" -eq 0 ]

@@ -20,14 +20,14 @@ class Run:
 
     def text(self):
         place = f' in {self.folder}' if self.folder else ''
-        return f'{self.user}{place}$ {self.tool} {shlex.join(self.words)}'
+        return f'{self.user}{place}$ {self.tool} {shlex.join(self.words)}'[:200]
 
 
 class Part:
     """Some cases over a registry of their own, which begins as the ground left it."""
 
-    def __init__(self, title, way):
-        self.title, self.way, self.runs = title, way, []
+    def __init__(self, title, way, needs=None):
+        self.title, self.way, self.needs, self.runs = title, way, needs, []
 
 
 class Table:
@@ -48,7 +48,6 @@ def read(path):
     """The table in a file."""
     table, reader = Table(), Reader()
     for number, line in enumerate(path.read_text(encoding='utf-8').splitlines(), 1):
-        line = re.sub(r'\{(.)\*(\d+)\}', lambda it: it[1] * int(it[2]), line)
         if line.strip() and not line.startswith('#') and not reader.take(table, number, line):
             raise Wrong(f'{path}:{number}: no line has this form: {line}')
     return table
@@ -80,9 +79,11 @@ class Reader:
         return True
 
     def begin(self, table, title):
-        """A part, which may be for one way to the registry alone: `== TITLE (front)`."""
+        """A part, which may be for one way to the registry alone, or need something that is still missing:
+        `== TITLE (front) (needs WORD)`."""
+        title, _, needs = title.rstrip(')').partition(' (needs ') if '(needs ' in title else (title, '', None)
         way = re.search(r' \((direct|front)\)$', title)
-        table.parts.append(Part(title, way[1] if way else None))
+        table.parts.append(Part(title, way[1] if way else None, needs))
         self.run = None
 
     def held(self, number, rest):
@@ -99,7 +100,7 @@ class Reader:
     def want(self, line):
         """What is wanted of the last command. Whether the line says that."""
         status = re.fullmatch(r'\[(\d+)\]', line)
-        mark, space, rest = line[:1], line[1:2], line[2:]
+        mark, space, rest = line[:1], line[1:2], whole(line[2:])
         if status:
             self.run.wanted['status'] = int(status[1])
         elif mark in MARKS and space in ('', ' '):
@@ -111,4 +112,9 @@ class Reader:
 
 def run_of(number, line):
     user, folder, tool, words = PROMPT.fullmatch(line).groups()
-    return Run(number, user, folder, tool, shlex.split(words or ''))
+    return Run(number, user, folder, tool, [whole(word) for word in shlex.split(words or '')])
+
+
+def whole(text):
+    """The text with each {x*9} written out."""
+    return re.sub(r'\{(.)\*(\d+)\}', lambda it: it[1] * int(it[2]), text)

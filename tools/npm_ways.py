@@ -23,8 +23,8 @@ def free_port():
 
 
 def until(is_so, process, what):
-    """Waits until something is so, for twenty seconds at most, or until its process has ended."""
-    end = time.monotonic() + 20
+    """Waits until something is so, for a minute at most, or until its process has ended."""
+    end = time.monotonic() + 60
     while not is_so():
         if time.monotonic() > end or process.poll() is not None:
             raise SystemExit(f'npm_team: {what} does not begin')
@@ -45,9 +45,19 @@ def started(words, log, is_ready):
 
 
 def served(program, db, port, folder):
-    """A server of the registry in a file, with --npm."""
-    words = [program, '--db', db, 'serve', '--port', port, '--npm']
+    """A server of the registry in a file, with --npm and a log of requests."""
+    words = [program, '--db', db, 'serve', '--port', port, '--npm', '--log', log_of(folder)]
     return started(words, folder / 'server.log', lambda said: 'listening' in said)
+
+
+def log_of(folder):
+    return folder / 'requests.log'
+
+
+def logged(folder):
+    """Who asked for what method, and the status, of each request in the log."""
+    rows = [line.split(' ') for line in log_of(folder).read_text().splitlines()]
+    return sorted((row[1], row[2], row[4]) for row in rows if row[1] != '#' and row[2] != 'command')
 
 
 # ---- the relay
@@ -59,7 +69,14 @@ class Relay:
 
     def __init__(self, port):
         self.port, self.lock = port, threading.Lock()
-        self.meanwhile, self.lost = None, None
+        self.meanwhile, self.lost, self.passed = None, None, []
+
+    def note(self, headers, method, status):
+        """A request was passed on, and answered: who asked, as the log says it, the method and the status."""
+        token = re.fullmatch(r'Bearer npm_(\w+)_000000001', headers.get('authorization', ''))
+        user = token[1] if token and status != 401 else '-'
+        with self.lock:
+            self.passed.append((user, method, str(status)))
 
     def held(self, request):
         """What is to be done before this request goes on."""
@@ -82,12 +99,18 @@ def is_like(pattern, request):
     return re.fullmatch(re.escape(pattern).replace('REV', '[^/]+'), request) is not None
 
 
+class Door(http.server.ThreadingHTTPServer):
+    daemon_threads = True
+
+    def handle_error(self, *_):
+        """npm may end a connection at any time."""
+
+
 @contextlib.contextmanager
 def relay(port):
     """A relay before the registry at a port, and its own port."""
     it = Relay(port)
-    server = http.server.ThreadingHTTPServer(('127.0.0.1', 0), passing(it))
-    server.daemon_threads = True
+    server = Door(('127.0.0.1', 0), passing(it))
     threading.Thread(target=server.serve_forever, kwargs={'poll_interval': 0.05}, daemon=True).start()
     try:
         yield it, server.server_address[1]
@@ -108,6 +131,7 @@ def passing(it):
             if work := it.held(request):
                 work()
             status, fields, answer = asked(it.port, self.command, self.path, self.headers, body)
+            it.note(self.headers, self.command, status)
             if it.is_lost(request):
                 self.close_connection = True
                 return
@@ -148,7 +172,9 @@ def asked(port, method, target, headers, body):
                 link.putheader(name, value)
         if body:
             link.putheader('content-length', str(len(body)))
-        link.endheaders(body or None)
+        # A body that is too large is answered before it has come.
+        with contextlib.suppress(BrokenPipeError, ConnectionResetError):
+            link.endheaders(body or None)
         answer = link.getresponse()
         return answer.status, [it for it in answer.getheaders() if it[0].lower() not in OF_A_CONNECTION], answer.read()
     finally:

@@ -7,7 +7,7 @@ use Rattle.std.proofs.lemmas.Slice.Eq.{bytes_eq-Decides}
 use Rattle.serde_json.specs.Data.{Data, Members, no_members, member}
 use Rattle.registry_names.specs.Texts.{Text}
 use Rattle.registry_names.specs.declared.refusal.Refusal.TheVariants.{BadBody, Stale}
-use Rattle.registry_documents.specs.Differences.{adds_none, are_same, asked_of_package, change_asked, has_tags_without, lost, message_of, message_asked, news, owners_asked, same_manifest, same_names, same_tags, same_version, says_the_same, union, with_news}
+use Rattle.registry_documents.specs.Differences.{adds_none, all_say, selector_of, are_same, asked_of_package, change_asked, has_tags_without, lost, message_of, message_asked, news, owners_asked, same_manifest, same_names, same_tags, same_version, says_the_same, with_news}
 use Rattle.registry_documents.specs.Judging.{answer_late, answer_now, answer_of}
 use Rattle.registry_documents.specs.Laws.{AllMembers, HasMessage, IsElseTheSame, IsDeprecation, IsLostOrKept, IsWithdrawal, KeepsMessage}
 use Rattle.registry_documents.specs.Values.{same_but, same_found, within}
@@ -105,21 +105,21 @@ heard_of false o h = absurd (true≢false (sym h))
 
 -- ---- what makes a deprecation
 
-pub record FromMessages (w d : Data) (gone : List Text) (ns : List News) (s m : Text) : Type 0 where
+pub record FromMessages (w d : Data) (vs : Members) (gone : List Text) (ns : List News) (s m : Text) : Type 0 where
   pub first : News
   pub others : List News
   pub none_gone : gone ≡ []
   pub are_news : ns ≡ first ∷ others
   pub tags : same_tags w d ≡ true
   pub alike : list_all (λ o. bytes_eq o.message first.message) others ≡ true
-  pub is_selector : s ≡ union first others
+  pub is_selector : s ≡ selector_of (all_say w first.message vs) first others
   pub is_message : m ≡ first.message
 
-pub from_messages : (w d : Data) (vs : Members) (gone : List Text) (ns : List News) (s m : Text) → change_asked w d vs gone ns ≡ Some (Deprecation s m) → FromMessages w d gone ns s m
+pub from_messages : (w d : Data) (vs : Members) (gone : List Text) (ns : List News) (s m : Text) → change_asked w d vs gone ns ≡ Some (Deprecation s m) → FromMessages w d vs gone ns s m
 from_messages w d vs [] [] s m h = absurd (true≢false (sym (ap is_deprecation (if_some (same_tags w d) (Some AlreadySo) (Deprecation s m) h).1)))
 from_messages w d vs [] (n ∷ ns) s m h =
-    let p = if_some (same_tags w d) (message_asked n ns) (Deprecation s m) h in
-    let q = if_some (list_all (λ o. bytes_eq o.message n.message) ns) (Some (Deprecation (union n ns) n.message)) (Deprecation s m) p.1 in record {
+    let p = if_some (same_tags w d) (message_asked (all_say w n.message vs) n ns) (Deprecation s m) h in
+    let q = if_some (list_all (λ o. bytes_eq o.message n.message) ns) (Some (Deprecation (selector_of (all_say w n.message vs) n ns) n.message)) (Deprecation s m) p.1 in record {
       first = n;
       others = ns;
       none_gone = refl;
@@ -141,7 +141,7 @@ pub record FromLost (w d : Data) (vs : Members) (gone : List Text) (ns : List Ne
 pub from_lost : (w d : Data) (vs : Members) (gone : List Text) (ns : List News) (v : Text) → change_asked w d vs gone ns ≡ Some (Withdrawal v) → FromLost w d vs gone ns v
 from_lost w d vs [] [] v h = absurd (true≢false (ap is_nothing (if_some (same_tags w d) (Some AlreadySo) (Withdrawal v) h).1))
 from_lost w d vs [] (n ∷ ns) v h =
-    absurd (true≢false (ap is_deprecation (if_some (list_all (λ o. bytes_eq o.message n.message) ns) (Some (Deprecation (union n ns) n.message)) (Withdrawal v) (if_some (same_tags w d) (message_asked n ns) (Withdrawal v) h).1).1))
+    absurd (true≢false (ap is_deprecation (if_some (list_all (λ o. bytes_eq o.message n.message) ns) (Some (Deprecation (selector_of (all_say w n.message vs) n ns) n.message)) (Withdrawal v) (if_some (same_tags w d) (message_asked (all_say w n.message vs) n ns) (Withdrawal v) h).1).1))
 from_lost w d vs (u ∷ []) [] v h =
     let p = if_some (has_tags_without u vs w d) (Some (Withdrawal u)) (Withdrawal v) h in
     let is : u ≡ v = ap first_text p.1 in record {

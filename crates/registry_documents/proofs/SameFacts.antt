@@ -10,7 +10,7 @@ use Rattle.std.proofs.lemmas.Slice.Eq.{bytes_eq-Decides}
 use Rattle.serde_json.specs.Data.{Num, unsigned, negative, float, Data, null, boolean, number, string, array, object, Items, no_items, item, Members, no_members, member}
 use Rattle.serde_json.specs.Find.{get, get_member, is_float}
 use Rattle.registry_names.specs.Texts.{Text}
-use Rattle.registry_documents.specs.Claims.{AreFound, ArePlain, ArePlainItems, IsClaim, IsLostOrRepeated, IsPlain, Repeats, RepeatsVersion}
+use Rattle.registry_documents.specs.Claims.{AreFound, ArePlain, ArePlainItems, IsClaim, IsLostOrRepeated, IsPlain, Repeats, RepeatsDist, RepeatsVersion}
 use Rattle.registry_documents.specs.Differences.{are_same, asked_of_package, change_asked, is_same, lost, news, same_dist, same_names, same_version, says_the_same}
 use Rattle.registry_documents.specs.Laws.{AllMembers}
 use Rattle.registry_documents.specs.Parts.{is_apart}
@@ -38,7 +38,7 @@ key_there : (part : Part) (k : Text) (d x : Data) → get k x ≡ Some d → is_
 key_there part k d x is = or_right (is_apart part k) (is_some (get k x)) (ap is_some is)
 
 -- the members of an object are its keys
-keys_own : (part : Part) (all ms : Members) → AreFound all ms → keys_in part ms (object all) ≡ true
+pub keys_own : (part : Part) (all ms : Members) → AreFound all ms → keys_in part ms (object all) ≡ true
 keys_own part all no_members h = refl
 keys_own part all (member k d ms) h = both_true (key_there part k d (object all) h.0) (keys_own part all ms h.1)
 
@@ -98,7 +98,7 @@ member_plain : (k : Text) (ms : Members) (d : Data) → ArePlain ms → get_memb
 member_plain k no_members d p h = absurd (none-some d h)
 member_plain k (member l e ms) d p h = chosen (slice_cmp nat_cmp k l) (get_member k ms) e d h p.0 (member_plain k ms d p.1)
 
-get_plain : (k : Text) (d x : Data) → IsPlain d → get k d ≡ Some x → IsPlain x
+pub get_plain : (k : Text) (d x : Data) → IsPlain d → get k d ≡ Some x → IsPlain x
 get_plain k null x p h = absurd (none-some x h)
 get_plain k (boolean b) x p h = absurd (none-some x h)
 get_plain k (number n) x p h = absurd (none-some x h)
@@ -117,37 +117,41 @@ found_same : (o : Option Data) → ((x : Data) → o ≡ Some x → IsPlain x) �
 found_same None f = refl
 found_same (Some d) f = same_itself d (f d refl)
 
-both_found : (a b : Option Data) → a ≡ b → ((x : Data) → b ≡ Some x → IsPlain x) → same_found a b ≡ true
+pub both_found : (a b : Option Data) → a ≡ b → ((x : Data) → b ≡ Some x → IsPlain x) → same_found a b ≡ true
 both_found a b e f = rw e (found_same b f)
 
 dist_same : (o : Option Data) → ((x : Data) → o ≡ Some x → IsPlain x) → same_dist o o ≡ true
 dist_same None f = refl
 dist_same (Some d) f = or_right (same_but Dist d d) (same d d) (same_itself d (f d refl))
 
-both_dist : (a b : Option Data) → a ≡ b → ((x : Data) → b ≡ Some x → IsPlain x) → same_dist a b ≡ true
-both_dist a b e f = rw e (dist_same b f)
+or_left : (a b : Bool) → a ≡ true → (a || b) ≡ true
+or_left a b e = rw e refl
 
--- what is inside what is the same is the same
-moments : (w d : Data) (k : Text) → IsPlain d → get (codes "time") w ≡ get (codes "time") d → same_found (within (codes "time") k w) (within (codes "time") k d) ≡ true
-moments w d k p e = both_found (within (codes "time") k w) (within (codes "time") k d) (ap (option_and_then (get k)) e) (λ x h. within_plain (codes "time") k d x p h)
+both_dist : (a b : Option Data) → RepeatsDist a b → ((x : Data) → b ≡ Some x → IsPlain x) → same_dist a b ≡ true
+both_dist a b (inl e) f = rw e (dist_same b f)
+both_dist a b (inr (d, (e, (is, (other_is, r))))) f = rw (is, other_is) (or_left (same_but Dist d e) (same d e) (repeated Dist d e r))
 
-version_same : (w d : Data) (v : Text) (p : Data) → IsPlain d → get (codes "time") w ≡ get (codes "time") d → (r : RepeatsVersion w v p) → same_version w d v r.wanted p ≡ true
-version_same w d v p plain e r =
+-- moments that are the same
+moments : (w d : Data) (k : Text) → IsPlain d → within (codes "time") k w ≡ within (codes "time") k d → same_found (within (codes "time") k w) (within (codes "time") k d) ≡ true
+moments w d k p e = both_found (within (codes "time") k w) (within (codes "time") k d) e (λ x h. within_plain (codes "time") k d x p h)
+
+version_same : (w d : Data) (v : Text) (p : Data) → IsPlain d → (r : RepeatsVersion w d v p) → same_version w d v r.wanted p ≡ true
+version_same w d v p plain r =
     let dists = both_dist (get (codes "dist") r.wanted) (get (codes "dist") p) r.dist (λ x h. get_plain (codes "dist") p x r.manifest.other_is_plain h) in
-    both_true (both_true (both_true (both_true (repeated Manifest r.wanted p r.manifest) dists) r.message) r.other_message) (moments w d v plain e)
+    both_true (both_true (both_true (both_true (repeated Manifest r.wanted p r.manifest) dists) r.message) r.other_message) (moments w d v plain r.moment)
 
-one_same : (w d : Data) (v : Text) (p : Data) → IsPlain d → get (codes "time") w ≡ get (codes "time") d → IsLostOrRepeated w v p → is_same w d v p ≡ true
-one_same w d v p plain e (inl none) = rw none refl
-one_same w d v p plain e (inr r) = rw r.there (version_same w d v p plain e r)
+one_same : (w d : Data) (v : Text) (p : Data) → IsPlain d → IsLostOrRepeated w d v p → is_same w d v p ≡ true
+one_same w d v p plain (inl none) = rw none refl
+one_same w d v p plain (inr r) = rw r.there (version_same w d v p plain r)
 
-each_same : (w d : Data) (vs : Members) → IsPlain d → get (codes "time") w ≡ get (codes "time") d → AllMembers (IsLostOrRepeated w) vs → are_same w d vs ≡ true
-each_same w d no_members plain e h = refl
-each_same w d (member v p vs) plain e h = both_true (one_same w d v p plain e h.0) (each_same w d vs plain e h.1)
+each_same : (w d : Data) (vs : Members) → IsPlain d → AllMembers (IsLostOrRepeated w d) vs → are_same w d vs ≡ true
+each_same w d no_members plain h = refl
+each_same w d (member v p vs) plain h = both_true (one_same w d v p plain h.0) (each_same w d vs plain h.1)
 
 says_so : (w d : Data) (vs : Members) (present names : List Text) → IsClaim w d vs present names → says_the_same w d vs (same_names present names) ≡ true
 says_so w d vs present names c =
     let plain = c.members.other_is_plain in
-    both_true (both_true (both_true (both_true (repeated Package w d c.members) (moments w d (codes "created") plain c.time)) c.none_more) (each_same w d vs plain c.time c.versions)) c.maintainers
+    both_true (both_true (both_true (both_true (repeated Package w d c.members) (moments w d (codes "created") plain c.created)) c.none_more) (each_same w d vs plain c.versions)) c.maintainers
 
 taken : {A : Type 0} (b : Bool) (o : Option A) → b ≡ true → (if b then o else None) ≡ o
 taken b o e = rw e refl

@@ -125,14 +125,27 @@ has_tags_without v vs w d = both (tags_without v vs) (get (codes "dist-tags") w)
 abbrev pub union : News → List News → Text
 union n ns = n.version ++ flat_map (λ m. codes " || " ++ m.version) ns
 
--- what is asked for where these have other messages
-abbrev pub message_asked : News → List News → Option Asked
-message_asked n ns = if list_all (λ m. bytes_eq m.message n.message) ns then Some (Deprecation (union n ns) n.message) else None
+-- w gives this message to the version v
+abbrev pub is_said : Data → Text → Text → Bool
+is_said w m v = unwrap_or (option_map (λ s. bytes_eq s m) (option_and_then message_of (within (codes "versions") v w))) false
+
+-- w gives this message to all versions
+abbrev pub all_say : Data → Text → Members → Bool
+all_say w m vs = all_members (λ v d. is_said w m v) vs
+
+-- All versions where all are to have the message, some of which may have it already. So the selector
+-- stays short where it would name the most versions
+abbrev pub selector_of : Bool → News → List News → Text
+selector_of all n ns = if all then codes "*" else union n ns
+
+-- what is asked for where these have other messages, and all versions have the first of them, or not
+abbrev pub message_asked : Bool → News → List News → Option Asked
+message_asked all n ns = if list_all (λ m. bytes_eq m.message n.message) ns then Some (Deprecation (selector_of all n ns) n.message) else None
 
 -- what is asked for where no version is missing, and these have other messages
-abbrev pub messages_asked : Data → Data → List News → Option Asked
-messages_asked w d [] = if same_tags w d then Some AlreadySo else None
-messages_asked w d (n ∷ ns) = if same_tags w d then message_asked n ns else None
+abbrev pub messages_asked : Data → Data → Members → List News → Option Asked
+messages_asked w d vs [] = if same_tags w d then Some AlreadySo else None
+messages_asked w d vs (n ∷ ns) = if same_tags w d then message_asked (all_say w n.message vs) n ns else None
 
 -- what is asked for where this version is missing
 abbrev pub withdrawal_asked : Data → Data → Members → Text → Option Asked
@@ -140,7 +153,7 @@ withdrawal_asked w d vs v = if has_tags_without v vs w d then Some (Withdrawal v
 
 -- what is asked for where the first versions are missing, and the second have other messages
 abbrev pub change_asked : Data → Data → Members → List Text → List News → Option Asked
-change_asked w d vs [] ns = messages_asked w d ns
+change_asked w d vs [] ns = messages_asked w d vs ns
 change_asked w d vs (v ∷ []) [] = withdrawal_asked w d vs v
 change_asked w d vs (v ∷ []) (n ∷ ns) = None
 change_asked w d vs (v ∷ u ∷ gone) ns = None

@@ -3,7 +3,7 @@ use Rattle.std.specs.Prelude.{◌≡◌, ◌≢◌, ⊤, true, false, ◌⊎◌,
 use Rattle.serde_json.specs.Data.{Data, Members, no_members, member}
 use Rattle.registry_names.specs.Texts.{Text}
 use Rattle.registry_names.specs.declared.refusal.Refusal.TheVariants.{BadBody, Stale}
-use Rattle.registry_documents.specs.Differences.{asked_of_owners, asked_of_package, besides, has_tags_without, lost, message_of, news, same_manifest, same_names, same_tags, says_the_same, union}
+use Rattle.registry_documents.specs.Differences.{all_say, selector_of, asked_of_owners, asked_of_package, besides, has_tags_without, lost, message_of, news, same_manifest, same_names, same_tags, says_the_same}
 use Rattle.registry_documents.specs.Documents.{is_of}
 use Rattle.registry_documents.specs.Judging.{asked_in, judged}
 use Rattle.registry_documents.specs.Values.{within}
@@ -53,12 +53,13 @@ pub record IsElseTheSame (w d : Data) (vs : Members) (present names : List Text)
   pub members : says_the_same w d vs true ≡ true
   pub maintainers : same_names present names ≡ true
 
--- What differs is one new message for some versions, which the selector lists; all versions are kept.
+-- What differs is one new message for some versions, which the selector lists, or selects with all
+-- others where these have it, too; all versions are kept.
 pub record IsDeprecation (w d : Data) (vs : Members) (present names : List Text) (selector message : Text) : Type 0 where
   pub first : News
   pub others : List News
   pub are_news : news w vs ≡ first ∷ others
-  pub is_selector : selector ≡ union first others
+  pub is_selector : selector ≡ selector_of (all_say w first.message vs) first others
   pub is_message : message ≡ first.message
   pub versions : AllMembers (HasMessage w message) vs
   pub tags : same_tags w d ≡ true

@@ -9,7 +9,8 @@ pub enum Asked {
     AlreadySo,
     /// Some versions get a message.
     Deprecation {
-        /// The versions, each whole, with ` || ` between them.
+        /// The versions, each whole, with ` || ` between them; or `*`, where all versions of the
+        /// packument have the message then.
         selector: Text,
         /// The message, which is empty where they are no longer to be deprecated. It isn't tested:
         /// it may be too long for one.

@@ -1,7 +1,7 @@
 //! Laws of what documents may change, and of what is shown to npm. Each function does nothing: what
 //! it ensures holds of the definitions themselves, and its proof is the law's.
 
-ghost use Rattle.registry_documents.specs.Claims.{ClaimsAreHeard};
+ghost use Rattle.registry_documents.specs.Claims.{ClaimsAreHeard, ShownIsThere};
 ghost use Rattle.registry_documents.specs.Fronts.{FrontsAreJson};
 ghost use Rattle.registry_documents.specs.Laws.{DeprecationsChangeMessages, LateAsksNothing, OwnersChangeByOne, PresentIsHeard, WithdrawalsTakeOneVersion};
 
@@ -45,4 +45,11 @@ pub fn owners_change_by_one()
 /// the revision and the maintainers.
 pub fn fronts_are_json()
     ensures { FrontsAreJson }
+{}
+
+/// What npm is shown of a package is of the present revision, and asks for nothing where it comes back
+/// as it is. Of the packument this takes JSON with each key once and without other numbers than
+/// integers of 64 bits, as it is stored, and with messages that are texts.
+pub fn what_is_shown_is_there()
+    ensures { ShownIsThere }
 {}

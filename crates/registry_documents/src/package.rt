@@ -11,7 +11,7 @@ use crate::names::besides;
 use crate::news::News;
 use crate::tags::has_tags_without;
 use crate::value::{Part, is, same_but, same_found, within};
-use crate::versions::{adds_none, are_same, lost, news};
+use crate::versions::{adds_none, all_say, are_same, lost, news};
 use registry_names::{Fault, Text};
 use serde_json::{Map, Value};
 use std::alloc::{AllocError, Global};
@@ -77,14 +77,29 @@ fn have_message(news: &[News], message: &str) -> bool
     news.iter().all(|other| is(other.message.as_str(), message))
 }
 
-// What is asked for where these have other messages.
-fn message_asked(alloc: Global, first: &News, others: &[News]) -> Result<Option<Asked>, AllocError>
-    ensures { IfOk result (λ asked. asked ≡ spec.message_asked first.now others.now) }
+// A selector of all versions, or of these.
+fn selector(alloc: Global, all: bool, first: &News, others: &[News]) -> Result<Text, AllocError>
+    ensures { IfOk result (λ text. text ≡ spec.selector_of all first.now others.now) }
+{
+    if all {
+        return Text::from_str(alloc, "*");
+    }
+    union(alloc, first, others)
+}
+
+// What is asked for where these have other messages, and all versions have the first of them, or not.
+fn message_asked(
+    alloc: Global,
+    all: bool,
+    first: &News,
+    others: &[News],
+) -> Result<Option<Asked>, AllocError>
+    ensures { IfOk result (λ asked. asked ≡ spec.message_asked all first.now others.now) }
 {
     if !have_message(others, first.message.as_str()) {
         return Ok(None);
     }
-    let selector = union(alloc, first, others)?;
+    let selector = selector(alloc, all, first, others)?;
     let message = Text::from_str(alloc, first.message.as_str())?;
     Ok(Some(Asked::Deprecation { selector, message }))
 }
@@ -94,18 +109,20 @@ fn messages_asked(
     alloc: Global,
     wanted: &Value,
     present: &Value,
+    versions: &Map<String, Value>,
     news: &[News],
 ) -> Result<Option<Asked>, AllocError>
     ensures { IfOk result (λ asked. asked ≡ spec.messages_asked
-        (view wanted.now) (view present.now) news.now) }
+        (view wanted.now) (view present.now) (members_view versions.now.entries) news.now) }
 {
     if !same_tags(wanted, present) {
         return Ok(None);
     }
-    match news.split_first() {
-        Some((first, others)) => message_asked(alloc, first, others),
-        None => Ok(Some(Asked::AlreadySo)),
-    }
+    let Some((first, others)) = news.split_first() else {
+        return Ok(Some(Asked::AlreadySo));
+    };
+    let all = all_say(wanted, first.message.as_str(), versions);
+    message_asked(alloc, all, first, others)
 }
 
 // What is asked for where this version is missing.
@@ -141,7 +158,7 @@ fn change_asked(
     ensures err { IfErr result (FaultsReading (AreVersions (members_view versions.now.entries))) }
 {
     let Some((version, others)) = gone.split_first() else {
-        return Ok(messages_asked(alloc, wanted, present, news)?);
+        return Ok(messages_asked(alloc, wanted, present, versions, news)?);
     };
     if !others.is_empty() || !news.is_empty() {
         return Ok(None);

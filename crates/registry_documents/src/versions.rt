@@ -127,6 +127,29 @@ fn message_in<'v>(wanted: &'v Value, version: &str) -> Option<&'v str>
     message_of(within(wanted, "versions", version)?)
 }
 
+// Whether the document gives a message to the version.
+fn is_said(wanted: &Value, message: &str, version: &str) -> bool
+    ensures { result ≡ spec.is_said (view wanted.now) message.now version.now }
+{
+    match message_in(wanted, version) {
+        Some(said) => is(said, message),
+        None => false,
+    }
+}
+
+/// Whether the document gives a message to all versions.
+pub(crate) fn all_say(wanted: &Value, message: &str, versions: &Map<String, Value>) -> bool
+    ensures { result ≡ spec.all_say (view wanted.now) message.now
+        (members_view versions.now.entries) }
+{
+    for (version, _stored) in versions.iter() {
+        if !is_said(wanted, message, version.as_str()) {
+            return false;
+        }
+    }
+    true
+}
+
 // Adds the version where its message isn't the present one.
 fn push_news(
     alloc: Global,

@@ -1,6 +1,6 @@
 -- What one caller is sent while nobody else asks anything, after two histories that differ only in
 -- entries that name a package.
-use Rattle.std.specs.Prelude.{◌≡◌, ℕ, Bool, List, [], ◌∷◌, Option, Some, None, Ok}
+use Rattle.std.specs.Prelude.{◌≡◌, ℕ, Bool, List, [], ◌∷◌, Ok}
 use Rattle.sqlite.specs.State.{State as Shown}
 use Rattle.registry_names.specs.Texts.{Text}
 use Rattle.registry_access.specs.Positions.{level_in}
@@ -15,8 +15,8 @@ use Rattle.registry_laws_hidden.specs.Concerns.{IsShownAlike}
 use Rattle.registry_laws_hidden.specs.Runs.{DifferInPackage, IsTheirs}
 use Rattle.registry_service.specs.Histories.{World}
 use Rattle.registry_service.specs.HttpAnswers.{response_to}
-use Rattle.registry_service.specs.Turns.{Turn}
-use Rattle.registry_http.specs.Unseen.{AreReplies, IsWorldOf, Meeting, first_left, first_log, first_outcomes, first_requests, in_both, in_first, in_second, second_left, second_log, second_outcomes, second_requests}
+use Rattle.registry_service.specs.Turns.{Dialect, Exchange, Turn}
+use Rattle.registry_http.specs.Unseen.{AreReplies, EndsAlike, IsWorldOf, Meeting, first_left, first_log, in_both, in_first, in_second, second_left, second_log}
 
 -- ---- by responses
 
@@ -36,24 +36,31 @@ RunsAreAnsweredAlike = (g h : List Entry) (p : Text) (who : Caller) → DifferIn
 
 -- ---- by connections
 
--- The turn has the same cause in both worlds. Where it asks something of the registry, the request
--- is the caller's or nobody's, it shows the package in both worlds or in neither, and not by the
--- list of all packages, and it met no fault; where it asks nothing, the turn is the same
-abbrev pub IsTheirTurn : Caller → Text → State → State → Option Request → Turn → Turn → Type 0
-IsTheirTurn who p S T None t u = t ≡ u
-IsTheirTurn who p S T (Some r) t u = (t.cause ≡ u.cause) × IsTheirs who (caller_of S r.who) × IsShownAlike S T r p × AreReplies t.outcome u.outcome
+-- The same is asked in both worlds, one request after the other. Each is the caller's or nobody's, it
+-- shows the package in both worlds or in neither, and not by the list of all packages, and it met no
+-- fault
+abbrev pub AreTheirs : Caller → Text → State → State → List Exchange → List Exchange → Type 0
+AreTheirs who p S T [] [] = Unit {0}
+AreTheirs who p S T (e ∷ es) (f ∷ fs) = (e.asked ≡ f.asked) × IsTheirs who (caller_of S e.asked.who) × IsShownAlike S T e.asked p × AreReplies e.outcome f.outcome
+    × AreTheirs who p (next S e.asked e.outcome) (next T f.asked f.outcome) es fs
+AreTheirs who p S T [] (f ∷ fs) = ⊥
+AreTheirs who p S T (e ∷ es) [] = ⊥
+
+-- the turn has the same cause in both worlds, and where it asks something, it met no fault
+abbrev pub IsTheirTurn : Caller → Text → State → State → Turn → Turn → Type 0
+IsTheirTurn who p S T t u = (t.cause ≡ u.cause) × AreTheirs who p S T t.exchanges u.exchanges × EndsAlike t.exchanges t.outcome u.outcome
 
 -- each turn is like this, and none is taken in only one of the worlds
 abbrev pub IsAlone : Caller → Text → State → State → List Meeting → Type 0
 IsAlone who p S T [] = Unit {0}
-IsAlone who p S T (in_both k stops r t u ∷ ms) = IsTheirTurn who p (first_left S ms) (second_left T ms) r t u × IsAlone who p S T ms
-IsAlone who p S T (in_first k stops r t ∷ ms) = ⊥
-IsAlone who p S T (in_second k stops r u ∷ ms) = ⊥
+IsAlone who p S T (in_both k stops t u ∷ ms) = IsTheirTurn who p (first_left S ms) (second_left T ms) t u × IsAlone who p S T ms
+IsAlone who p S T (in_first k stops t ∷ ms) = ⊥
+IsAlone who p S T (in_second k stops u ∷ ms) = ⊥
 
 -- a caller who has no level on the package after either history is sent the same bytes, on each
 -- connection
-abbrev pub OneIsAnsweredTheSame : {D : Type 0} → (D → Shown) → Type 0
-OneIsAnsweredTheSame {D = D} show = (M N : D) (w v : World D) (g h : List Entry) (p : Text) (who : Caller) (ms : List Meeting) → DifferInPackage g h p
+abbrev pub OneIsAnsweredTheSame : Dialect → {D : Type 0} → (D → Shown) → Type 0
+OneIsAnsweredTheSame speaks {D = D} show = (M N : D) (w v : World D) (g h : List Entry) (p : Text) (who : Caller) (ms : List Meeting) → DifferInPackage g h p
     → level_in (after g).access who p ≡ Nothing → level_in (after h).access who p ≡ Nothing
-    → IsWorldOf show M w g (first_log ms) (first_requests ms) (first_outcomes ms) → IsWorldOf show N v h (second_log ms) (second_requests ms) (second_outcomes ms)
+    → IsWorldOf speaks show M w g (first_log ms) → IsWorldOf speaks show N v h (second_log ms)
     → IsAlone who p (after g) (after h) ms → (k : ℕ) → (w.transcripts k).out ≡ (v.transcripts k).out

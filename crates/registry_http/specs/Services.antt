@@ -6,18 +6,15 @@ use Rattle.sqlite.specs.State.{State as Shown, HasCleanDisk}
 use Rattle.sqlite_trees.specs.declared.store.Store.{Ghosts}
 use Rattle.sqlite_disk.specs.Disk.{MoreFaults}
 use Rattle.registry_names.specs.declared.stop.Fault.{Fault}
-use Rattle.registry_names.specs.declared.stop.Fault.TheVariants.{Database, Memory}
-use Rattle.registry_names.specs.declared.stop.Stop.{Stop}
+use Rattle.registry_names.specs.declared.stop.Fault.TheVariants.{Database}
 use Rattle.registry_packument.specs.declared.opener.Sent.{Sent}
 use Rattle.registry_packument.specs.declared.opener.Sent.TheVariants.{Broken}
-use Rattle.registry_rules.specs.declared.reply.Reply.TheVariants.{Refused}
 use Rattle.registry_rules.specs.declared.request.Request.{Request}
 use Rattle.registry_laws_history.specs.Runs.{Outcome}
 use Rattle.registry_desk.specs.Promises.{Applied, IsOneRun}
 use Rattle.registry_service.specs.Courses.{Follow}
 use Rattle.registry_service.specs.Histories.{LogEntry, FollowAll}
-use Rattle.registry_service.specs.Requests.{reads_request}
-use Rattle.registry_service.specs.Turns.{Answering, Cause, Turn, bad_input, no_memory, request, stopped}
+use Rattle.registry_service.specs.Turns.{Answering, Dialect, Exchange, Turn, asked_in, outcomes_in, spoken}
 
 -- all that is promised of a request to a registry, of the connections at the entry and at the exit
 abbrev pub applies_over : {S : Type 0} → Ghosts S → Answering (Held S)
@@ -66,38 +63,30 @@ module _ {S : Type 0} (store : Ghosts S) where
 
 -- ---- the requests of turns
 
--- the turn was taken for this request
-abbrev pub Asks : Cause → Request → Type 0
-Asks (request w at) r = reads_request w at (Ok r)
-Asks (bad_input refusal) r = ⊥
-Asks no_memory r = ⊥
+-- all that was asked in turns, in its order; lists of turns have the newest first
+abbrev pub exchanges_of : List Turn → List Exchange
+exchanges_of [] = []
+exchanges_of (t ∷ ts) = exchanges_of ts ++ t.exchanges
 
--- the turn asked nothing of the registry, and came to what stopped it
-abbrev pub AsksNothing : Cause → Outcome → Type 0
-AsksNothing (request w at) o = (s : Stop) × reads_request w at (Err s) × (o ≡ stopped s)
-AsksNothing (bad_input refusal) o = o ≡ Ok (Refused refusal)
-AsksNothing no_memory o = o ≡ Err Memory
-
--- with one more turn, the requests and outcomes go on from the older ones
-abbrev pub AsksNext : Turn → List Request → List Outcome → List Request → List Outcome → Type 0
-AsksNext t qs ps rs os = ((r : Request) × Asks t.cause r × (rs ≡ qs ++ r ∷ []) × (os ≡ ps ++ t.outcome ∷ []))
-    ⊎ (AsksNothing t.cause t.outcome × (rs ≡ qs) × (os ≡ ps))
-
--- these are the requests in form among the turns, and their outcomes, in their order
+-- these are all requests that were asked in the turns, and their outcomes, in their order
 abbrev pub AskAll : List Turn → List Request → List Outcome → Type 0
-AskAll [] rs os = (rs ≡ []) × (os ≡ [])
-AskAll (t ∷ ts) rs os = (qs : List Request) × (ps : List Outcome) × AskAll ts qs ps × AsksNext t qs ps rs os
+AskAll ts rs os = (rs ≡ asked_in (exchanges_of ts)) × (os ≡ outcomes_in (exchanges_of ts))
+
+-- the turns of a list of them, with the connections that they were taken on
+abbrev pub turns_in : List LogEntry → List Turn
+turns_in log = map (λ (e : LogEntry). e.turn) log
 
 module _ {D : Type 0} (show : D → Shown) where
   -- what a service answers, where it shows a registry
   abbrev pub applied : Answering D
   applied M r o N = Applied (show M) (show N) r o
 
+module _ (speaks : Dialect) {D : Type 0} (show : D → Shown) where
   -- the turns of one connection are one run of the registry, of which everything holds that `run`
   -- says
   abbrev pub TurnsRun : Type 0
-  TurnsRun = (M N : D) (ts : List Turn) → Follow applied M ts N → IsOneRun (show M) (show N) (AskAll ts)
+  TurnsRun = (M N : D) (ts : List Turn) → Follow (spoken speaks (applied show)) M ts N → IsOneRun (show M) (show N) (AskAll ts)
 
   -- of all connections
   abbrev pub LogRuns : Type 0
-  LogRuns = (M N : D) (log : List LogEntry) → FollowAll applied M log N → IsOneRun (show M) (show N) (AskAll (map (λ e. e.turn) log))
+  LogRuns = (M N : D) (log : List LogEntry) → FollowAll (spoken speaks (applied show)) M log N → IsOneRun (show M) (show N) (AskAll (turns_in log))

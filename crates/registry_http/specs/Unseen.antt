@@ -1,114 +1,87 @@
 -- What connections are sent in two worlds whose turns differ in requests on a package.
-use Rattle.std.specs.Prelude.{◌≡◌, ◌==◌, ◌++◌, ℕ, Bool, true, false, List, [], ◌∷◌, map, Option, Some, None, Ok}
+use Rattle.std.specs.Prelude.{◌≡◌, ◌==◌, ℕ, Bool, true, false, List, [], ◌∷◌, Ok}
 use Rattle.sqlite.specs.State.{State as Shown, HasCleanDisk}
 use Rattle.registry_names.specs.Texts.{Text}
 use Rattle.registry_rules.specs.State.{State}
 use Rattle.registry_rules.specs.declared.request.Request.{Request}
 use Rattle.registry_tables.specs.Effects.{registry_in, stored}
 use Rattle.registry_laws_history.specs.History.{Entry, after}
-use Rattle.registry_laws_history.specs.Runs.{Outcome, end_of}
+use Rattle.registry_laws_history.specs.Runs.{Outcome, end_of, next}
 use Rattle.registry_laws_hidden.specs.Arrivals.{StaysClose, leaves_the_rest}
 use Rattle.registry_laws_hidden.specs.Concerns.{IsShownAlike}
 use Rattle.registry_laws_hidden.specs.Levels.{IsStranger}
 use Rattle.registry_laws_hidden.specs.Runs.{DifferInPackage}
-use Rattle.registry_desk.specs.Promises.{IsOneRun, NeedsForEach}
+use Rattle.registry_desk.specs.Promises.{NeedsForEach}
 use Rattle.registry_service.specs.Histories.{LogEntry, Reached, World}
-use Rattle.registry_service.specs.Turns.{Turn}
-use Rattle.registry_http.specs.Services.{AskAll, applied}
+use Rattle.registry_service.specs.Turns.{Dialect, Exchange, Turn, asked_in, outcomes_in, spoken}
+use Rattle.registry_http.specs.Services.{applied, exchanges_of, turns_in}
 
 -- A turn of two worlds; lists of them have the newest first. It is taken in both, on this
--- connection, or in only one of them. With it stand whether the server is to end then, and the
--- request that it is taken for, unless it asks nothing of the registry
+-- connection, or in only one of them. With it stands whether the server is to end then
 pub data Meeting : Type 0 where
-  in_both : ℕ → Bool → Option Request → Turn → Turn → Meeting
-  in_first : ℕ → Bool → Option Request → Turn → Meeting
-  in_second : ℕ → Bool → Option Request → Turn → Meeting
+  in_both : ℕ → Bool → Turn → Turn → Meeting
+  in_first : ℕ → Bool → Turn → Meeting
+  in_second : ℕ → Bool → Turn → Meeting
 
 -- ---- the two worlds
 
 abbrev pub first_log : List Meeting → List LogEntry
 first_log [] = []
-first_log (in_both k stops r t u ∷ ms) = record { from = k; stops = stops; turn = t } ∷ first_log ms
-first_log (in_first k stops r t ∷ ms) = record { from = k; stops = stops; turn = t } ∷ first_log ms
-first_log (in_second k stops r u ∷ ms) = first_log ms
+first_log (in_both k stops t u ∷ ms) = record { from = k; stops = stops; turn = t } ∷ first_log ms
+first_log (in_first k stops t ∷ ms) = record { from = k; stops = stops; turn = t } ∷ first_log ms
+first_log (in_second k stops u ∷ ms) = first_log ms
 
 abbrev pub second_log : List Meeting → List LogEntry
 second_log [] = []
-second_log (in_both k stops r t u ∷ ms) = record { from = k; stops = stops; turn = u } ∷ second_log ms
-second_log (in_first k stops r t ∷ ms) = second_log ms
-second_log (in_second k stops r u ∷ ms) = record { from = k; stops = stops; turn = u } ∷ second_log ms
+second_log (in_both k stops t u ∷ ms) = record { from = k; stops = stops; turn = u } ∷ second_log ms
+second_log (in_first k stops t ∷ ms) = second_log ms
+second_log (in_second k stops u ∷ ms) = record { from = k; stops = stops; turn = u } ∷ second_log ms
 
--- a request after older ones, and its outcome
-abbrev pub and_request : List Request → Option Request → List Request
-and_request rs None = rs
-and_request rs (Some r) = rs ++ r ∷ []
+-- what requests with these outcomes leave
+abbrev pub left_by : State → List Exchange → State
+left_by S es = end_of S (asked_in es) (outcomes_in es)
 
-abbrev pub and_outcome : List Outcome → Option Request → Outcome → List Outcome
-and_outcome os None o = os
-and_outcome os (Some r) o = os ++ o ∷ []
-
--- the requests of each world, in their order, and their outcomes
-abbrev pub first_requests : List Meeting → List Request
-first_requests [] = []
-first_requests (in_both k stops r t u ∷ ms) = and_request (first_requests ms) r
-first_requests (in_first k stops r t ∷ ms) = and_request (first_requests ms) r
-first_requests (in_second k stops r u ∷ ms) = first_requests ms
-
-abbrev pub first_outcomes : List Meeting → List Outcome
-first_outcomes [] = []
-first_outcomes (in_both k stops r t u ∷ ms) = and_outcome (first_outcomes ms) r t.outcome
-first_outcomes (in_first k stops r t ∷ ms) = and_outcome (first_outcomes ms) r t.outcome
-first_outcomes (in_second k stops r u ∷ ms) = first_outcomes ms
-
-abbrev pub second_requests : List Meeting → List Request
-second_requests [] = []
-second_requests (in_both k stops r t u ∷ ms) = and_request (second_requests ms) r
-second_requests (in_first k stops r t ∷ ms) = second_requests ms
-second_requests (in_second k stops r u ∷ ms) = and_request (second_requests ms) r
-
-abbrev pub second_outcomes : List Meeting → List Outcome
-second_outcomes [] = []
-second_outcomes (in_both k stops r t u ∷ ms) = and_outcome (second_outcomes ms) r u.outcome
-second_outcomes (in_first k stops r t ∷ ms) = second_outcomes ms
-second_outcomes (in_second k stops r u ∷ ms) = and_outcome (second_outcomes ms) r u.outcome
-
--- what they leave
+-- what the turns of each world leave
 abbrev pub first_left : State → List Meeting → State
-first_left S ms = end_of S (first_requests ms) (first_outcomes ms)
+first_left S ms = left_by S (exchanges_of (turns_in (first_log ms)))
 
 abbrev pub second_left : State → List Meeting → State
-second_left S ms = end_of S (second_requests ms) (second_outcomes ms)
+second_left S ms = left_by S (exchanges_of (turns_in (second_log ms)))
 
 -- ---- how they differ
 
--- what is taken in only one of them leaves the rest as it was
-abbrev pub LeavesRest : Text → Option Request → Outcome → Type 0
-LeavesRest p None o = Unit {0}
-LeavesRest p (Some r) o = leaves_the_rest r o p ≡ true
+-- what is asked in only one of them leaves the rest as it was
+abbrev pub LeavesRest : Text → List Exchange → Type 0
+LeavesRest p [] = Unit {0}
+LeavesRest p (e ∷ es) = (leaves_the_rest e.asked e.outcome p ≡ true) × LeavesRest p es
 
--- A turn of both has the same cause in both, and is the same where it asks nothing of the registry.
--- Where it asks something, it leaves both registries the same in all but the package
-abbrev pub IsSameTurn : Text → State → State → Option Request → Turn → Turn → Type 0
-IsSameTurn p S T None t u = t ≡ u
-IsSameTurn p S T (Some r) t u = (t.cause ≡ u.cause) × StaysClose p S T r t.outcome u.outcome
+-- The same is asked in both, one request after the other, and each leaves both registries the same in
+-- all but the package
+abbrev pub StayClose : Text → State → State → List Exchange → List Exchange → Type 0
+StayClose p S T [] [] = Unit {0}
+StayClose p S T (e ∷ es) (f ∷ fs) = (e.asked ≡ f.asked) × StaysClose p S T e.asked e.outcome f.outcome
+    × StayClose p (next S e.asked e.outcome) (next T f.asked f.outcome) es fs
+StayClose p S T [] (f ∷ fs) = ⊥
+StayClose p S T (e ∷ es) [] = ⊥
+
+-- a turn of both has the same cause in both
+abbrev pub IsSameTurn : Text → State → State → Turn → Turn → Type 0
+IsSameTurn p S T t u = (t.cause ≡ u.cause) × StayClose p S T t.exchanges u.exchanges
 
 abbrev pub DifferIn : Text → State → State → List Meeting → Type 0
 DifferIn p S T [] = Unit {0}
-DifferIn p S T (in_both k stops r t u ∷ ms) = IsSameTurn p (first_left S ms) (second_left T ms) r t u × DifferIn p S T ms
-DifferIn p S T (in_first k stops r t ∷ ms) = LeavesRest p r t.outcome × DifferIn p S T ms
-DifferIn p S T (in_second k stops r u ∷ ms) = LeavesRest p r u.outcome × DifferIn p S T ms
+DifferIn p S T (in_both k stops t u ∷ ms) = IsSameTurn p (first_left S ms) (second_left T ms) t u × DifferIn p S T ms
+DifferIn p S T (in_first k stops t ∷ ms) = LeavesRest p t.exchanges × DifferIn p S T ms
+DifferIn p S T (in_second k stops u ∷ ms) = LeavesRest p u.exchanges × DifferIn p S T ms
 
--- A service has come to this world from a registry that a legal history left, and its turns are a
--- run of these requests with these outcomes
-pub record IsWorldOf {D : Type 0} (show : D → Shown) (M : D) (w : World D) (h : List Entry) (es : List LogEntry) (rs : List Request) (os : List Outcome) : Type 0 where
-  pub reached : Reached (applied show) M w
+-- a service, spoken to in a dialect, has come to this world from a registry that a legal history left,
+-- by these turns
+pub record IsWorldOf (speaks : Dialect) {D : Type 0} (show : D → Shown) (M : D) (w : World D) (h : List Entry) (es : List LogEntry) : Type 0 where
+  pub reached : Reached (spoken speaks (applied show)) M w
   pub log : w.log ≡ es
   pub left : registry_in (show M) ≡ after h
   pub clean : HasCleanDisk (show w.service)
-  pub run : IsOneRun (show M) (show w.service) (AskAll (map (λ e. e.turn) w.log))
-  pub needs : NeedsForEach run.requests (stored (show M))
-  pub requests : run.requests ≡ rs
-  pub outcomes : run.outcomes ≡ os
+  pub needs : NeedsForEach (asked_in (exchanges_of (turns_in es))) (stored (show M))
 
 -- ---- what a stranger is sent
 
@@ -119,20 +92,35 @@ AreReplies o q = ⊥
 
 -- In both worlds the request is of a caller who has no level on the package, or of nobody; it shows
 -- the package in both or in neither, and not by the list of all packages; and it met no fault
-abbrev pub IsUnseen : Text → State → State → Option Request → Outcome → Outcome → Type 0
-IsUnseen p S T None o q = Unit {0}
-IsUnseen p S T (Some r) o q = IsStranger S r.who p × IsStranger T r.who p × IsShownAlike S T r p × AreReplies o q
+abbrev pub IsUnseen : Text → State → State → Request → Outcome → Outcome → Type 0
+IsUnseen p S T r o q = IsStranger S r.who p × IsStranger T r.who p × IsShownAlike S T r p × AreReplies o q
+
+-- each request of a turn is like this, at what the earlier ones left
+abbrev pub AreUnseen : Text → State → State → List Exchange → List Exchange → Type 0
+AreUnseen p S T [] [] = Unit {0}
+AreUnseen p S T (e ∷ es) (f ∷ fs) = IsUnseen p S T e.asked e.outcome f.outcome
+    × AreUnseen p (next S e.asked e.outcome) (next T f.asked f.outcome) es fs
+AreUnseen p S T [] (f ∷ fs) = ⊥
+AreUnseen p S T (e ∷ es) [] = ⊥
+
+-- a turn that asks something met no fault itself; one that asks nothing has one outcome
+abbrev pub EndsAlike : List Exchange → Outcome → Outcome → Type 0
+EndsAlike [] o q = o ≡ q
+EndsAlike (e ∷ es) o q = AreReplies o q
+
+abbrev pub IsUnseenTurn : Text → State → State → Turn → Turn → Type 0
+IsUnseenTurn p S T t u = AreUnseen p S T t.exchanges u.exchanges × EndsAlike t.exchanges t.outcome u.outcome
 
 -- each turn of this connection is like this, and none of them is taken in only one of the worlds
 abbrev pub IsStrangers : ℕ → Text → State → State → List Meeting → Type 0
 IsStrangers k p S T [] = Unit {0}
-IsStrangers k p S T (in_both j stops r t u ∷ ms) = ((k == j) ≡ true → IsUnseen p (first_left S ms) (second_left T ms) r t.outcome u.outcome) × IsStrangers k p S T ms
-IsStrangers k p S T (in_first j stops r t ∷ ms) = ((k == j) ≡ false) × IsStrangers k p S T ms
-IsStrangers k p S T (in_second j stops r u ∷ ms) = ((k == j) ≡ false) × IsStrangers k p S T ms
+IsStrangers k p S T (in_both j stops t u ∷ ms) = ((k == j) ≡ true → IsUnseenTurn p (first_left S ms) (second_left T ms) t u) × IsStrangers k p S T ms
+IsStrangers k p S T (in_first j stops t ∷ ms) = ((k == j) ≡ false) × IsStrangers k p S T ms
+IsStrangers k p S T (in_second j stops u ∷ ms) = ((k == j) ≡ false) × IsStrangers k p S T ms
 
 -- whatever else is asked on the other connections, this one is answered the same bytes in both
 -- worlds
-abbrev pub StrangersAreAnsweredTheSame : {D : Type 0} → (D → Shown) → Type 0
-StrangersAreAnsweredTheSame {D = D} show = (M N : D) (w v : World D) (g h : List Entry) (p : Text) (ms : List Meeting) → DifferInPackage g h p
-    → IsWorldOf show M w g (first_log ms) (first_requests ms) (first_outcomes ms) → IsWorldOf show N v h (second_log ms) (second_requests ms) (second_outcomes ms)
+abbrev pub StrangersAreAnsweredTheSame : Dialect → {D : Type 0} → (D → Shown) → Type 0
+StrangersAreAnsweredTheSame speaks {D = D} show = (M N : D) (w v : World D) (g h : List Entry) (p : Text) (ms : List Meeting) → DifferInPackage g h p
+    → IsWorldOf speaks show M w g (first_log ms) → IsWorldOf speaks show N v h (second_log ms)
     → DifferIn p (after g) (after h) ms → (k : ℕ) → IsStrangers k p (after g) (after h) ms → (w.transcripts k).out ≡ (v.transcripts k).out

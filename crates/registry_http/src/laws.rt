@@ -4,6 +4,7 @@ ghost use Rattle.registry_http.specs.Services.{LogRuns, TurnsRun, shown};
 ghost use Rattle.registry_http.specs.Alone.{OneIsAnsweredTheSame, RunsAreAnsweredAlike};
 ghost use Rattle.registry_http.specs.Hiding.{HiddenAreUnheardOf};
 ghost use Rattle.registry_http.specs.Unseen.{StrangersAreAnsweredTheSame};
+ghost use Rattle.registry_service.specs.Turns.{profile};
 
 use sqlite::Alter;
 
@@ -13,8 +14,8 @@ use sqlite::Alter;
 /// ones left, no reply is lost in a crash, and where nothing was asked of the registry before, the
 /// headline holds.
 pub fn turns_are_one_run<S: Alter>()
-    ensures connection { TurnsRun (shown S.Store) }
-    ensures all { LogRuns (shown S.Store) }
+    ensures connection { TurnsRun profile (shown S.Store) }
+    ensures all { LogRuns profile (shown S.Store) }
 {}
 
 /// Whatever a caller asks of a package that they don't read (its packument, a version, an archive
@@ -36,7 +37,7 @@ pub fn hidden_packages_are_unheard_of()
 /// in only one of the worlds, and as long as no fault in one world keeps a command undone that
 /// doesn't name the package and that the other world accepts.
 pub fn unread_packages_change_no_byte<S: Alter>()
-    ensures { StrangersAreAnsweredTheSame (shown S.Store) }
+    ensures { StrangersAreAnsweredTheSame profile (shown S.Store) }
 {}
 
 /// The same holds for a caller who is alone, if they have no level on the package at the start.
@@ -46,5 +47,5 @@ pub fn unread_packages_change_no_byte<S: Alter>()
 /// of their connections is answered.
 pub fn unread_packages_change_no_byte_for_one<S: Alter>()
     ensures responses { RunsAreAnsweredAlike }
-    ensures connections { OneIsAnsweredTheSame (shown S.Store) }
+    ensures connections { OneIsAnsweredTheSame profile (shown S.Store) }
 {}

@@ -8,14 +8,17 @@ ghost use Rattle.registry_desk.specs.TokenUsers.{NamesUser};
 ghost use Rattle.registry_http.specs.Services.{EndsBy, EndsByFault, EndsIfShut, EndsShut, SendsByFault, SendsIfShut, applied, applies_over, shown};
 ghost use Rattle.registry_packument.specs.Sendings.{failures_after};
 ghost use Rattle.registry_packument.specs.declared.opener.Sent.TheVariants.{WriteFault};
+ghost use Rattle.registry_service.proofs.DialectFacts.{profile_asks_queries};
 ghost use Rattle.registry_service.specs.Sendings.{IsPackument, Sends};
+ghost use Rattle.registry_service.specs.Turns.{profile};
 
 use registry_desk::Registry;
-use registry_names::{ByteOut, Fault, Ident};
+use registry_names::{ByteOut, Fault, Ident, Moment};
 use registry_packument::{Opener, Sent};
 use registry_publish::TokenDigest;
 use registry_rules::{Reply, Request};
-use registry_service::{PackumentService, Service};
+use registry_service::{HttpService, PackumentService, Service, Turned, turn};
+use registry_wire::Wanted;
 use sqlite::Alter;
 use std::alloc::Global;
 use std::marker::Model;
@@ -108,6 +111,17 @@ impl<S: Alter> Service for RegistryService<S> {
     fn is_over(&self) -> bool {
         self.is_over
     }
+}
+
+impl<S: Alter> HttpService for RegistryService<S> {
+    ghost speaks = { profile };
+
+    /// The turn of a request for one of the registry's own routes.
+    fn turn(&mut self, alloc: Global, wanted: &Wanted, at: Moment, is_last: bool) -> Turned {
+        turn(alloc, self, wanted, at, is_last)
+    }
+
+    ghost asks_queries = { profile_asks_queries };
 }
 
 impl<S: Alter> PackumentService for RegistryService<S> {

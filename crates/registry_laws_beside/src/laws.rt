@@ -2,6 +2,7 @@
 //! a function that does nothing.
 
 ghost use Rattle.registry_http.specs.Services.{shown};
+ghost use Rattle.registry_service.specs.Turns.{profile};
 ghost use Rattle.registry_laws_beside.specs.Beside.{LogRunsBeside, TurnsRunBeside};
 ghost use Rattle.registry_laws_beside.specs.Held.{HoldsLeaveStored, QueriesLeaveStored};
 ghost use Rattle.registry_laws_beside.specs.Unseen.{CommandsPrintTheSame, ConnectionsAreAnsweredTheSame, WorldsAreSuch};
@@ -18,8 +19,8 @@ use sqlite::Alter;
 /// the last of these turns. Together they are such turns: all those of the connections in their
 /// order, all those of the commands in theirs, and no others.
 pub fn turns_beside_guests_are_one_run<S: Alter>()
-    ensures turns { TurnsRunBeside (shown S.Store) }
-    ensures all { LogRunsBeside (shown S.Store) }
+    ensures turns { TurnsRunBeside profile (shown S.Store) }
+    ensures all { LogRunsBeside profile (shown S.Store) }
 {}
 
 /// What is asked about a package, on connections and by commands beside them, changes no byte of
@@ -38,9 +39,9 @@ pub fn turns_beside_guests_are_one_run<S: Alter>()
 /// doesn't name the package and that the other world accepts. Each world of a server beside
 /// commands, whose registry is in order, is one that this law speaks of (`worlds`).
 pub fn unread_packages_change_nothing_that_is_told<S: Alter>()
-    ensures worlds { WorldsAreSuch (shown S.Store) }
-    ensures connections { ConnectionsAreAnsweredTheSame (shown S.Store) }
-    ensures commands { CommandsPrintTheSame (shown S.Store) }
+    ensures worlds { WorldsAreSuch profile (shown S.Store) }
+    ensures connections { ConnectionsAreAnsweredTheSame profile (shown S.Store) }
+    ensures commands { CommandsPrintTheSame profile (shown S.Store) }
 {}
 
 /// While its server is held, a registry keeps what it stores. After any number of queries an open

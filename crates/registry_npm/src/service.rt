@@ -6,7 +6,7 @@ ghost use Rattle.registry_npm.specs.Queries.{npm_asks_queries};
 use crate::turning::npm_turn;
 use registry_names::{Fault, Moment};
 use registry_rules::{Reply, Request};
-use registry_service::{AnsweredCommand, Service, Turned};
+use registry_service::{AnsweredCommand, HttpService, Service, Turned};
 use registry_wire::Wanted;
 use std::alloc::Global;
 
@@ -18,16 +18,10 @@ pub struct NpmService<D: Service> {
 impl<D: Service> Service for NpmService<D> {
     ghost answers = { λ s r o t. D.answers s.service r o t.service };
 
-    ghost speaks = { npm };
-
     ghost over = { λ s. D.over s.service };
 
     fn answer(&mut self, alloc: Global, request: &Request) -> Result<Reply, Fault> {
         self.service.answer(alloc, request)
-    }
-
-    fn turn(&mut self, alloc: Global, wanted: &Wanted, at: Moment, is_last: bool) -> Turned {
-        npm_turn(alloc, &mut self.service, wanted, at, is_last)
     }
 
     fn is_over(&self) -> bool {
@@ -48,6 +42,15 @@ impl<D: Service> Service for NpmService<D> {
 
     fn rest(&mut self) {
         self.service.rest()
+    }
+}
+
+impl<D: Service> HttpService for NpmService<D> {
+    ghost speaks = { npm };
+
+    /// The turn of one of npm's own requests, or of any other as without them.
+    fn turn(&mut self, alloc: Global, wanted: &Wanted, at: Moment, is_last: bool) -> Turned {
+        npm_turn(alloc, &mut self.service, wanted, at, is_last)
     }
 
     ghost asks_queries = { npm_asks_queries };

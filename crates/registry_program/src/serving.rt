@@ -10,7 +10,9 @@ use registry_guests::CommandListener;
 use registry_http::RegistryService;
 use registry_log::{LineSink, Log, LogClock, LoggedService};
 use registry_names::{ByteOut, Moment, Text, write_whole};
+use registry_npm::NpmService;
 use registry_server::{Ended, ListenAt, LocalSocket, Server, SocketFile};
+use registry_service::HttpService;
 use sqlite::{Alter, FileStore};
 use sqlite_disk::Disk;
 use std::alloc::{AllocError, Global};
@@ -36,8 +38,8 @@ const ROOM: usize = 4_194_304;
 /// What is printed where commands can't be answered.
 const NO_COMMANDS: &str = "no command beside this server is answered: ";
 
-/// Where a server listens and for how many connections, the path of its file, and the path of a log
-/// of requests, if one is kept.
+/// Where a server listens and for how many connections, the path of its file, the path of a log of
+/// requests, if one is kept, and whether npm's own requests are answered.
 #[derive(Clone, Copy)]
 struct ServeOptions<'a> {
     port: Option<u16>,
@@ -45,6 +47,7 @@ struct ServeOptions<'a> {
     connections: u64,
     path: &'a str,
     log: Option<&'a str>,
+    answers_npm: bool,
 }
 
 impl<'a> ServeOptions<'a> {
@@ -59,16 +62,18 @@ impl<'a> ServeOptions<'a> {
             connections,
             path: line.db.as_str(),
             log: None,
+            answers_npm: false,
         })
     }
 
-    // The same with a socket, a log, or both.
+    // The same with a socket, a log, npm's own requests, or several of these.
     fn beside(serving: &'a Serving) -> Option<ServeOptions<'a>> {
         let options = ServeOptions::of(&serving.line)?;
         Some(ServeOptions {
             port: if serving.has_port { options.port } else { None },
             socket: shown(&serving.socket),
             log: shown(&serving.log),
+            answers_npm: serving.answers_npm,
             ..options
         })
     }
@@ -106,7 +111,7 @@ pub fn serve<O: ByteOut, E: ByteOut>(
 }
 
 /// Serves as [`serve`] does, at a Unix socket, or at the port of the line, or at both, and keeps a
-/// log of requests, if there is to be one.
+/// log of requests, if there is to be one. npm's own requests are answered, too, if they are to be.
 ///
 /// A socket is removed at the end. A socket at whose path nothing listens any more is replaced; it
 /// is a fault where something listens there, or where the path names something that isn't a socket.
@@ -260,8 +265,8 @@ fn serve_until_end<S: Alter + Drop, K: LogClock + Drop, W: LineSink + Drop, O: B
     errors: &mut E,
 ) -> Served<S> {
     let path = bound.options.path;
-    let mut service = LoggedService::new(RegistryService::new(registry), log);
-    let ended = serve_bound(rt, alloc, bound, &mut service, listener, output, errors);
+    let service = LoggedService::new(RegistryService::new(registry), log);
+    let (ended, service) = serve_with(rt, alloc, bound, service, listener, output, errors);
     let registry = service.into_inner().into_registry();
     if matches!(ended, Ok(Ended::Stopped)) {
         return Served::Stopped(registry);
@@ -269,6 +274,44 @@ fn serve_until_end<S: Alter + Drop, K: LogClock + Drop, W: LineSink + Drop, O: B
     close_listener(rt, alloc, path, listener);
     drop(registry);
     Served::Otherwise(ended)
+}
+
+// Serves with the service, which answers npm's own requests, too, where the options say so.
+fn serve_with<S: Alter + Drop, K: LogClock + Drop, W: LineSink + Drop, O: ByteOut, E: ByteOut>(
+    rt: &HostRuntime,
+    alloc: Global,
+    bound: Bound<'_>,
+    service: LoggedService<S, K, W>,
+    listener: &mut CommandListener,
+    output: &mut O,
+    errors: &mut E,
+) -> (Result<Ended, Ending>, LoggedService<S, K, W>) {
+    if bound.options.answers_npm {
+        let mut npm = NpmService { service };
+        let ended = serve_bound(rt, alloc, bound, &mut npm, listener, output, errors);
+        (ended, npm.service)
+    } else {
+        let mut service = service;
+        let ended = serve_bound(rt, alloc, bound, &mut service, listener, output, errors);
+        (ended, service)
+    }
+}
+
+/// A service that says in its log, if it keeps one, when its server begins and ends.
+trait Told: HttpService {
+    fn tell(&mut self, text: &str);
+}
+
+impl<S: Alter, K: LogClock, W: LineSink> Told for LoggedService<S, K, W> {
+    fn tell(&mut self, text: &str) {
+        self.say(text)
+    }
+}
+
+impl<D: Told> Told for NpmService<D> {
+    fn tell(&mut self, text: &str) {
+        self.service.tell(text)
+    }
 }
 
 // Copies the log of a registry whose server was stopped into its file, and lets go of it.
@@ -301,11 +344,11 @@ fn close_listener(rt: &HostRuntime, alloc: Global, path: &str, listener: &Comman
 
 // Serves with the service, from the present moment on. The clock is read before anything is
 // printed.
-fn serve_bound<S: Alter, K: LogClock, W: LineSink, O: ByteOut, E: ByteOut>(
+fn serve_bound<D: Told, O: ByteOut, E: ByteOut>(
     rt: &HostRuntime,
     alloc: Global,
     bound: Bound<'_>,
-    service: &mut LoggedService<S, K, W>,
+    service: &mut D,
     listener: &mut CommandListener,
     output: &mut O,
     errors: &mut E,
@@ -349,21 +392,21 @@ fn require_log(rt: &HostRuntime, alloc: Global, options: ServeOptions<'_>) -> Re
 }
 
 // Runs a server, and says in its log when it begins and ends, and why.
-fn run<S: Alter, K: LogClock, W: LineSink>(
+fn run<D: Told>(
     rt: &HostRuntime,
     alloc: Global,
     server: Server,
     at: Moment,
-    service: &mut LoggedService<S, K, W>,
+    service: &mut D,
     listener: &mut CommandListener,
 ) -> Result<Ended, Ending> {
-    service.say("begun");
+    service.tell("begun");
     let ended = server.run_beside(rt, alloc, at, service, listener);
     let said = match &ended {
         Ok(ended) => end_text(*ended),
         Err(_) => "ended: a fault",
     };
-    service.say(said);
+    service.tell(said);
     Ok(ended?)
 }
 

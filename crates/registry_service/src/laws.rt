@@ -4,14 +4,14 @@ ghost use Rattle.registry_service.specs.Histories.{IsOneHistory, Reached, World}
 ghost use Rattle.registry_service.specs.Laws.{LookUpsAreUnseen, TakenOfAll, TurnsAreSpelled};
 ghost use Rattle.registry_service.specs.Turns.{profile, spoken};
 
-use crate::turning::Service;
+use crate::turning::{HttpService, Service};
 
 /// Whatever comes, on whichever connection, in whatever pieces, and whoever's turn it is, there is
 /// one list of turns such that the service is what they leave, each taken at what all older ones
 /// left. The turns of each connection are the first that its bytes spell. The rest is still held,
 /// or, after the end of the connection, dropped. Its answers are those of its turns, and what was
 /// sent is a prefix of them.
-pub fn one_history<D: Service>()
+pub fn one_history<D: HttpService>()
     ensures { (M : D) (w : World D) → Reached (spoken D.speaks D.answers) M w
         → IsOneHistory (spoken D.speaks D.answers) M w }
 {}
@@ -30,6 +30,6 @@ pub fn turns_are_taken_of_all<D: Service>()
 
 /// Whatever a service looks up between two turns, nobody can tell by what is answered: each turn after
 /// it might have been taken without it. So turns with look-ups between them are turns without any.
-pub fn look_ups_are_unseen<D: Service>()
+pub fn look_ups_are_unseen<D: HttpService>()
     ensures { LookUpsAreUnseen D.speaks D.answers }
 {}

@@ -25,6 +25,6 @@ pub use crate::request::request_of;
 pub use crate::sending::PackumentService;
 pub use crate::serving::{Clock, Served, serve};
 pub use crate::turning::{
-    AnsweredCommand, End, REQUESTS_PER_CONNECTION, Service, Turned, turn, turn_away, turn_starved,
-    turn_with,
+    AnsweredCommand, End, HttpService, REQUESTS_PER_CONNECTION, Service, Turned, turn, turn_away,
+    turn_starved, turn_with,
 };

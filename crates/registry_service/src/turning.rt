@@ -38,24 +38,12 @@ pub trait Service {
     // What holds of a service, a request, its outcome, and the service that it leaves.
     ghost answers: { Self → Request → Result Reply Fault → Self → Type 0 };
 
-    // What requests of HTTP ask of it.
-    ghost speaks: { Dialect };
-
     // Whether it is over.
     ghost over: { Self → Bool };
 
     /// Answers one request.
     fn answer(&mut self, alloc: Global, request: &Request) -> Result<Reply, Fault>
         ensures { answers self.old request.now result self.new };
-
-    /// The turn of a whole request of HTTP, asked at this moment. What it asks of the registry, in
-    /// the dialect of this service, is answered one request after the other, and nothing else is
-    /// asked. `is_last` says that this is the last request that its connection may have.
-    ///
-    /// A service for the registry's own routes takes the turn by [`turn`].
-    fn turn(&mut self, alloc: Global, wanted: &Wanted, at: Moment, is_last: bool) -> Turned
-        ensures { Turns (spoken speaks answers) self.old (request wanted.now at) is_last result
-            self.new };
 
     /// Whether it is over: nothing more may be asked of it.
     fn is_over(&self) -> bool
@@ -64,8 +52,8 @@ pub trait Service {
     /// A turn of a connection was taken: for this request, or for input that isn't a request or
     /// could not be read.
     ///
-    /// The server of many connections calls it, once for each turn: after the call of
-    /// [`answer`](Service::answer), where the turn has one, and before anything of the response is
+    /// The server of many connections calls it, once for each turn: after the calls of
+    /// [`answer`](Service::answer), where the turn has any, and before anything of the response is
     /// sent. Neither [`serve`](crate::serve) nor a command beside the server calls it; for a command
     /// there is [`note_command`](Service::note_command).
     ///
@@ -98,6 +86,21 @@ pub trait Service {
     fn rest(&mut self)
         ensures { self.new ≡ self.old }
     {}
+}
+
+/// A service that is asked over HTTP: it says what a request of HTTP asks of it.
+pub trait HttpService: Service {
+    // What requests of HTTP ask of it.
+    ghost speaks: { Dialect };
+
+    /// The turn of a whole request of HTTP, asked at this moment. What it asks of the registry, in
+    /// the dialect of this service, is answered one request after the other, and nothing else is
+    /// asked. `is_last` says that this is the last request that its connection may have.
+    ///
+    /// A service for the registry's own routes takes the turn by [`turn`].
+    fn turn(&mut self, alloc: Global, wanted: &Wanted, at: Moment, is_last: bool) -> Turned
+        ensures { Turns (spoken speaks Self.answers) self.old (request wanted.now at) is_last result
+            self.new };
 
     // A request that begins as a query does asks nothing but queries.
     ghost asks_queries: { AsksQueriesByGet speaks };

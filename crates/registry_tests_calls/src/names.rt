@@ -68,7 +68,7 @@ fn moments(rt: HostRuntime) {
 }
 
 // Refusals and faults, how each is printed, and the status of its answer.
-static PRINTED: [(Stop, &str, u16); 27] = [
+static PRINTED: [(Stop, &str, u16); 29] = [
     (Stop::Refused(Refusal::BadName), "BadName", 400),
     (Stop::Refused(Refusal::BadVersion), "BadVersion", 400),
     (Stop::Refused(Refusal::RangeTag), "RangeTag", 400),

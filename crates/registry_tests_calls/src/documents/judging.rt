@@ -22,64 +22,48 @@ enum Path {
     Another,
 }
 
-/// A document, and what it asks for.
-struct Case {
-    shows: &'static str,
-    path: Path,
-    /// What is replaced in what npm read, one after the other: a text, once, by another one.
-    edits: &'static [(&'static str, &'static str)],
-    asks: &'static str,
-}
+/// What is replaced in what npm read: a text, once, by another one.
+type Edit = (&'static str, &'static str);
 
-const fn case(
-    shows: &'static str,
-    path: Path,
-    edits: &'static [(&'static str, &'static str)],
-    asks: &'static str,
-) -> Case {
-    Case {
-        shows,
-        path,
-        edits,
-        asks,
-    }
-}
+/// What a document shows, the revision that its path names, what is replaced in it, one after the
+/// other, and what it asks for.
+type Case = (&'static str, Path, &'static [Edit], &'static str);
 
 /// The document is of another revision.
-const LATE: (&str, &str) = (r#""_rev":""#, r#""_rev":"1-"#);
+const LATE: Edit = (r#""_rev":""#, r#""_rev":"1-"#);
 
 /// The version 1.0.0 has a message.
-const OLD: (&str, &str) = (r#""1.0.0":{"#, r#""1.0.0":{"deprecated":"use 1.2","#);
+const OLD: Edit = (r#""1.0.0":{"#, r#""1.0.0":{"deprecated":"use 1.2","#);
 
 /// The version 1.0.0 is missing.
-const LESS: (&str, &str) = (
+const LESS: Edit = (
     r#""1.0.0":{"dist":{"size":9007199254740993,"tarball":"http://h/tool-1.0.0.tgz"},"name":"tool"},"#,
     "",
 );
 
 /// The version 1.2.0 is missing.
-const NO_LATEST: (&str, &str) = (r#""1.2.0":{"files":["a",{"b":[]}],"name":"tool"},"#, "");
+const NO_LATEST: Edit = (r#""1.2.0":{"files":["a",{"b":[]}],"name":"tool"},"#, "");
 
 /// The version 2.0.0-beta.1 is missing.
-const NO_BETA: (&str, &str) = (r#","2.0.0-beta.1":{"name":"tool"}"#, "");
+const NO_BETA: Edit = (r#","2.0.0-beta.1":{"name":"tool"}"#, "");
 
 static SAME: [Case; 8] = [
-    case("what there is", Path::Nothing, &[], "AlreadySo"),
-    case("what there is", Path::Present, &[], "AlreadySo"),
-    case("what there is, late", Path::Another, &[LATE], "AlreadySo"),
-    case(
+    ("what there is", Path::Nothing, &[], "AlreadySo"),
+    ("what there is", Path::Present, &[], "AlreadySo"),
+    ("what there is, late", Path::Another, &[LATE], "AlreadySo"),
+    (
         "another address of an archive",
         Path::Nothing,
         &[("http://h/", "https://front/"), LATE],
         "AlreadySo",
     ),
-    case(
+    (
         "no address of an archive",
         Path::Nothing,
         &[(r#","tarball":"http://h/tool-1.0.0.tgz""#, "")],
         "AlreadySo",
     ),
-    case(
+    (
         "another moment of a change, and that of a version that isn't there",
         Path::Another,
         &[
@@ -91,13 +75,13 @@ static SAME: [Case; 8] = [
         ],
         "AlreadySo",
     ),
-    case(
+    (
         "an empty message where there is none",
         Path::Another,
         &[(r#""1.2.0":{"#, r#""1.2.0":{"deprecated":"","#)],
         "AlreadySo",
     ),
-    case(
+    (
         "other spaces, other orders and other addresses of people",
         Path::Another,
         &[
@@ -112,21 +96,21 @@ static SAME: [Case; 8] = [
     ),
 ];
 
-static DEPRECATIONS: [Case; 9] = [
-    case("a message", Path::Nothing, &[OLD], "1.0.0: use 1.2"),
-    case(
+static DEPRECATIONS: [Case; 11] = [
+    ("a message", Path::Nothing, &[OLD], "1.0.0: use 1.2"),
+    (
         "a message, by a path",
         Path::Present,
         &[OLD],
         "1.0.0: use 1.2",
     ),
-    case(
+    (
         "a message through a front",
         Path::Nothing,
         &[OLD, ("http://h/", "https://front/")],
         "1.0.0: use 1.2",
     ),
-    case(
+    (
         "a message for two",
         Path::Nothing,
         &[
@@ -138,31 +122,57 @@ static DEPRECATIONS: [Case; 9] = [
         ],
         "1.0.0 || 2.0.0-beta.1: use 1.2",
     ),
-    case(
+    (
+        "one message for all",
+        Path::Nothing,
+        &[
+            (r#""1.0.0":{"#, r#""1.0.0":{"deprecated":"old","#),
+            (r#""1.2.0":{"#, r#""1.2.0":{"deprecated":"old","#),
+            (
+                r#""2.0.0-beta.1":{"#,
+                r#""2.0.0-beta.1":{"deprecated":"old","#,
+            ),
+        ],
+        "*: old",
+    ),
+    (
+        "a message for all but one",
+        Path::Nothing,
+        &[
+            OLD,
+            (r#""1.2.0":{"#, r#""1.2.0":{"deprecated":"use 1.2","#),
+            (
+                r#""2.0.0-beta.1":{"#,
+                r#""2.0.0-beta.1":{"deprecated":"use 1.2","#,
+            ),
+        ],
+        "1.0.0 || 1.2.0 || 2.0.0-beta.1: use 1.2",
+    ),
+    (
         "the message that another has",
         Path::Nothing,
         &[(r#""1.0.0":{"#, r#""1.0.0":{"deprecated":"old","#)],
         "1.0.0: old",
     ),
-    case(
+    (
         "another message",
         Path::Nothing,
         &[(r#""deprecated":"old""#, r#""deprecated":"older""#)],
         "1.1.0: older",
     ),
-    case(
+    (
         "an empty message",
         Path::Nothing,
         &[(r#""deprecated":"old""#, r#""deprecated":"""#)],
-        "1.1.0: ",
+        "*: ",
     ),
-    case(
+    (
         "no message any more",
         Path::Nothing,
         &[(r#""deprecated":"old","#, "")],
-        "1.1.0: ",
+        "*: ",
     ),
-    case(
+    (
         "of equal keys the last one",
         Path::Nothing,
         &[OLD, (r#""dist":{"#, r#""deprecated":"b","dist":{"#)],
@@ -171,14 +181,14 @@ static DEPRECATIONS: [Case; 9] = [
 ];
 
 static WITHDRAWALS: [Case; 5] = [
-    case("a version less", Path::Present, &[LESS], "- 1.0.0"),
-    case(
+    ("a version less", Path::Present, &[LESS], "- 1.0.0"),
+    (
         "a version less, and its moment",
         Path::Present,
         &[LESS, (r#""1.0.0":"1970-01-01T00:00:01.000Z","#, "")],
         "- 1.0.0",
     ),
-    case(
+    (
         "the latest less, and the tag on the greatest",
         Path::Present,
         &[
@@ -187,13 +197,13 @@ static WITHDRAWALS: [Case; 5] = [
         ],
         "- 1.2.0",
     ),
-    case(
+    (
         "a version with a tag less",
         Path::Present,
         &[NO_BETA, (r#","next":"2.0.0-beta.1""#, "")],
         "- 2.0.0-beta.1",
     ),
-    case(
+    (
         "a version less, by the document alone",
         Path::Nothing,
         &[LESS],
@@ -202,33 +212,33 @@ static WITHDRAWALS: [Case; 5] = [
 ];
 
 static STALE: [Case; 7] = [
-    case("a message, late", Path::Nothing, &[OLD, LATE], "Stale"),
-    case("a message, on a late path", Path::Another, &[OLD], "Stale"),
-    case(
+    ("a message, late", Path::Nothing, &[OLD, LATE], "Stale"),
+    ("a message, on a late path", Path::Another, &[OLD], "Stale"),
+    (
         "a message, and no revision",
         Path::Nothing,
         &[OLD, (r#""_rev":"#, r#""rev":"#)],
         "Stale",
     ),
-    case(
+    (
         "a version less, late",
         Path::Present,
         &[LESS, LATE],
         "Stale",
     ),
-    case(
+    (
         "a version less, on a late path",
         Path::Another,
         &[LESS],
         "Stale",
     ),
-    case(
+    (
         "several things, late",
         Path::Another,
         &[LESS, (r#""deprecated":"old""#, r#""deprecated":null"#)],
         "Stale",
     ),
-    case(
+    (
         "another package",
         Path::Another,
         &[(r#""_id":"tool""#, r#""_id":"kit""#)],
@@ -237,43 +247,43 @@ static STALE: [Case; 7] = [
 ];
 
 static OTHERS: [Case; 25] = [
-    case(
+    (
         "two messages",
         Path::Nothing,
         &[OLD, (r#""deprecated":"old""#, r#""deprecated":"older""#)],
         "BadBody",
     ),
-    case(
+    (
         "a message, and a manifest",
         Path::Nothing,
         &[OLD, (r#""files":["a","#, r#""files":["b","#)],
         "BadBody",
     ),
-    case(
+    (
         "a message, and a member of a manifest more",
         Path::Nothing,
         &[OLD, (r#""files":["#, r#""main":"a","files":["#)],
         "BadBody",
     ),
-    case(
+    (
         "a message, and a member of a manifest less",
         Path::Nothing,
         &[OLD, (r#""files":["a",{"b":[]}],"#, "")],
         "BadBody",
     ),
-    case(
+    (
         "a message, and another size",
         Path::Nothing,
         &[OLD, ("9007199254740993", "9007199254740994")],
         "BadBody",
     ),
-    case(
+    (
         "a message, and a number that npm has rounded",
         Path::Nothing,
         &[OLD, ("9007199254740993", "9007199254740992")],
         "BadBody",
     ),
-    case(
+    (
         "a message, and no `dist`",
         Path::Nothing,
         &[
@@ -285,13 +295,13 @@ static OTHERS: [Case; 25] = [
         ],
         "BadBody",
     ),
-    case(
+    (
         "a message, and a tag",
         Path::Nothing,
         &[OLD, (r#""latest":"1.2.0""#, r#""latest":"1.1.0""#)],
         "BadBody",
     ),
-    case(
+    (
         "a message, and a tag more",
         Path::Nothing,
         &[
@@ -300,97 +310,97 @@ static OTHERS: [Case; 25] = [
         ],
         "BadBody",
     ),
-    case(
+    (
         "a message, and a version less",
         Path::Present,
         &[NO_BETA, (r#","next":"2.0.0-beta.1""#, ""), OLD],
         "BadBody",
     ),
-    case(
+    (
         "a message, and a maintainer more",
         Path::Nothing,
         &[OLD, (r#""name":"eve"}"#, r#""name":"eve"},{"name":"dan"}"#)],
         "BadBody",
     ),
-    case(
+    (
         "a message, and a maintainer less",
         Path::Nothing,
         &[OLD, (r#",{"email":"","name":"eve"}"#, "")],
         "BadBody",
     ),
-    case(
+    (
         "a message, and another name",
         Path::Nothing,
         &[OLD, (r#""name":"tool","time""#, r#""name":"kit","time""#)],
         "BadBody",
     ),
-    case(
+    (
         "a message, and another moment",
         Path::Nothing,
         &[OLD, (r#""1.2.0":"1970"#, r#""1.2.0":"1971"#)],
         "BadBody",
     ),
-    case(
+    (
         "a message, and a member more",
         Path::Nothing,
         &[OLD, (r#""_id":"#, r#""readme":"","_id":"#)],
         "BadBody",
     ),
-    case(
+    (
         "no text for a message",
         Path::Nothing,
         &[(r#""deprecated":"old""#, r#""deprecated":null"#)],
         "BadBody",
     ),
-    case(
+    (
         "a version more",
         Path::Present,
         &[(r#""versions":{"#, r#""versions":{"0.9.0":{"name":"tool"},"#)],
         "BadBody",
     ),
-    case(
+    (
         "two versions less",
         Path::Present,
         &[LESS, NO_LATEST],
         "BadBody",
     ),
-    case(
+    (
         "the latest less, and the tag as it was",
         Path::Present,
         &[NO_LATEST],
         "BadBody",
     ),
-    case(
+    (
         "the latest less, and the tag on another than the greatest",
         Path::Present,
         &[NO_LATEST, (r#""latest":"1.2.0""#, r#""latest":"1.1.0""#)],
         "BadBody",
     ),
-    case(
+    (
         "the latest less, and no such tag",
         Path::Present,
         &[NO_LATEST, (r#""latest":"1.2.0","#, "")],
         "BadBody",
     ),
-    case(
+    (
         "a version less, and its tag as it was",
         Path::Present,
         &[NO_BETA],
         "BadBody",
     ),
-    case(
+    (
         "a version less, and a tag of another",
         Path::Present,
         &[LESS, (r#","next":"2.0.0-beta.1""#, "")],
         "BadBody",
     ),
-    case(
+    (
         "versions that are no object",
         Path::Present,
         &[(r#""versions":{"#, r#""versions":null,"x":{"#)],
         "BadBody",
     ),
-    case(
+    (
         "maintainers that are no array",
         Path::Nothing,
         &[OLD, (r#""maintainers":["#, r#""maintainers":null,"x":["#)],
@@ -444,7 +454,7 @@ static NAMED: [Named; 15] = [
 ];
 
 // The text with a text in it, the first such one, replaced.
-fn edited(rt: &impl Abort, alloc: Global, whole: &str, edit: &(&str, &str)) -> String {
+fn edited(rt: &impl Abort, alloc: Global, whole: &str, edit: &Edit) -> String {
     let (before, after) = whole.split_once(edit.0).expect(rt, edit.0);
     concat(rt, alloc, &[before, edit.1, after])
 }
@@ -484,12 +494,12 @@ fn asked(rt: &impl Abort, alloc: Global, body: &str, path: Path, maintainers: &[
     shown(rt, alloc, &judge(alloc, &document, path, present))
 }
 
-// What npm read, with the edits of a case.
-fn document(rt: &impl Abort, alloc: Global, case: &Case, maintainers: &[Text]) -> String {
+// What npm read, with these edits.
+fn document(rt: &impl Abort, alloc: Global, edits: &[Edit], maintainers: &[Text]) -> String {
     let revision = revision(rt, alloc, maintainers);
     let front = front(alloc, &revision, maintainers).expect(rt, "memory");
     let mut whole = concat(rt, alloc, &[front.as_str(), &TOOL[1..]]);
-    for edit in case.edits {
+    for edit in edits {
         whole = edited(rt, alloc, whole.as_str(), edit);
     }
     whole
@@ -497,10 +507,10 @@ fn document(rt: &impl Abort, alloc: Global, case: &Case, maintainers: &[Text]) -
 
 fn asks(rt: &impl Abort, alloc: Global, cases: &[Case]) {
     let maintainers = texts(rt, alloc, &OWNERS);
-    for case in cases {
-        let whole = document(rt, alloc, case, &maintainers);
-        let came_out = asked(rt, alloc, whole.as_str(), case.path, &maintainers);
-        same(rt, case.shows, came_out.as_str(), case.asks);
+    for (shows, path, edits, wanted) in cases {
+        let whole = document(rt, alloc, edits, &maintainers);
+        let came_out = asked(rt, alloc, whole.as_str(), *path, &maintainers);
+        same(rt, *shows, came_out.as_str(), *wanted);
     }
 }
 

@@ -3,4 +3,4 @@ use Rattle.registry_service.specs.Turns.{spoken}
 use Rattle.registry_service.proofs.laws.one_history.Goals as goal
 
 pub returns : goal.returns
-returns g c = λ M w reached. one-history (spoken g.D.Service.speaks g.D.Service.answers) M w reached
+returns g c = λ M w reached. one-history (spoken g.D.HttpService.speaks g.D.Service.answers) M w reached
