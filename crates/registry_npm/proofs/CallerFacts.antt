@@ -212,7 +212,7 @@ by-stopped w at v (Refuses r) = by-reading w at (reads_claim w.body) _ (λ d _. 
 -- a request in form is asked for its caller
 request-for : (route : Option Route) (w : Wanted) (at : ℕ) (r : Request) → reads_routed route w at (Ok r) → IsFor w at r
 request-for None w at r h = absurd (cc)
-request-for (Some route) w at r (what, reads, who, is, same) = let whole : r ≡ record { at = at; who = who; what = what } = cc in subst (λ (q : Request). IsFor w at q) (sym whole) (refl, inl is)
+request-for (Some route) w at r (what, reads, (who, is, same)) = let whole : r ≡ record { at = at; who = who; what = what } = cc in subst (λ (q : Request). IsFor w at q) (sym whole) (refl, inl is)
 
 by-document : (w : Wanted) (at : ℕ) (v : Values) → By w at (leads_document v w at)
 by-document w at v es o (inl (r, is, h)) = by-asks w at r ends (request-for (route_of w.method w.target) w at r is) (by-ends w at) es o h

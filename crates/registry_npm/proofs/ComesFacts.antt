@@ -1,5 +1,5 @@
 -- What a service was asked, and what that came to, one request after the other.
-use Rattle.std.proofs.Common.{◌≡◌, ◌∷◌, [], Bool, true, false, List, Option, Some, None, Result, Ok, Err, refl, inl, inr}
+use Rattle.std.proofs.Common.{◌≡◌, ◌∷◌, [], Bool, true, false, List, Option, Some, None, Result, Ok, Err, refl, inl, inr, ℕ}
 use Rattle.std.specs.Prelude.{IfOk, MatchResult}
 use Rattle.registry_names.specs.declared.stop.Fault.{Fault}
 use Rattle.registry_names.specs.declared.stop.Fault.TheVariants.{Database, Memory}
@@ -11,7 +11,10 @@ use Rattle.registry_rules.specs.declared.request.Request.{Request}
 use Rattle.registry_service.specs.HttpAnswers.{Outcome}
 use Rattle.registry_service.specs.Readings.{Reading}
 use Rattle.registry_service.specs.Turns.{Answering, AnswersEach, Exchange, exchange, stopped}
-use Rattle.registry_npm.specs.Packages.{for_document, for_names}
+use Rattle.registry_npm.specs.Packages.{for_document, for_names, leads_document}
+use Rattle.registry_routes.specs.Routes.{Values}
+use Rattle.registry_service.specs.Requests.{reads_request}
+use Rattle.registry_wire.specs.declared.wanted.Wanted.{Wanted}
 use Rattle.registry_npm.specs.Leading.{Comes, Leads, asks, document_of, either, ends, is_stop, or_memory, reading, unless_stopped}
 
 -- the organisation that an action names
@@ -22,6 +25,17 @@ pub same-members : (a b : Text) → Members a ≡ Members b → a ≡ b
 same-members a b e = cc e
 
 module _ {D : Type 0} (answers : Answering D) where
+  -- what is read, before what no memory may be left for
+  pub comes-judged : {A : Type 0} (M N : D) (reads : Reading A) (next : A → Leads) (a : A) (o : Outcome) → reads (Ok a) → Comes answers M (or_memory (next a)) o N → Comes answers M (or_memory (reading reads next)) o N
+  unfolding or_memory, reading
+  comes-judged M N reads next a o r (es, inl h, later) = (es, inl (inl (a, r, h)), later)
+  comes-judged M N reads next a o r (es, inr h, later) = (es, inr h, later)
+
+  -- a publication
+  pub comes-published : (M N : D) (v : Values) (w : Wanted) (at : ℕ) (r : Request) (o : Outcome) → reads_request w at (Ok r) → answers M r o N → Comes answers M (leads_document v w at) o N
+  unfolding asks
+  comes-published M N v w at r o is a = (exchange r o ∷ [], inl (r, is, (refl, (refl, refl))), (N, a, refl))
+
   -- nothing is asked
   pub comes-alone : (M : D) (leads : Leads) (o : Outcome) → leads [] o → Comes answers M leads o M
   comes-alone M leads o h = ([], h, refl)

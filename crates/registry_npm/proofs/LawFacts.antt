@@ -182,7 +182,7 @@ few-first : (e : NpmEndpoint) (v : Values) (w : Wanted) (at : ℕ) → Few 1 (as
 few-first e v w at = few-reading 1 (reads_first e v w.body) _ (λ what _. few-reading 1 (reads_caller w.authorization) _ (λ who _. few-asks 1 0 (request at who what) (follows e) (cost-one what) (few-follows e)))
 
 few-tries : (n : ℕ) (r : Request) (next : Outcome → Leads) → cost r.what ≤ 0 → ((c : Outcome) → Few n (next c)) → Few n (tries r next)
-few-tries n r next low f = few-or_memory n (asks r next) (few-asks 0 n r next low f)
+few-tries n r next low f = few-or_memory n (asks r next) (λ es o h. let le = few-asks 0 n r next low f es o h in omega (arith, le))
 
 few-stale : (n : ℕ) (c : Outcome) → Few n (stale c)
 few-stale n c = either-of (Few n) (is_gone c) _ _ (few-ends n (Ok (Refused Stale))) (few-ends n c)

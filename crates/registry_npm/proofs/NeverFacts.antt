@@ -89,7 +89,7 @@ bad-decoding written s (inr (e, h)) = rw e refl
 
 bad-read_name : (written : Text) (s : Stop) → reads_name written (Err s) → is_gone (stopped s) ≡ false
 bad-read_name written s (inl h) = bad-decoding written s h
-bad-read_name written s (inr (e, h)) = rw e refl
+bad-read_name written s (inr (e, u, h)) = rw e refl
 
 bad-name : (v : Values) (s : Stop) → one reads_name v (Err s) → is_gone (stopped s) ≡ false
 unfolding one
@@ -157,10 +157,10 @@ never-for_document : (next : Text → Leads) (other : Leads) (t : Option Text) �
 never-for_document next other None f g = g
 never-for_document next other (Some text) f g = f text
 
-module _ (purpose : Purpose) (other : (c : Outcome) → Never (other_of purpose c)) (then : (p : Text) (at : ℕ) (who : Credential) (text : Text) (names : List Text) → Never (fulfils purpose p at who text names)) where
+module _ (purpose : Purpose) (other : (c : Outcome) → Never (other_of purpose c)) (goes : (p : Text) (at : ℕ) (who : Credential) (text : Text) (names : List Text) → Never (fulfils purpose p at who text names)) where
   never-asks_names : (p : Text) (at : ℕ) (who : Credential) (text : Text) → Never (asks_names p at who (other_of purpose) (fulfils purpose p at who text))
-  never-asks_names p at who text = never-either (is_some (scope_of p)) _ _ (then p at who text []) (never-or_memory _ (never-asks (request at who (Maintainers p)) _
-      (λ c. never-for_document _ (other_of purpose c) (document_of c) (λ t. never-or_memory _ (never-for_names _ (names_in t) (then p at who text))) (other c))))
+  never-asks_names p at who text = never-either (is_some (scope_of p)) _ _ (goes p at who text []) (never-or_memory _ (never-asks (request at who (Maintainers p)) _
+      (λ c. never-for_document _ (other_of purpose c) (document_of c) (λ t. never-or_memory _ (never-for_names _ (names_in t) (goes p at who text))) (other c))))
 
   never-serves : (p : Text) (at : ℕ) (who : Credential) → Never (serves purpose p at who)
   never-serves p at who = never-or_memory _ (never-asks (request at who (Packument p)) _

@@ -1,6 +1,6 @@
 //! The one command that a document asks for.
 
-ghost use Rattle.std.specs.Prelude.{◌≡◌, [], option_map};
+ghost use Rattle.std.specs.Prelude.{◌≡◌, [], is_some, option_map};
 ghost use Rattle.registry_npm.specs.Callers.{who_of};
 ghost use Rattle.registry_npm.specs.Leading.{Comes, reading};
 ghost use Rattle.registry_npm.specs.Packages as spec;
@@ -91,6 +91,13 @@ fn owner(alloc: Global, text: &Text) -> Result<Ident, Stop>
     Ident::parse(alloc, text.as_str())
 }
 
+// Whether the path names a revision.
+fn is_revised(path: Option<&str>) -> bool
+    ensures { result ≡ is_some (option_map (λ t. t.now) path.entry) }
+{
+    path.is_some()
+}
+
 /// What a document asks for is asked. Without a revision in its path it may ask for messages alone.
 pub(crate) fn does<D: Service>(
     alloc: Global,
@@ -110,22 +117,22 @@ pub(crate) fn does<D: Service>(
             deprecate(alloc, service, path, name, &selector, &message, who, at)
         }
         Asked::Withdrawal { version } => {
-            if path.is_none() {
-                return Ok(Reply::Refused(Refusal::BadBody));
+            if is_revised(path) {
+                return withdraw(alloc, service, path, name, &version, who, at);
             }
-            withdraw(alloc, service, path, name, &version, who, at)
+            Ok(Reply::Refused(Refusal::BadBody))
         }
         Asked::OwnerAdd { user } => {
-            if path.is_none() {
-                return Ok(Reply::Refused(Refusal::BadBody));
+            if is_revised(path) {
+                return owner_add(alloc, service, path, name, &user, who, at);
             }
-            owner_add(alloc, service, path, name, &user, who, at)
+            Ok(Reply::Refused(Refusal::BadBody))
         }
         Asked::OwnerRemove { user } => {
-            if path.is_none() {
-                return Ok(Reply::Refused(Refusal::BadBody));
+            if is_revised(path) {
+                return owner_remove(alloc, service, path, name, &user, who, at);
             }
-            owner_remove(alloc, service, path, name, &user, who, at)
+            Ok(Reply::Refused(Refusal::BadBody))
         }
     }
 }

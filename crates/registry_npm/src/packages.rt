@@ -1,11 +1,13 @@
 //! What npm wants of a package: to read it, to have a document judged, or to withdraw all versions.
 
-ghost use Rattle.std.specs.Prelude.{◌≡◌, [], IfErr, IfOk, option_map};
+ghost use Rattle.std.specs.Prelude.{◌≡◌, [], IfErr, IfOk, Ok, Some, bytes_eq, option_map};
 ghost use Rattle.registry_documents.specs.Documents.{value_of};
 ghost use Rattle.registry_npm.specs.Callers.{who_of};
 ghost use Rattle.registry_rules.specs.declared.request.Action.TheVariants as action;
 ghost use Rattle.registry_npm.specs.Leading as leading;
-ghost use Rattle.registry_npm.specs.Leading.{Comes, asks, or_memory};
+ghost use Rattle.registry_npm.specs.Leading.{Comes, asks, either, ends, or_memory};
+ghost use Rattle.registry_names.specs.declared.refusal.Refusal.TheVariants.{Stale};
+ghost use Rattle.registry_rules.specs.declared.reply.Reply.TheVariants.{Refused};
 ghost use Rattle.registry_npm.specs.Packages as spec;
 ghost use Rattle.registry_npm.specs.Purposes.{purpose_view};
 
@@ -317,13 +319,51 @@ fn withdrawn<D: Service>(
     ensures { Comes D.answers service.old
         (spec.unpublished_by name.now named.now at (who_of who.now) text.now names.now) result service.new }
 {
-    let revision = match revision_of(alloc, text, names) {
-        Ok(revision) => revision,
-        Err(fault) => return Err(fault),
-    };
-    if !revision.is(named) {
-        return Ok(Reply::Refused(Refusal::Stale));
+    match is_present(alloc, named, text, names) {
+        Ok(is_present) => withdrawn_if(alloc, service, is_present, named, name, who, at),
+        Err(fault) => Err(fault),
     }
+}
+
+// Whether the path names the present revision.
+fn is_present(alloc: Global, named: &str, text: &str, names: &[Text]) -> Result<bool, Fault>
+    ensures ok { IfOk result (λ is. is ≡ bytes_eq named.now (spec.revision text.now names.now)) }
+    ensures err { IfErr result (λ fault. fault ≡ Fault.Memory) }
+{
+    Ok(revision_of(alloc, text, names)?.is(named))
+}
+
+fn withdrawn_if<D: Service>(
+    alloc: Global,
+    service: &mut D,
+    is_present: bool,
+    named: &str,
+    name: &Name,
+    who: &Caller,
+    at: Moment,
+) -> Result<Reply, Fault>
+    ensures { Comes D.answers service.old (or_memory (either is_present
+        (spec.asks_late (Some named.now) at (who_of who.now) (action.WithdrawAll name.now))
+        (ends (Ok (Refused Stale))))) result service.new }
+{
+    if is_present {
+        return withdraw_all(alloc, service, named, name, who, at);
+    }
+    Ok(Reply::Refused(Refusal::Stale))
+}
+
+fn withdraw_all<D: Service>(
+    alloc: Global,
+    service: &mut D,
+    named: &str,
+    name: &Name,
+    who: &Caller,
+    at: Moment,
+) -> Result<Reply, Fault>
+    ensures { Comes D.answers service.old (or_memory
+        (spec.asks_late (Some named.now) at (who_of who.now) (action.WithdrawAll name.now)))
+        result service.new }
+{
     match copied(alloc, name) {
         Ok(package) => {
             command(

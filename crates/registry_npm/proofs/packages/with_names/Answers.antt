@@ -3,7 +3,7 @@ use Rattle.registry_npm.proofs.ComesFacts.{comes-names, comes-nameless, comes-st
 use Rattle.registry_npm.proofs.packages.with_names.Goals as goal
 
 pub returns-in-Ok-Some : goal.returns-in-Ok-Some
-returns-in-Ok-Some g c = comes-names g.D.Service.answers _ _ _ _ _ _ (sym (rw c.in-Ok-Some.field-0-is at c.in-Ok-Some.ensures.ok)) (rw c.deref-names.ensures.value at c.fulfil.ensures)
+returns-in-Ok-Some g c = comes-names g.D.Service.answers _ _ _ _ _ _ (sym (rw c.in-Ok-Some.field-0-is at c.in-Ok-Some.ensures.ok)) (rw c.deref.ensures.value at c.fulfil.ensures)
 
 pub returns-in-Ok-None : goal.returns-in-Ok-None
 returns-in-Ok-None g c = comes-nameless g.D.Service.answers _ _ _ (sym (rw c.in-Ok-None.field-0-is at c.in-Ok-None.ensures.ok))
