@@ -27,7 +27,7 @@ same-members a b e = cc e
 module _ {D : Type 0} (answers : Answering D) where
   -- what is read, before what no memory may be left for
   pub comes-judged : {A : Type 0} (M N : D) (reads : Reading A) (next : A → Leads) (a : A) (o : Outcome) → reads (Ok a) → Comes answers M (or_memory (next a)) o N → Comes answers M (or_memory (reading reads next)) o N
-  unfolding or_memory, reading
+  unfolding or_memory reading
   comes-judged M N reads next a o r (es, inl h, later) = (es, inl (inl (a, r, h)), later)
   comes-judged M N reads next a o r (es, inr h, later) = (es, inr h, later)
 
@@ -35,6 +35,11 @@ module _ {D : Type 0} (answers : Answering D) where
   pub comes-published : (M N : D) (v : Values) (w : Wanted) (at : ℕ) (r : Request) (o : Outcome) → reads_request w at (Ok r) → answers M r o N → Comes answers M (leads_document v w at) o N
   unfolding asks
   comes-published M N v w at r o is a = (exchange r o ∷ [], inl (r, is, (refl, (refl, refl))), (N, a, refl))
+
+  -- the second of two
+  pub comes-unless : (M : D) (b : Bool) (fst : Leads) (c : Outcome) → b ≡ false → Comes answers M (or_memory (either b fst (ends c))) c M
+  unfolding or_memory
+  comes-unless M b fst c e = ([], inl (rw e (refl, refl)), refl)
 
   -- nothing is asked
   pub comes-alone : (M : D) (leads : Leads) (o : Outcome) → leads [] o → Comes answers M leads o M

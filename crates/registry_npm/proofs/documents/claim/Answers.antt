@@ -10,4 +10,4 @@ pub returns-in-Ok-None : goal.returns-in-Ok-None
 returns-in-Ok-None g c = comes-read g.D.Service.answers _ _ _ _ None _ (rw (c.as_slice.ensures, c.in-Ok-None.field-0-is) at c.in-Ok-None.ensures) (comes-ended g.D.Service.answers _ _)
 
 pub returns-in-Err : goal.returns-in-Err
-returns-in-Err g c = comes-stopped g.D.Service.answers _ _ _ c.in-Err.stop _ (rw c.as_slice.ensures at c.in-Err.ensures) c.stopped.ensures
+returns-in-Err g c = comes-stopped g.D.Service.answers _ _ _ c.in-Err.stop _ c.in-Err.ensures c.stopped.ensures
