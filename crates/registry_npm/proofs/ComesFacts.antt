@@ -1,16 +1,21 @@
 -- What a service was asked, and what that came to, one request after the other.
-use Rattle.std.proofs.Common.{◌≡◌, ◌∷◌, [], Bool, true, false, List, Result, Ok, Err, refl, inl, inr}
+use Rattle.std.proofs.Common.{◌≡◌, ◌∷◌, [], Bool, true, false, List, Option, Some, None, Result, Ok, Err, refl, inl, inr, ℕ}
 use Rattle.std.specs.Prelude.{IfOk, MatchResult}
 use Rattle.registry_names.specs.declared.stop.Fault.{Fault}
-use Rattle.registry_names.specs.declared.stop.Fault.TheVariants.{Memory}
-use Rattle.registry_names.specs.Texts.{Text}
+use Rattle.registry_names.specs.declared.stop.Fault.TheVariants.{Database, Memory}
 use Rattle.registry_names.specs.declared.stop.Stop.{Stop}
+use Rattle.registry_names.specs.Texts.{Text}
+use Rattle.registry_rules.specs.declared.reply.Reply.TheVariants.{Doc}
 use Rattle.registry_rules.specs.declared.request.Action.TheVariants.{Members, Teams}
 use Rattle.registry_rules.specs.declared.request.Request.{Request}
 use Rattle.registry_service.specs.HttpAnswers.{Outcome}
 use Rattle.registry_service.specs.Readings.{Reading}
 use Rattle.registry_service.specs.Turns.{Answering, AnswersEach, Exchange, exchange, stopped}
-use Rattle.registry_npm.specs.Leading.{Comes, Leads, asks, either, ends, is_stop, or_memory, reading, unless_stopped}
+use Rattle.registry_npm.specs.Packages.{for_document, for_names, leads_document}
+use Rattle.registry_routes.specs.Routes.{Values}
+use Rattle.registry_service.specs.Requests.{reads_request}
+use Rattle.registry_wire.specs.declared.wanted.Wanted.{Wanted}
+use Rattle.registry_npm.specs.Leading.{Comes, Leads, asks, document_of, either, ends, is_stop, or_memory, reading, unless_stopped}
 
 -- the organisation that an action names
 pub same-teams : (a b : Text) → Teams a ≡ Teams b → a ≡ b
@@ -20,6 +25,22 @@ pub same-members : (a b : Text) → Members a ≡ Members b → a ≡ b
 same-members a b e = cc e
 
 module _ {D : Type 0} (answers : Answering D) where
+  -- what is read, before what no memory may be left for
+  pub comes-judged : {A : Type 0} (M N : D) (reads : Reading A) (next : A → Leads) (a : A) (o : Outcome) → reads (Ok a) → Comes answers M (or_memory (next a)) o N → Comes answers M (or_memory (reading reads next)) o N
+  unfolding or_memory reading
+  comes-judged M N reads next a o r (es, inl h, later) = (es, inl (inl (a, r, h)), later)
+  comes-judged M N reads next a o r (es, inr h, later) = (es, inr h, later)
+
+  -- a publication
+  pub comes-published : (M N : D) (v : Values) (w : Wanted) (at : ℕ) (r : Request) (o : Outcome) → reads_request w at (Ok r) → answers M r o N → Comes answers M (leads_document v w at) o N
+  unfolding asks
+  comes-published M N v w at r o is a = (exchange r o ∷ [], inl (r, is, (refl, (refl, refl))), (N, a, refl))
+
+  -- the second of two
+  pub comes-unless : (M : D) (b : Bool) (fst : Leads) (c : Outcome) → b ≡ false → Comes answers M (or_memory (either b fst (ends c))) c M
+  unfolding or_memory
+  comes-unless M b fst c e = ([], inl (rw e (refl, refl)), refl)
+
   -- nothing is asked
   pub comes-alone : (M : D) (leads : Leads) (o : Outcome) → leads [] o → Comes answers M leads o M
   comes-alone M leads o h = ([], h, refl)
@@ -57,11 +78,27 @@ module _ {D : Type 0} (answers : Answering D) where
   comes-stop M next c e = ([], rw e (refl, refl), refl)
 
   -- the first where a test holds, and otherwise the second
-  pub comes-either : (M N : D) (b : Bool) (this other : Leads) (o : Outcome) → b ≡ true → Comes answers M this o N → Comes answers M (either b this other) o N
-  comes-either M N b this other o e (es, h, later) = (es, rw e h, later)
+  pub comes-either : (M N : D) (b : Bool) (fst snd : Leads) (o : Outcome) → b ≡ true → Comes answers M fst o N → Comes answers M (either b fst snd) o N
+  comes-either M N b fst snd o e (es, h, later) = (es, rw e h, later)
 
-  pub comes-or_else : (M N : D) (b : Bool) (this other : Leads) (o : Outcome) → b ≡ false → Comes answers M other o N → Comes answers M (either b this other) o N
-  comes-or_else M N b this other o e (es, h, later) = (es, rw e h, later)
+  pub comes-or_else : (M N : D) (b : Bool) (fst snd : Leads) (o : Outcome) → b ≡ false → Comes answers M snd o N → Comes answers M (either b fst snd) o N
+  comes-or_else M N b fst snd o e (es, h, later) = (es, rw e h, later)
+
+  -- what was answered is a document, or it isn't
+  pub comes-document : (M N : D) (next : Text → Leads) (other : Leads) (c : Outcome) (text : Text) (o : Outcome) → c ≡ Ok (Doc text) → Comes answers M (next text) o N → Comes answers M (for_document next other (document_of c)) o N
+  comes-document M N next other c text o e (es, h, later) = (es, rw e h, later)
+
+  pub comes-other : (M N : D) (next : Text → Leads) (other : Leads) (c o : Outcome) → document_of c ≡ None → Comes answers M other o N → Comes answers M (for_document next other (document_of c)) o N
+  comes-other M N next other c o e (es, h, later) = (es, rw e h, later)
+
+  -- a text of names, or it isn't one
+  pub comes-names : (M N : D) (next : List Text → Leads) (names : Option (List Text)) (ns : List Text) (o : Outcome) → names ≡ Some ns → Comes answers M (next ns) o N → Comes answers M (or_memory (for_names next names)) o N
+  unfolding or_memory
+  comes-names M N next names ns o e (es, h, later) = (es, inl (rw e h), later)
+
+  pub comes-nameless : (M : D) (next : List Text → Leads) (names : Option (List Text)) → names ≡ None → Comes answers M (or_memory (for_names next names)) (Err Database) M
+  unfolding or_memory
+  comes-nameless M next names e = ([], inl (rw e (refl, refl)), refl)
 
   pub comes-ended : (M : D) (c : Outcome) → Comes answers M (ends c) c M
   comes-ended M c = ([], (refl, refl), refl)

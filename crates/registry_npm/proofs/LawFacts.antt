@@ -6,9 +6,12 @@ use Rattle.registry_access.specs.declared.role.Role.{Role}
 use Rattle.registry_names.specs.Names.{scope_of}
 use Rattle.registry_names.specs.Texts.{Text}
 use Rattle.registry_names.specs.declared.method.Method.{Method}
-use Rattle.registry_names.specs.declared.refusal.Refusal.TheVariants.{NotFound, NotServed}
+use Rattle.registry_names.specs.declared.refusal.Refusal.{Refusal}
+use Rattle.registry_names.specs.declared.refusal.Refusal.TheVariants.{BadBody, NotFound, NotServed, Stale}
 use Rattle.registry_names.specs.declared.stop.Fault.{Fault}
+use Rattle.registry_names.specs.declared.stop.Fault.TheVariants.{Database}
 use Rattle.registry_names.specs.declared.stop.Stop.{Stop}
+use Rattle.registry_names.specs.declared.stop.Stop.TheVariants.{Refused as Refuses, Fault as Faulted}
 use Rattle.registry_routes.specs.NpmLaws.{TablesMeet, endpoint_of, met}
 use Rattle.registry_routes.specs.NpmRoutes.{NpmRoute, npm_route_of}
 use Rattle.registry_routes.specs.Routes.{Route, Values, route_of}
@@ -17,9 +20,9 @@ use Rattle.registry_routes.specs.declared.npm_endpoint.NpmEndpoint.{NpmEndpoint}
 use Rattle.registry_routes.specs.declared.npm_endpoint.NpmEndpoint.TheVariants as by
 use Rattle.registry_rules.specs.Actions.{is_command}
 use Rattle.registry_rules.specs.declared.reply.Reply.{Reply}
-use Rattle.registry_rules.specs.declared.reply.Reply.TheVariants.{Refused}
+use Rattle.registry_rules.specs.declared.reply.Reply.TheVariants.{Done, Refused}
 use Rattle.registry_rules.specs.declared.request.Action.{Action}
-use Rattle.registry_rules.specs.declared.request.Action.TheVariants.{OrgSet, Maintainers, Members, MyPackages, Tags, Teams, WhoAmI}
+use Rattle.registry_rules.specs.declared.request.Action.TheVariants.{OrgSet, Maintainers, Members, MyPackages, Packument, Tags, Teams, WhoAmI}
 use Rattle.registry_rules.specs.declared.request.Credential.{Credential}
 use Rattle.registry_rules.specs.declared.request.Credential.TheVariants.{Anonymous}
 use Rattle.registry_rules.specs.declared.request.Request.{Request}
@@ -31,10 +34,14 @@ use Rattle.registry_service.specs.Turns.{Exchange, exchange, profile, stopped}
 use Rattle.registry_wire.specs.declared.wanted.Wanted.{Wanted}
 use Rattle.registry_npm.specs.Asked.{reads_first, reads_member, reads_user}
 use Rattle.registry_npm.specs.Bodies.{begins_object}
-use Rattle.registry_npm.specs.Forms.{empty_text, grants_form, membership_form, profile_form, teams_form, user_text, visibility_text, writers_form}
-use Rattle.registry_npm.specs.Laws.{CameTo, FaultsEnd, FilesAreGone, NpmIsApart, OneCommand, OthersStay, StopAtFaults, StopsAtFault, command_count, commands, is_file_drop, is_npms_by}
-use Rattle.registry_npm.specs.Leading.{Leads, asks, document_of, either, ends, in_form, is_refused, is_stop, or_memory, reading, request, shown_as, shows, unless_stopped}
-use Rattle.registry_npm.specs.Npm.{asks_action, asks_first, asks_nobody, asks_own, asks_role, asks_size, by_caller, follows, is_npms, is_user, leads, not_served, npm, sets_member, shows_own, shows_public, shows_teams, shows_user, shows_visibility, shows_writers, speaks_by}
+use Rattle.registry_npm.specs.Forms.{empty_text, grants_form, membership_form, names_in, profile_form, teams_form, user_text, visibility_text, writers_form}
+use Rattle.registry_npm.specs.Laws.{CameTo, FaultsEnd, FilesAreGone, NpmIsApart, OneCommand, OthersStay, StopAtFaults, StopsAtFault, command_count, commands, is_file_drop, is_npms_by, is_of_package, is_package}
+use Rattle.registry_documents.specs.declared.asked.Asked.{Asked}
+use Rattle.registry_documents.specs.declared.asked.Asked.TheVariants.{AlreadySo, Deprecation as Deprecates, Withdrawal, OwnerAdd as AddsOwner, OwnerRemove as RemovesOwner}
+use Rattle.serde_json.specs.Data.{Data}
+use Rattle.registry_npm.specs.Packages.{Purpose, asks_as, asks_for, asks_late, asks_names, does, for_document, for_names, fulfils, is_gone, judged, judges, late, leads_claim, leads_document, leads_stopped, named_by, other_of, reads_claim, reads_document, reads_owner, reads_revision, reads_versions, reads_withdrawn, serves, serves_user, shown, stale, tries, with_names, withdrawn}
+use Rattle.registry_npm.specs.Leading.{Leads, asks, by_caller, document_of, either, ends, in_form, is_refused, is_stop, or_memory, reading, request, shown_as, shows, unless_stopped}
+use Rattle.registry_npm.specs.Npm.{asks_action, asks_first, asks_nobody, asks_own, asks_role, asks_size, follows, is_npms, is_user, leads, not_served, npm, sets_member, shows_own, shows_public, shows_teams, shows_user, shows_visibility, shows_writers, speaks_by}
 
 -- ---- of either
 
@@ -174,11 +181,82 @@ few-follows by.NotServed c = few-ends 0 c
 few-first : (e : NpmEndpoint) (v : Values) (w : Wanted) (at : ℕ) → Few 1 (asks_first e v w at)
 few-first e v w at = few-reading 1 (reads_first e v w.body) _ (λ what _. few-reading 1 (reads_caller w.authorization) _ (λ who _. few-asks 1 0 (request at who what) (follows e) (cost-one what) (few-follows e)))
 
+few-tries : (n : ℕ) (r : Request) (next : Outcome → Leads) → cost r.what ≤ 0 → ((c : Outcome) → Few n (next c)) → Few n (tries r next)
+few-tries n r next low f = few-or_memory n (asks r next) (λ es o h. let le = few-asks 0 n r next low f es o h in omega (arith, le))
+
+few-stale : (n : ℕ) (c : Outcome) → Few n (stale c)
+few-stale n c = either-of (Few n) (is_gone c) _ _ (few-ends n (Ok (Refused Stale))) (few-ends n c)
+
+few-late : (n : ℕ) (path : Option Text) (c : Outcome) → Few n (late path c)
+few-late n None c = few-ends n c
+few-late n (Some named) c = few-stale n c
+
+few-asks_late : (path : Option Text) (at : ℕ) (who : Credential) (what : Action) → Few 1 (asks_late path at who what)
+few-asks_late path at who what = few-asks 1 0 (request at who what) (late path) (cost-one what) (few-late 0 path)
+
+few-does : (path : Option Text) (p : Text) (at : ℕ) (who : Credential) (asked : Asked) → Few 1 (does path p at who asked)
+few-does path p at who AlreadySo = few-ends 1 (Ok Done)
+few-does path p at who (Deprecates selector message) = few-reading 1 (reads_versions selector message) _ (λ d _. few-asks_late path at who _)
+few-does path p at who (Withdrawal version) = either-of (Few 1) (is_some path) _ _ (few-reading 1 (reads_withdrawn version) _ (λ v _. few-asks_late path at who _)) (few-ends 1 (Ok (Refused BadBody)))
+few-does path p at who (AddsOwner user) = either-of (Few 1) (is_some path) _ _ (few-reading 1 (reads_owner user) _ (λ u _. few-asks_late path at who _)) (few-ends 1 (Ok (Refused BadBody)))
+few-does path p at who (RemovesOwner user) = either-of (Few 1) (is_some path) _ _ (few-reading 1 (reads_owner user) _ (λ u _. few-asks_late path at who _)) (few-ends 1 (Ok (Refused BadBody)))
+
+few-fulfils : (purpose : Purpose) (p : Text) (at : ℕ) (who : Credential) (text : Text) (names : List Text) → Few 1 (fulfils purpose p at who text names)
+few-fulfils shown p at who text names = few-shows 1 _
+few-fulfils (judged path d) p at who text names = few-or_memory 1 _ (few-reading 1 (judges d path text names) _ (λ asked _. few-does path p at who asked))
+few-fulfils (withdrawn named) p at who text names = few-or_memory 1 _ (either-of (Few 1) _ _ _ (few-asks_late (Some named) at who _) (few-ends 1 (Ok (Refused Stale))))
+
+few-other : (purpose : Purpose) (c : Outcome) → Few 1 (other_of purpose c)
+few-other shown c = few-ends 1 c
+few-other (judged path d) c = few-late 1 path c
+few-other (withdrawn named) c = few-stale 1 c
+
+few-for_names : (next : List Text → Leads) (names : Option (List Text)) → ((ns : List Text) → Few 1 (next ns)) → Few 1 (for_names next names)
+few-for_names next None f = few-ends 1 (Err Database)
+few-for_names next (Some ns) f = f ns
+
+few-for_document : (next : Text → Leads) (other : Leads) (t : Option Text) → ((text : Text) → Few 1 (next text)) → Few 1 other → Few 1 (for_document next other t)
+few-for_document next other None f g = g
+few-for_document next other (Some text) f g = f text
+
+few-named : (purpose : Purpose) (next : List Text → Leads) (c : Outcome) → ((ns : List Text) → Few 1 (next ns)) → Few 1 (named_by (other_of purpose) next c)
+few-named purpose next c f = few-for_document (with_names next) (other_of purpose c) (document_of c) (λ text. few-or_memory 1 _ (few-for_names next (names_in text) f)) (few-other purpose c)
+
+few-asks_names : (purpose : Purpose) (p : Text) (at : ℕ) (who : Credential) (next : List Text → Leads) → ((ns : List Text) → Few 1 (next ns)) → Few 1 (asks_names p at who (other_of purpose) next)
+few-asks_names purpose p at who next f = either-of (Few 1) (is_some (scope_of p)) _ _ (f []) (few-tries 1 (request at who (Maintainers p)) _ (omega arith) (λ c. few-named purpose next c f))
+
+few-serves : (purpose : Purpose) (p : Text) (at : ℕ) (who : Credential) → Few 1 (serves purpose p at who)
+few-serves purpose p at who = few-tries 1 (request at who (Packument p)) _ (omega arith)
+    (λ c. few-for_document _ (other_of purpose c) (document_of c) (λ text. few-asks_names purpose p at who _ (few-fulfils purpose p at who text)) (few-other purpose c))
+
+few-serves_user : (purpose : Purpose) (p : Text) (at : ℕ) (who : Credential) → Few 1 (serves_user purpose p at who)
+few-serves_user purpose p at who = few-asks 0 1 (request at who WhoAmI) _ (omega arith) (λ c. either-of (Few 1) (is_stop c) _ _ (few-other purpose c) (few-serves purpose p at who))
+
+few-asks_as : (purpose : Purpose) (p : Text) (at : ℕ) (who : Credential) → Few 1 (asks_as purpose p at who)
+few-asks_as shown p at who = few-serves shown p at who
+few-asks_as (judged path d) p at who = few-serves_user (judged path d) p at who
+few-asks_as (withdrawn named) p at who = few-serves_user (withdrawn named) p at who
+
+few-asks_for : (purpose : Purpose) (p : Text) (w : Wanted) (at : ℕ) → Few 1 (asks_for purpose p w at)
+few-asks_for purpose p w at = few-reading 1 (reads_caller w.authorization) _ (λ who _. few-asks_as purpose p at who)
+
+few-claim : (v : Values) (w : Wanted) (at : ℕ) (r : Refusal) (d : Option Data) → Few 1 (leads_claim v w at r d)
+few-claim v w at r None = few-ends 1 (Ok (Refused r))
+few-claim v w at r (Some d) = few-reading 1 (one reads_name v) _ (λ p _. few-asks_for (judged None d) p w at)
+
+few-stopped : (v : Values) (w : Wanted) (at : ℕ) (s : Stop) → Few 1 (leads_stopped v w at s)
+few-stopped v w at (Faulted fault) = few-ends 1 (Err fault)
+few-stopped v w at (Refuses r) = few-reading 1 (reads_claim w.body) _ (λ d _. few-claim v w at r d)
+
+few-document : (v : Values) (w : Wanted) (at : ℕ) → Few 1 (leads_document v w at)
+few-document v w at es o (inl (r, is, h)) = few-asks 1 0 r ends (cost-one r.what) (few-ends 0) es o h
+few-document v w at es o (inr (s, is, h)) = few-stopped v w at s es o h
+
 few-leads : (e : NpmEndpoint) (v : Values) (w : Wanted) (at : ℕ) → Few 1 (leads e v w at)
-few-leads by.Packument v w at = few-first by.Packument v w at
-few-leads by.Document v w at = few-first by.Document v w at
-few-leads by.Revised v w at = few-first by.Revised v w at
-few-leads by.Unpublish v w at = few-first by.Unpublish v w at
+few-leads by.Packument v w at = few-reading 1 (one reads_name v) _ (λ p _. few-asks_for shown p w at)
+few-leads by.Document v w at = few-document v w at
+few-leads by.Revised v w at = few-reading 1 (one reads_name v) _ (λ p _. few-reading 1 (reads_revision v.second) _ (λ named _. few-reading 1 (reads_document w.body) _ (λ d _. few-asks_for (judged (Some named) d) p w at)))
+few-leads by.Unpublish v w at = few-reading 1 (one reads_name v) _ (λ p _. few-reading 1 (reads_revision v.second) _ (λ named _. few-asks_for (withdrawn named) p w at))
 few-leads by.FileDrop v w at = few-first by.FileDrop v w at
 few-leads by.ScopedFileDrop v w at = few-first by.ScopedFileDrop v w at
 few-leads by.Visibility v w at = few-reading 1 (one reads_name v) (λ p. shows_visibility p w at) (λ p _. few-visibility p w at)
@@ -340,11 +418,90 @@ stops-follows by.NotServed = stops-ends
 stops-first : (e : NpmEndpoint) (v : Values) (w : Wanted) (at : ℕ) → Stops (asks_first e v w at)
 stops-first e v w at = stops-reading (reads_first e v w.body) _ (λ what _. stops-reading (reads_caller w.authorization) _ (λ who _. stops-asks (request at who what) (follows e) (stops-follows e)))
 
+stops-tries : (r : Request) (next : Outcome → Leads) → Stops-after next → Stops (tries r next)
+stops-tries r next s = stops-or_memory (asks r next) (stops-asks r next s)
+
+stops-stale : Stops-after stale
+stops-stale = record { later = λ c. either-of Stops (is_gone c) _ _ (stops-ended (Ok (Refused Stale))) (stops-ended c); at_fault = λ f es o h. h }
+
+stops-late : (path : Option Text) → Stops-after (late path)
+stops-late None = stops-ends
+stops-late (Some named) = stops-stale
+
+stops-asks_late : (path : Option Text) (at : ℕ) (who : Credential) (what : Action) → Stops (asks_late path at who what)
+stops-asks_late path at who what = stops-asks (request at who what) (late path) (stops-late path)
+
+stops-does : (path : Option Text) (p : Text) (at : ℕ) (who : Credential) (asked : Asked) → Stops (does path p at who asked)
+stops-does path p at who AlreadySo = stops-ended (Ok Done)
+stops-does path p at who (Deprecates selector message) = stops-reading (reads_versions selector message) _ (λ d _. stops-asks_late path at who _)
+stops-does path p at who (Withdrawal version) = either-of Stops (is_some path) _ _ (stops-reading (reads_withdrawn version) _ (λ v _. stops-asks_late path at who _)) (stops-ended (Ok (Refused BadBody)))
+stops-does path p at who (AddsOwner user) = either-of Stops (is_some path) _ _ (stops-reading (reads_owner user) _ (λ u _. stops-asks_late path at who _)) (stops-ended (Ok (Refused BadBody)))
+stops-does path p at who (RemovesOwner user) = either-of Stops (is_some path) _ _ (stops-reading (reads_owner user) _ (λ u _. stops-asks_late path at who _)) (stops-ended (Ok (Refused BadBody)))
+
+stops-fulfils : (purpose : Purpose) (p : Text) (at : ℕ) (who : Credential) (text : Text) (names : List Text) → Stops (fulfils purpose p at who text names)
+stops-fulfils shown p at who text names = stops-shows _
+stops-fulfils (judged path d) p at who text names = stops-or_memory _ (stops-reading (judges d path text names) _ (λ asked _. stops-does path p at who asked))
+stops-fulfils (withdrawn named) p at who text names = stops-or_memory _ (either-of Stops _ _ _ (stops-asks_late (Some named) at who _) (stops-ended (Ok (Refused Stale))))
+
+stops-other : (purpose : Purpose) → Stops-after (other_of purpose)
+stops-other shown = record { later = stops-ended; at_fault = λ f es o h. h }
+stops-other (judged path d) = record { later = (stops-late path).later; at_fault = (stops-late path).at_fault }
+stops-other (withdrawn named) = record { later = stops-stale.later; at_fault = stops-stale.at_fault }
+
+stops-for_names : (next : List Text → Leads) (names : Option (List Text)) → ((ns : List Text) → Stops (next ns)) → Stops (for_names next names)
+stops-for_names next None f = stops-ended (Err Database)
+stops-for_names next (Some ns) f = f ns
+
+stops-for_document : (next : Text → Leads) (other : Leads) (t : Option Text) → ((text : Text) → Stops (next text)) → Stops other → Stops (for_document next other t)
+stops-for_document next other None f g = g
+stops-for_document next other (Some text) f g = f text
+
+stops-named : (purpose : Purpose) (next : List Text → Leads) → ((ns : List Text) → Stops (next ns)) → Stops-after (named_by (other_of purpose) next)
+stops-named purpose next f = record {
+  later = λ c. stops-for_document (with_names next) (other_of purpose c) (document_of c) (λ text. stops-or_memory _ (stops-for_names next (names_in text) f)) ((stops-other purpose).later c);
+  at_fault = λ f es o h. (stops-other purpose).at_fault f es o h;
+}
+
+stops-asks_names : (purpose : Purpose) (p : Text) (at : ℕ) (who : Credential) (next : List Text → Leads) → ((ns : List Text) → Stops (next ns)) → Stops (asks_names p at who (other_of purpose) next)
+stops-asks_names purpose p at who next f = either-of Stops (is_some (scope_of p)) _ _ (f []) (stops-tries (request at who (Maintainers p)) _ (stops-named purpose next f))
+
+stops-serves : (purpose : Purpose) (p : Text) (at : ℕ) (who : Credential) → Stops (serves purpose p at who)
+stops-serves purpose p at who = stops-tries (request at who (Packument p)) _ (record {
+  later = λ c. stops-for_document _ (other_of purpose c) (document_of c) (λ text. stops-asks_names purpose p at who _ (stops-fulfils purpose p at who text)) ((stops-other purpose).later c);
+  at_fault = λ f es o h. (stops-other purpose).at_fault f es o h;
+})
+
+stops-serves_user : (purpose : Purpose) (p : Text) (at : ℕ) (who : Credential) → Stops (serves_user purpose p at who)
+stops-serves_user purpose p at who = stops-asks (request at who WhoAmI) _ (record {
+  later = λ c. either-of Stops (is_stop c) _ _ ((stops-other purpose).later c) (stops-serves purpose p at who);
+  at_fault = λ f es o h. (stops-other purpose).at_fault f es o h;
+})
+
+stops-asks_as : (purpose : Purpose) (p : Text) (at : ℕ) (who : Credential) → Stops (asks_as purpose p at who)
+stops-asks_as shown p at who = stops-serves shown p at who
+stops-asks_as (judged path d) p at who = stops-serves_user (judged path d) p at who
+stops-asks_as (withdrawn named) p at who = stops-serves_user (withdrawn named) p at who
+
+stops-asks_for : (purpose : Purpose) (p : Text) (w : Wanted) (at : ℕ) → Stops (asks_for purpose p w at)
+stops-asks_for purpose p w at = stops-reading (reads_caller w.authorization) _ (λ who _. stops-asks_as purpose p at who)
+
+stops-claim : (v : Values) (w : Wanted) (at : ℕ) (r : Refusal) (d : Option Data) → Stops (leads_claim v w at r d)
+stops-claim v w at r None = stops-ended (Ok (Refused r))
+stops-claim v w at r (Some d) = stops-reading (one reads_name v) _ (λ p _. stops-asks_for (judged None d) p w at)
+
+stops-stopped : (v : Values) (w : Wanted) (at : ℕ) (s : Stop) → Stops (leads_stopped v w at s)
+stops-stopped v w at (Faulted fault) = stops-ended (Err fault)
+stops-stopped v w at (Refuses r) = stops-reading (reads_claim w.body) _ (λ d _. stops-claim v w at r d)
+
+stops-document : (v : Values) (w : Wanted) (at : ℕ) → Stops (leads_document v w at)
+stops-document v w at es o (inl (r, is, h)) = stops-asks r ends stops-ends es o h
+stops-document v w at es o (inr (s, is, h)) = stops-stopped v w at s es o h
+
 stops-leads : (e : NpmEndpoint) (v : Values) (w : Wanted) (at : ℕ) → Stops (leads e v w at)
-stops-leads by.Packument v w at = stops-first by.Packument v w at
-stops-leads by.Document v w at = stops-first by.Document v w at
-stops-leads by.Revised v w at = stops-first by.Revised v w at
-stops-leads by.Unpublish v w at = stops-first by.Unpublish v w at
+stops-leads by.Packument v w at = stops-reading (one reads_name v) _ (λ p _. stops-asks_for shown p w at)
+stops-leads by.Document v w at = stops-document v w at
+stops-leads by.Revised v w at = stops-reading (one reads_name v) _ (λ p _. stops-reading (reads_revision v.second) _ (λ named _. stops-reading (reads_document w.body) _ (λ d _. stops-asks_for (judged (Some named) d) p w at)))
+stops-leads by.Unpublish v w at = stops-reading (one reads_name v) _ (λ p _. stops-reading (reads_revision v.second) _ (λ named _. stops-asks_for (withdrawn named) p w at))
 stops-leads by.FileDrop v w at = stops-first by.FileDrop v w at
 stops-leads by.ScopedFileDrop v w at = stops-first by.ScopedFileDrop v w at
 stops-leads by.Visibility v w at = stops-reading (one reads_name v) (λ p. shows_visibility p w at) (λ p _. stops-visibility p w at)
@@ -387,45 +544,46 @@ faults-end w at es o h = stops-by (npm_route_of w.method w.target) w at es o h
 
 -- ---- npm's own are apart
 
-met-or_object : (e : NpmEndpoint) (body : Text) → is_npms e body ≡ true → (met e ≡ None) ⊎ (begins_object body ≡ true)
-met-or_object by.Packument body h = absurd (cc)
-met-or_object by.Document body h = absurd (cc)
-met-or_object by.Revised body h = inl refl
-met-or_object by.Unpublish body h = inl refl
-met-or_object by.FileDrop body h = inl refl
-met-or_object by.ScopedFileDrop body h = inl refl
-met-or_object by.Visibility body h = inl refl
-met-or_object by.SetAccess body h = inl refl
-met-or_object by.Collaborators body h = inl refl
-met-or_object by.OrgPackages body h = inl refl
-met-or_object by.UserPackages body h = inl refl
-met-or_object by.Members body h = inl refl
-met-or_object by.OrgSet body h = inr h
-met-or_object by.OrgRemove body h = inr h
-met-or_object by.Teams body h = inl refl
-met-or_object by.TeamCreate body h = inr h
-met-or_object by.TeamMembers body h = inl refl
-met-or_object by.TeamAdd body h = inr h
-met-or_object by.TeamRemove body h = inr h
-met-or_object by.TeamPackages body h = inl refl
-met-or_object by.Grant body h = inr h
-met-or_object by.Revoke body h = inr h
-met-or_object by.WhoAmI body h = inl refl
-met-or_object by.Profile body h = inl refl
-met-or_object by.User body h = inl refl
-met-or_object by.Logout body h = inl refl
-met-or_object by.Ping body h = inl refl
-met-or_object by.NotServed body h = inl refl
+met-or_object : (e : NpmEndpoint) (body : Text) → is_npms e body ≡ true → (is_package e ≡ true) ⊎ (met e ≡ None) ⊎ (begins_object body ≡ true)
+met-or_object by.Packument body h = inl refl
+met-or_object by.Document body h = inl refl
+met-or_object by.Revised body h = inr (inl refl)
+met-or_object by.Unpublish body h = inr (inl refl)
+met-or_object by.FileDrop body h = inr (inl refl)
+met-or_object by.ScopedFileDrop body h = inr (inl refl)
+met-or_object by.Visibility body h = inr (inl refl)
+met-or_object by.SetAccess body h = inr (inl refl)
+met-or_object by.Collaborators body h = inr (inl refl)
+met-or_object by.OrgPackages body h = inr (inl refl)
+met-or_object by.UserPackages body h = inr (inl refl)
+met-or_object by.Members body h = inr (inl refl)
+met-or_object by.OrgSet body h = inr (inr h)
+met-or_object by.OrgRemove body h = inr (inr h)
+met-or_object by.Teams body h = inr (inl refl)
+met-or_object by.TeamCreate body h = inr (inr h)
+met-or_object by.TeamMembers body h = inr (inl refl)
+met-or_object by.TeamAdd body h = inr (inr h)
+met-or_object by.TeamRemove body h = inr (inr h)
+met-or_object by.TeamPackages body h = inr (inl refl)
+met-or_object by.Grant body h = inr (inr h)
+met-or_object by.Revoke body h = inr (inr h)
+met-or_object by.WhoAmI body h = inr (inl refl)
+met-or_object by.Profile body h = inr (inl refl)
+met-or_object by.User body h = inr (inl refl)
+met-or_object by.Logout body h = inr (inl refl)
+met-or_object by.Ping body h = inr (inl refl)
+met-or_object by.NotServed body h = inr (inl refl)
 
 no-endpoint : (o : Option Route) → option_map endpoint_of o ≡ None → o ≡ None
 no-endpoint None e = refl
 no-endpoint (Some r) e = absurd (cc)
 
-apart-by : (meet : TablesMeet) (m : Method) (target body : Text) (r : Option NpmRoute) → npm_route_of m target ≡ r → is_npms_by r body ≡ true → (route_of m target ≡ None) ⊎ (begins_object body ≡ true)
+apart-by : (meet : TablesMeet) (m : Method) (target body : Text) (r : Option NpmRoute) → npm_route_of m target ≡ r → is_npms_by r body ≡ true → (is_of_package r ≡ true) ⊎ (route_of m target ≡ None) ⊎ (begins_object body ≡ true)
 apart-by meet m target body None e h = absurd (cc)
 apart-by meet m target body (Some r) e h = elim (met-or_object r.endpoint body h) [
-  | inl none ↦ inl (no-endpoint (route_of m target) (meet m target r e ∙ none))
-  | inr object ↦ inr object
+  | inl part ↦ inl part
+  | inr (inl none) ↦ inr (inl (no-endpoint (route_of m target) (meet m target r e ∙ none)))
+  | inr (inr object) ↦ inr (inr object)
 ]
 
 pub npm-is_apart : TablesMeet → NpmIsApart

@@ -1,7 +1,9 @@
+pub mod CallerFacts
 pub mod CallFacts
 pub mod ComesFacts
 pub mod FormFacts
 pub mod LawFacts
+pub mod NeverFacts
 pub mod ServiceFacts
 pub mod ShownFacts
 pub mod TurnFacts

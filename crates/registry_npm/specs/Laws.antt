@@ -2,19 +2,20 @@
 use Rattle.std.specs.Prelude.{◌≡◌, ◌≤◌, ◌+◌, ◌∷◌, ◌⊎◌, [], ℕ, Bool, true, false, List, Option, Some, None, Ok, Err, option_map, unwrap_or, if◌then◌else◌}
 use Rattle.registry_names.specs.Texts.{Text}
 use Rattle.registry_names.specs.declared.refusal.Refusal.TheVariants.{NotFound}
-use Rattle.registry_routes.specs.Files.{IsFileOf}
 use Rattle.registry_routes.specs.NpmRoutes.{NpmRoute, npm_route_of}
 use Rattle.registry_routes.specs.Routes.{route_of}
 use Rattle.registry_routes.specs.declared.npm_endpoint.NpmEndpoint.{NpmEndpoint}
 use Rattle.registry_routes.specs.declared.npm_endpoint.NpmEndpoint.TheVariants as by
 use Rattle.registry_rules.specs.Actions.{is_command}
 use Rattle.registry_rules.specs.declared.reply.Reply.TheVariants.{Refused}
-use Rattle.registry_rules.specs.declared.request.Request.{Request}
+use Rattle.registry_rules.specs.declared.request.Credential.TheVariants.{Anonymous}
+use Rattle.registry_service.specs.Callers.{reads_caller}
 use Rattle.registry_service.specs.HttpAnswers.{Outcome}
 use Rattle.registry_service.specs.Turns.{Dialect, Exchange, profile}
 use Rattle.registry_wire.specs.declared.wanted.Wanted.{Wanted}
 use Rattle.registry_npm.specs.Bodies.{begins_object}
 use Rattle.registry_npm.specs.Npm.{is_npms, npm}
+use Rattle.registry_npm.specs.Packages.{is_gone}
 
 -- ---- which requests are npm's own
 
@@ -30,9 +31,20 @@ is_npm w = is_npms_by (npm_route_of w.method w.target) w.body
 abbrev pub OthersStay : Type 0
 OthersStay = (w : Wanted) (at : ℕ) (es : List Exchange) (o : Outcome) → is_npm w ≡ false → (npm w at es o → profile w at es o) × (profile w at es o → npm w at es o)
 
--- a request of npm's own has no route without npm's, or a body that begins as an object does
+-- a packument is read, or a package put
+abbrev pub is_package : NpmEndpoint → Bool
+is_package by.Packument = true
+is_package by.Document = true
+is_package _ = false
+
+abbrev pub is_of_package : Option NpmRoute → Bool
+is_of_package None = false
+is_of_package (Some r) = is_package r.endpoint
+
+-- A request of npm's own reads a packument or puts a package, or has no route without npm's, or has a
+-- body that begins as an object does
 abbrev pub NpmIsApart : Type 0
-NpmIsApart = (w : Wanted) → is_npm w ≡ true → (route_of w.method w.target ≡ None) ⊎ (begins_object w.body ≡ true)
+NpmIsApart = (w : Wanted) → is_npm w ≡ true → (is_of_package (npm_route_of w.method w.target) ≡ true) ⊎ (route_of w.method w.target ≡ None) ⊎ (begins_object w.body ≡ true)
 
 -- ---- what is asked in a turn
 
@@ -77,3 +89,28 @@ CameTo (e ∷ es) o = e.outcome ≡ o
 abbrev pub FilesAreGone : Type 0
 FilesAreGone = (w : Wanted) (at : ℕ) (es : List Exchange) (r : NpmRoute) → npm_route_of w.method w.target ≡ Some r → is_file_drop r.endpoint ≡ true
     → npm w at es (Ok (Refused NotFound)) → CameTo es (Ok (Refused NotFound))
+
+-- a document or a whole withdrawal under a revision
+abbrev pub is_revised : NpmEndpoint → Bool
+is_revised by.Revised = true
+is_revised by.Unpublish = true
+is_revised _ = false
+
+-- what is sent under a revision is never answered by 404, which npm takes for success
+abbrev pub NeverNotFound : Type 0
+NeverNotFound = (w : Wanted) (at : ℕ) (es : List Exchange) (o : Outcome) (r : NpmRoute) → npm_route_of w.method w.target ≡ Some r → is_revised r.endpoint ≡ true
+    → npm w at es o → is_gone o ≡ false
+
+-- ---- on whose behalf
+
+-- it is asked at the moment of the request, by its caller or by nobody
+abbrev pub IsAskedFor : Wanted → ℕ → Exchange → Type 0
+IsAskedFor w at e = (e.asked.at ≡ at) × (reads_caller w.authorization (Ok e.asked.who) ⊎ (e.asked.who ≡ Anonymous))
+
+abbrev pub AreAskedFor : Wanted → ℕ → List Exchange → Type 0
+AreAskedFor w at [] = Unit {0}
+AreAskedFor w at (e ∷ es) = IsAskedFor w at e × AreAskedFor w at es
+
+-- whatever is asked is asked for the caller of the request, or for nobody
+abbrev pub AsksForCaller : Dialect → Type 0
+AsksForCaller speaks = (w : Wanted) (at : ℕ) (es : List Exchange) (o : Outcome) → speaks w at es o → AreAskedFor w at es

@@ -9,9 +9,11 @@ use Rattle.registry_rules.specs.declared.reply.Reply.TheVariants.{Doc, Refused}
 use Rattle.registry_rules.specs.declared.request.Action.{Action}
 use Rattle.registry_rules.specs.declared.request.Credential.{Credential}
 use Rattle.registry_rules.specs.declared.request.Request.{Request}
+use Rattle.registry_service.specs.Callers.{reads_caller}
 use Rattle.registry_service.specs.HttpAnswers.{Outcome}
 use Rattle.registry_service.specs.Readings.{Reading}
 use Rattle.registry_service.specs.Turns.{Answering, AnswersEach, Exchange, stopped}
+use Rattle.registry_wire.specs.declared.wanted.Wanted.{Wanted}
 
 abbrev pub Leads : Type 1
 Leads = List Exchange → Outcome → Type 0
@@ -58,6 +60,10 @@ unless_stopped next o = either (is_stop o) (ends o) next
 -- nothing is asked
 unfoldable pub reading : {A : Type 0} → Reading A → (A → Leads) → Leads
 reading {A} reads next es o = ((a : A) × reads (Ok a) × next a es o) ⊎ ((s : Stop) × reads (Err s) × ends (stopped s) es o)
+
+-- by the caller of a request
+abbrev pub by_caller : Wanted → (Credential → Leads) → Leads
+by_caller w next = reading (reads_caller w.authorization) next
 
 -- ---- documents
 

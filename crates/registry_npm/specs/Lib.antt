@@ -5,4 +5,6 @@ pub mod Forms
 pub mod Laws
 pub mod Leading
 pub mod Npm
+pub mod Packages
+pub mod Purposes
 pub mod Queries

@@ -14,7 +14,6 @@ use Rattle.registry_rules.specs.declared.request.Action.{Action}
 use Rattle.registry_rules.specs.declared.request.Action.TheVariants.{OrgSet, Maintainers, Members, MyPackages, Tags, Teams, WhoAmI}
 use Rattle.registry_rules.specs.declared.request.Credential.TheVariants.{Anonymous}
 use Rattle.registry_rules.specs.declared.request.Credential.{Credential}
-use Rattle.registry_service.specs.Callers.{reads_caller}
 use Rattle.registry_service.specs.HttpAnswers.{Outcome}
 use Rattle.registry_service.specs.Readings.{one, reads_ident, reads_name}
 use Rattle.registry_service.specs.Turns.{Dialect, Exchange, profile}
@@ -22,7 +21,8 @@ use Rattle.registry_wire.specs.declared.wanted.Wanted.{Wanted}
 use Rattle.registry_npm.specs.Asked.{reads_first, reads_member, reads_user}
 use Rattle.registry_npm.specs.Bodies.{begins_object}
 use Rattle.registry_npm.specs.Forms.{empty_text, grants_form, membership_form, profile_form, teams_form, user_text, visibility_text, writers_form}
-use Rattle.registry_npm.specs.Leading.{Leads, asks, document_of, either, ends, is_refused, or_memory, reading, request, shown_as, shows, unless_stopped}
+use Rattle.registry_npm.specs.Packages.{leads_document, leads_packument, leads_revised, leads_unpublish}
+use Rattle.registry_npm.specs.Leading.{Leads, asks, by_caller, document_of, either, ends, is_refused, or_memory, reading, request, shown_as, shows, unless_stopped}
 
 -- ---- after the first request
 
@@ -38,10 +38,6 @@ follows by.ScopedFileDrop = not_served
 follows by.TeamPackages = shown_as grants_form
 follows by.Profile = shown_as profile_form
 follows _ = ends
-
--- by the caller of a request
-abbrev pub by_caller : Wanted → (Credential → Leads) → Leads
-by_caller w next = reading (reads_caller w.authorization) next
 
 -- ---- packages
 
@@ -109,6 +105,10 @@ asks_first e v w at = reading (reads_first e v w.body) (λ what. asks_action e w
 abbrev pub leads : NpmEndpoint → Values → Wanted → ℕ → Leads
 leads by.Ping v w at = shows empty_text
 leads by.NotServed v w at = ends (Ok (Refused NotServed))
+leads by.Packument v w at = leads_packument v w at
+leads by.Document v w at = leads_document v w at
+leads by.Revised v w at = leads_revised v w at
+leads by.Unpublish v w at = leads_unpublish v w at
 leads by.Visibility v w at = reading (one reads_name v) (λ p. shows_visibility p w at)
 leads by.Collaborators v w at = reading (one reads_name v) (λ p. shows_writers p w at)
 leads by.Teams v w at = reading (one reads_ident v) (λ o. shows_teams o w at)
@@ -130,8 +130,6 @@ is_shared _ = false
 
 -- a request by this route, with this body, is npm's own
 abbrev pub is_npms : NpmEndpoint → Text → Bool
-is_npms by.Packument body = false
-is_npms by.Document body = false
 is_npms e body = not (is_shared e) || begins_object body
 
 abbrev pub speaks_by : Option NpmRoute → Dialect

@@ -6,6 +6,7 @@ use Rattle.registry_names.specs.Texts.{Text}
 use Rattle.registry_names.specs.declared.method.Method.{Method}
 use Rattle.registry_names.specs.declared.method.Method.TheVariants.{Get, Other}
 use Rattle.registry_names.specs.declared.refusal.Refusal.TheVariants.{NotFound, NotServed}
+use Rattle.registry_names.specs.declared.stop.Fault.TheVariants.{Database}
 use Rattle.registry_names.specs.declared.stop.Stop.{Stop}
 use Rattle.registry_routes.specs.NpmRoutes.{NpmRoute, npm_route_in, npm_route_of, or_later_npm}
 use Rattle.registry_routes.specs.NpmTable.{npm_table}
@@ -16,7 +17,8 @@ use Rattle.registry_routes.specs.declared.npm_endpoint.NpmEndpoint.TheVariants a
 use Rattle.registry_rules.specs.Actions.{is_command}
 use Rattle.registry_rules.specs.declared.reply.Reply.TheVariants.{Refused}
 use Rattle.registry_rules.specs.declared.request.Action.{Action}
-use Rattle.registry_rules.specs.declared.request.Action.TheVariants.{Maintainers, MyPackages, Tags, Teams, WhoAmI}
+use Rattle.registry_rules.specs.declared.request.Action.TheVariants.{Maintainers, MyPackages, Packument, Tags, Teams, WhoAmI}
+use Rattle.registry_rules.specs.declared.request.Credential.{Credential}
 use Rattle.registry_rules.specs.declared.request.Credential.TheVariants.{Anonymous}
 use Rattle.registry_rules.specs.declared.request.Request.{Request}
 use Rattle.registry_service.specs.Callers.{reads_caller}
@@ -27,9 +29,10 @@ use Rattle.registry_service.specs.Turns.{Exchange, profile}
 use Rattle.registry_service.proofs.DialectFacts.{profile_asks_queries}
 use Rattle.registry_wire.specs.declared.wanted.Wanted.{Wanted}
 use Rattle.registry_npm.specs.Asked.{reads_first, reads_user}
-use Rattle.registry_npm.specs.Forms.{empty_text, grants_form, profile_form, teams_form, user_text, writers_form}
+use Rattle.registry_npm.specs.Forms.{empty_text, grants_form, names_in, profile_form, teams_form, user_text, writers_form}
+use Rattle.registry_npm.specs.Packages.{asks_names, for_document, for_names, fulfils, other_of, serves, shown, shows_fronted, with_names}
 use Rattle.registry_npm.specs.Leading.{Leads, asks, document_of, either, ends, in_form, is_stop, or_memory, reading, request, shown_as, shows, unless_stopped}
-use Rattle.registry_npm.specs.Npm.{asks_first, asks_nobody, by_caller, follows, is_npms, is_user, leads, not_served, npm, shows_own, shows_public, shows_teams, shows_user, shows_visibility, shows_writers, speaks_by}
+use Rattle.registry_npm.specs.Npm.{asks_first, asks_nobody, follows, is_npms, is_user, leads, not_served, npm, shows_own, shows_public, shows_teams, shows_user, shows_visibility, shows_writers, speaks_by}
 
 -- ---- the routes of `GET`
 
@@ -145,8 +148,26 @@ gave a b same is = let one : a ≡ b = cc in ap is_command one ∙ is
 q-first : (e : NpmEndpoint) (v : Values) (w : Wanted) (at : ℕ) → ((what : Action) → reads_first e v w.body (Ok what) → is_command what ≡ false) → ((c : Outcome) → Queries (follows e c)) → Queries (asks_first e v w at)
 q-first e v w at is f = q-reading (reads_first e v w.body) _ (λ what r. q-reading (reads_caller w.authorization) _ (λ who _. q-asks (request at who what) (follows e) (is what r) f))
 
+q-for_names : (text : Text) (names : Option (List Text)) → Queries (for_names (shows_fronted text) names)
+q-for_names text None = q-ends (Err Database)
+q-for_names text (Some ns) = q-shows _
+
+q-named : (text : Text) (t : Option Text) (c : Outcome) → Queries (for_document (with_names (shows_fronted text)) (ends c) t)
+q-named text None c = q-ends c
+q-named text (Some names) c = q-or_memory _ (q-for_names text (names_in names))
+
+q-shown_text : (p : Text) (at : ℕ) (who : Credential) (text : Text) → Queries (asks_names p at who (other_of shown) (fulfils shown p at who text))
+q-shown_text p at who text = q-either (is_some (scope_of p)) _ _ (q-shows _) (q-or_memory _ (q-asks (request at who (Maintainers p)) _ refl (λ c. q-named text (document_of c) c)))
+
+q-shown_by : (p : Text) (at : ℕ) (who : Credential) (t : Option Text) (c : Outcome) → Queries (for_document (λ text. asks_names p at who (other_of shown) (fulfils shown p at who text)) (ends c) t)
+q-shown_by p at who None c = q-ends c
+q-shown_by p at who (Some text) c = q-shown_text p at who text
+
+q-serves : (p : Text) (at : ℕ) (who : Credential) → Queries (serves shown p at who)
+q-serves p at who = q-or_memory _ (q-asks (request at who (Packument p)) _ refl (λ c. q-shown_by p at who (document_of c) c))
+
 q-leads : (e : NpmEndpoint) (v : Values) (w : Wanted) (at : ℕ) → is_reader e ≡ true → is_npms e w.body ≡ true → Queries (leads e v w at)
-q-leads by.Packument v w at is own = absurd (false≢true own)
+q-leads by.Packument v w at is own = q-reading (one reads_name v) _ (λ p _. q-reading (reads_caller w.authorization) _ (λ who _. q-serves p at who))
 q-leads by.Document v w at is own = absurd (false≢true is)
 q-leads by.Revised v w at is own = absurd (false≢true is)
 q-leads by.Unpublish v w at is own = absurd (false≢true is)

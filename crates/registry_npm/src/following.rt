@@ -15,7 +15,7 @@ ghost use Rattle.registry_routes.specs.declared.npm_endpoint.NpmEndpoint.TheVari
 use crate::asked::{first, member};
 use crate::caller::{Caller, caller_of, credential};
 use crate::shown::{is_stop, stopped};
-use crate::{path, shown};
+use crate::{documents, path, shown};
 use registry_access::Role;
 use registry_names::{Fault, Ident, Moment, Name, Refusal};
 use registry_routes::{NpmEndpoint, Values};
@@ -45,16 +45,10 @@ pub(crate) fn by_route<D: Service>(
         NpmEndpoint::OrgSet => org_set(alloc, service, values, wanted, at),
         NpmEndpoint::User => user(alloc, service, values, wanted, at),
         NpmEndpoint::UserPackages => user_packages(alloc, service, values, wanted, at),
-        NpmEndpoint::Packument => {
-            other(alloc, service, NpmEndpoint::Packument, values, wanted, at)
-        }
-        NpmEndpoint::Document => {
-            other(alloc, service, NpmEndpoint::Document, values, wanted, at)
-        }
-        NpmEndpoint::Revised => { other(alloc, service, NpmEndpoint::Revised, values, wanted, at) }
-        NpmEndpoint::Unpublish => {
-            other(alloc, service, NpmEndpoint::Unpublish, values, wanted, at)
-        }
+        NpmEndpoint::Packument => documents::packument(alloc, service, values, wanted, at),
+        NpmEndpoint::Document => documents::document(alloc, service, values, wanted, at),
+        NpmEndpoint::Revised => documents::revised(alloc, service, values, wanted, at),
+        NpmEndpoint::Unpublish => documents::unpublish(alloc, service, values, wanted, at),
         NpmEndpoint::FileDrop => {
             other(alloc, service, NpmEndpoint::FileDrop, values, wanted, at)
         }
@@ -108,7 +102,7 @@ pub(crate) fn by_route<D: Service>(
 
 // ---- one request
 
-fn request(at: Moment, who: &Caller, what: Action) -> Request
+pub(crate) fn request(at: Moment, who: &Caller, what: Action) -> Request
     ensures { result ≡ leading.request at (who_of who.now) what }
 {
     Request {

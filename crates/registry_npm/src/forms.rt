@@ -45,7 +45,7 @@ fn names_of(alloc: Global, items: &[Value]) -> Result<Option<Vec<Text>>, AllocEr
     Ok(Some(names))
 }
 
-fn names_in(alloc: Global, text: &str) -> Result<Option<Vec<Text>>, Fault>
+pub(crate) fn names_in(alloc: Global, text: &str) -> Result<Option<Vec<Text>>, Fault>
     ensures ok { IfOk result (λ names. option_map (λ v. v.items) names ≡ spec.names_in text.now) }
     ensures err { IfErr result (λ fault. fault ≡ Fault.Memory) }
 {

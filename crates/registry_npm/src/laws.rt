@@ -1,7 +1,7 @@
 //! Laws of npm's own requests. Each is the contract of a function that does nothing.
 
 ghost use Rattle.registry_service.specs.Dialects.{AsksQueriesByGet};
-ghost use Rattle.registry_npm.specs.Laws.{FaultsEnd, FilesAreGone, NpmIsApart, OneCommand, OthersStay};
+ghost use Rattle.registry_npm.specs.Laws.{AsksForCaller, FaultsEnd, FilesAreGone, NeverNotFound, NpmIsApart, OneCommand, OthersStay};
 ghost use Rattle.registry_npm.specs.Npm.{npm};
 
 use registry_routes::laws::tables_meet;
@@ -11,7 +11,8 @@ pub fn others_stay()
     ensures { OthersStay }
 {}
 
-/// A request of npm's own has no route without npm's, or a body that begins as a JSON object does.
+/// A request of npm's own reads a packument or puts a package, or has no route without npm's, or a
+/// body that begins as a JSON object does.
 pub fn npm_is_apart()
     ensures { NpmIsApart }
 {
@@ -37,4 +38,15 @@ pub fn get_asks_queries()
 /// the version's document, or where the file is none of the package.
 pub fn files_are_gone()
     ensures { FilesAreGone }
+{}
+
+/// A document or a whole withdrawal under a revision is never answered by 404, which npm takes for
+/// success.
+pub fn never_not_found()
+    ensures { NeverNotFound }
+{}
+
+/// Whatever a turn asks is asked at the moment of its request, for its caller or for nobody.
+pub fn asks_for_caller()
+    ensures { AsksForCaller npm }
 {}

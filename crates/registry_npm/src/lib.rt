@@ -10,9 +10,13 @@
 mod asked;
 mod body;
 mod caller;
+mod commands;
+mod documents;
 mod following;
 mod forms;
+mod fronted;
 pub mod laws;
+mod packages;
 mod path;
 mod service;
 mod shown;

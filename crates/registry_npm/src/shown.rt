@@ -47,7 +47,7 @@ pub(crate) fn is_stop(outcome: &Result<Reply, Fault>) -> bool
 }
 
 // The document of an outcome. Any other outcome is given back.
-fn document(outcome: Result<Reply, Fault>) -> Result<SharedText, Result<Reply, Fault>>
+pub(crate) fn document(outcome: Result<Reply, Fault>) -> Result<SharedText, Result<Reply, Fault>>
     ensures { MatchResult result (λ text. outcome ≡ Ok (Doc text))
         (λ other. (other ≡ outcome) × (document_of outcome ≡ None)) }
 {
@@ -63,7 +63,7 @@ fn document(outcome: Result<Reply, Fault>) -> Result<SharedText, Result<Reply, F
 }
 
 // A document of one's own.
-fn doc(text: Text) -> Result<Reply, Fault>
+pub(crate) fn doc(text: Text) -> Result<Reply, Fault>
     ensures { shows text [] result }
 {
     Ok(Reply::Doc(SharedText::from_text(text)?))

@@ -18,7 +18,6 @@ fn is_npms(endpoint: NpmEndpoint, body: &[u8]) -> bool
     ensures { result ≡ spec.is_npms endpoint body.now }
 {
     match endpoint {
-        NpmEndpoint::Packument | NpmEndpoint::Document => false,
         NpmEndpoint::OrgSet
         | NpmEndpoint::OrgRemove
         | NpmEndpoint::TeamCreate
@@ -26,7 +25,9 @@ fn is_npms(endpoint: NpmEndpoint, body: &[u8]) -> bool
         | NpmEndpoint::TeamRemove
         | NpmEndpoint::Grant
         | NpmEndpoint::Revoke => begins_object(body),
-        NpmEndpoint::Revised
+        NpmEndpoint::Packument
+        | NpmEndpoint::Document
+        | NpmEndpoint::Revised
         | NpmEndpoint::Unpublish
         | NpmEndpoint::FileDrop
         | NpmEndpoint::ScopedFileDrop

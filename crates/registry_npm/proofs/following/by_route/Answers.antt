@@ -4,7 +4,7 @@ pub returns-in-OrgSet : goal.returns-in-OrgSet
 returns-in-OrgSet g c = rw c.in-OrgSet.is c.org_set.ensures
 
 pub returns-in-FileDrop : goal.returns-in-FileDrop
-returns-in-FileDrop g c = rw c.in-FileDrop.is c.other-in-FileDrop.ensures
+returns-in-FileDrop g c = rw c.in-FileDrop.is c.other.ensures
 
 pub returns-in-ScopedFileDrop : goal.returns-in-ScopedFileDrop
 returns-in-ScopedFileDrop g c = rw c.in-ScopedFileDrop.is c.other-in-ScopedFileDrop.ensures

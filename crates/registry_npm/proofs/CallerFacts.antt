@@ -1,0 +1,262 @@
+-- Why a turn asks on behalf of its caller or of nobody.
+use Rattle.std.proofs.Common.{◌≡◌, ◌≤◌, ◌+◌, ◌∷◌, ◌⊎◌, [], ℕ, Bool, true, false, List, Option, Some, None, Ok, Err, option_map, option_and_then, is_some, refl, sym, ap, subst, ◌∙◌, inl, inr, arith}
+use Rattle.std.specs.Prelude.{if◌then◌else◌}
+use Rattle.std.proofs.lemmas.Bool.{cases_Bool}
+use Rattle.registry_access.specs.declared.role.Role.{Role}
+use Rattle.registry_names.specs.Names.{scope_of}
+use Rattle.registry_names.specs.Texts.{Text}
+use Rattle.registry_names.specs.declared.method.Method.{Method}
+use Rattle.registry_names.specs.declared.refusal.Refusal.{Refusal}
+use Rattle.registry_names.specs.declared.refusal.Refusal.TheVariants.{BadBody, NotFound, NotServed, Stale}
+use Rattle.registry_names.specs.declared.stop.Fault.{Fault}
+use Rattle.registry_names.specs.declared.stop.Fault.TheVariants.{Database}
+use Rattle.registry_names.specs.declared.stop.Stop.{Stop}
+use Rattle.registry_names.specs.declared.stop.Stop.TheVariants.{Refused as Refuses, Fault as Faulted}
+use Rattle.registry_routes.specs.NpmLaws.{TablesMeet, endpoint_of, met}
+use Rattle.registry_routes.specs.NpmRoutes.{NpmRoute, npm_route_of}
+use Rattle.registry_routes.specs.Routes.{Route, Values, route_of}
+use Rattle.registry_routes.specs.declared.endpoint.Endpoint.{Endpoint}
+use Rattle.registry_routes.specs.declared.npm_endpoint.NpmEndpoint.{NpmEndpoint}
+use Rattle.registry_routes.specs.declared.npm_endpoint.NpmEndpoint.TheVariants as by
+use Rattle.registry_rules.specs.Actions.{is_command}
+use Rattle.registry_rules.specs.declared.reply.Reply.{Reply}
+use Rattle.registry_rules.specs.declared.reply.Reply.TheVariants.{Done, Refused}
+use Rattle.registry_rules.specs.declared.request.Action.{Action}
+use Rattle.registry_rules.specs.declared.request.Action.TheVariants.{OrgSet, Maintainers, Members, MyPackages, Packument, Tags, Teams, WhoAmI}
+use Rattle.registry_rules.specs.declared.request.Credential.{Credential}
+use Rattle.registry_rules.specs.declared.request.Credential.TheVariants.{Anonymous}
+use Rattle.registry_rules.specs.declared.request.Request.{Request}
+use Rattle.registry_service.specs.Callers.{reads_caller}
+use Rattle.registry_service.specs.HttpAnswers.{Outcome}
+use Rattle.registry_service.specs.Readings.{Reading, one, reads_ident, reads_name}
+use Rattle.registry_service.specs.Requests.{reads_request, reads_routed}
+use Rattle.registry_service.specs.Turns.{Exchange, exchange, profile, stopped}
+use Rattle.registry_wire.specs.declared.wanted.Wanted.{Wanted}
+use Rattle.registry_npm.specs.Asked.{reads_first, reads_member, reads_user}
+use Rattle.registry_npm.specs.Bodies.{begins_object}
+use Rattle.registry_npm.specs.Forms.{empty_text, grants_form, membership_form, names_in, profile_form, teams_form, user_text, visibility_text, writers_form}
+use Rattle.registry_npm.specs.Laws.{AreAskedFor, AsksForCaller, IsAskedFor}
+use Rattle.registry_documents.specs.declared.asked.Asked.{Asked}
+use Rattle.registry_documents.specs.declared.asked.Asked.TheVariants.{AlreadySo, Deprecation as Deprecates, Withdrawal, OwnerAdd as AddsOwner, OwnerRemove as RemovesOwner}
+use Rattle.serde_json.specs.Data.{Data}
+use Rattle.registry_npm.specs.Packages.{Purpose, asks_as, asks_for, asks_late, asks_names, does, for_document, for_names, fulfils, is_gone, judged, judges, late, leads_claim, leads_document, leads_stopped, named_by, other_of, reads_claim, reads_document, reads_owner, reads_revision, reads_versions, reads_withdrawn, serves, serves_user, shown, stale, tries, with_names, withdrawn}
+use Rattle.registry_npm.specs.Leading.{Leads, asks, by_caller, document_of, either, ends, in_form, is_refused, is_stop, or_memory, reading, request, shown_as, shows, unless_stopped}
+use Rattle.registry_npm.specs.Npm.{asks_action, asks_first, asks_nobody, asks_own, asks_role, asks_size, follows, is_npms, is_user, leads, not_served, npm, sets_member, shows_own, shows_public, shows_teams, shows_user, shows_visibility, shows_writers, speaks_by}
+
+-- ---- what is asked for the caller
+
+abbrev By : Wanted → ℕ → Leads → Type 0
+By w at leading = (es : List Exchange) (o : Outcome) → leading es o → AreAskedFor w at es
+
+-- the request is for this caller, or for nobody
+abbrev IsFor : Wanted → ℕ → Request → Type 0
+IsFor w at r = (r.at ≡ at) × (reads_caller w.authorization (Ok r.who) ⊎ (r.who ≡ Anonymous))
+
+by-nothing : (w : Wanted) (at : ℕ) (es : List Exchange) → es ≡ [] → AreAskedFor w at es
+by-nothing w at es e = rw e tt
+
+by-ends : (w : Wanted) (at : ℕ) (c : Outcome) → By w at (ends c)
+by-ends w at c es o h = by-nothing w at es h.0
+
+by-shows : (w : Wanted) (at : ℕ) (t : Text) → By w at (shows t)
+by-shows w at t es o h = by-nothing w at es h.0
+
+by-asks : (w : Wanted) (at : ℕ) (r : Request) (next : Outcome → Leads) → IsFor w at r → ((c : Outcome) → By w at (next c)) → By w at (asks r next)
+unfolding asks
+by-asks w at r next is f [] o h = absurd h
+by-asks w at r next is f (e ∷ es) o h = (subst (λ (q : Request). IsFor w at q) (sym h.0) is, f e.outcome es o h.1)
+
+by-reading : {A : Type 0} (w : Wanted) (at : ℕ) (reads : Reading A) (next : A → Leads) → ((a : A) → reads (Ok a) → By w at (next a)) → By w at (reading reads next)
+unfolding reading
+by-reading w at reads next f es o (inl (a, r, h)) = f a r es o h
+by-reading w at reads next f es o (inr (s, r, h)) = by-nothing w at es h.0
+
+by-either : (w : Wanted) (at : ℕ) (b : Bool) (fst snd : Leads) → By w at fst → By w at snd → By w at (either b fst snd)
+by-either w at true fst snd y n = y
+by-either w at false fst snd y n = n
+
+by-unless : (w : Wanted) (at : ℕ) (next : Leads) (c : Outcome) → By w at next → By w at (unless_stopped next c)
+by-unless w at next c f = by-either w at (is_stop c) (ends c) next (by-ends w at c) f
+
+by-or_memory : (w : Wanted) (at : ℕ) (leading : Leads) → By w at leading → By w at (or_memory leading)
+unfolding or_memory
+by-or_memory w at leading f es o (inl h) = f es o h
+by-or_memory w at leading f es o (inr h) = by-nothing w at es h.0
+
+by-in_form : (w : Wanted) (at : ℕ) (form : Text → Option Text) (t : Option Text) (c : Outcome) → By w at (in_form form t c)
+by-in_form w at form None c = by-ends w at c
+by-in_form w at form (Some t) c = by-shows w at _
+
+by-shown : (w : Wanted) (at : ℕ) (form : Text → Option Text) (c : Outcome) → By w at (shown_as form c)
+by-shown w at form c = by-in_form w at form (document_of c) c
+
+by-public : (w : Wanted) (at : ℕ) (c : Outcome) → By w at (shows_public c)
+by-public w at (Err fault) = by-ends w at (Err fault)
+by-public w at (Ok reply) = by-shows w at _
+
+by-not_served : (w : Wanted) (at : ℕ) (c : Outcome) → By w at (not_served c)
+by-not_served w at c = by-unless w at (ends (Ok (Refused NotServed))) c (by-ends w at (Ok (Refused NotServed)))
+
+by-writers : (w : Wanted) (at : ℕ) (b : Bool) (c : Outcome) → By w at (either b not_served (shown_as writers_form) c)
+by-writers w at true c = by-not_served w at c
+by-writers w at false c = by-shown w at writers_form c
+
+-- a request of the caller
+by-caller_asks : (w : Wanted) (at : ℕ) (what : Credential → Action) (next : Credential → Outcome → Leads) → ((who : Credential) → reads_caller w.authorization (Ok who) → (c : Outcome) → By w at (next who c))
+    → By w at (by_caller w (λ who. asks (request at who (what who)) (next who)))
+by-caller_asks w at what next f = by-reading w at (reads_caller w.authorization) _ (λ who is. by-asks w at (request at who (what who)) (next who) (refl, inl is) (f who is))
+
+by-follows : (w : Wanted) (at : ℕ) (e : NpmEndpoint) (c : Outcome) → By w at (follows e c)
+by-follows w at by.Packument c = by-ends w at c
+by-follows w at by.Document c = by-ends w at c
+by-follows w at by.Revised c = by-ends w at c
+by-follows w at by.Unpublish c = by-ends w at c
+by-follows w at by.FileDrop c = by-not_served w at c
+by-follows w at by.ScopedFileDrop c = by-not_served w at c
+by-follows w at by.Visibility c = by-ends w at c
+by-follows w at by.SetAccess c = by-ends w at c
+by-follows w at by.Collaborators c = by-ends w at c
+by-follows w at by.OrgPackages c = by-ends w at c
+by-follows w at by.UserPackages c = by-ends w at c
+by-follows w at by.Members c = by-ends w at c
+by-follows w at by.OrgSet c = by-ends w at c
+by-follows w at by.OrgRemove c = by-ends w at c
+by-follows w at by.Teams c = by-ends w at c
+by-follows w at by.TeamCreate c = by-ends w at c
+by-follows w at by.TeamMembers c = by-ends w at c
+by-follows w at by.TeamAdd c = by-ends w at c
+by-follows w at by.TeamRemove c = by-ends w at c
+by-follows w at by.TeamPackages c = by-shown w at grants_form c
+by-follows w at by.Grant c = by-ends w at c
+by-follows w at by.Revoke c = by-ends w at c
+by-follows w at by.WhoAmI c = by-ends w at c
+by-follows w at by.Profile c = by-shown w at profile_form c
+by-follows w at by.User c = by-ends w at c
+by-follows w at by.Logout c = by-ends w at c
+by-follows w at by.Ping c = by-ends w at c
+by-follows w at by.NotServed c = by-ends w at c
+
+by-first : (w : Wanted) (at : ℕ) (e : NpmEndpoint) (v : Values) → By w at (asks_first e v w at)
+by-first w at e v = by-reading w at (reads_first e v w.body) _ (λ what _. by-caller_asks w at (λ who. what) (λ who. follows e) (λ who is. by-follows w at e))
+
+-- ---- packages
+
+by-tries : (w : Wanted) (at : ℕ) (r : Request) (next : Outcome → Leads) → IsFor w at r → ((c : Outcome) → By w at (next c)) → By w at (tries r next)
+by-tries w at r next is f = by-or_memory w at (asks r next) (by-asks w at r next is f)
+
+by-stale : (w : Wanted) (at : ℕ) (c : Outcome) → By w at (stale c)
+by-stale w at c = by-either w at (is_gone c) _ _ (by-ends w at (Ok (Refused Stale))) (by-ends w at c)
+
+by-late : (w : Wanted) (at : ℕ) (path : Option Text) (c : Outcome) → By w at (late path c)
+by-late w at None c = by-ends w at c
+by-late w at (Some named) c = by-stale w at c
+
+by-asks_late : (w : Wanted) (at : ℕ) (path : Option Text) (who : Credential) (what : Action) → reads_caller w.authorization (Ok who) → By w at (asks_late path at who what)
+by-asks_late w at path who what is = by-asks w at (request at who what) (late path) (refl, inl is) (by-late w at path)
+
+by-does : (w : Wanted) (at : ℕ) (path : Option Text) (p : Text) (who : Credential) (asked : Asked) → reads_caller w.authorization (Ok who) → By w at (does path p at who asked)
+by-does w at path p who AlreadySo is = by-ends w at (Ok Done)
+by-does w at path p who (Deprecates selector message) is = by-reading w at (reads_versions selector message) _ (λ d _. by-asks_late w at path who _ is)
+by-does w at path p who (Withdrawal version) is = by-either w at (is_some path) _ _ (by-reading w at (reads_withdrawn version) _ (λ v _. by-asks_late w at path who _ is)) (by-ends w at (Ok (Refused BadBody)))
+by-does w at path p who (AddsOwner user) is = by-either w at (is_some path) _ _ (by-reading w at (reads_owner user) _ (λ u _. by-asks_late w at path who _ is)) (by-ends w at (Ok (Refused BadBody)))
+by-does w at path p who (RemovesOwner user) is = by-either w at (is_some path) _ _ (by-reading w at (reads_owner user) _ (λ u _. by-asks_late w at path who _ is)) (by-ends w at (Ok (Refused BadBody)))
+
+by-fulfils : (w : Wanted) (at : ℕ) (purpose : Purpose) (p : Text) (who : Credential) (text : Text) (names : List Text) → reads_caller w.authorization (Ok who) → By w at (fulfils purpose p at who text names)
+by-fulfils w at shown p who text names is = by-shows w at _
+by-fulfils w at (judged path d) p who text names is = by-or_memory w at _ (by-reading w at (judges d path text names) _ (λ asked _. by-does w at path p who asked is))
+by-fulfils w at (withdrawn named) p who text names is = by-or_memory w at _ (by-either w at _ _ _ (by-asks_late w at (Some named) who _ is) (by-ends w at (Ok (Refused Stale))))
+
+by-other : (w : Wanted) (at : ℕ) (purpose : Purpose) (c : Outcome) → By w at (other_of purpose c)
+by-other w at shown c = by-ends w at c
+by-other w at (judged path d) c = by-late w at path c
+by-other w at (withdrawn named) c = by-stale w at c
+
+by-for_names : (w : Wanted) (at : ℕ) (next : List Text → Leads) (names : Option (List Text)) → ((ns : List Text) → By w at (next ns)) → By w at (for_names next names)
+by-for_names w at next None f = by-ends w at (Err Database)
+by-for_names w at next (Some ns) f = f ns
+
+by-for_document : (w : Wanted) (at : ℕ) (next : Text → Leads) (other : Leads) (t : Option Text) → ((text : Text) → By w at (next text)) → By w at other → By w at (for_document next other t)
+by-for_document w at next other None f g = g
+by-for_document w at next other (Some text) f g = f text
+
+by-named : (w : Wanted) (at : ℕ) (purpose : Purpose) (next : List Text → Leads) (c : Outcome) → ((ns : List Text) → By w at (next ns)) → By w at (named_by (other_of purpose) next c)
+by-named w at purpose next c f = by-for_document w at (with_names next) (other_of purpose c) (document_of c) (λ text. by-or_memory w at _ (by-for_names w at next (names_in text) f)) (by-other w at purpose c)
+
+by-asks_names : (w : Wanted) (at : ℕ) (purpose : Purpose) (p : Text) (who : Credential) (next : List Text → Leads) → reads_caller w.authorization (Ok who) → ((ns : List Text) → By w at (next ns))
+    → By w at (asks_names p at who (other_of purpose) next)
+by-asks_names w at purpose p who next is f = by-either w at (is_some (scope_of p)) _ _ (f []) (by-tries w at (request at who (Maintainers p)) _ (refl, inl is) (λ c. by-named w at purpose next c f))
+
+by-serves : (w : Wanted) (at : ℕ) (purpose : Purpose) (p : Text) (who : Credential) → reads_caller w.authorization (Ok who) → By w at (serves purpose p at who)
+by-serves w at purpose p who is = by-tries w at (request at who (Packument p)) _ (refl, inl is)
+    (λ c. by-for_document w at _ (other_of purpose c) (document_of c) (λ text. by-asks_names w at purpose p who _ is (λ names. by-fulfils w at purpose p who text names is)) (by-other w at purpose c))
+
+by-serves_user : (w : Wanted) (at : ℕ) (purpose : Purpose) (p : Text) (who : Credential) → reads_caller w.authorization (Ok who) → By w at (serves_user purpose p at who)
+by-serves_user w at purpose p who is = by-asks w at (request at who WhoAmI) _ (refl, inl is) (λ c. by-either w at (is_stop c) _ _ (by-other w at purpose c) (by-serves w at purpose p who is))
+
+by-asks_as : (w : Wanted) (at : ℕ) (purpose : Purpose) (p : Text) (who : Credential) → reads_caller w.authorization (Ok who) → By w at (asks_as purpose p at who)
+by-asks_as w at shown p who is = by-serves w at shown p who is
+by-asks_as w at (judged path d) p who is = by-serves_user w at (judged path d) p who is
+by-asks_as w at (withdrawn named) p who is = by-serves_user w at (withdrawn named) p who is
+
+by-asks_for : (w : Wanted) (at : ℕ) (purpose : Purpose) (p : Text) → By w at (asks_for purpose p w at)
+by-asks_for w at purpose p = by-reading w at (reads_caller w.authorization) _ (λ who is. by-asks_as w at purpose p who is)
+
+by-claim : (w : Wanted) (at : ℕ) (v : Values) (r : Refusal) (d : Option Data) → By w at (leads_claim v w at r d)
+by-claim w at v r None = by-ends w at (Ok (Refused r))
+by-claim w at v r (Some d) = by-reading w at (one reads_name v) _ (λ p _. by-asks_for w at (judged None d) p)
+
+by-stopped : (w : Wanted) (at : ℕ) (v : Values) (s : Stop) → By w at (leads_stopped v w at s)
+by-stopped w at v (Faulted fault) = by-ends w at (Err fault)
+by-stopped w at v (Refuses r) = by-reading w at (reads_claim w.body) _ (λ d _. by-claim w at v r d)
+
+-- a request in form is asked for its caller
+request-for : (route : Option Route) (w : Wanted) (at : ℕ) (r : Request) → reads_routed route w at (Ok r) → IsFor w at r
+request-for None w at r h = absurd (cc)
+request-for (Some route) w at r (what, reads, (who, is, same)) = let whole : r ≡ record { at = at; who = who; what = what } = cc in subst (λ (q : Request). IsFor w at q) (sym whole) (refl, inl is)
+
+by-document : (w : Wanted) (at : ℕ) (v : Values) → By w at (leads_document v w at)
+by-document w at v es o (inl (r, is, h)) = by-asks w at r ends (request-for (route_of w.method w.target) w at r is) (by-ends w at) es o h
+by-document w at v es o (inr (s, is, h)) = by-stopped w at v s es o h
+
+-- ---- all routes
+
+by-leads : (w : Wanted) (at : ℕ) (e : NpmEndpoint) (v : Values) → By w at (leads e v w at)
+by-leads w at by.Packument v = by-reading w at (one reads_name v) _ (λ p _. by-asks_for w at shown p)
+by-leads w at by.Document v = by-document w at v
+by-leads w at by.Revised v = by-reading w at (one reads_name v) _ (λ p _. by-reading w at (reads_revision v.second) _ (λ named _. by-reading w at (reads_document w.body) _ (λ d _. by-asks_for w at (judged (Some named) d) p)))
+by-leads w at by.Unpublish v = by-reading w at (one reads_name v) _ (λ p _. by-reading w at (reads_revision v.second) _ (λ named _. by-asks_for w at (withdrawn named) p))
+by-leads w at by.FileDrop v = by-first w at by.FileDrop v
+by-leads w at by.ScopedFileDrop v = by-first w at by.ScopedFileDrop v
+by-leads w at by.Visibility v = by-reading w at (one reads_name v) _ (λ p _. by-caller_asks w at (λ who. Tags p) _ (λ who is c. by-unless w at (asks_nobody (Tags p) at) c (by-asks w at (request at Anonymous (Tags p)) shows_public (refl, inr refl) (by-public w at))))
+by-leads w at by.SetAccess v = by-first w at by.SetAccess v
+by-leads w at by.Collaborators v = by-reading w at (one reads_name v) _ (λ p _. by-caller_asks w at (λ who. Maintainers p) _ (λ who is. by-writers w at (is_some (scope_of p))))
+by-leads w at by.OrgPackages v = by-first w at by.OrgPackages v
+by-leads w at by.UserPackages v = by-reading w at (one reads_ident v) _ (λ u _. by-caller_asks w at (λ who. WhoAmI) _ (λ who is c. by-unless w at _ c (by-or_memory w at _ (by-either w at (is_user u c) _ _ (by-asks w at (request at who MyPackages) ends (refl, inl is) (by-ends w at)) (by-ends w at (Ok (Refused NotFound)))))))
+by-leads w at by.Members v = by-first w at by.Members v
+by-leads w at by.OrgSet v = by-reading w at (reads_member v w.body) _ (λ m _. by-reading w at (reads_caller w.authorization) _ (λ who is. by-or_memory w at (asks_role m.0 m.1 m.2 at who) (by-asks w at (request at who (OrgSet m.0 m.1 m.2)) _ (refl, inl is) (λ c. by-unless w at (asks_size m.0 m.1 m.2 who at) c (by-asks w at (request at who (Members m.0)) _ (refl, inl is) (by-shown w at (membership_form m.0 m.1 m.2)))))))
+by-leads w at by.OrgRemove v = by-first w at by.OrgRemove v
+by-leads w at by.Teams v = by-reading w at (one reads_ident v) _ (λ o _. by-caller_asks w at (λ who. Teams o) _ (λ who is. by-shown w at (teams_form o)))
+by-leads w at by.TeamCreate v = by-first w at by.TeamCreate v
+by-leads w at by.TeamMembers v = by-first w at by.TeamMembers v
+by-leads w at by.TeamAdd v = by-first w at by.TeamAdd v
+by-leads w at by.TeamRemove v = by-first w at by.TeamRemove v
+by-leads w at by.TeamPackages v = by-first w at by.TeamPackages v
+by-leads w at by.Grant v = by-first w at by.Grant v
+by-leads w at by.Revoke v = by-first w at by.Revoke v
+by-leads w at by.WhoAmI v = by-first w at by.WhoAmI v
+by-leads w at by.Profile v = by-first w at by.Profile v
+by-leads w at by.User v = by-reading w at (one reads_user v) _ (λ u _. by-caller_asks w at (λ who. WhoAmI) _ (λ who is c. by-unless w at (shows (user_text u)) c (by-shows w at (user_text u))))
+by-leads w at by.Logout v = by-first w at by.Logout v
+by-leads w at by.Ping v = by-shows w at empty_text
+by-leads w at by.NotServed v = by-ends w at (Ok (Refused NotServed))
+
+by-profile : (w : Wanted) (at : ℕ) → By w at (profile w at)
+by-profile w at es o (inl (r, is, same)) = rw same (request-for (route_of w.method w.target) w at r is, tt)
+by-profile w at es o (inr (s, is, none, same)) = by-nothing w at es none
+
+by-route : (r : Option NpmRoute) (w : Wanted) (at : ℕ) → By w at (speaks_by r w at)
+by-route None w at = by-profile w at
+by-route (Some r) w at = by-either w at (is_npms r.endpoint w.body) (leads r.endpoint r.values w at) (profile w at) (by-leads w at r.endpoint r.values) (by-profile w at)
+
+pub npm-asks_for_caller : AsksForCaller npm
+npm-asks_for_caller w at es o h = by-route (npm_route_of w.method w.target) w at es o h

@@ -1,0 +1,215 @@
+-- Why nothing that is sent under a revision is answered by 404.
+use Rattle.std.proofs.Common.{◌≡◌, ◌≤◌, ◌+◌, ◌∷◌, ◌⊎◌, [], ℕ, Bool, true, false, List, Option, Some, None, Ok, Err, option_map, option_and_then, is_some, refl, sym, ap, subst, ◌∙◌, inl, inr, arith}
+use Rattle.std.specs.Prelude.{if◌then◌else◌}
+use Rattle.std.proofs.lemmas.Bool.{cases_Bool}
+use Rattle.registry_access.specs.declared.role.Role.{Role}
+use Rattle.registry_names.specs.Names.{scope_of}
+use Rattle.registry_names.specs.Texts.{Text}
+use Rattle.registry_names.specs.declared.method.Method.{Method}
+use Rattle.registry_names.specs.declared.refusal.Refusal.{Refusal}
+use Rattle.registry_names.specs.declared.refusal.Refusal.TheVariants.{BadBody, NoCaller, NotServed, Stale}
+use Rattle.registry_names.specs.declared.stop.Fault.{Fault}
+use Rattle.registry_names.specs.declared.stop.Fault.TheVariants.{Database}
+use Rattle.registry_names.specs.declared.stop.Stop.{Stop}
+use Rattle.registry_names.specs.declared.stop.Stop.TheVariants.{Refused as Refuses, Fault as Faulted}
+use Rattle.registry_routes.specs.NpmLaws.{TablesMeet, endpoint_of, met}
+use Rattle.registry_routes.specs.NpmRoutes.{NpmRoute, npm_route_of}
+use Rattle.registry_routes.specs.Routes.{Route, Values, route_of}
+use Rattle.registry_routes.specs.declared.endpoint.Endpoint.{Endpoint}
+use Rattle.registry_routes.specs.declared.npm_endpoint.NpmEndpoint.{NpmEndpoint}
+use Rattle.registry_routes.specs.declared.npm_endpoint.NpmEndpoint.TheVariants as by
+use Rattle.registry_rules.specs.Actions.{is_command}
+use Rattle.registry_rules.specs.declared.reply.Reply.{Reply}
+use Rattle.registry_rules.specs.declared.reply.Reply.TheVariants.{Done, Refused}
+use Rattle.registry_rules.specs.declared.request.Action.{Action}
+use Rattle.registry_rules.specs.declared.request.Action.TheVariants.{OrgSet, Maintainers, Members, MyPackages, Packument, Tags, Teams, WhoAmI}
+use Rattle.registry_rules.specs.declared.request.Credential.{Credential}
+use Rattle.registry_rules.specs.declared.request.Credential.TheVariants.{Anonymous}
+use Rattle.registry_rules.specs.declared.request.Request.{Request}
+use Rattle.registry_service.specs.Callers.{reads_caller}
+use Rattle.registry_service.specs.HttpAnswers.{Outcome}
+use Rattle.registry_service.specs.Readings.{Reading, one, reads_ident, reads_name}
+use Rattle.registry_service.specs.Requests.{reads_request, reads_routed}
+use Rattle.registry_service.specs.Turns.{Exchange, exchange, profile, stopped}
+use Rattle.registry_wire.specs.declared.wanted.Wanted.{Wanted}
+use Rattle.registry_npm.specs.Asked.{reads_first, reads_member, reads_user}
+use Rattle.registry_npm.specs.Bodies.{begins_object}
+use Rattle.registry_npm.specs.Forms.{empty_text, grants_form, membership_form, names_in, profile_form, teams_form, user_text, visibility_text, writers_form}
+use Rattle.registry_npm.specs.Laws.{NeverNotFound, is_revised}
+use Rattle.registry_documents.specs.declared.asked.Asked.{Asked}
+use Rattle.registry_documents.specs.declared.asked.Asked.TheVariants.{AlreadySo, Deprecation as Deprecates, Withdrawal, OwnerAdd as AddsOwner, OwnerRemove as RemovesOwner}
+use Rattle.serde_json.specs.Data.{Data}
+use Rattle.registry_npm.specs.Packages.{Purpose, asks_as, asks_for, asks_late, asks_names, does, for_document, for_names, fulfils, is_gone, judged, judges, late, leads_claim, leads_document, leads_stopped, named_by, other_of, reads_claim, reads_document, reads_owner, reads_revision, reads_versions, reads_withdrawn, serves, serves_user, shown, stale, tries, with_names, withdrawn}
+use Rattle.registry_npm.specs.Leading.{Leads, asks, by_caller, document_of, either, ends, in_form, is_refused, is_stop, or_memory, reading, request, shown_as, shows, unless_stopped}
+use Rattle.registry_npm.specs.Npm.{asks_action, asks_first, asks_nobody, asks_own, asks_role, asks_size, follows, is_npms, is_user, leads, not_served, npm, sets_member, shows_own, shows_public, shows_teams, shows_user, shows_visibility, shows_writers, speaks_by}
+use Rattle.std.proofs.lemmas.Bool.{false≢true}
+use Rattle.registry_documents.specs.Judging.{answer_of}
+use Rattle.registry_routes.specs.Written.{StopsDecoding}
+use Rattle.registry_wire.specs.declared.wanted.Authorization.{Authorization}
+use Rattle.registry_wire.specs.declared.wanted.Authorization.TheVariants.{Absent, Once, Repeated}
+use Rattle.registry_names.specs.Refusals.{refusal_status}
+use Rattle.registry_names.specs.declared.stop.Fault.TheVariants.{Memory}
+
+abbrev Never : Leads → Type 0
+Never leading = (es : List Exchange) (o : Outcome) → leading es o → is_gone o ≡ false
+
+never-ends : (c : Outcome) → is_gone c ≡ false → Never (ends c)
+never-ends c e es o h = rw h.1 e
+
+never-reading : {A : Type 0} (reads : Reading A) (next : A → Leads) → ((s : Stop) → reads (Err s) → is_gone (stopped s) ≡ false) → ((a : A) → Never (next a)) → Never (reading reads next)
+unfolding reading
+never-reading reads next bad f es o (inl (a, r, h)) = f a es o h
+never-reading reads next bad f es o (inr (s, r, h)) = rw h.1 (bad s r)
+
+never-asks : (r : Request) (next : Outcome → Leads) → ((c : Outcome) → Never (next c)) → Never (asks r next)
+unfolding asks
+never-asks r next f [] o h = absurd h
+never-asks r next f (e ∷ es) o h = f e.outcome es o h.1
+
+never-or_memory : (leading : Leads) → Never leading → Never (or_memory leading)
+unfolding or_memory
+never-or_memory leading f es o (inl h) = f es o h
+never-or_memory leading f es o (inr h) = rw h.1 refl
+
+never-either : (b : Bool) (fst snd : Leads) → Never fst → Never snd → Never (either b fst snd)
+never-either true fst snd y n = y
+never-either false fst snd y n = n
+
+never-stale : (c : Outcome) → Never (stale c)
+never-stale c es o h = elim (cases_Bool (is_gone c)) [
+  | inl y ↦ let same : ends (Ok (Refused Stale)) es o = rw y at h in rw same.1 refl
+  | inr n ↦ let same : ends c es o = rw n at h in rw same.1 n
+]
+
+-- ---- what isn't in form
+
+bad-decoding : (written : Text) (s : Stop) → StopsDecoding written s → is_gone (stopped s) ≡ false
+bad-decoding written s (inl e) = rw e refl
+bad-decoding written s (inr (e, h)) = rw e refl
+
+bad-read_name : (written : Text) (s : Stop) → reads_name written (Err s) → is_gone (stopped s) ≡ false
+bad-read_name written s (inl h) = bad-decoding written s h
+bad-read_name written s (inr (e, u, h)) = rw e refl
+
+bad-name : (v : Values) (s : Stop) → one reads_name v (Err s) → is_gone (stopped s) ≡ false
+unfolding one
+bad-name v s h = bad-read_name v.first s h
+
+bad-document : (body : Text) (s : Stop) → reads_document body (Err s) → is_gone (stopped s) ≡ false
+bad-document body s (inl e) = rw e refl
+bad-document body s (inr (e, h)) = rw e refl
+
+bad-caller : (a : Authorization) (s : Stop) → reads_caller a (Err s) → is_gone (stopped s) ≡ false
+bad-caller Absent s h = absurd (cc)
+bad-caller (Once value) s h = rw h.0 refl
+bad-caller Repeated s h = let same : s ≡ Refuses NoCaller = cc in rw same refl
+
+bad-versions : (selector message : Text) (s : Stop) → reads_versions selector message (Err s) → is_gone (stopped s) ≡ false
+bad-versions selector message s (inl (inl e)) = rw e refl
+bad-versions selector message s (inl (inr (e, h))) = rw e refl
+bad-versions selector message s (inr (e, h)) = rw e refl
+
+bad-withdrawn : (text : Text) (s : Stop) → reads_withdrawn text (Err s) → is_gone (stopped s) ≡ false
+bad-withdrawn text s (inl e) = rw e refl
+bad-withdrawn text s (inr (e, h)) = rw e refl
+
+bad-owner : (text : Text) (s : Stop) → reads_owner text (Err s) → is_gone (stopped s) ≡ false
+bad-owner text s (inl e) = rw e refl
+bad-owner text s (inr (e, h)) = rw e refl
+
+bad-answer : (b : Bool) (a : Option Asked) (r : Refusal) → answer_of b a ≡ Err r → is_gone (stopped (Refuses r)) ≡ false
+bad-answer true None r e = let same : BadBody ≡ r = cc in rw (← same) refl
+bad-answer true (Some asked) r e = absurd (cc)
+bad-answer false None r e = let same : Stale ≡ r = cc in rw (← same) refl
+bad-answer false (Some AlreadySo) r e = absurd (cc)
+bad-answer false (Some (Deprecates selector message)) r e = let same : Stale ≡ r = cc in rw (← same) refl
+bad-answer false (Some (Withdrawal version)) r e = let same : Stale ≡ r = cc in rw (← same) refl
+bad-answer false (Some (AddsOwner user)) r e = let same : Stale ≡ r = cc in rw (← same) refl
+bad-answer false (Some (RemovesOwner user)) r e = let same : Stale ≡ r = cc in rw (← same) refl
+
+bad-judged : (d : Data) (path : Option Text) (text : Text) (names : List Text) (s : Stop) → judges d path text names (Err s) → is_gone (stopped s) ≡ false
+bad-judged d path text names (Refuses r) (present, is, e) = bad-answer _ _ r e
+bad-judged d path text names (Faulted fault) h = refl
+
+-- ---- what is asked under a revision
+
+never-asks_late : (named : Text) (at : ℕ) (who : Credential) (what : Action) → Never (asks_late (Some named) at who what)
+never-asks_late named at who what = never-asks (request at who what) _ never-stale
+
+never-does : (named : Text) (p : Text) (at : ℕ) (who : Credential) (asked : Asked) → Never (does (Some named) p at who asked)
+never-does named p at who AlreadySo = never-ends (Ok Done) refl
+never-does named p at who (Deprecates selector message) = never-reading (reads_versions selector message) _ (bad-versions selector message) (λ d. never-asks_late named at who _)
+never-does named p at who (Withdrawal version) = never-reading (reads_withdrawn version) _ (bad-withdrawn version) (λ v. never-asks_late named at who _)
+never-does named p at who (AddsOwner user) = never-reading (reads_owner user) _ (bad-owner user) (λ u. never-asks_late named at who _)
+never-does named p at who (RemovesOwner user) = never-reading (reads_owner user) _ (bad-owner user) (λ u. never-asks_late named at who _)
+
+never-judged : (named : Text) (d : Data) (p : Text) (at : ℕ) (who : Credential) (text : Text) (names : List Text) → Never (fulfils (judged (Some named) d) p at who text names)
+never-judged named d p at who text names = never-or_memory _ (never-reading (judges d (Some named) text names) _ (bad-judged d (Some named) text names) (never-does named p at who))
+
+never-withdrawn : (named : Text) (p : Text) (at : ℕ) (who : Credential) (text : Text) (names : List Text) → Never (fulfils (withdrawn named) p at who text names)
+never-withdrawn named p at who text names = never-or_memory _ (never-either _ _ _ (never-asks_late named at who _) (never-ends (Ok (Refused Stale)) refl))
+
+never-for_names : (next : List Text → Leads) (names : Option (List Text)) → ((ns : List Text) → Never (next ns)) → Never (for_names next names)
+never-for_names next None f = never-ends (Err Database) refl
+never-for_names next (Some ns) f = f ns
+
+never-for_document : (next : Text → Leads) (other : Leads) (t : Option Text) → ((text : Text) → Never (next text)) → Never other → Never (for_document next other t)
+never-for_document next other None f g = g
+never-for_document next other (Some text) f g = f text
+
+module _ (purpose : Purpose) (other : (c : Outcome) → Never (other_of purpose c)) (goes : (p : Text) (at : ℕ) (who : Credential) (text : Text) (names : List Text) → Never (fulfils purpose p at who text names)) where
+  never-asks_names : (p : Text) (at : ℕ) (who : Credential) (text : Text) → Never (asks_names p at who (other_of purpose) (fulfils purpose p at who text))
+  never-asks_names p at who text = never-either (is_some (scope_of p)) _ _ (goes p at who text []) (never-or_memory _ (never-asks (request at who (Maintainers p)) _
+      (λ c. never-for_document _ (other_of purpose c) (document_of c) (λ t. never-or_memory _ (never-for_names _ (names_in t) (goes p at who text))) (other c))))
+
+  never-serves : (p : Text) (at : ℕ) (who : Credential) → Never (serves purpose p at who)
+  never-serves p at who = never-or_memory _ (never-asks (request at who (Packument p)) _
+      (λ c. never-for_document _ (other_of purpose c) (document_of c) (λ text. never-asks_names p at who text) (other c)))
+
+  never-serves_user : (p : Text) (at : ℕ) (who : Credential) → Never (serves_user purpose p at who)
+  never-serves_user p at who = never-asks (request at who WhoAmI) _ (λ c. never-either (is_stop c) _ _ (other c) (never-serves p at who))
+
+never-revised : (v : Values) (w : Wanted) (at : ℕ) → Never (leads by.Revised v w at)
+never-revised v w at = never-reading (one reads_name v) _ (bad-name v) (λ p. never-reading (reads_revision v.second) _ (bad-decoding v.second) (λ named. never-reading (reads_document w.body) _ (bad-document w.body)
+    (λ d. never-reading (reads_caller w.authorization) _ (bad-caller w.authorization) (λ who. never-serves_user (judged (Some named) d) never-stale (never-judged named d) p at who))))
+
+never-unpublish : (v : Values) (w : Wanted) (at : ℕ) → Never (leads by.Unpublish v w at)
+never-unpublish v w at = never-reading (one reads_name v) _ (bad-name v) (λ p. never-reading (reads_revision v.second) _ (bad-decoding v.second)
+    (λ named. never-reading (reads_caller w.authorization) _ (bad-caller w.authorization) (λ who. never-serves_user (withdrawn named) never-stale (never-withdrawn named) p at who)))
+
+never-by : (e : NpmEndpoint) (v : Values) (w : Wanted) (at : ℕ) (es : List Exchange) (o : Outcome) → is_revised e ≡ true → either (is_npms e w.body) (leads e v w at) (profile w at) es o → is_gone o ≡ false
+never-by by.Packument v w at es o d h = absurd (false≢true d)
+never-by by.Document v w at es o d h = absurd (false≢true d)
+never-by by.Revised v w at es o d h = never-revised v w at es o h
+never-by by.Unpublish v w at es o d h = never-unpublish v w at es o h
+never-by by.FileDrop v w at es o d h = absurd (false≢true d)
+never-by by.ScopedFileDrop v w at es o d h = absurd (false≢true d)
+never-by by.Visibility v w at es o d h = absurd (false≢true d)
+never-by by.SetAccess v w at es o d h = absurd (false≢true d)
+never-by by.Collaborators v w at es o d h = absurd (false≢true d)
+never-by by.OrgPackages v w at es o d h = absurd (false≢true d)
+never-by by.UserPackages v w at es o d h = absurd (false≢true d)
+never-by by.Members v w at es o d h = absurd (false≢true d)
+never-by by.OrgSet v w at es o d h = absurd (false≢true d)
+never-by by.OrgRemove v w at es o d h = absurd (false≢true d)
+never-by by.Teams v w at es o d h = absurd (false≢true d)
+never-by by.TeamCreate v w at es o d h = absurd (false≢true d)
+never-by by.TeamMembers v w at es o d h = absurd (false≢true d)
+never-by by.TeamAdd v w at es o d h = absurd (false≢true d)
+never-by by.TeamRemove v w at es o d h = absurd (false≢true d)
+never-by by.TeamPackages v w at es o d h = absurd (false≢true d)
+never-by by.Grant v w at es o d h = absurd (false≢true d)
+never-by by.Revoke v w at es o d h = absurd (false≢true d)
+never-by by.WhoAmI v w at es o d h = absurd (false≢true d)
+never-by by.Profile v w at es o d h = absurd (false≢true d)
+never-by by.User v w at es o d h = absurd (false≢true d)
+never-by by.Logout v w at es o d h = absurd (false≢true d)
+never-by by.Ping v w at es o d h = absurd (false≢true d)
+never-by by.NotServed v w at es o d h = absurd (false≢true d)
+
+never-found : (x : Option NpmRoute) (r : NpmRoute) (w : Wanted) (at : ℕ) (es : List Exchange) (o : Outcome) → x ≡ Some r → is_revised r.endpoint ≡ true → speaks_by x w at es o → is_gone o ≡ false
+never-found None r w at es o e d h = absurd (cc)
+never-found (Some x) r w at es o e d h = let same : x ≡ r = cc in never-by x.endpoint x.values w at es o (ap (λ (y : NpmRoute). is_revised y.endpoint) same ∙ d) h
+
+pub never-not_found : NeverNotFound
+never-not_found w at es o r found is h = never-found (npm_route_of w.method w.target) r w at es o found is h

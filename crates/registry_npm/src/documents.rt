@@ -1,0 +1,222 @@
+//! The routes of packuments, of documents and of the withdrawal of all versions.
+
+ghost use Rattle.std.specs.Prelude.{option_map, Ok, Err, MatchResult};
+ghost use Rattle.registry_documents.specs.Documents.{value_of};
+ghost use Rattle.registry_routes.specs.Readings.{values_view};
+ghost use Rattle.registry_npm.specs.Leading.{Comes, reading};
+ghost use Rattle.registry_npm.specs.Packages as spec;
+
+use crate::packages::{Purpose, package};
+use crate::path;
+use crate::shown::stopped;
+use registry_documents::{Document, Kind};
+use registry_names::{Fault, Moment, Name, Refusal, Stop, Text};
+use registry_routes::{Values, decode_text};
+use registry_rules::Reply;
+use registry_service::{Service, request_of};
+use registry_wire::Wanted;
+use std::alloc::Global;
+
+/// The packument of a package.
+pub(crate) fn packument<D: Service>(
+    alloc: Global,
+    service: &mut D,
+    values: Values<'_>,
+    wanted: &Wanted,
+    at: Moment,
+) -> Result<Reply, Fault>
+    ensures { Comes D.answers service.old
+        (spec.leads_packument (values_view values.entry) wanted.now at) result service.new }
+{
+    match path::name(alloc, values) {
+        Ok(name) => package(alloc, service, Purpose::Shown, &name, wanted, at),
+        Err(stop) => stopped(stop),
+    }
+}
+
+/// A document under a revision.
+pub(crate) fn revised<D: Service>(
+    alloc: Global,
+    service: &mut D,
+    values: Values<'_>,
+    wanted: &Wanted,
+    at: Moment,
+) -> Result<Reply, Fault>
+    ensures { Comes D.answers service.old
+        (spec.leads_revised (values_view values.entry) wanted.now at) result service.new }
+{
+    match path::name(alloc, values) {
+        Ok(name) => revised_of(alloc, service, &name, values.second, wanted, at),
+        Err(stop) => stopped(stop),
+    }
+}
+
+fn revised_of<D: Service>(
+    alloc: Global,
+    service: &mut D,
+    name: &Name,
+    written: &[u8],
+    wanted: &Wanted,
+    at: Moment,
+) -> Result<Reply, Fault>
+    ensures { Comes D.answers service.old (spec.claims_under name.now written.now wanted.now at)
+        result service.new }
+{
+    match revision(alloc, written) {
+        Ok(named) => revised_by(alloc, service, name, named.as_str(), wanted, at),
+        Err(stop) => stopped(stop),
+    }
+}
+
+fn revised_by<D: Service>(
+    alloc: Global,
+    service: &mut D,
+    name: &Name,
+    named: &str,
+    wanted: &Wanted,
+    at: Moment,
+) -> Result<Reply, Fault>
+    ensures { Comes D.answers service.old (spec.claims name.now named.now wanted.now at)
+        result service.new }
+{
+    match read(alloc, wanted.body.as_slice()) {
+        Ok(document) => {
+            let purpose = Purpose::Judged {
+                path: Some(named),
+                document: &document,
+            };
+            package(alloc, service, purpose, name, wanted, at)
+        }
+        Err(stop) => stopped(stop),
+    }
+}
+
+// The revision that a path names.
+fn revision(alloc: Global, written: &[u8]) -> Result<Text, Stop>
+    ensures { spec.reads_revision written.now result }
+{
+    let text = decode_text(alloc, written)?;
+    Ok(Text::from(text))
+}
+
+fn read(alloc: Global, body: &[u8]) -> Result<Document, Stop>
+    ensures { MatchResult result (λ d. spec.reads_document body.now (Ok (value_of d)))
+        (λ stop. spec.reads_document body.now (Err stop)) }
+{
+    Document::read(alloc, body)
+}
+
+/// The withdrawal of all versions under a revision.
+pub(crate) fn unpublish<D: Service>(
+    alloc: Global,
+    service: &mut D,
+    values: Values<'_>,
+    wanted: &Wanted,
+    at: Moment,
+) -> Result<Reply, Fault>
+    ensures { Comes D.answers service.old
+        (spec.leads_unpublish (values_view values.entry) wanted.now at) result service.new }
+{
+    match path::name(alloc, values) {
+        Ok(name) => unpublish_of(alloc, service, &name, values.second, wanted, at),
+        Err(stop) => stopped(stop),
+    }
+}
+
+fn unpublish_of<D: Service>(
+    alloc: Global,
+    service: &mut D,
+    name: &Name,
+    written: &[u8],
+    wanted: &Wanted,
+    at: Moment,
+) -> Result<Reply, Fault>
+    ensures { Comes D.answers service.old (spec.withdraws_under name.now written.now wanted.now at)
+        result service.new }
+{
+    match revision(alloc, written) {
+        Ok(named) => {
+            let purpose = Purpose::Withdrawn {
+                named: named.as_str(),
+            };
+            package(alloc, service, purpose, name, wanted, at)
+        }
+        Err(stop) => stopped(stop),
+    }
+}
+
+/// A publication, or a document that isn't one.
+pub(crate) fn document<D: Service>(
+    alloc: Global,
+    service: &mut D,
+    values: Values<'_>,
+    wanted: &Wanted,
+    at: Moment,
+) -> Result<Reply, Fault>
+    ensures { Comes D.answers service.old
+        (spec.leads_document (values_view values.entry) wanted.now at) result service.new }
+{
+    match request_of(alloc, wanted, at) {
+        Ok(request) => service.answer(alloc, &request),
+        Err(Stop::Fault(fault)) => Err(fault),
+        Err(Stop::Refused(refusal)) => claim(alloc, service, values, wanted, at, refusal),
+    }
+}
+
+// What is no publication in form may be a claim. Otherwise this refusal stands.
+fn claim<D: Service>(
+    alloc: Global,
+    service: &mut D,
+    values: Values<'_>,
+    wanted: &Wanted,
+    at: Moment,
+    refusal: Refusal,
+) -> Result<Reply, Fault>
+    ensures { Comes D.answers service.old (reading (spec.reads_claim wanted.now.body)
+        (spec.leads_claim (values_view values.entry) wanted.now at refusal)) result service.new }
+{
+    match claim_of(alloc, wanted.body.as_slice()) {
+        Ok(Some(document)) => claimed(alloc, service, values, wanted, at, &document),
+        Ok(None) => Ok(Reply::Refused(refusal)),
+        Err(stop) => stopped(stop),
+    }
+}
+
+// A claim about what was read, if the body is one.
+fn claim_of(alloc: Global, body: &[u8]) -> Result<Option<Document>, Stop>
+    ensures { MatchResult result (λ d. spec.reads_claim body.now (Ok (option_map value_of d)))
+        (λ stop. spec.reads_claim body.now (Err stop)) }
+{
+    match Document::read(alloc, body) {
+        Ok(document) => match document.kind() {
+            Kind::Publication => Ok(None),
+            Kind::Package | Kind::Maintainers | Kind::Other => Ok(Some(document)),
+        },
+        Err(Stop::Refused(_)) => Ok(None),
+        Err(Stop::Fault(fault)) => Err(Stop::Fault(fault)),
+    }
+}
+
+fn claimed<D: Service>(
+    alloc: Global,
+    service: &mut D,
+    values: Values<'_>,
+    wanted: &Wanted,
+    at: Moment,
+    document: &Document,
+) -> Result<Reply, Fault>
+    ensures { Comes D.answers service.old
+        (spec.leads_claimed (values_view values.entry) wanted.now at (value_of document.now))
+        result service.new }
+{
+    match path::name(alloc, values) {
+        Ok(name) => {
+            let purpose = Purpose::Judged {
+                path: None,
+                document,
+            };
+            package(alloc, service, purpose, &name, wanted, at)
+        }
+        Err(stop) => stopped(stop),
+    }
+}

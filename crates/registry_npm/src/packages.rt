@@ -1,0 +1,380 @@
+//! What npm wants of a package: to read it, to have a document judged, or to withdraw all versions.
+
+ghost use Rattle.std.specs.Prelude.{◌≡◌, [], IfErr, IfOk, Ok, Some, bytes_eq, option_map};
+ghost use Rattle.registry_documents.specs.Documents.{value_of};
+ghost use Rattle.registry_npm.specs.Callers.{who_of};
+ghost use Rattle.registry_rules.specs.declared.request.Action.TheVariants as action;
+ghost use Rattle.registry_npm.specs.Leading as leading;
+ghost use Rattle.registry_npm.specs.Leading.{Comes, asks, either, ends, or_memory};
+ghost use Rattle.registry_names.specs.declared.refusal.Refusal.TheVariants.{Stale};
+ghost use Rattle.registry_rules.specs.declared.reply.Reply.TheVariants.{Refused};
+ghost use Rattle.registry_npm.specs.Packages as spec;
+ghost use Rattle.registry_npm.specs.Purposes.{purpose_view};
+
+use crate::caller::{Caller, caller_of};
+use crate::commands::{command, does, late};
+use crate::following::{is_scoped, request};
+use crate::forms::names_in;
+use crate::fronted::{fronted, revision_of};
+use crate::shown::{document, is_stop, stopped};
+use registry_documents::{Asked, Document, Present, judge};
+use registry_names::{Fault, Moment, Name, Refusal, Text};
+use registry_rules::{Action, Reply};
+use registry_service::Service;
+use registry_wire::Wanted;
+use std::alloc::Global;
+
+/// What npm wants of a package.
+#[derive(Clone, Copy)]
+pub(crate) enum Purpose<'a> {
+    /// To read it.
+    Shown,
+    /// To have a document judged, under the revision that a path names, if it names one.
+    Judged {
+        path: Option<&'a str>,
+        document: &'a Document,
+    },
+    /// To withdraw all versions, under the revision that a path names.
+    Withdrawn {
+        named: &'a str,
+    },
+}
+
+/// The packument and the maintainers of a package are asked for, and then the purpose is fulfilled.
+/// Where it isn't to read the package, it is asked before who the caller is.
+pub(crate) fn package<D: Service>(
+    alloc: Global,
+    service: &mut D,
+    purpose: Purpose<'_>,
+    name: &Name,
+    wanted: &Wanted,
+    at: Moment,
+) -> Result<Reply, Fault>
+    ensures { Comes D.answers service.old
+        (spec.asks_for (purpose_view purpose.entry) name.now wanted.now at) result service.new }
+{
+    match caller_of(&wanted.authorization) {
+        Ok(who) => package_by(alloc, service, purpose, name, &who, at),
+        Err(stop) => stopped(stop),
+    }
+}
+
+fn package_by<D: Service>(
+    alloc: Global,
+    service: &mut D,
+    purpose: Purpose<'_>,
+    name: &Name,
+    who: &Caller,
+    at: Moment,
+) -> Result<Reply, Fault>
+    ensures { Comes D.answers service.old
+        (spec.asks_as (purpose_view purpose.entry) name.now at (who_of who.now)) result service.new }
+{
+    match purpose {
+        Purpose::Shown => serve(alloc, service, purpose, name, who, at),
+        Purpose::Judged { .. } => serve_user(alloc, service, purpose, name, who, at),
+        Purpose::Withdrawn { .. } => serve_user(alloc, service, purpose, name, who, at),
+    }
+}
+
+// Who the caller is is asked first.
+fn serve_user<D: Service>(
+    alloc: Global,
+    service: &mut D,
+    purpose: Purpose<'_>,
+    name: &Name,
+    who: &Caller,
+    at: Moment,
+) -> Result<Reply, Fault>
+    ensures { Comes D.answers service.old
+        (spec.serves_user (purpose_view purpose.entry) name.now at (who_of who.now)) result service.new }
+{
+    let request = request(at, who, Action::WhoAmI);
+    let named = service.answer(alloc, &request);
+    if is_stop(&named) {
+        return otherwise(purpose, named);
+    }
+    serve(alloc, service, purpose, name, who, at)
+}
+
+fn serve<D: Service>(
+    alloc: Global,
+    service: &mut D,
+    purpose: Purpose<'_>,
+    name: &Name,
+    who: &Caller,
+    at: Moment,
+) -> Result<Reply, Fault>
+    ensures { Comes D.answers service.old
+        (spec.serves (purpose_view purpose.entry) name.now at (who_of who.now)) result service.new }
+{
+    match copied(alloc, name) {
+        Ok(package) => packument(alloc, service, purpose, name, package, who, at),
+        Err(fault) => Err(fault),
+    }
+}
+
+/// The name once more.
+pub(crate) fn copied(alloc: Global, name: &Name) -> Result<Name, Fault>
+    ensures ok { IfOk result (λ copy. copy ≡ name.now) }
+    ensures err { IfErr result (λ fault. fault ≡ Fault.Memory) }
+{
+    match Name::parse(alloc, name.text()) {
+        Ok(copy) => Ok(copy),
+        Err(_) => Err(Fault::Memory),
+    }
+}
+
+// The packument is asked for.
+fn packument<D: Service>(
+    alloc: Global,
+    service: &mut D,
+    purpose: Purpose<'_>,
+    name: &Name,
+    copy: Name,
+    who: &Caller,
+    at: Moment,
+) -> Result<Reply, Fault>
+    requires { copy ≡ name.now }
+    ensures { Comes D.answers service.old (asks (leading.request at (who_of who.now) (action.Packument name.now))
+        (spec.shown_by name.now at (who_of who.now) (spec.other_of (purpose_view purpose.entry))
+        (spec.fulfils (purpose_view purpose.entry) name.now at (who_of who.now)))) result service.new }
+{
+    let request = request(at, who, Action::Packument { package: copy });
+    let outcome = service.answer(alloc, &request);
+    match document(outcome) {
+        Ok(text) => with_text(alloc, service, purpose, name, text.as_str(), who, at),
+        Err(other) => otherwise(purpose, other),
+    }
+}
+
+// The registry doesn't show the package.
+fn otherwise(purpose: Purpose<'_>, outcome: Result<Reply, Fault>) -> Result<Reply, Fault>
+    ensures { spec.other_of (purpose_view purpose.entry) outcome [] result }
+{
+    match purpose {
+        Purpose::Shown => outcome,
+        Purpose::Judged { path, .. } => late(path, outcome),
+        Purpose::Withdrawn { named } => late(Some(named), outcome),
+    }
+}
+
+// The packument's text is there: the maintainers are asked for, if there may be some.
+fn with_text<D: Service>(
+    alloc: Global,
+    service: &mut D,
+    purpose: Purpose<'_>,
+    name: &Name,
+    text: &str,
+    who: &Caller,
+    at: Moment,
+) -> Result<Reply, Fault>
+    ensures { Comes D.answers service.old (spec.asks_names name.now at (who_of who.now)
+        (spec.other_of (purpose_view purpose.entry))
+        (spec.fulfils (purpose_view purpose.entry) name.now at (who_of who.now) text.now))
+        result service.new }
+{
+    if is_scoped(name) {
+        return fulfil(alloc, service, purpose, name, text, &[], who, at);
+    }
+    match copied(alloc, name) {
+        Ok(package) => maintainers(alloc, service, purpose, name, package, text, who, at),
+        Err(fault) => Err(fault),
+    }
+}
+
+// The maintainers are asked for.
+fn maintainers<D: Service>(
+    alloc: Global,
+    service: &mut D,
+    purpose: Purpose<'_>,
+    name: &Name,
+    copy: Name,
+    text: &str,
+    who: &Caller,
+    at: Moment,
+) -> Result<Reply, Fault>
+    requires { copy ≡ name.now }
+    ensures { Comes D.answers service.old (asks (leading.request at (who_of who.now) (action.Maintainers name.now))
+        (spec.named_by (spec.other_of (purpose_view purpose.entry))
+        (spec.fulfils (purpose_view purpose.entry) name.now at (who_of who.now) text.now)))
+        result service.new }
+{
+    let request = request(at, who, Action::Maintainers { package: copy });
+    let outcome = service.answer(alloc, &request);
+    match document(outcome) {
+        Ok(names) => with_names(alloc, service, purpose, name, text, names.as_str(), who, at),
+        Err(other) => otherwise(purpose, other),
+    }
+}
+
+// The maintainers are there.
+fn with_names<D: Service>(
+    alloc: Global,
+    service: &mut D,
+    purpose: Purpose<'_>,
+    name: &Name,
+    text: &str,
+    names: &str,
+    who: &Caller,
+    at: Moment,
+) -> Result<Reply, Fault>
+    ensures { Comes D.answers service.old (spec.with_names
+        (spec.fulfils (purpose_view purpose.entry) name.now at (who_of who.now) text.now) names.now)
+        result service.new }
+{
+    match names_in(alloc, names) {
+        Ok(Some(names)) => fulfil(alloc, service, purpose, name, text, &names, who, at),
+        Ok(None) => Err(Fault::Database),
+        Err(fault) => Err(fault),
+    }
+}
+
+fn fulfil<D: Service>(
+    alloc: Global,
+    service: &mut D,
+    purpose: Purpose<'_>,
+    name: &Name,
+    text: &str,
+    names: &[Text],
+    who: &Caller,
+    at: Moment,
+) -> Result<Reply, Fault>
+    ensures { Comes D.answers service.old
+        (spec.fulfils (purpose_view purpose.entry) name.now at (who_of who.now) text.now names.now)
+        result service.new }
+{
+    match purpose {
+        Purpose::Shown => fronted(alloc, text, names),
+        Purpose::Judged { path, document } => {
+            judged(alloc, service, path, document, name, text, names, who, at)
+        }
+        Purpose::Withdrawn { named } => {
+            withdrawn(alloc, service, named, name, text, names, who, at)
+        }
+    }
+}
+
+// A document is judged by what there is, and what it asks for is asked.
+fn judged<D: Service>(
+    alloc: Global,
+    service: &mut D,
+    path: Option<&str>,
+    document: &Document,
+    name: &Name,
+    packument: &str,
+    maintainers: &[Text],
+    who: &Caller,
+    at: Moment,
+) -> Result<Reply, Fault>
+    ensures { Comes D.answers service.old (spec.judged_by name.now (option_map (λ t. t.now) path.entry)
+        (value_of document.now) at (who_of who.now) packument.now maintainers.now) result service.new }
+{
+    let revision = match revision_of(alloc, packument, maintainers) {
+        Ok(revision) => revision,
+        Err(fault) => return Err(fault),
+    };
+    let present = Present {
+        packument,
+        maintainers,
+        revision: &revision,
+    };
+    match judge(alloc, document, path, present) {
+        Ok(asked) => done(alloc, service, path, asked, name, who, at),
+        Err(stop) => stopped(stop),
+    }
+}
+
+// What a document asks for is asked.
+fn done<D: Service>(
+    alloc: Global,
+    service: &mut D,
+    path: Option<&str>,
+    asked: Asked,
+    name: &Name,
+    who: &Caller,
+    at: Moment,
+) -> Result<Reply, Fault>
+    ensures { Comes D.answers service.old (or_memory (spec.does (option_map (λ t. t.now) path.entry)
+        name.now at (who_of who.now) asked))
+        result service.new }
+{
+    match copied(alloc, name) {
+        Ok(package) => does(alloc, service, path, package, asked, who, at),
+        Err(fault) => Err(fault),
+    }
+}
+
+// All versions are withdrawn, where the path names the present revision.
+fn withdrawn<D: Service>(
+    alloc: Global,
+    service: &mut D,
+    named: &str,
+    name: &Name,
+    text: &str,
+    names: &[Text],
+    who: &Caller,
+    at: Moment,
+) -> Result<Reply, Fault>
+    ensures { Comes D.answers service.old
+        (spec.unpublished_by name.now named.now at (who_of who.now) text.now names.now) result service.new }
+{
+    match is_present(alloc, named, text, names) {
+        Ok(is_present) => withdrawn_if(alloc, service, is_present, named, name, who, at),
+        Err(fault) => Err(fault),
+    }
+}
+
+// Whether the path names the present revision.
+fn is_present(alloc: Global, named: &str, text: &str, names: &[Text]) -> Result<bool, Fault>
+    ensures ok { IfOk result (λ is. is ≡ bytes_eq named.now (spec.revision text.now names.now)) }
+    ensures err { IfErr result (λ fault. fault ≡ Fault.Memory) }
+{
+    Ok(revision_of(alloc, text, names)?.is(named))
+}
+
+fn withdrawn_if<D: Service>(
+    alloc: Global,
+    service: &mut D,
+    is_present: bool,
+    named: &str,
+    name: &Name,
+    who: &Caller,
+    at: Moment,
+) -> Result<Reply, Fault>
+    ensures { Comes D.answers service.old (or_memory (either is_present
+        (spec.asks_late (Some named.now) at (who_of who.now) (action.WithdrawAll name.now))
+        (ends (Ok (Refused Stale))))) result service.new }
+{
+    if is_present {
+        return withdraw_all(alloc, service, named, name, who, at);
+    }
+    Ok(Reply::Refused(Refusal::Stale))
+}
+
+fn withdraw_all<D: Service>(
+    alloc: Global,
+    service: &mut D,
+    named: &str,
+    name: &Name,
+    who: &Caller,
+    at: Moment,
+) -> Result<Reply, Fault>
+    ensures { Comes D.answers service.old (or_memory
+        (spec.asks_late (Some named.now) at (who_of who.now) (action.WithdrawAll name.now)))
+        result service.new }
+{
+    match copied(alloc, name) {
+        Ok(package) => {
+            command(
+                alloc,
+                service,
+                Some(named),
+                Action::WithdrawAll { package },
+                who,
+                at,
+            )
+        }
+        Err(fault) => Err(fault),
+    }
+}
