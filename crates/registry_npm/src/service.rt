@@ -11,6 +11,7 @@ use registry_wire::Wanted;
 use std::alloc::Global;
 
 /// Another service, over HTTP in npm's own dialect. Everything but turns is that service's.
+#[derive(Drop)]
 pub struct NpmService<D: Service> {
     pub service: D,
 }
