@@ -209,7 +209,12 @@ impl<S: Socket> Connection<S> {
     }
 
     // Receives the first bytes of a request, and takes no turn yet.
-    fn receive_first<D: HttpService>(&mut self, service: &mut D, buffer: &mut [u8], now: u64) -> Visit
+    fn receive_first<D: HttpService>(
+        &mut self,
+        service: &mut D,
+        buffer: &mut [u8],
+        now: u64,
+    ) -> Visit
         requires { self.old.phase.stage ≡ stages.Idle }
         ensures visits { (readings : Option (List ℕ)) → Visits S.received S.sent (spoken D.speaks (queries D.answers)) now (length buffer.old) self.old self.new
             service.old service.new readings readings }
