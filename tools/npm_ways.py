@@ -75,6 +75,9 @@ class Relay:
         """A request was passed on, and answered: who asked, as the log says it, the method and the status."""
         token = re.fullmatch(r'Bearer npm_(\w+)_000000001', headers.get('authorization', ''))
         user = token[1] if token and status != 401 else '-'
+        # A compressed body is no request that can be read.
+        if 'content-encoding' in headers:
+            user, method = '-', '-'
         with self.lock:
             self.passed.append((user, method, str(status)))
 
