@@ -289,7 +289,8 @@ fn serve_with<S: Alter + Drop, K: LogClock + Drop, W: LineSink + Drop, O: ByteOu
     if bound.options.answers_npm {
         let mut npm = NpmService { service };
         let ended = serve_bound(rt, alloc, bound, &mut npm, listener, output, errors);
-        (ended, npm.service)
+        let NpmService { service } = npm;
+        (ended, service)
     } else {
         let mut service = service;
         let ended = serve_bound(rt, alloc, bound, &mut service, listener, output, errors);
