@@ -71,13 +71,15 @@ class Relay:
         self.port, self.lock = port, threading.Lock()
         self.meanwhile, self.lost, self.passed = None, None, []
 
-    def note(self, headers, method, status):
+    def note(self, headers, request, status):
         """A request was passed on, and answered: who asked, as the log says it, the method and the status."""
+        method, _, target = request.partition(' ')
         token = re.fullmatch(r'Bearer npm_(\w+)_000000001', headers.get('authorization', ''))
-        user = token[1] if token and status != 401 else '-'
-        # A compressed body is no request that can be read.
-        if 'content-encoding' in headers:
-            user, method = '-', '-'
+        # What is too large or compressed, as npm's audits, is refused before it is read as a request. And
+        # whether anybody may read a package is asked for nobody, after it was asked for the caller.
+        is_unread = status == 413 or headers.get('content-encoding') == 'gzip'
+        is_nobody = is_unread or status == 401 or (target.endswith('/visibility') and status == 200)
+        user, method = token[1] if token and not is_nobody else '-', '-' if is_unread else method
         with self.lock:
             self.passed.append((user, method, str(status)))
 
@@ -134,7 +136,7 @@ def passing(it):
             if work := it.held(request):
                 work()
             status, fields, answer = asked(it.port, self.command, self.path, self.headers, body)
-            it.note(self.headers, self.command, status)
+            it.note(self.headers, request, status)
             if it.is_lost(request):
                 self.close_connection = True
                 return
