@@ -9,7 +9,7 @@
 # PROGRAM is out/registry where it is left out. With a WORD only the parts of the table
 # examples/npm_team.txt whose titles have it are run: add a case there. tools/npm_team runs them, in a
 # network of their own where the system allows one, and otherwise on loopback. It takes two to four
-# minutes on four processors, and ends after five. All that is made lies in a folder of its own, which
+# minutes on four processors, and ends after ten. All that is made lies in a folder of its own, which
 # is removed. It needs npm, node, nginx, openssl and Python 3.
 set -eu
 
