@@ -456,7 +456,14 @@ static NAMED: [Named; 15] = [
 // The text with a text in it, the first such one, replaced.
 fn edited(rt: &impl Abort, alloc: Global, whole: &str, edit: &Edit) -> String {
     let (before, after) = whole.split_once(edit.0).expect(rt, edit.0);
-    concat(rt, alloc, &[before, edit.1, after])
+    let before = string(rt, alloc, before);
+    let inserted = string(rt, alloc, edit.1);
+    let after = string(rt, alloc, after);
+    concat(
+        rt,
+        alloc,
+        &[before.as_str(), inserted.as_str(), after.as_str()],
+    )
 }
 
 // What is shown of what a document asks for.
@@ -545,11 +552,12 @@ fn documents_of_maintainers(rt: HostRuntime) {
     let maintainers = texts(&rt, rt.alloc(), &OWNERS);
     let revision = revision(&rt, rt.alloc(), &maintainers);
     for (names, path, wanted) in &NAMED {
+        let named = string(&rt, rt.alloc(), *names);
         let parts = [
             r#"{"_id":"tool","_rev":""#,
             revision.text(),
             r#"","maintainers":["#,
-            *names,
+            named.as_str(),
             "]}",
         ];
         let body = concat(&rt, rt.alloc(), &parts);
@@ -572,9 +580,10 @@ fn documents_of_maintainers_that_say_more(rt: HostRuntime) {
     let maintainers = texts(&rt, rt.alloc(), &OWNERS);
     let revision = revision(&rt, rt.alloc(), &maintainers);
     for (member, wanted) in &BESIDE {
+        let said = string(&rt, rt.alloc(), *member);
         let parts = [
             "{",
-            *member,
+            said.as_str(),
             r#""_rev":""#,
             revision.text(),
             r#"","maintainers":[{"name":"bob"},{"name":"eve"},{"name":"dan"}]}"#,
