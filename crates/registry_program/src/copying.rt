@@ -1,24 +1,28 @@
 //! Copying the file that keeps a registry.
 
-ghost use Rattle.std.specs.Prelude.{◌≡◌, false, IfOk, IsTrue, OnOk};
+ghost use Rattle.std.specs.Prelude.{◌≡◌, false, true, IfOk, IsTrue, OnOk};
 ghost use Rattle.std.specs.Io.KnownBytes.{Appends};
 ghost use Rattle.sqlite.specs.Closing.{IsCopied};
 ghost use Rattle.sqlite.specs.Files.{file_state};
 ghost use Rattle.sqlite.specs.Held.{state};
+ghost use Rattle.sqlite.specs.State.{HasCleanDisk};
 ghost use Rattle.sqlite_wal.specs.Reads.{AreClean};
 ghost use Rattle.registry_rows.specs.Ready.{Ready};
 ghost use Rattle.registry_tables.specs.Schema as tables;
 ghost use Rattle.registry_program.specs.Copies.{IsCopy, IsHeld, StaysCommitted};
+ghost use Rattle.registry_program.specs.Lines.{lines_of};
 
 use crate::beside::{TRIES, busy, hold_server, is_busy, pause, require_held, require_no_other};
-use crate::checking::{problem_lines, problems_of};
+use crate::checking::problems_of;
 use crate::ending::{Ending, Failure, Obstacle, Snag};
 use crate::held::{copy_files, new_file, snag, snagged, written};
+use crate::lines::problem_lines;
 use crate::opening::{close_files, open, open_once, require_file, unclosed};
 use crate::parts::Names;
 use crate::progress::{Progress, Shown, Work};
 use registry_desk::Registry;
 use registry_guests::Hold;
+use registry_names::Text;
 use sqlite::{Alter, Connection, FileStore, Files};
 use sqlite_disk::Disk;
 use std::alloc::Global;
@@ -47,7 +51,7 @@ pub fn back_up(
     path: &str,
     copy: &str,
     checks: bool,
-) -> Result<Vec<String>, Ending> {
+) -> Result<Vec<Text>, Ending> {
     let names = Names::of(alloc, copy)?;
     require_file(rt, path)?;
     require_no_other(rt, alloc, path)?;
@@ -66,7 +70,7 @@ fn make_copy(
     part: File,
     names: &Names<'_>,
     checks: bool,
-) -> Result<Vec<String>, Ending> {
+) -> Result<Vec<Text>, Ending> {
     let mut part = part;
     fill(rt, alloc, path, &mut part, names.part_log.as_str())?;
     written(part.sync_all())?;
@@ -205,7 +209,7 @@ fn see_whole(
     alloc: Global,
     copy: &str,
     checks: bool,
-) -> Result<Vec<String>, Ending> {
+) -> Result<Vec<Text>, Ending> {
     match open(rt, copy) {
         Ok(registry) => {
             let (_files, lines) = see_inside(rt, alloc, copy, registry, checks)?;
@@ -220,16 +224,16 @@ fn see_whole(
 /// Closes a copy at the path that was opened, which copies its log into its database file. Returns the
 /// files, and a line for each thing that is wrong in the copy, if that is asked for.
 ///
-/// The database file then holds the registry alone.
+/// The database file then holds the registry alone, and the lines are those of what it holds.
 pub fn see_inside<D: Disk + Drop>(
     rt: &HostRuntime,
     alloc: Global,
     path: &str,
     registry: Registry<FileStore<D>>,
     checks: bool,
-) -> Result<(Files<D>, Vec<String>), Ending>
+) -> Result<(Files<D>, Vec<Text>), Ending>
     ensures whole { IfOk result (λ seen. AreClean D.Disk seen.0.log seen.0.db
-        → IsHeld (file_state registry) (D.Disk.seen seen.0.db)) }
+        → IsHeld (file_state registry) (D.Disk.seen seen.0.db) checks seen.1.items) }
 {
     let mut conn = registry.release();
     let lines = lines_in(rt, alloc, path, &mut conn, checks);
@@ -260,10 +264,12 @@ fn lines_in<S: Alter>(
     path: &str,
     conn: &mut Connection<S>,
     checks: bool,
-) -> Result<Vec<String>, Ending>
+) -> Result<Vec<Text>, Ending>
     requires idle { conn.old.in_transaction ≡ false }
     requires ready { Ready tables.schema (state S.Store conn.old) }
     ensures still { StaysCommitted (state S.Store conn.old) (state S.Store conn.new) }
+    ensures told { HasCleanDisk (state S.Store conn.new) → IfOk result (λ lines.
+        lines.items ≡ lines_of checks (state S.Store conn.old).now.trees) }
 {
     if checks {
         let _checking = Progress::begin(rt, Work::Checking, path);
@@ -274,10 +280,12 @@ fn lines_in<S: Alter>(
 }
 
 // A line for each thing that is wrong.
-fn wrong_in<S: Alter>(alloc: Global, conn: &mut Connection<S>) -> Result<Vec<String>, Ending>
+fn wrong_in<S: Alter>(alloc: Global, conn: &mut Connection<S>) -> Result<Vec<Text>, Ending>
     requires idle { conn.old.in_transaction ≡ false }
     requires ready { Ready tables.schema (state S.Store conn.old) }
     ensures still { StaysCommitted (state S.Store conn.old) (state S.Store conn.new) }
+    ensures told { HasCleanDisk (state S.Store conn.new) → IfOk result (λ lines.
+        lines.items ≡ lines_of true (state S.Store conn.old).now.trees) }
 {
     let problems = problems_of(alloc, conn)?;
     Ok(problem_lines(alloc, &problems)?)

@@ -1,10 +1,11 @@
 //! Going back to a copy of a registry.
 
-ghost use Rattle.std.specs.Prelude.{IfOk, IsTrue};
+ghost use Rattle.std.specs.Prelude.{◌≡◌, IfOk, IsTrue};
 ghost use Rattle.sqlite.specs.Files.{IsOpened, file_state, image_of};
 ghost use Rattle.sqlite.specs.State.{HasCleanDisk};
 ghost use Rattle.sqlite_wal.specs.Reads.{AreClean};
 ghost use Rattle.registry_desk.specs.Adopted.{CanBeAdopted};
+ghost use Rattle.registry_tables.specs.Schema as tables;
 ghost use Rattle.registry_program.specs.Copies.{HoldsSeen, IsRestored};
 
 use crate::beside::require_no_server;
@@ -15,7 +16,7 @@ use crate::opening::{is_older, obstacle_in, obstacle_left, open_obstacle};
 use crate::parts::Names;
 use crate::progress::{Progress, Work};
 use registry_desk::{Registry, Unopened, has_tables};
-use registry_names::Fault;
+use registry_names::{Fault, Text};
 use sqlite::{Alter, Connection, FileStore, Files, Options, Unknown};
 use sqlite_disk::Disk;
 use sqlite_std_file::OpenError;
@@ -44,7 +45,7 @@ pub fn restore(
     path: &str,
     copy: &str,
     checks: bool,
-) -> Result<Vec<String>, Ending> {
+) -> Result<Vec<Text>, Ending> {
     match restore_to(rt, alloc, path, copy, checks) {
         Err(Ending::Fault(Failure::Backup(snag))) => Err(Ending::Fault(Failure::Restore(snag))),
         done => done,
@@ -57,7 +58,7 @@ fn restore_to(
     path: &str,
     copy: &str,
     checks: bool,
-) -> Result<Vec<String>, Ending> {
+) -> Result<Vec<Text>, Ending> {
     let names = Names::of(alloc, path)?;
     require_copy(rt, copy)?;
     names.require_free(rt)?;
@@ -85,7 +86,7 @@ fn make_file(
     part: File,
     names: &Names<'_>,
     checks: bool,
-) -> Result<Vec<String>, Ending> {
+) -> Result<Vec<Text>, Ending> {
     let mut part = part;
     fill(rt, alloc, copy, &mut part, names.part_log.as_str())?;
     written(part.sync_all())?;
@@ -179,7 +180,7 @@ fn see_whole(
     alloc: Global,
     part: &str,
     checks: bool,
-) -> Result<Vec<String>, Ending> {
+) -> Result<Vec<Text>, Ending> {
     match sqlite_std_file::open(rt, part, Unknown) {
         Ok(files) => {
             let (_files, lines) = settle_copy(rt, alloc, part, files, checks)?;
@@ -195,20 +196,21 @@ fn see_whole(
 /// database file. Returns the files, and a line for each thing that is wrong in the registry, if that is
 /// asked for. The path is that of the database file, whose length is shown meanwhile.
 ///
-/// The database file alone then holds the registry that an open finds in these files. One of an older
-/// schema is returned only where nothing is to be checked, and then it holds the database as it was. A
-/// fault is returned where they hold no registry, and where they can't be read or written.
+/// The database file alone then holds what the registry in these files held, and the lines are those of
+/// what it holds. One of an older schema is returned only where nothing is to be checked, and then the
+/// file holds the database as it was: nothing is migrated. A fault is returned where they hold no
+/// registry, and where they can't be read or written.
 pub fn settle_copy<D: Disk + Drop>(
     rt: &HostRuntime,
     alloc: Global,
     path: &str,
     files: Files<D>,
     checks: bool,
-) -> Result<(Files<D>, Vec<String>), Ending>
+) -> Result<(Files<D>, Vec<Text>), Ending>
     requires log { IsTrue (D.Disk.is_usable files.log) }
     requires db { IsTrue (D.Disk.is_usable files.db) }
     ensures restored { IfOk result (λ seen. AreClean D.Disk seen.0.log seen.0.db
-        → IsRestored (image_of D.Disk files) (D.Disk.seen seen.0.db)) }
+        → IsRestored (image_of D.Disk files) (D.Disk.seen seen.0.db) checks seen.1.items) }
 {
     let opening = Progress::begin(rt, Work::Opening, path);
     match Registry::connect(alloc, files, Options::new(SEED)) {
@@ -231,10 +233,10 @@ fn see_tables<D: Disk + Drop>(
     path: &str,
     conn: Connection<FileStore<D>>,
     checks: bool,
-) -> Result<(Files<D>, Vec<String>), Ending>
+) -> Result<(Files<D>, Vec<Text>), Ending>
     requires rises { CanBeAdopted (file_state conn) }
     ensures seen { IfOk result (λ seen. AreClean D.Disk seen.0.log seen.0.db
-        → HoldsSeen (file_state conn) (D.Disk.seen seen.0.db)) }
+        → HoldsSeen (file_state conn) (D.Disk.seen seen.0.db) checks seen.1.items) }
 {
     match has_tables(alloc, &conn) {
         Ok(true) => see_registry(rt, alloc, path, conn, checks),
@@ -249,10 +251,11 @@ fn see_registry<D: Disk + Drop>(
     path: &str,
     conn: Connection<FileStore<D>>,
     checks: bool,
-) -> Result<(Files<D>, Vec<String>), Ending>
+) -> Result<(Files<D>, Vec<Text>), Ending>
     requires rises { CanBeAdopted (file_state conn) }
+    requires ours { (file_state conn).now.schema ≡ tables.schema }
     ensures seen { IfOk result (λ seen. AreClean D.Disk seen.0.log seen.0.db
-        → HoldsSeen (file_state conn) (D.Disk.seen seen.0.db)) }
+        → HoldsSeen (file_state conn) (D.Disk.seen seen.0.db) checks seen.1.items) }
 {
     match Registry::adopt(alloc, conn) {
         Ok(registry) => see_inside(rt, alloc, path, registry, checks),
@@ -266,9 +269,9 @@ fn see_older<D: Disk + Drop>(
     alloc: Global,
     conn: Connection<FileStore<D>>,
     checks: bool,
-) -> Result<(Files<D>, Vec<String>), Ending>
+) -> Result<(Files<D>, Vec<Text>), Ending>
     ensures seen { IfOk result (λ seen. AreClean D.Disk seen.0.log seen.0.db
-        → HoldsSeen (file_state conn) (D.Disk.seen seen.0.db)) }
+        → HoldsSeen (file_state conn) (D.Disk.seen seen.0.db) checks seen.1.items) }
 {
     if checks || !is_older(alloc, &conn) {
         return Err(unseen(alloc, conn));

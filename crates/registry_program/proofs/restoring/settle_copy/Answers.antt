@@ -5,6 +5,6 @@ use Rattle.registry_program.proofs.restoring.settle_copy.Goals as goal
 pub returns-in-Ok : goal.returns-in-Ok
 returns-in-Ok g c = record {
   restored = IfOk-weaker c.see_tables.result _ _
-      (λ seen held clean. is_restored {g = g.D.Disk} c.args.files c.in-Ok.conn (g.D.Disk.seen seen.0.db) c.in-Ok.ensures.opened c.in-Ok.ensures.found (held clean))
+      (λ seen held clean. is_restored {g = g.D.Disk} c.args.files c.in-Ok.conn (g.D.Disk.seen seen.0.db) c.args.checks seen.1.items c.in-Ok.ensures.opened c.in-Ok.ensures.found (held clean))
       c.see_tables.ensures.seen;
 }
