@@ -8,7 +8,7 @@ ghost use Rattle.registry_guests.specs.Notes.{FirstTokensAreUnseen, LastTokensAr
 ghost use Rattle.registry_server.specs.Worlds.{VisitsLead};
 
 use registry_server::Socket;
-use registry_service::Service;
+use registry_service::{HttpService, Service};
 
 /// A guest is answered once. Before it is, all that was received of it is held, and nothing was
 /// sent to it but that the server is ready. Where its turn is taken it is still there, and its
@@ -33,7 +33,7 @@ pub fn guests_hold_little<S: Socket, D: Service>()
 /// beside the service, and are those that guests are answered by: a visit of a guest adds the turn
 /// that is taken in it, if one is, at the moment that the clock gives in it, and nothing else adds a
 /// turn.
-pub fn guests_share_one_history<S: Socket, D: Service>()
+pub fn guests_share_one_history<S: Socket, D: HttpService>()
     ensures guests { GuestsGoOn D.answers }
     ensures answered { GuestsFollow S.received S.sent D.answers S.has_none }
     ensures follows { VisitsFollow S.received S.sent D.speaks D.answers }

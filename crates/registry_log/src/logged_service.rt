@@ -4,16 +4,17 @@ ghost use Rattle.std.specs.Prelude.{◌≡◌, true};
 ghost use Rattle.sqlite.specs.State.{Survives};
 ghost use Rattle.registry_desk.specs.Promises.{KeepsStored, WasOpen};
 ghost use Rattle.registry_http.specs.Services.{EndsByFault, EndsIfShut, applied, shown};
-ghost use Rattle.registry_service.specs.Turns.{AnswersAsBefore};
+ghost use Rattle.registry_service.proofs.DialectFacts.{profile_asks_queries};
+ghost use Rattle.registry_service.specs.Turns.{AnswersAsBefore, profile};
 
 use crate::log::Log;
 use crate::log_clock::LogClock;
 use crate::sink::LineSink;
 use registry_http::RegistryService;
-use registry_names::{Fault, Ident};
+use registry_names::{Fault, Ident, Moment};
 use registry_publish::TokenDigest;
 use registry_rules::{Credential, Reply, Request};
-use registry_service::{AnsweredCommand, Service, Turned};
+use registry_service::{AnsweredCommand, HttpService, Service, Turned, turn};
 use registry_wire::Wanted;
 use sqlite::Alter;
 use std::alloc::Global;
@@ -126,6 +127,17 @@ impl<S: Alter, K: LogClock, W: LineSink> Service for LoggedService<S, K, W> {
             None => {}
         }
     }
+}
+
+impl<S: Alter, K: LogClock, W: LineSink> HttpService for LoggedService<S, K, W> {
+    ghost speaks = { profile };
+
+    /// The turn of a request for one of the registry's own routes.
+    fn turn(&mut self, alloc: Global, wanted: &Wanted, at: Moment, is_last: bool) -> Turned {
+        turn(alloc, self, wanted, at, is_last)
+    }
+
+    ghost asks_queries = { profile_asks_queries };
 }
 
 // The outcome of a request of which a log is kept.

@@ -15,7 +15,7 @@ ghost use Rattle.registry_server.specs.declared.state.Progress.TheVariants as pr
 use crate::phase::{Phase, Stage};
 use crate::socket::{Flow, Socket};
 use crate::state::{ConnectionState, Progress};
-use registry_service::{Clock, Service};
+use registry_service::{Clock, HttpService, Service};
 use registry_wire::HEAD_LIMIT;
 use std::alloc::{AllocError, Global};
 use std::marker::Model;
@@ -150,7 +150,7 @@ impl<S: Socket> Connection<S> {
 
     /// Goes on with the connection: receives once, answers at most one request, and sends once.
     /// Where a request isn't whole, it looks whether more has come.
-    pub fn visit<D: Service, C: Clock>(
+    pub fn visit<D: HttpService, C: Clock>(
         &mut self,
         alloc: Global,
         service: &mut D,
@@ -184,7 +184,7 @@ impl<S: Socket> Connection<S> {
     /// Goes on with the connection while commands wait, as [`visit`](Connection::visit) does. But if no
     /// request is begun, it only receives, since the next one may be a command. No request that may be
     /// a command is under way.
-    pub fn visit_query<D: Service, C: Clock>(
+    pub fn visit_query<D: HttpService, C: Clock>(
         &mut self,
         alloc: Global,
         service: &mut D,
@@ -209,7 +209,7 @@ impl<S: Socket> Connection<S> {
     }
 
     // Receives the first bytes of a request, and takes no turn yet.
-    fn receive_first<D: Service>(&mut self, service: &mut D, buffer: &mut [u8], now: u64) -> Visit
+    fn receive_first<D: HttpService>(&mut self, service: &mut D, buffer: &mut [u8], now: u64) -> Visit
         requires { self.old.phase.stage ≡ stages.Idle }
         ensures visits { (readings : Option (List ℕ)) → Visits S.received S.sent (spoken D.speaks (queries D.answers)) now (length buffer.old) self.old self.new
             service.old service.new readings readings }
@@ -267,7 +267,7 @@ impl<S: Socket> Connection<S> {
     }
 
     // Answers the first request that is held, if it is whole, and begins to send the response.
-    fn answer<D: Service, C: Clock>(
+    fn answer<D: HttpService, C: Clock>(
         &mut self,
         alloc: Global,
         service: &mut D,
@@ -311,7 +311,7 @@ impl<S: Socket> Connection<S> {
     }
 
     // Takes the next turn.
-    fn take_turn<D: Service, C: Clock>(
+    fn take_turn<D: HttpService, C: Clock>(
         &mut self,
         alloc: Global,
         service: &mut D,

@@ -6,7 +6,7 @@ ghost use Rattle.registry_service.specs.Turns.{spoken};
 ghost use Rattle.registry_server.specs.Worlds.{Begins, Comes, Finishes, Lasts, Sends, Shuts, Starves, TakesTurns, VisitsLead};
 
 use crate::socket::Socket;
-use registry_service::Service;
+use registry_service::HttpService;
 
 /// Connections that take turns with one service make one history. Each state shows a connection,
 /// even where its next request is the last because the server is to end (`lasts`): what calls make
@@ -14,7 +14,7 @@ use registry_service::Service;
 /// `registry_service` speaks of. So there is one list of turns, and the service is what they leave.
 /// A turn that is taken is added to it (`turns`), and its request is asked at the moment that the
 /// clock gives. Nothing else adds a turn.
-pub fn connections_make_one_history<D: Service>()
+pub fn connections_make_one_history<D: HttpService>()
     ensures begins { Begins (spoken D.speaks D.answers) }
     ensures comes { Comes (spoken D.speaks D.answers) }
     ensures shuts { Shuts (spoken D.speaks D.answers) }
@@ -30,7 +30,7 @@ pub fn connections_make_one_history<D: Service>()
 /// is of another connection's socket, no byte is lost, and no byte is there twice. It stays that
 /// connection where its next request is its last (`finishes`). A visit adds the turn that is taken
 /// in it, if one is, at the moment that the clock gives in that visit.
-pub fn visits_make_one_history<S: Socket, D: Service>()
+pub fn visits_make_one_history<S: Socket, D: HttpService>()
     ensures visits { VisitsLead S.received S.sent (spoken D.speaks D.answers) }
     ensures finishes { Finishes D S.received S.sent }
 {}
@@ -63,7 +63,7 @@ pub fn requests_end_in_time()
 /// socket gave nothing (`ended`). The same holds where a connection ends because the system has no
 /// descriptor left (`lacks`), or because the server is about to end (`stops`). Then each connection
 /// that is left is under way: something is begun on it, or it is to be visited (`left`).
-pub fn newcomers_end_idle_connections<S: Socket, D: Service>()
+pub fn newcomers_end_idle_connections<S: Socket, D: HttpService>()
     ensures begins { NewPoolRests S.has_none S.is_full }
     ensures comes { NewConnectionsLeaveRest S.has_none S.is_full }
     ensures wakes { WakesLeaveRest S.has_none S.is_full }
@@ -82,7 +82,7 @@ pub fn newcomers_end_idle_connections<S: Socket, D: Service>()
 /// more bytes as one read gives, and no more where it is held back. It is held back only where it
 /// has begun a request that isn't whole. At most 16 bodies are chosen: this holds in a new pool,
 /// and new connections, wakes, ends and rounds keep it so.
-pub fn a_crowd_holds_little_more<S: Socket, D: Service>()
+pub fn a_crowd_holds_little_more<S: Socket, D: HttpService>()
     ensures begins { NewPoolReadsFew S }
     ensures comes { NewConnectionsLeaveFew S }
     ensures wakes { WakesLeaveFew S }
@@ -101,7 +101,7 @@ pub fn a_crowd_holds_little_more<S: Socket, D: Service>()
 /// wakes, ends and rounds keep it so. From it follows how much the connections hold whose bodies
 /// aren't chosen (`unread`), how much all of them hold (`all`), and how much that is with reads of
 /// 16,384 bytes, as a server's have (`servers`): 159,907,840 bytes.
-pub fn connections_hold_little<S: Socket, D: Service>()
+pub fn connections_hold_little<S: Socket, D: HttpService>()
     ensures begins { NewPoolHoldsLittle S }
     ensures comes { NewConnectionsLeaveLittle S }
     ensures wakes { WakesLeaveLittle S }
@@ -118,7 +118,7 @@ pub fn connections_hold_little<S: Socket, D: Service>()
 /// While a server is held, its service is asked only queries, however many rounds that takes
 /// (`queried`): it is what these queries leave, except for what it has looked up since. The other laws
 /// of rounds hold of these rounds too (`rounds`).
-pub fn held_servers_ask_queries<S: Socket, D: Service>()
+pub fn held_servers_ask_queries<S: Socket, D: HttpService>()
     ensures queried { HoldsAskQueries S.received S.sent S.has_none S.is_full S.has_more S.is_ended S.is_broken D.speaks D.answers D.over }
     ensures rounds { QueriesAreAnswers S.received S.sent S.has_none S.is_full S.has_more S.is_ended S.is_broken D.speaks D.answers D.over }
 {}
@@ -127,7 +127,7 @@ pub fn held_servers_ask_queries<S: Socket, D: Service>()
 /// is lost: each connection on which a request is under way that may be a command stays at its place as
 /// it is, with all that was received (`waits`). Who comes in takes the place of nobody on whose
 /// connection something is begun, or who is to be visited (`comes`).
-pub fn held_servers_keep_commands<S: Socket, D: Service>()
+pub fn held_servers_keep_commands<S: Socket, D: HttpService>()
     ensures waits { HoldsKeepCommands S.received S.sent S.has_none S.is_full S.has_more S.is_ended S.is_broken D.speaks D.answers D.over }
     ensures comes { NewcomersLeaveBusy S }
 {}

@@ -12,7 +12,7 @@ ghost use Rattle.registry_server.specs.declared.phase.Stage.TheVariants as stage
 
 use crate::connection::{BODY_LEAST, Connection, Visit};
 use crate::socket::Socket;
-use registry_service::{Clock, Service};
+use registry_service::{Clock, HttpService};
 use std::alloc::{AllocError, Global};
 
 /// The most connections that are open at once.
@@ -161,7 +161,7 @@ impl<S: Socket> Place<S> {
 
     // Visits the connection, if one is there and is to be visited, unless the service is over.
     // Where it is held back, it waits instead.
-    fn visit<D: Service, C: Clock>(
+    fn visit<D: HttpService, C: Clock>(
         &mut self,
         alloc: Global,
         service: &mut D,
@@ -234,7 +234,7 @@ impl<S: Socket> Place<S> {
 }
 
 // Visits a connection. If commands wait, no request that may be a command is under way on it.
-fn visited<S: Socket, D: Service, C: Clock>(
+fn visited<S: Socket, D: HttpService, C: Clock>(
     connection: &mut Connection<S>,
     alloc: Global,
     service: &mut D,
@@ -414,7 +414,7 @@ impl<S: Socket> ConnectionPool<S> {
     /// crowd; where the connection ends with the answer, as long as the body is held. Of a crowd,
     /// one more body is chosen where fewer are chosen than may be: of the connections to be
     /// visited, the one whose request began first, and of equal ones that at the lowest place.
-    pub fn visit_all<D: Service, C: Clock>(
+    pub fn visit_all<D: HttpService, C: Clock>(
         &mut self,
         alloc: Global,
         service: &mut D,
@@ -433,7 +433,7 @@ impl<S: Socket> ConnectionPool<S> {
     /// Visits connections as [`visit_all`](ConnectionPool::visit_all) does, while commands wait: a
     /// connection on which a request that may be a command is under way isn't visited, and is still to
     /// be visited. So the service is asked only queries.
-    pub fn visit_queries<D: Service, C: Clock>(
+    pub fn visit_queries<D: HttpService, C: Clock>(
         &mut self,
         alloc: Global,
         service: &mut D,
@@ -450,7 +450,7 @@ impl<S: Socket> ConnectionPool<S> {
     }
 
     // Visits each connection that is to be visited and isn't held back.
-    fn visit_each<D: Service, C: Clock>(
+    fn visit_each<D: HttpService, C: Clock>(
         &mut self,
         alloc: Global,
         service: &mut D,

@@ -15,7 +15,7 @@ use crate::socket::Socket;
 use mio::net::TcpStream;
 use mio::{Events, Interest, Poll, Registry, Token};
 use registry_names::Moment;
-use registry_service::{Clock, Service};
+use registry_service::{Clock, HttpService, Service};
 use std::alloc::Global;
 use std::net::Net;
 use std::time::{Duration, Instant};
@@ -107,7 +107,7 @@ impl Server {
     /// the moment of requests where the clock can't be read, or is before 1970, until it is read
     /// again. An error is returned where the time of the server can't be read at first, or the
     /// system can't be asked what is ready.
-    pub fn run<R: time::Clock, D: Service>(
+    pub fn run<R: time::Clock, D: HttpService>(
         self,
         rt: &R,
         alloc: Global,
@@ -127,7 +127,7 @@ impl Server {
     /// any more, ends the connections on which nothing is begun, answers what is under way, and ends
     /// once nobody is there. Each connection gets at most one more answer, which says that the
     /// connection ends.
-    pub fn run_beside<R: time::Clock, D: Service, G: Guests>(
+    pub fn run_beside<R: time::Clock, D: HttpService, G: Guests>(
         mut self,
         rt: &R,
         alloc: Global,
@@ -141,7 +141,7 @@ impl Server {
     }
 
     // Goes on round by round until the last one, and says why that was it.
-    fn run_rounds<R: time::Clock, D: Service, G: Guests>(
+    fn run_rounds<R: time::Clock, D: HttpService, G: Guests>(
         &mut self,
         rt: &R,
         alloc: Global,
@@ -204,7 +204,7 @@ impl Server {
 
     // Visits those who are to be visited, ends those who are late, and lets in those who are there.
     // Where the server is held, commands wait. Returns whether the server goes on.
-    fn serve<D: Service, C: Clock, G: Guests>(
+    fn serve<D: HttpService, C: Clock, G: Guests>(
         &mut self,
         alloc: Global,
         service: &mut D,
@@ -228,7 +228,7 @@ impl Server {
     }
 
     // Does so while commands wait. No guest is visited, and nobody is late, as no time passes.
-    fn serve_queries<D: Service, C: Clock, G: Guests>(
+    fn serve_queries<D: HttpService, C: Clock, G: Guests>(
         &mut self,
         alloc: Global,
         service: &mut D,
@@ -251,7 +251,7 @@ impl Server {
     }
 
     // Does so where the server isn't held.
-    fn serve_all<D: Service, C: Clock, G: Guests>(
+    fn serve_all<D: HttpService, C: Clock, G: Guests>(
         &mut self,
         alloc: Global,
         service: &mut D,

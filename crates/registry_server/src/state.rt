@@ -13,7 +13,7 @@ ghost use Rattle.registry_server.specs.Connections.{query_start};
 use crate::outgoing::Outgoing;
 use registry_names::Fault;
 use registry_service::{
-    Clock, End, REQUESTS_PER_CONNECTION, Service, Turned, turn_away, turn_starved,
+    Clock, End, HttpService, REQUESTS_PER_CONNECTION, Service, Turned, turn_away, turn_starved,
 };
 use registry_wire::{Ending, First, Incoming, Wanted, ending_of};
 use std::alloc::{AllocError, Global};
@@ -135,7 +135,7 @@ impl ConnectionState {
     /// request that asks for it, the connection ends. `is_over` says that no more bytes come.
     ///
     /// All of the response before is sent, and the connection goes on.
-    pub fn take_turn<D: Service, C: Clock>(
+    pub fn take_turn<D: HttpService, C: Clock>(
         &mut self,
         alloc: Global,
         service: &mut D,
@@ -190,7 +190,7 @@ impl ConnectionState {
     }
 
     // The turn of a whole request. It is one of those that the connection may have.
-    fn answered<D: Service, C: Clock>(
+    fn answered<D: HttpService, C: Clock>(
         &mut self,
         alloc: Global,
         service: &mut D,

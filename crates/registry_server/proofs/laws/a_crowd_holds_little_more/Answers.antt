@@ -18,10 +18,10 @@ pub returns-clause-room : goal.returns-clause-room
 returns-clause-room g c = idle-ends-leave-few g.row.S.Denot
 
 pub returns-clause-rounds : goal.returns-clause-rounds
-returns-clause-rounds g c = rounds-read-few g.S.Socket.received g.S.Socket.sent g.S.Socket.has_none g.S.Socket.is_full g.S.Socket.has_more g.S.Socket.is_ended g.S.Socket.is_broken (spoken g.D.Service.speaks g.D.Service.answers) g.D.Service.over
+returns-clause-rounds g c = rounds-read-few g.S.Socket.received g.S.Socket.sent g.S.Socket.has_none g.S.Socket.is_full g.S.Socket.has_more g.S.Socket.is_ended g.S.Socket.is_broken (spoken g.D.HttpService.speaks g.D.Service.answers) g.D.Service.over
 
 pub returns-clause-few : goal.returns-clause-few
-returns-clause-few g c = rounds-hold-little-more g.S.Socket.received g.S.Socket.sent g.S.Socket.has_none g.S.Socket.is_full g.S.Socket.has_more g.S.Socket.is_ended g.S.Socket.is_broken (spoken g.D.Service.speaks g.D.Service.answers) g.D.Service.over
+returns-clause-few g c = rounds-hold-little-more g.S.Socket.received g.S.Socket.sent g.S.Socket.has_none g.S.Socket.is_full g.S.Socket.has_more g.S.Socket.is_ended g.S.Socket.is_broken (spoken g.D.HttpService.speaks g.D.Service.answers) g.D.Service.over
 
 pub returns-clause-waits : goal.returns-clause-waits
 returns-clause-waits g c = who-waits-has-begun g.row.S.Denot

@@ -18,7 +18,7 @@ pub returns-clause-room : goal.returns-clause-room
 returns-clause-room g c = idle-ends-leave-little g.row.S.Denot
 
 pub returns-clause-rounds : goal.returns-clause-rounds
-returns-clause-rounds g c = rounds-leave-little g.S.Socket.received g.S.Socket.sent g.S.Socket.has_none g.S.Socket.is_full g.S.Socket.has_more g.S.Socket.is_ended g.S.Socket.is_broken (spoken g.D.Service.speaks g.D.Service.answers) g.D.Service.over
+returns-clause-rounds g c = rounds-leave-little g.S.Socket.received g.S.Socket.sent g.S.Socket.has_none g.S.Socket.is_full g.S.Socket.has_more g.S.Socket.is_ended g.S.Socket.is_broken (spoken g.D.HttpService.speaks g.D.Service.answers) g.D.Service.over
 
 pub returns-clause-unread : goal.returns-clause-unread
 returns-clause-unread g c = unread-hold-little g.row.S.Denot

@@ -21,7 +21,7 @@ pub returns-clause-lacks : goal.returns-clause-lacks
 returns-clause-lacks g c = want-of-room-ends-idle g.S.Socket.has_none g.S.Socket.is_full
 
 pub returns-clause-visits : goal.returns-clause-visits
-returns-clause-visits g c = visits-leave-rest g.S.Socket.received g.S.Socket.sent g.S.Socket.has_none g.S.Socket.is_full g.S.Socket.has_more g.S.Socket.is_ended g.S.Socket.is_broken (spoken g.D.Service.speaks g.D.Service.answers) g.D.Service.over
+returns-clause-visits g c = visits-leave-rest g.S.Socket.received g.S.Socket.sent g.S.Socket.has_none g.S.Socket.is_full g.S.Socket.has_more g.S.Socket.is_ended g.S.Socket.is_broken (spoken g.D.HttpService.speaks g.D.Service.answers) g.D.Service.over
 
 pub returns-clause-ended : goal.returns-clause-ended
 returns-clause-ended g c = newcomers-end-idle g.S.Socket.has_none g.S.Socket.is_full

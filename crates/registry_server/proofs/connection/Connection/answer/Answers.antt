@@ -8,13 +8,13 @@ use Rattle.registry_server.proofs.connection.Connection.answer.Goals as goal
 
 pub returns-in-Waits-clause-answers : goal.returns-in-Waits-clause-answers
 returns-in-Waits-clause-answers g c =
-    answered-looked g.S.Socket.received g.S.Socket.sent (spoken g.D.Service.speaks g.D.Service.answers) _ _ _ _ _ _ _ _
+    answered-looked g.S.Socket.received g.S.Socket.sent (spoken g.D.HttpService.speaks g.D.Service.answers) _ _ _ _ _ _ _ _
     c.in-Waits.ensures.does.0 (c.in-Waits.ensures.looked (λ same. absurd (cc))) c.take_turn.ensures.socket c.take_turn.ensures.over
     c.look.ensures.state c.look.ensures.phase c.look.ensures.sent c.look.ensures.received c.look.ensures.over
 
 pub returns-in-Closed-clause-answers : goal.returns-in-Closed-clause-answers
 returns-in-Closed-clause-answers g c =
-    answered-none g.S.Socket.received g.S.Socket.sent (spoken g.D.Service.speaks g.D.Service.answers) _ _ _ _ _ _ _
+    answered-none g.S.Socket.received g.S.Socket.sent (spoken g.D.HttpService.speaks g.D.Service.answers) _ _ _ _ _ _ _
     c.in-Closed.ensures.does.0 (c.in-Closed.ensures.looked (λ same. absurd (cc))) (ap g.S.Socket.sent c.take_turn.ensures.socket) (ap g.S.Socket.received c.take_turn.ensures.socket) c.take_turn.ensures.over
 
 pub returns-in-Answered-clause-answers : goal.returns-in-Answered-clause-answers

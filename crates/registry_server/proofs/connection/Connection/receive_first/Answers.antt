@@ -11,24 +11,24 @@ use Rattle.registry_server.proofs.connection.Connection.receive_first.Goals as g
 
 pub returns-in-Ok-Moved-clause-visits : goal.returns-in-Ok-Moved-clause-visits
 returns-in-Ok-Moved-clause-visits g c readings =
-    visit-received g.S.Socket.received g.S.Socket.sent (spoken g.D.Service.speaks (queries g.D.Service.answers)) _ _ _ _ _ _ c.in-Ok-Moved.ensures.kept c.in-Ok-Moved.ensures.may c.in-Ok-Moved.ensures.waits c.in-Ok-Moved.ensures.receiving c.in-Ok-Moved.ensures.idle
+    visit-received g.S.Socket.received g.S.Socket.sent (spoken g.D.HttpService.speaks (queries g.D.Service.answers)) _ _ _ _ _ _ c.in-Ok-Moved.ensures.kept c.in-Ok-Moved.ensures.may c.in-Ok-Moved.ensures.waits c.in-Ok-Moved.ensures.receiving c.in-Ok-Moved.ensures.idle
 
 pub returns-in-Ok-Waits-clause-visits : goal.returns-in-Ok-Waits-clause-visits
 returns-in-Ok-Waits-clause-visits g c readings =
-    visit-received g.S.Socket.received g.S.Socket.sent (spoken g.D.Service.speaks (queries g.D.Service.answers)) _ _ _ _ _ _ c.in-Ok-Waits.ensures.kept c.in-Ok-Waits.ensures.may c.in-Ok-Waits.ensures.waits c.in-Ok-Waits.ensures.receiving c.in-Ok-Waits.ensures.idle
+    visit-received g.S.Socket.received g.S.Socket.sent (spoken g.D.HttpService.speaks (queries g.D.Service.answers)) _ _ _ _ _ _ c.in-Ok-Waits.ensures.kept c.in-Ok-Waits.ensures.may c.in-Ok-Waits.ensures.waits c.in-Ok-Waits.ensures.receiving c.in-Ok-Waits.ensures.idle
 
 pub returns-in-Ok-Ended-clause-visits : goal.returns-in-Ok-Ended-clause-visits
 returns-in-Ok-Ended-clause-visits g c readings =
-    visit-received g.S.Socket.received g.S.Socket.sent (spoken g.D.Service.speaks (queries g.D.Service.answers)) _ _ _ _ _ _ c.in-Ok-Ended.ensures.kept c.in-Ok-Ended.ensures.may c.in-Ok-Ended.ensures.waits c.in-Ok-Ended.ensures.receiving c.in-Ok-Ended.ensures.idle
+    visit-received g.S.Socket.received g.S.Socket.sent (spoken g.D.HttpService.speaks (queries g.D.Service.answers)) _ _ _ _ _ _ c.in-Ok-Ended.ensures.kept c.in-Ok-Ended.ensures.may c.in-Ok-Ended.ensures.waits c.in-Ok-Ended.ensures.receiving c.in-Ok-Ended.ensures.idle
 
 pub returns-in-Ok-Broken-clause-visits : goal.returns-in-Ok-Broken-clause-visits
 returns-in-Ok-Broken-clause-visits g c readings =
-    visit-received g.S.Socket.received g.S.Socket.sent (spoken g.D.Service.speaks (queries g.D.Service.answers)) _ _ _ _ _ _ c.in-Ok-Broken.ensures.kept c.in-Ok-Broken.ensures.may c.in-Ok-Broken.ensures.waits c.in-Ok-Broken.ensures.receiving c.in-Ok-Broken.ensures.idle
+    visit-received g.S.Socket.received g.S.Socket.sent (spoken g.D.HttpService.speaks (queries g.D.Service.answers)) _ _ _ _ _ _ c.in-Ok-Broken.ensures.kept c.in-Ok-Broken.ensures.may c.in-Ok-Broken.ensures.waits c.in-Ok-Broken.ensures.receiving c.in-Ok-Broken.ensures.idle
 
 pub returns-in-Err-clause-visits : goal.returns-in-Err-clause-visits
 returns-in-Err-clause-visits g c readings =
     rw c.starve.ensures.service
-    (visit-starved g.S.Socket.received g.S.Socket.sent (spoken g.D.Service.speaks (queries g.D.Service.answers)) _ _ _ _ _ _ _ c.in-Err.ensures.lost c.in-Err.ensures.may c.in-Err.ensures.waits c.in-Err.ensures.receiving c.in-Err.ensures.idle c.in-Err.ensures.turning c.starve.ensures.starves)
+    (visit-starved g.S.Socket.received g.S.Socket.sent (spoken g.D.HttpService.speaks (queries g.D.Service.answers)) _ _ _ _ _ _ _ c.in-Err.ensures.lost c.in-Err.ensures.may c.in-Err.ensures.waits c.in-Err.ensures.receiving c.in-Err.ensures.idle c.in-Err.ensures.turning c.starve.ensures.starves)
 
 pub returns-in-Ok-Waits-clause-rests : goal.returns-in-Ok-Waits-clause-rests
 returns-in-Ok-Waits-clause-rests g c rests next = absurd (false≢true (ap receives (sym next) ∙ c.in-Ok-Waits.ensures.quiet (search rules)))

@@ -8,32 +8,32 @@ use Rattle.registry_server.proofs.connection.Connection.visit.Goals as goal
 
 pub returns-in-Ok-Waits-clause-visits : goal.returns-in-Ok-Waits-clause-visits
 returns-in-Ok-Waits-clause-visits g c =
-    visit-received g.S.Socket.received g.S.Socket.sent (spoken g.D.Service.speaks g.D.Service.answers) _ _ _ _ _ _ c.in-Ok-Waits.ensures.kept c.in-Ok-Waits.ensures.may c.in-Ok-Waits.ensures.waits c.in-Ok-Waits.ensures.receiving c.in-Ok-Waits.ensures.idle
+    visit-received g.S.Socket.received g.S.Socket.sent (spoken g.D.HttpService.speaks g.D.Service.answers) _ _ _ _ _ _ c.in-Ok-Waits.ensures.kept c.in-Ok-Waits.ensures.may c.in-Ok-Waits.ensures.waits c.in-Ok-Waits.ensures.receiving c.in-Ok-Waits.ensures.idle
 
 pub returns-in-Ok-Broken-clause-visits : goal.returns-in-Ok-Broken-clause-visits
 returns-in-Ok-Broken-clause-visits g c =
-    visit-received g.S.Socket.received g.S.Socket.sent (spoken g.D.Service.speaks g.D.Service.answers) _ _ _ _ _ _ c.in-Ok-Broken.ensures.kept c.in-Ok-Broken.ensures.may c.in-Ok-Broken.ensures.waits c.in-Ok-Broken.ensures.receiving c.in-Ok-Broken.ensures.idle
+    visit-received g.S.Socket.received g.S.Socket.sent (spoken g.D.HttpService.speaks g.D.Service.answers) _ _ _ _ _ _ c.in-Ok-Broken.ensures.kept c.in-Ok-Broken.ensures.may c.in-Ok-Broken.ensures.waits c.in-Ok-Broken.ensures.receiving c.in-Ok-Broken.ensures.idle
 
 pub returns-in-Err-clause-visits : goal.returns-in-Err-clause-visits
 returns-in-Err-clause-visits g c =
     rw c.starve.ensures.service
-    (visit-starved g.S.Socket.received g.S.Socket.sent (spoken g.D.Service.speaks g.D.Service.answers) _ _ _ _ _ _ _ c.in-Err.ensures.lost c.in-Err.ensures.may c.in-Err.ensures.waits c.in-Err.ensures.receiving c.in-Err.ensures.idle c.in-Err.ensures.turning c.starve.ensures.starves)
+    (visit-starved g.S.Socket.received g.S.Socket.sent (spoken g.D.HttpService.speaks g.D.Service.answers) _ _ _ _ _ _ _ c.in-Err.ensures.lost c.in-Err.ensures.may c.in-Err.ensures.waits c.in-Err.ensures.receiving c.in-Err.ensures.idle c.in-Err.ensures.turning c.starve.ensures.starves)
 
 pub returns-in-Next-clause-visits : goal.returns-in-Next-clause-visits
 returns-in-Next-clause-visits g c =
-    visit-turned g.S.Socket.received g.S.Socket.sent (spoken g.D.Service.speaks g.D.Service.answers) _ _ _ _ _ _ _ _ c.answer-in-Next.ensures.may c.answer-in-Next.ensures.answers
+    visit-turned g.S.Socket.received g.S.Socket.sent (spoken g.D.HttpService.speaks g.D.Service.answers) _ _ _ _ _ _ _ _ c.answer-in-Next.ensures.may c.answer-in-Next.ensures.answers
 
 pub returns-in-Sends-clause-visits : goal.returns-in-Sends-clause-visits
 returns-in-Sends-clause-visits g c =
-    visit-sent g.S.Socket.received g.S.Socket.sent (spoken g.D.Service.speaks g.D.Service.answers) _ _ _ _ _ _ c.send.ensures.sends
+    visit-sent g.S.Socket.received g.S.Socket.sent (spoken g.D.HttpService.speaks g.D.Service.answers) _ _ _ _ _ _ c.send.ensures.sends
 
 pub returns-in-Drains-clause-visits : goal.returns-in-Drains-clause-visits
 returns-in-Drains-clause-visits g c =
-    visit-dropped g.S.Socket.received g.S.Socket.sent (spoken g.D.Service.speaks g.D.Service.answers) _ _ _ _ _ _ c.drain.ensures.drops c.drain.ensures.all_sent c.drain.ensures.ended c.drain.ensures.stage
+    visit-dropped g.S.Socket.received g.S.Socket.sent (spoken g.D.HttpService.speaks g.D.Service.answers) _ _ _ _ _ _ c.drain.ensures.drops c.drain.ensures.all_sent c.drain.ensures.ended c.drain.ensures.stage
 
 pub returns-in-Ok-Moved-clause-visits : goal.returns-in-Ok-Moved-clause-visits
 returns-in-Ok-Moved-clause-visits g c =
-    visit-answered g.S.Socket.received g.S.Socket.sent (spoken g.D.Service.speaks g.D.Service.answers) _ _ _ _ _ _ _ _ _ c.in-Ok-Moved.ensures.kept c.in-Ok-Moved.ensures.may c.in-Ok-Moved.ensures.waits c.in-Ok-Moved.ensures.receiving c.in-Ok-Moved.ensures.idle c.in-Ok-Moved.ensures.turning c.answer.ensures.answers
+    visit-answered g.S.Socket.received g.S.Socket.sent (spoken g.D.HttpService.speaks g.D.Service.answers) _ _ _ _ _ _ _ _ _ c.in-Ok-Moved.ensures.kept c.in-Ok-Moved.ensures.may c.in-Ok-Moved.ensures.waits c.in-Ok-Moved.ensures.receiving c.in-Ok-Moved.ensures.idle c.in-Ok-Moved.ensures.turning c.answer.ensures.answers
 
 pub returns-in-Ok-Waits-clause-rests : goal.returns-in-Ok-Waits-clause-rests
 returns-in-Ok-Waits-clause-rests g c rests next = absurd (false≢true (ap receives (sym next) ∙ c.in-Ok-Waits.ensures.quiet (search rules)))

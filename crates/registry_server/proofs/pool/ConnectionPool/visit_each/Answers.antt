@@ -22,9 +22,9 @@ loop-place-preserved g c =
     let here = get_or items i c.place-item.result in
     let within : i < length old = grind (arith, c.loop-place-test.true, c.loop-place.auto.place-items, c.deref_mut-place-items.ensures.value, c.deref_mut-place-items.ensures.len) in
     let len : length items ≡ length old = grind (arith, c.loop-place-test.true, c.loop-place.auto.place-items, c.deref_mut-place-items.ensures.value, c.deref_mut-place-items.ensures.len) in
-    let one = subst (λ (most : ℕ). VisitsAt socket.received socket.sent socket.has_none socket.is_full socket.has_more socket.is_ended socket.is_broken (spoken g.D.Service.speaks (answering c.args.commands_wait g.D.Service.answers)) g.D.Service.over c.args.commands_wait c.args.is_crowd c.args.now most here c.visit.new.self c.loop-place.service c.visit.new.service (g.C.Clock.readings c.loop-place.clock) (g.C.Clock.readings c.visit.new.clock)) c.loop-place.auto.buffer c.visit.ensures in
+    let one = subst (λ (most : ℕ). VisitsAt socket.received socket.sent socket.has_none socket.is_full socket.has_more socket.is_ended socket.is_broken (spoken g.D.HttpService.speaks (answering c.args.commands_wait g.D.Service.answers)) g.D.Service.over c.args.commands_wait c.args.is_crowd c.args.now most here c.visit.new.self c.loop-place.service c.visit.new.service (g.C.Clock.readings c.loop-place.clock) (g.C.Clock.readings c.visit.new.clock)) c.loop-place.auto.buffer c.visit.ensures in
     record {
-      visited = visits-step socket.received socket.sent socket.has_none socket.is_full socket.has_more socket.is_ended socket.is_broken (spoken g.D.Service.speaks (answering c.args.commands_wait g.D.Service.answers)) g.D.Service.over c.args.commands_wait c.args.is_crowd c.args.now (length c.args.buffer.now) old items i here _ _ _ _ _ _ _ within len
+      visited = visits-step socket.received socket.sent socket.has_none socket.is_full socket.has_more socket.is_ended socket.is_broken (spoken g.D.HttpService.speaks (answering c.args.commands_wait g.D.Service.answers)) g.D.Service.over c.args.commands_wait c.args.is_crowd c.args.now (length c.args.buffer.now) old items i here _ _ _ _ _ _ _ within len
           c.loop-place.invariant.rest (ap (λ (d : Place g.row.S.Denot). get_or items i d) c.place-item.is) c.loop-place.invariant.visited one;
       rest = rest-step old items i _ c.loop-place.invariant.rest;
     }
@@ -37,6 +37,6 @@ returns g c =
     let i = c.loop-place.place-index in
     let same = ap (λ (l : List (Place g.row.S.Denot)). length l) c.deref_mut-place-items.ensures.value in
     let past : length old ≤ i = omega (arith, same, c.loop-place-test.false) in
-    subst (λ (l : List (Place g.row.S.Denot)). VisitsAll socket.received socket.sent socket.has_none socket.is_full socket.has_more socket.is_ended socket.is_broken (spoken g.D.Service.speaks (answering c.args.commands_wait g.D.Service.answers)) g.D.Service.over c.args.commands_wait c.args.is_crowd c.args.now (length c.args.buffer.now) old l c.args.service.now c.loop-place.service (g.C.Clock.readings c.args.clock.now) (g.C.Clock.readings c.loop-place.clock))
+    subst (λ (l : List (Place g.row.S.Denot)). VisitsAll socket.received socket.sent socket.has_none socket.is_full socket.has_more socket.is_ended socket.is_broken (spoken g.D.HttpService.speaks (answering c.args.commands_wait g.D.Service.answers)) g.D.Service.over c.args.commands_wait c.args.is_crowd c.args.now (length c.args.buffer.now) old l c.args.service.now c.loop-place.service (g.C.Clock.readings c.args.clock.now) (g.C.Clock.readings c.loop-place.clock))
     (sym (all-back old items i c.args.self.now.places.len (c.loop-place.auto.place-items ∙ same) past (sym c.deref_mut-place-items.ensures.len ∙ same)))
-    (subst (λ (l : List (Place g.row.S.Denot)). VisitsAll socket.received socket.sent socket.has_none socket.is_full socket.has_more socket.is_ended socket.is_broken (spoken g.D.Service.speaks (answering c.args.commands_wait g.D.Service.answers)) g.D.Service.over c.args.commands_wait c.args.is_crowd c.args.now (length c.args.buffer.now) l (take i items) c.args.service.now c.loop-place.service (g.C.Clock.readings c.args.clock.now) (g.C.Clock.readings c.loop-place.clock)) (take_all i old past) c.loop-place.invariant.visited)
+    (subst (λ (l : List (Place g.row.S.Denot)). VisitsAll socket.received socket.sent socket.has_none socket.is_full socket.has_more socket.is_ended socket.is_broken (spoken g.D.HttpService.speaks (answering c.args.commands_wait g.D.Service.answers)) g.D.Service.over c.args.commands_wait c.args.is_crowd c.args.now (length c.args.buffer.now) l (take i items) c.args.service.now c.loop-place.service (g.C.Clock.readings c.args.clock.now) (g.C.Clock.readings c.loop-place.clock)) (take_all i old past) c.loop-place.invariant.visited)

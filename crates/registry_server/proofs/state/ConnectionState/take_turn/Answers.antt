@@ -13,7 +13,7 @@ returns-in-Ok-Bad-clause-does g c =
     let bad : IsBad c.args.self.now.held c.in-Ok-Bad.refusal = rw c.in-Ok-Bad.field-0-is at c.in-Ok-Bad.ensures.says in
     let away : TurnsAway (bad_input c.in-Ok-Bad.refusal) c.noted.result = rw c.noted.ensures.turned c.turn_away.ensures in
     rw c.put-in-Ok-Bad.ensures.answered (rw c.noted.ensures.service
-    (away-turn (spoken g.D.Service.speaks g.D.Service.answers) _ _ _ _ _ c.in-Ok-Bad.refusal _ (inl bad) away (rw c.first.ensures.stays at c.put-in-Ok-Bad.ensures.state)))
+    (away-turn (spoken g.D.HttpService.speaks g.D.Service.answers) _ _ _ _ _ c.in-Ok-Bad.refusal _ (inl bad) away (rw c.first.ensures.stays at c.put-in-Ok-Bad.ensures.state)))
 
 pub returns-in-BadInput-clause-does : goal.returns-in-BadInput-clause-does
 returns-in-BadInput-clause-does g c =
@@ -23,18 +23,18 @@ returns-in-BadInput-clause-does g c =
     let over : c.args.is_over ≡ true = search rules in
     let away : TurnsAway (bad_input c.in-BadInput.refusal) c.noted-in-BadInput.result = rw c.noted-in-BadInput.ensures.turned c.turn_away-in-BadInput.ensures in
     rw c.put-in-BadInput.ensures.answered (rw c.noted-in-BadInput.ensures.service
-    (away-turn (spoken g.D.Service.speaks g.D.Service.answers) _ _ _ _ _ c.in-BadInput.refusal _ (inr (rw c.first.ensures.stays at ends, over)) away (rw c.first.ensures.stays at c.put-in-BadInput.ensures.state)))
+    (away-turn (spoken g.D.HttpService.speaks g.D.Service.answers) _ _ _ _ _ c.in-BadInput.refusal _ (inr (rw c.first.ensures.stays at ends, over)) away (rw c.first.ensures.stays at c.put-in-BadInput.ensures.state)))
 
 pub returns-in-Err-clause-does : goal.returns-in-Err-clause-does
 returns-in-Err-clause-does g c =
     let away : TurnsAway no_memory c.noted-in-Err.result = rw c.noted-in-Err.ensures.turned c.turn_starved.ensures in
     rw c.put-in-Err.ensures.answered (rw c.noted-in-Err.ensures.service
-    (starved-turn (spoken g.D.Service.speaks g.D.Service.answers) _ _ _ c.args.self.now c.put-in-Err.new.self
+    (starved-turn (spoken g.D.HttpService.speaks g.D.Service.answers) _ _ _ c.args.self.now c.put-in-Err.new.self
     (record { turned = c.noted-in-Err.result; away = away; state = rw c.first.ensures.stays at c.put-in-Err.ensures.state })))
 
 pub returns-in-Ok-Whole-clause-does : goal.returns-in-Ok-Whole-clause-does
 returns-in-Ok-Whole-clause-does g c =
-    let dialogue = spoken g.D.Service.speaks g.D.Service.answers in
+    let dialogue = spoken g.D.HttpService.speaks g.D.Service.answers in
     let old = c.args.self.now in
     let wanted = c.in-Ok-Whole.wanted in
     let used = c.in-Ok-Whole.used in
