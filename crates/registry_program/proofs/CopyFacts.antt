@@ -116,12 +116,12 @@ restored_as seen file checks lines same sound held = elim held.holds [
   | inl it ↦ inl (subst (λ (d : Database). RestoresRegistry d.trees file checks lines) same
       (record { tables = subst (λ s. IsSound s seen.now.trees) it.0 sound; ours = it.1; holds = it.2 }))
   | inr it ↦ inr (record {
-      older = it.0.0;
-      tables = subst (λ (d : Database). IsSound (schema_of it.0.0) d.trees) same (subst (λ s. IsSound s seen.now.trees) it.0.1 sound);
-      unchecked = it.1;
-      untold = it.2;
-      holds = it.3;
-    })
+    older = it.0.0;
+    tables = subst (λ (d : Database). IsSound (schema_of it.0.0) d.trees) same (subst (λ s. IsSound s seen.now.trees) it.0.1 sound);
+    unchecked = it.1;
+    untold = it.2;
+    holds = it.3;
+  })
 ]
 
 -- what was found in the files of a copy is in the file

@@ -1,5 +1,6 @@
 -- The lines that say what is wrong in a registry: for each problem the thing, and what is wrong with it.
-use Rattle.std.specs.Prelude.{Bool, true, false, List, [], ◌++◌, codes, map, signed_decimal}
+use Rattle.std.specs.Prelude.{Bool, true, false, List, [], ◌++◌, codes, map}
+use Rattle.std.specs.Fmt.{signed_decimal}
 use Rattle.hex.specs.Hex.{encode_lower}
 use Rattle.sqlite_trees.specs.Tree.{Trees}
 use Rattle.registry_names.specs.Texts.{Text}

@@ -1,6 +1,7 @@
 //! The lines that say what is wrong in a registry.
 
-ghost use Rattle.std.specs.Prelude.{◌≡◌, ◌++◌, IfOk, codes, map, signed_decimal};
+ghost use Rattle.std.specs.Prelude.{◌≡◌, ◌++◌, IfOk, codes, map};
+ghost use Rattle.std.specs.Fmt.{signed_decimal};
 ghost use Rattle.hex.specs.Hex.{encode_lower};
 ghost use Rattle.registry_check.specs.Readable.{table_of};
 ghost use Rattle.registry_program.specs.Lines.{problem_line, thing_line};
@@ -130,7 +131,12 @@ fn need_text(
         ++ codes " of version " ++ version.now ++ codes " of " ++ name.now) }
 {
     let inner = part(alloc, " of version ", version, name)?;
-    let text = format!(in alloc; "need {} {}{}", target.as_str(), range.as_str(), inner.as_str())?;
+    let text = format!(in alloc;
+        "need {} {}{}",
+        target.as_str(),
+        range.as_str(),
+        inner.as_str()
+    )?;
     Ok(Text::from(text))
 }
 
