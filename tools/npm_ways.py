@@ -73,12 +73,11 @@ class Relay:
 
     def note(self, headers, request, status):
         """A request was passed on, and answered: who asked, as the log says it, the method and the status."""
-        method, _, target = request.partition(' ')
+        method = request.partition(' ')[0]
         token = re.fullmatch(r'Bearer npm_(\w+)_000000001', headers.get('authorization', ''))
-        # What is too large or compressed, as npm's audits, is refused before it is read as a request. And
-        # whether anybody may read a package is asked for nobody, after it was asked for the caller.
+        # What is too large or compressed, as npm's audits, is refused before it is read as a request.
         is_unread = status == 413 or headers.get('content-encoding') == 'gzip'
-        is_nobody = is_unread or status == 401 or (target.endswith('/visibility') and status == 200)
+        is_nobody = is_unread or status == 401
         user, method = token[1] if token and not is_nobody else '-', '-' if is_unread else method
         with self.lock:
             self.passed.append((user, method, str(status)))
@@ -195,15 +194,16 @@ def certificate(folder):
                    check=True, capture_output=True)
 
 
-def front_of(port, secure, certificates, folder):
-    """examples/front/registry.conf with another address of the registry, other ports and another name."""
-    text = (TOP / 'examples/front/registry.conf').read_text()
+def placed(name, port, secure, certificates, folder):
+    """A file of examples/front with another address of the registry, other ports, another name and other places."""
+    text = (TOP / 'examples/front' / name).read_text()
     for old, new in [('unix:/run/registry/http.sock', f'127.0.0.1:{port}'), ('listen 80;', f'listen 127.0.0.1:{free_port()};'),
                      ('listen 443 ssl;', f'listen 127.0.0.1:{secure} ssl;'),
                      ('/etc/ssl/registry.example/fullchain.pem', f'{certificates}/cert.pem'),
                      ('/etc/ssl/registry.example/privkey.pem', f'{certificates}/key.pem'),
                      ('server_name registry.example', 'server_name localhost'), ('registry.example', f'localhost:{secure}'),
-                     ('/etc/nginx/registry-', f'{folder}/'), ('/var/log/nginx/', f'{folder}/')]:
+                     ('/etc/nginx/registry-', f'{folder}/'), ('/var/log/nginx/', f'{folder}/'),
+                     ('/usr/local/share/registry/', f'{TOP}/examples/front/')]:
         text = text.replace(old, new)
     return re.sub(r'^ *listen \[::\].*\n', '', text, flags=re.MULTILINE)
 
@@ -217,11 +217,16 @@ def nginx_of(folder):
 
 
 @contextlib.contextmanager
-def front(port, certificates, folder):
-    """nginx before the registry at a port, and its own port."""
+def front(port, certificates, folder, parts=(), edits=()):
+    """nginx before the registry at a port, and its own port; with the named parts of examples/front, after edits."""
     secure = free_port()
     folder.mkdir()
-    (folder / 'registry.conf').write_text(front_of(port, secure, certificates, folder))
+    for name in ('registry.conf', *parts):
+        place = folder / name if name == 'registry.conf' else folder / name.removesuffix('.conf')
+        text = placed(name, port, secure, certificates, folder)
+        for old, new in edits:
+            text = text.replace(old, new)
+        place.write_text(text)
     (folder / 'nginx.conf').write_text(nginx_of(folder))
     with started(['nginx', '-e', folder / 'error.log', '-p', folder, '-c', folder / 'nginx.conf'], folder / 'said', lambda _: is_open(secure)):
         yield secure

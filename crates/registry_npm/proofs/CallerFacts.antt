@@ -1,47 +1,37 @@
 -- Why a turn asks on behalf of its caller or of nobody.
-use Rattle.std.proofs.Common.{◌≡◌, ◌≤◌, ◌+◌, ◌∷◌, ◌⊎◌, [], ℕ, Bool, true, false, List, Option, Some, None, Ok, Err, option_map, option_and_then, is_some, refl, sym, ap, subst, ◌∙◌, inl, inr, arith}
-use Rattle.std.specs.Prelude.{if◌then◌else◌}
-use Rattle.std.proofs.lemmas.Bool.{cases_Bool}
-use Rattle.registry_access.specs.declared.role.Role.{Role}
+use Rattle.std.proofs.Common.{◌≡◌, ◌∷◌, ◌⊎◌, [], ℕ, Bool, true, false, List, Option, Some, None, Ok, Err, is_some, refl, sym, subst, inl, inr}
 use Rattle.registry_names.specs.Names.{scope_of}
 use Rattle.registry_names.specs.Texts.{Text}
-use Rattle.registry_names.specs.declared.method.Method.{Method}
 use Rattle.registry_names.specs.declared.refusal.Refusal.{Refusal}
-use Rattle.registry_names.specs.declared.refusal.Refusal.TheVariants.{BadBody, NotFound, NotServed, Stale}
-use Rattle.registry_names.specs.declared.stop.Fault.{Fault}
+use Rattle.registry_names.specs.declared.refusal.Refusal.TheVariants.{BadBody, BadName, NotFound, NotServed, Stale}
 use Rattle.registry_names.specs.declared.stop.Fault.TheVariants.{Database}
 use Rattle.registry_names.specs.declared.stop.Stop.{Stop}
 use Rattle.registry_names.specs.declared.stop.Stop.TheVariants.{Refused as Refuses, Fault as Faulted}
-use Rattle.registry_routes.specs.NpmLaws.{TablesMeet, endpoint_of, met}
 use Rattle.registry_routes.specs.NpmRoutes.{NpmRoute, npm_route_of}
 use Rattle.registry_routes.specs.Routes.{Route, Values, route_of}
-use Rattle.registry_routes.specs.declared.endpoint.Endpoint.{Endpoint}
 use Rattle.registry_routes.specs.declared.npm_endpoint.NpmEndpoint.{NpmEndpoint}
 use Rattle.registry_routes.specs.declared.npm_endpoint.NpmEndpoint.TheVariants as by
-use Rattle.registry_rules.specs.Actions.{is_command}
-use Rattle.registry_rules.specs.declared.reply.Reply.{Reply}
-use Rattle.registry_rules.specs.declared.reply.Reply.TheVariants.{Done, Refused}
+use Rattle.registry_rules.specs.declared.reply.Reply.TheVariants.{Refused}
 use Rattle.registry_rules.specs.declared.request.Action.{Action}
-use Rattle.registry_rules.specs.declared.request.Action.TheVariants.{OrgSet, Maintainers, Members, MyPackages, Packument, Tags, Teams, WhoAmI}
+use Rattle.registry_rules.specs.declared.request.Action.TheVariants.{OrgSet, Maintainers, Members, MyPackages, OwnerAdd, Packument, Tags, Teams, WhoAmI}
 use Rattle.registry_rules.specs.declared.request.Credential.{Credential}
 use Rattle.registry_rules.specs.declared.request.Credential.TheVariants.{Anonymous}
 use Rattle.registry_rules.specs.declared.request.Request.{Request}
 use Rattle.registry_service.specs.Callers.{reads_caller}
 use Rattle.registry_service.specs.HttpAnswers.{Outcome}
 use Rattle.registry_service.specs.Readings.{Reading, one, reads_ident, reads_name}
-use Rattle.registry_service.specs.Requests.{reads_request, reads_routed}
-use Rattle.registry_service.specs.Turns.{Exchange, exchange, profile, stopped}
+use Rattle.registry_service.specs.Requests.{reads_routed}
+use Rattle.registry_service.specs.Turns.{Exchange, profile}
 use Rattle.registry_wire.specs.declared.wanted.Wanted.{Wanted}
 use Rattle.registry_npm.specs.Asked.{reads_first, reads_member, reads_user}
-use Rattle.registry_npm.specs.Bodies.{begins_object}
-use Rattle.registry_npm.specs.Forms.{empty_text, grants_form, membership_form, names_in, profile_form, teams_form, user_text, visibility_text, writers_form}
-use Rattle.registry_npm.specs.Laws.{AreAskedFor, AsksForCaller, IsAskedFor}
+use Rattle.registry_npm.specs.Forms.{empty_text, grants_form, membership_form, names_in, profile_form, teams_form, user_text, writers_form}
+use Rattle.registry_npm.specs.Laws.{AreAskedFor, AsksForCaller}
 use Rattle.registry_documents.specs.declared.asked.Asked.{Asked}
 use Rattle.registry_documents.specs.declared.asked.Asked.TheVariants.{AlreadySo, Deprecation as Deprecates, Withdrawal, OwnerAdd as AddsOwner, OwnerRemove as RemovesOwner}
 use Rattle.serde_json.specs.Data.{Data}
-use Rattle.registry_npm.specs.Packages.{Purpose, asks_as, asks_for, asks_late, asks_names, does, for_document, for_names, fulfils, is_gone, judged, judges, late, leads_claim, leads_document, leads_stopped, named_by, other_of, reads_claim, reads_document, reads_owner, reads_revision, reads_versions, reads_withdrawn, serves, serves_user, shown, stale, tries, with_names, withdrawn}
-use Rattle.registry_npm.specs.Leading.{Leads, asks, by_caller, document_of, either, ends, in_form, is_refused, is_stop, or_memory, reading, request, shown_as, shows, unless_stopped}
-use Rattle.registry_npm.specs.Npm.{asks_action, asks_first, asks_nobody, asks_own, asks_role, asks_size, follows, is_npms, is_user, leads, not_served, npm, sets_member, shows_own, shows_public, shows_teams, shows_user, shows_visibility, shows_writers, speaks_by}
+use Rattle.registry_npm.specs.Packages.{Purpose, asks_as, asks_for, asks_late, asks_names, does, for_document, for_names, fulfils, is_gone, judged, judges, late, leads_claim, leads_document, leads_stopped, named_by, no_version, other_of, reads_claim, reads_document, reads_owner, reads_revision, reads_versions, reads_withdrawn, serves, serves_user, shown, stale, tries, tries_right, unless_nobody, with_names, withdrawn}
+use Rattle.registry_npm.specs.Leading.{Leads, asks, by_caller, document_of, either, ends, in_form, is_stop, or_memory, reading, request, shown_as, shows, unless_stopped}
+use Rattle.registry_npm.specs.Npm.{asks_caller, asks_first, asks_role, asks_size, follows, is_npms, is_user, leads, not_served, npm, shows_public, speaks_by}
 
 -- ---- what is asked for the caller
 
@@ -90,9 +80,9 @@ by-in_form w at form (Some t) c = by-shows w at _
 by-shown : (w : Wanted) (at : ℕ) (form : Text → Option Text) (c : Outcome) → By w at (shown_as form c)
 by-shown w at form c = by-in_form w at form (document_of c) c
 
-by-public : (w : Wanted) (at : ℕ) (c : Outcome) → By w at (shows_public c)
-by-public w at (Err fault) = by-ends w at (Err fault)
-by-public w at (Ok reply) = by-shows w at _
+by-caller : (w : Wanted) (at : ℕ) (p : Text) (who : Credential) (c : Outcome) → reads_caller w.authorization (Ok who) → By w at (asks_caller p at who c)
+by-caller w at p who (Err fault) is = by-ends w at (Err fault)
+by-caller w at p who (Ok told) is = by-asks w at (request at who (Tags p)) _ (refl, inl is) (λ c. by-unless w at (shows_public told) c (by-shows w at _))
 
 by-not_served : (w : Wanted) (at : ℕ) (c : Outcome) → By w at (not_served c)
 by-not_served w at c = by-unless w at (ends (Ok (Refused NotServed))) c (by-ends w at (Ok (Refused NotServed)))
@@ -154,11 +144,17 @@ by-late w at (Some named) c = by-stale w at c
 by-asks_late : (w : Wanted) (at : ℕ) (path : Option Text) (who : Credential) (what : Action) → reads_caller w.authorization (Ok who) → By w at (asks_late path at who what)
 by-asks_late w at path who what is = by-asks w at (request at who what) (late path) (refl, inl is) (by-late w at path)
 
+by-right : (w : Wanted) (at : ℕ) (path : Option Text) (p : Text) (who : Credential) → reads_caller w.authorization (Ok who) → By w at (tries_right path p at who)
+by-right w at path p who is = by-reading w at (reads_versions no_version []) _ (λ d _. by-asks_late w at path who _ is)
+
+by-nobody : (w : Wanted) (at : ℕ) (c : Outcome) → By w at (unless_nobody c)
+by-nobody w at c = by-either w at (is_gone c) _ _ (by-ends w at (Ok (Refused BadName))) (by-ends w at c)
+
 by-does : (w : Wanted) (at : ℕ) (path : Option Text) (p : Text) (who : Credential) (asked : Asked) → reads_caller w.authorization (Ok who) → By w at (does path p at who asked)
-by-does w at path p who AlreadySo is = by-ends w at (Ok Done)
+by-does w at path p who AlreadySo is = by-right w at path p who is
 by-does w at path p who (Deprecates selector message) is = by-reading w at (reads_versions selector message) _ (λ d _. by-asks_late w at path who _ is)
 by-does w at path p who (Withdrawal version) is = by-either w at (is_some path) _ _ (by-reading w at (reads_withdrawn version) _ (λ v _. by-asks_late w at path who _ is)) (by-ends w at (Ok (Refused BadBody)))
-by-does w at path p who (AddsOwner user) is = by-either w at (is_some path) _ _ (by-reading w at (reads_owner user) _ (λ u _. by-asks_late w at path who _ is)) (by-ends w at (Ok (Refused BadBody)))
+by-does w at path p who (AddsOwner user) is = by-either w at (is_some path) _ _ (by-reading w at (reads_owner user) _ (λ u _. by-asks w at (request at who (OwnerAdd p u)) unless_nobody (refl, inl is) (by-nobody w at))) (by-ends w at (Ok (Refused BadBody)))
 by-does w at path p who (RemovesOwner user) is = by-either w at (is_some path) _ _ (by-reading w at (reads_owner user) _ (λ u _. by-asks_late w at path who _ is)) (by-ends w at (Ok (Refused BadBody)))
 
 by-fulfils : (w : Wanted) (at : ℕ) (purpose : Purpose) (p : Text) (who : Credential) (text : Text) (names : List Text) → reads_caller w.authorization (Ok who) → By w at (fulfils purpose p at who text names)
@@ -166,10 +162,10 @@ by-fulfils w at shown p who text names is = by-shows w at _
 by-fulfils w at (judged path d) p who text names is = by-or_memory w at _ (by-reading w at (judges d path text names) _ (λ asked _. by-does w at path p who asked is))
 by-fulfils w at (withdrawn named) p who text names is = by-or_memory w at _ (by-either w at _ _ _ (by-asks_late w at (Some named) who _ is) (by-ends w at (Ok (Refused Stale))))
 
-by-other : (w : Wanted) (at : ℕ) (purpose : Purpose) (c : Outcome) → By w at (other_of purpose c)
-by-other w at shown c = by-ends w at c
-by-other w at (judged path d) c = by-late w at path c
-by-other w at (withdrawn named) c = by-stale w at c
+by-other : (w : Wanted) (at : ℕ) (purpose : Purpose) (p : Text) (who : Credential) (c : Outcome) → reads_caller w.authorization (Ok who) → By w at (other_of purpose p at who c)
+by-other w at shown p who c is = by-ends w at c
+by-other w at (judged path d) p who c is = by-late w at path c
+by-other w at (withdrawn named) p who c is = by-either w at (is_gone c) _ _ (by-or_memory w at _ (by-right w at (Some named) p who is)) (by-ends w at c)
 
 by-for_names : (w : Wanted) (at : ℕ) (next : List Text → Leads) (names : Option (List Text)) → ((ns : List Text) → By w at (next ns)) → By w at (for_names next names)
 by-for_names w at next None f = by-ends w at (Err Database)
@@ -179,19 +175,19 @@ by-for_document : (w : Wanted) (at : ℕ) (next : Text → Leads) (other : Leads
 by-for_document w at next other None f g = g
 by-for_document w at next other (Some text) f g = f text
 
-by-named : (w : Wanted) (at : ℕ) (purpose : Purpose) (next : List Text → Leads) (c : Outcome) → ((ns : List Text) → By w at (next ns)) → By w at (named_by (other_of purpose) next c)
-by-named w at purpose next c f = by-for_document w at (with_names next) (other_of purpose c) (document_of c) (λ text. by-or_memory w at _ (by-for_names w at next (names_in text) f)) (by-other w at purpose c)
+by-named : (w : Wanted) (at : ℕ) (other : Outcome → Leads) (next : List Text → Leads) (c : Outcome) → By w at (other c) → ((ns : List Text) → By w at (next ns)) → By w at (named_by other next c)
+by-named w at other next c g f = by-for_document w at (with_names next) (other c) (document_of c) (λ text. by-or_memory w at _ (by-for_names w at next (names_in text) f)) g
 
 by-asks_names : (w : Wanted) (at : ℕ) (purpose : Purpose) (p : Text) (who : Credential) (next : List Text → Leads) → reads_caller w.authorization (Ok who) → ((ns : List Text) → By w at (next ns))
-    → By w at (asks_names p at who (other_of purpose) next)
-by-asks_names w at purpose p who next is f = by-either w at (is_some (scope_of p)) _ _ (f []) (by-tries w at (request at who (Maintainers p)) _ (refl, inl is) (λ c. by-named w at purpose next c f))
+    → By w at (asks_names p at who (other_of purpose p at who) next)
+by-asks_names w at purpose p who next is f = by-either w at (is_some (scope_of p)) _ _ (f []) (by-tries w at (request at who (Maintainers p)) _ (refl, inl is) (λ c. by-named w at (other_of purpose p at who) next c (by-other w at purpose p who c is) f))
 
 by-serves : (w : Wanted) (at : ℕ) (purpose : Purpose) (p : Text) (who : Credential) → reads_caller w.authorization (Ok who) → By w at (serves purpose p at who)
 by-serves w at purpose p who is = by-tries w at (request at who (Packument p)) _ (refl, inl is)
-    (λ c. by-for_document w at _ (other_of purpose c) (document_of c) (λ text. by-asks_names w at purpose p who _ is (λ names. by-fulfils w at purpose p who text names is)) (by-other w at purpose c))
+    (λ c. by-for_document w at _ (other_of purpose p at who c) (document_of c) (λ text. by-asks_names w at purpose p who _ is (λ names. by-fulfils w at purpose p who text names is)) (by-other w at purpose p who c is))
 
 by-serves_user : (w : Wanted) (at : ℕ) (purpose : Purpose) (p : Text) (who : Credential) → reads_caller w.authorization (Ok who) → By w at (serves_user purpose p at who)
-by-serves_user w at purpose p who is = by-asks w at (request at who WhoAmI) _ (refl, inl is) (λ c. by-either w at (is_stop c) _ _ (by-other w at purpose c) (by-serves w at purpose p who is))
+by-serves_user w at purpose p who is = by-asks w at (request at who WhoAmI) _ (refl, inl is) (λ c. by-either w at (is_stop c) _ _ (by-other w at purpose p who c is) (by-serves w at purpose p who is))
 
 by-asks_as : (w : Wanted) (at : ℕ) (purpose : Purpose) (p : Text) (who : Credential) → reads_caller w.authorization (Ok who) → By w at (asks_as purpose p at who)
 by-asks_as w at shown p who is = by-serves w at shown p who is
@@ -227,7 +223,7 @@ by-leads w at by.Revised v = by-reading w at (one reads_name v) _ (λ p _. by-re
 by-leads w at by.Unpublish v = by-reading w at (one reads_name v) _ (λ p _. by-reading w at (reads_revision v.second) _ (λ named _. by-asks_for w at (withdrawn named) p))
 by-leads w at by.FileDrop v = by-first w at by.FileDrop v
 by-leads w at by.ScopedFileDrop v = by-first w at by.ScopedFileDrop v
-by-leads w at by.Visibility v = by-reading w at (one reads_name v) _ (λ p _. by-caller_asks w at (λ who. Tags p) _ (λ who is c. by-unless w at (asks_nobody (Tags p) at) c (by-asks w at (request at Anonymous (Tags p)) shows_public (refl, inr refl) (by-public w at))))
+by-leads w at by.Visibility v = by-reading w at (one reads_name v) _ (λ p _. by-reading w at (reads_caller w.authorization) _ (λ who is. by-asks w at (request at Anonymous (Tags p)) _ (refl, inr refl) (λ c. by-caller w at p who c is)))
 by-leads w at by.SetAccess v = by-first w at by.SetAccess v
 by-leads w at by.Collaborators v = by-reading w at (one reads_name v) _ (λ p _. by-caller_asks w at (λ who. Maintainers p) _ (λ who is. by-writers w at (is_some (scope_of p))))
 by-leads w at by.OrgPackages v = by-first w at by.OrgPackages v

@@ -10,7 +10,7 @@ use Rattle.registry_rules.specs.declared.request.Action.TheVariants.{Members, Te
 use Rattle.registry_rules.specs.declared.request.Request.{Request}
 use Rattle.registry_service.specs.HttpAnswers.{Outcome}
 use Rattle.registry_service.specs.Readings.{Reading}
-use Rattle.registry_service.specs.Turns.{Answering, AnswersEach, Exchange, exchange, stopped}
+use Rattle.registry_service.specs.Turns.{Answering, exchange, stopped}
 use Rattle.registry_npm.specs.Packages.{for_document, for_names, leads_document}
 use Rattle.registry_routes.specs.Routes.{Values}
 use Rattle.registry_service.specs.Requests.{reads_request}

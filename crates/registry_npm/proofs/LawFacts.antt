@@ -1,47 +1,50 @@
 -- Why the laws of npm's dialect hold.
-use Rattle.std.proofs.Common.{◌≡◌, ◌≤◌, ◌+◌, ◌∷◌, ◌⊎◌, [], ℕ, Bool, true, false, List, Option, Some, None, Ok, Err, option_map, option_and_then, is_some, refl, sym, ap, ◌∙◌, inl, inr, arith}
+use Rattle.std.proofs.Common.{◌≡◌, ◌≤◌, ◌+◌, ◌∷◌, ◌⊎◌, [], ℕ, Bool, true, false, List, Option, Some, None, Ok, Err, option_map, is_some, refl, sym, ap, subst, ◌≢◌, ◌∙◌, inl, inr, arith}
 use Rattle.std.specs.Prelude.{if◌then◌else◌}
 use Rattle.std.proofs.lemmas.Bool.{cases_Bool}
 use Rattle.registry_access.specs.declared.role.Role.{Role}
 use Rattle.registry_names.specs.Names.{scope_of}
 use Rattle.registry_names.specs.Texts.{Text}
+use Rattle.registry_names.specs.Versions.{VersionParts}
 use Rattle.registry_names.specs.declared.method.Method.{Method}
 use Rattle.registry_names.specs.declared.refusal.Refusal.{Refusal}
-use Rattle.registry_names.specs.declared.refusal.Refusal.TheVariants.{BadBody, NotFound, NotServed, Stale}
+use Rattle.registry_names.specs.declared.refusal.Refusal.TheVariants.{BadBody, BadName, NoCaller, NotFound, NotServed, Stale}
 use Rattle.registry_names.specs.declared.stop.Fault.{Fault}
-use Rattle.registry_names.specs.declared.stop.Fault.TheVariants.{Database}
+use Rattle.registry_names.specs.declared.stop.Fault.TheVariants.{Database, Memory}
 use Rattle.registry_names.specs.declared.stop.Stop.{Stop}
 use Rattle.registry_names.specs.declared.stop.Stop.TheVariants.{Refused as Refuses, Fault as Faulted}
 use Rattle.registry_routes.specs.NpmLaws.{TablesMeet, endpoint_of, met}
 use Rattle.registry_routes.specs.NpmRoutes.{NpmRoute, npm_route_of}
 use Rattle.registry_routes.specs.Routes.{Route, Values, route_of}
-use Rattle.registry_routes.specs.declared.endpoint.Endpoint.{Endpoint}
 use Rattle.registry_routes.specs.declared.npm_endpoint.NpmEndpoint.{NpmEndpoint}
 use Rattle.registry_routes.specs.declared.npm_endpoint.NpmEndpoint.TheVariants as by
 use Rattle.registry_rules.specs.Actions.{is_command}
-use Rattle.registry_rules.specs.declared.reply.Reply.{Reply}
-use Rattle.registry_rules.specs.declared.reply.Reply.TheVariants.{Done, Refused}
+use Rattle.registry_rules.specs.declared.reply.Reply.TheVariants.{Refused}
 use Rattle.registry_rules.specs.declared.request.Action.{Action}
-use Rattle.registry_rules.specs.declared.request.Action.TheVariants.{OrgSet, Maintainers, Members, MyPackages, Packument, Tags, Teams, WhoAmI}
+use Rattle.registry_rules.specs.declared.request.Action.TheVariants.{OrgSet, Maintainers, Members, MyPackages, OwnerAdd, Packument, Tags, Teams, VersionDoc, WhoAmI}
+use Rattle.registry_rules.specs.declared.request.Asked.TheVariants.{Exact}
 use Rattle.registry_rules.specs.declared.request.Credential.{Credential}
 use Rattle.registry_rules.specs.declared.request.Credential.TheVariants.{Anonymous}
 use Rattle.registry_rules.specs.declared.request.Request.{Request}
 use Rattle.registry_service.specs.Callers.{reads_caller}
 use Rattle.registry_service.specs.HttpAnswers.{Outcome}
-use Rattle.registry_service.specs.Readings.{Reading, one, reads_ident, reads_name}
-use Rattle.registry_service.specs.Requests.{reads_request}
+use Rattle.registry_service.specs.Bodies.{reads_file}
+use Rattle.registry_service.specs.Readings.{Reading, gives, one, reads_ident, reads_name, then}
 use Rattle.registry_service.specs.Turns.{Exchange, exchange, profile, stopped}
+use Rattle.registry_routes.specs.Written.{StopsDecoding}
+use Rattle.registry_wire.specs.declared.wanted.Authorization.{Authorization}
+use Rattle.registry_wire.specs.declared.wanted.Authorization.TheVariants.{Absent, Once, Repeated}
 use Rattle.registry_wire.specs.declared.wanted.Wanted.{Wanted}
 use Rattle.registry_npm.specs.Asked.{reads_first, reads_member, reads_user}
 use Rattle.registry_npm.specs.Bodies.{begins_object}
-use Rattle.registry_npm.specs.Forms.{empty_text, grants_form, membership_form, names_in, profile_form, teams_form, user_text, visibility_text, writers_form}
-use Rattle.registry_npm.specs.Laws.{CameTo, FaultsEnd, FilesAreGone, NpmIsApart, OneCommand, OthersStay, StopAtFaults, StopsAtFault, command_count, commands, is_file_drop, is_npms_by, is_of_package, is_package}
+use Rattle.registry_npm.specs.Forms.{empty_text, grants_form, membership_form, names_in, profile_form, teams_form, user_text, writers_form}
+use Rattle.registry_npm.specs.Laws.{FaultsEnd, FilesAreGone, IsGone, NamesFile, NpmIsApart, OneCommand, OthersStay, StopAtFaults, StopsAtFault, command_count, commands, is_file_drop, is_npms_by, is_of_package, is_package}
 use Rattle.registry_documents.specs.declared.asked.Asked.{Asked}
 use Rattle.registry_documents.specs.declared.asked.Asked.TheVariants.{AlreadySo, Deprecation as Deprecates, Withdrawal, OwnerAdd as AddsOwner, OwnerRemove as RemovesOwner}
 use Rattle.serde_json.specs.Data.{Data}
-use Rattle.registry_npm.specs.Packages.{Purpose, asks_as, asks_for, asks_late, asks_names, does, for_document, for_names, fulfils, is_gone, judged, judges, late, leads_claim, leads_document, leads_stopped, named_by, other_of, reads_claim, reads_document, reads_owner, reads_revision, reads_versions, reads_withdrawn, serves, serves_user, shown, stale, tries, with_names, withdrawn}
-use Rattle.registry_npm.specs.Leading.{Leads, asks, by_caller, document_of, either, ends, in_form, is_refused, is_stop, or_memory, reading, request, shown_as, shows, unless_stopped}
-use Rattle.registry_npm.specs.Npm.{asks_action, asks_first, asks_nobody, asks_own, asks_role, asks_size, follows, is_npms, is_user, leads, not_served, npm, sets_member, shows_own, shows_public, shows_teams, shows_user, shows_visibility, shows_writers, speaks_by}
+use Rattle.registry_npm.specs.Packages.{Purpose, asks_as, asks_for, asks_late, asks_names, does, for_document, for_names, fulfils, is_gone, judged, judges, late, leads_claim, leads_document, leads_stopped, named_by, no_version, other_of, reads_claim, reads_document, reads_owner, reads_revision, reads_versions, reads_withdrawn, serves, serves_user, shown, stale, tries, tries_right, unless_nobody, with_names, withdrawn}
+use Rattle.registry_npm.specs.Leading.{Leads, asks, by_caller, document_of, either, ends, in_form, is_stop, or_memory, reading, request, shown_as, shows, unless_stopped}
+use Rattle.registry_npm.specs.Npm.{asks_caller, asks_first, asks_own, asks_role, asks_size, follows, is_npms, is_user, leads, not_served, npm, sets_member, shows_own, shows_public, shows_teams, shows_user, shows_visibility, shows_writers, speaks_by}
 
 -- ---- of either
 
@@ -114,9 +117,9 @@ few-in_form form (Some t) c = few-shows 0 _
 few-shown : (form : Text → Option Text) (c : Outcome) → Few 0 (shown_as form c)
 few-shown form c = few-in_form form (document_of c) c
 
-few-public : (c : Outcome) → Few 0 (shows_public c)
-few-public (Err fault) = few-ends 0 (Err fault)
-few-public (Ok reply) = few-shows 0 _
+few-caller : (p : Text) (at : ℕ) (who : Credential) (c : Outcome) → Few 1 (asks_caller p at who c)
+few-caller p at who (Err fault) = few-ends 1 (Err fault)
+few-caller p at who (Ok told) = few-asks 1 0 (request at who (Tags p)) _ (omega arith) (λ c. few-unless 0 (shows_public told) c (few-shows 0 _))
 
 few-not_served : (c : Outcome) → Few 0 (not_served c)
 few-not_served c = few-unless 0 (ends (Ok (Refused NotServed))) c (few-ends 0 (Ok (Refused NotServed)))
@@ -126,8 +129,7 @@ few-either true c = few-not_served c
 few-either false c = few-shown writers_form c
 
 few-visibility : (p : Text) (w : Wanted) (at : ℕ) → Few 1 (shows_visibility p w at)
-few-visibility p w at = few-reading 1 (reads_caller w.authorization) _ (λ who _. few-asks 0 1 (request at who (Tags p)) _ (omega arith)
-    (λ c. few-unless 1 (asks_nobody (Tags p) at) c (few-asks 1 0 (request at Anonymous (Tags p)) shows_public (omega arith) few-public)))
+few-visibility p w at = few-reading 1 (reads_caller w.authorization) _ (λ who _. few-asks 0 1 (request at Anonymous (Tags p)) _ (omega arith) (few-caller p at who))
 
 few-writers : (p : Text) (w : Wanted) (at : ℕ) → Few 1 (shows_writers p w at)
 few-writers p w at = few-reading 1 (reads_caller w.authorization) _ (λ who _. few-asks 1 0 (request at who (Maintainers p)) _ (omega arith) (few-either (is_some (scope_of p))))
@@ -194,11 +196,17 @@ few-late n (Some named) c = few-stale n c
 few-asks_late : (path : Option Text) (at : ℕ) (who : Credential) (what : Action) → Few 1 (asks_late path at who what)
 few-asks_late path at who what = few-asks 1 0 (request at who what) (late path) (cost-one what) (few-late 0 path)
 
+few-right : (path : Option Text) (p : Text) (at : ℕ) (who : Credential) → Few 1 (tries_right path p at who)
+few-right path p at who = few-reading 1 (reads_versions no_version []) _ (λ d _. few-asks_late path at who _)
+
+few-nobody : (c : Outcome) → Few 0 (unless_nobody c)
+few-nobody c = either-of (Few 0) (is_gone c) _ _ (few-ends 0 (Ok (Refused BadName))) (few-ends 0 c)
+
 few-does : (path : Option Text) (p : Text) (at : ℕ) (who : Credential) (asked : Asked) → Few 1 (does path p at who asked)
-few-does path p at who AlreadySo = few-ends 1 (Ok Done)
+few-does path p at who AlreadySo = few-right path p at who
 few-does path p at who (Deprecates selector message) = few-reading 1 (reads_versions selector message) _ (λ d _. few-asks_late path at who _)
 few-does path p at who (Withdrawal version) = either-of (Few 1) (is_some path) _ _ (few-reading 1 (reads_withdrawn version) _ (λ v _. few-asks_late path at who _)) (few-ends 1 (Ok (Refused BadBody)))
-few-does path p at who (AddsOwner user) = either-of (Few 1) (is_some path) _ _ (few-reading 1 (reads_owner user) _ (λ u _. few-asks_late path at who _)) (few-ends 1 (Ok (Refused BadBody)))
+few-does path p at who (AddsOwner user) = either-of (Few 1) (is_some path) _ _ (few-reading 1 (reads_owner user) _ (λ u _. few-asks 1 0 (request at who (OwnerAdd p u)) unless_nobody (omega arith) few-nobody)) (few-ends 1 (Ok (Refused BadBody)))
 few-does path p at who (RemovesOwner user) = either-of (Few 1) (is_some path) _ _ (few-reading 1 (reads_owner user) _ (λ u _. few-asks_late path at who _)) (few-ends 1 (Ok (Refused BadBody)))
 
 few-fulfils : (purpose : Purpose) (p : Text) (at : ℕ) (who : Credential) (text : Text) (names : List Text) → Few 1 (fulfils purpose p at who text names)
@@ -206,10 +214,10 @@ few-fulfils shown p at who text names = few-shows 1 _
 few-fulfils (judged path d) p at who text names = few-or_memory 1 _ (few-reading 1 (judges d path text names) _ (λ asked _. few-does path p at who asked))
 few-fulfils (withdrawn named) p at who text names = few-or_memory 1 _ (either-of (Few 1) _ _ _ (few-asks_late (Some named) at who _) (few-ends 1 (Ok (Refused Stale))))
 
-few-other : (purpose : Purpose) (c : Outcome) → Few 1 (other_of purpose c)
-few-other shown c = few-ends 1 c
-few-other (judged path d) c = few-late 1 path c
-few-other (withdrawn named) c = few-stale 1 c
+few-other : (purpose : Purpose) (p : Text) (at : ℕ) (who : Credential) (c : Outcome) → Few 1 (other_of purpose p at who c)
+few-other shown p at who c = few-ends 1 c
+few-other (judged path d) p at who c = few-late 1 path c
+few-other (withdrawn named) p at who c = either-of (Few 1) (is_gone c) _ _ (few-or_memory 1 _ (few-right (Some named) p at who)) (few-ends 1 c)
 
 few-for_names : (next : List Text → Leads) (names : Option (List Text)) → ((ns : List Text) → Few 1 (next ns)) → Few 1 (for_names next names)
 few-for_names next None f = few-ends 1 (Err Database)
@@ -219,18 +227,18 @@ few-for_document : (next : Text → Leads) (other : Leads) (t : Option Text) →
 few-for_document next other None f g = g
 few-for_document next other (Some text) f g = f text
 
-few-named : (purpose : Purpose) (next : List Text → Leads) (c : Outcome) → ((ns : List Text) → Few 1 (next ns)) → Few 1 (named_by (other_of purpose) next c)
-few-named purpose next c f = few-for_document (with_names next) (other_of purpose c) (document_of c) (λ text. few-or_memory 1 _ (few-for_names next (names_in text) f)) (few-other purpose c)
+few-named : (other : Outcome → Leads) (next : List Text → Leads) (c : Outcome) → Few 1 (other c) → ((ns : List Text) → Few 1 (next ns)) → Few 1 (named_by other next c)
+few-named other next c g f = few-for_document (with_names next) (other c) (document_of c) (λ text. few-or_memory 1 _ (few-for_names next (names_in text) f)) g
 
-few-asks_names : (purpose : Purpose) (p : Text) (at : ℕ) (who : Credential) (next : List Text → Leads) → ((ns : List Text) → Few 1 (next ns)) → Few 1 (asks_names p at who (other_of purpose) next)
-few-asks_names purpose p at who next f = either-of (Few 1) (is_some (scope_of p)) _ _ (f []) (few-tries 1 (request at who (Maintainers p)) _ (omega arith) (λ c. few-named purpose next c f))
+few-asks_names : (purpose : Purpose) (p : Text) (at : ℕ) (who : Credential) (next : List Text → Leads) → ((ns : List Text) → Few 1 (next ns)) → Few 1 (asks_names p at who (other_of purpose p at who) next)
+few-asks_names purpose p at who next f = either-of (Few 1) (is_some (scope_of p)) _ _ (f []) (few-tries 1 (request at who (Maintainers p)) _ (omega arith) (λ c. few-named (other_of purpose p at who) next c (few-other purpose p at who c) f))
 
 few-serves : (purpose : Purpose) (p : Text) (at : ℕ) (who : Credential) → Few 1 (serves purpose p at who)
 few-serves purpose p at who = few-tries 1 (request at who (Packument p)) _ (omega arith)
-    (λ c. few-for_document _ (other_of purpose c) (document_of c) (λ text. few-asks_names purpose p at who _ (few-fulfils purpose p at who text)) (few-other purpose c))
+    (λ c. few-for_document _ (other_of purpose p at who c) (document_of c) (λ text. few-asks_names purpose p at who _ (few-fulfils purpose p at who text)) (few-other purpose p at who c))
 
 few-serves_user : (purpose : Purpose) (p : Text) (at : ℕ) (who : Credential) → Few 1 (serves_user purpose p at who)
-few-serves_user purpose p at who = few-asks 0 1 (request at who WhoAmI) _ (omega arith) (λ c. either-of (Few 1) (is_stop c) _ _ (few-other purpose c) (few-serves purpose p at who))
+few-serves_user purpose p at who = few-asks 0 1 (request at who WhoAmI) _ (omega arith) (λ c. either-of (Few 1) (is_stop c) _ _ (few-other purpose p at who c) (few-serves purpose p at who))
 
 few-asks_as : (purpose : Purpose) (p : Text) (at : ℕ) (who : Credential) → Few 1 (asks_as purpose p at who)
 few-asks_as shown p at who = few-serves shown p at who
@@ -344,19 +352,18 @@ stops-in_form form (Some t) c = stops-shows _
 stops-shown : (form : Text → Option Text) → Stops-after (shown_as form)
 stops-shown form = record { later = λ c. stops-in_form form (document_of c) c; at_fault = λ f es o h. h }
 
-stops-public_later : (c : Outcome) → Stops (shows_public c)
-stops-public_later (Err fault) = stops-ended (Err fault)
-stops-public_later (Ok reply) = stops-shows _
+stops-caller_later : (p : Text) (at : ℕ) (who : Credential) (c : Outcome) → Stops (asks_caller p at who c)
+stops-caller_later p at who (Err fault) = stops-ended (Err fault)
+stops-caller_later p at who (Ok told) = stops-asks (request at who (Tags p)) _ (stops-unless (shows_public told) (stops-shows _))
 
-stops-public : Stops-after shows_public
-stops-public = record { later = stops-public_later; at_fault = λ f es o h. h }
+stops-caller : (p : Text) (at : ℕ) (who : Credential) → Stops-after (asks_caller p at who)
+stops-caller p at who = record { later = stops-caller_later p at who; at_fault = λ f es o h. h }
 
 stops-not_served : Stops-after not_served
 stops-not_served = stops-unless (ends (Ok (Refused NotServed))) (stops-ended (Ok (Refused NotServed)))
 
 stops-visibility : (p : Text) (w : Wanted) (at : ℕ) → Stops (shows_visibility p w at)
-stops-visibility p w at = stops-reading (reads_caller w.authorization) _ (λ who _. stops-asks (request at who (Tags p)) _
-    (stops-unless (asks_nobody (Tags p) at) (stops-asks (request at Anonymous (Tags p)) shows_public stops-public)))
+stops-visibility p w at = stops-reading (reads_caller w.authorization) _ (λ who _. stops-asks (request at Anonymous (Tags p)) _ (stops-caller p at who))
 
 stops-either : (b : Bool) → Stops-after (either b not_served (shown_as writers_form))
 stops-either true = stops-not_served
@@ -431,11 +438,17 @@ stops-late (Some named) = stops-stale
 stops-asks_late : (path : Option Text) (at : ℕ) (who : Credential) (what : Action) → Stops (asks_late path at who what)
 stops-asks_late path at who what = stops-asks (request at who what) (late path) (stops-late path)
 
+stops-right : (path : Option Text) (p : Text) (at : ℕ) (who : Credential) → Stops (tries_right path p at who)
+stops-right path p at who = stops-reading (reads_versions no_version []) _ (λ d _. stops-asks_late path at who _)
+
+stops-nobody : Stops-after unless_nobody
+stops-nobody = record { later = λ c. either-of Stops (is_gone c) _ _ (stops-ended (Ok (Refused BadName))) (stops-ended c); at_fault = λ f es o h. h }
+
 stops-does : (path : Option Text) (p : Text) (at : ℕ) (who : Credential) (asked : Asked) → Stops (does path p at who asked)
-stops-does path p at who AlreadySo = stops-ended (Ok Done)
+stops-does path p at who AlreadySo = stops-right path p at who
 stops-does path p at who (Deprecates selector message) = stops-reading (reads_versions selector message) _ (λ d _. stops-asks_late path at who _)
 stops-does path p at who (Withdrawal version) = either-of Stops (is_some path) _ _ (stops-reading (reads_withdrawn version) _ (λ v _. stops-asks_late path at who _)) (stops-ended (Ok (Refused BadBody)))
-stops-does path p at who (AddsOwner user) = either-of Stops (is_some path) _ _ (stops-reading (reads_owner user) _ (λ u _. stops-asks_late path at who _)) (stops-ended (Ok (Refused BadBody)))
+stops-does path p at who (AddsOwner user) = either-of Stops (is_some path) _ _ (stops-reading (reads_owner user) _ (λ u _. stops-asks (request at who (OwnerAdd p u)) unless_nobody stops-nobody)) (stops-ended (Ok (Refused BadBody)))
 stops-does path p at who (RemovesOwner user) = either-of Stops (is_some path) _ _ (stops-reading (reads_owner user) _ (λ u _. stops-asks_late path at who _)) (stops-ended (Ok (Refused BadBody)))
 
 stops-fulfils : (purpose : Purpose) (p : Text) (at : ℕ) (who : Credential) (text : Text) (names : List Text) → Stops (fulfils purpose p at who text names)
@@ -443,10 +456,10 @@ stops-fulfils shown p at who text names = stops-shows _
 stops-fulfils (judged path d) p at who text names = stops-or_memory _ (stops-reading (judges d path text names) _ (λ asked _. stops-does path p at who asked))
 stops-fulfils (withdrawn named) p at who text names = stops-or_memory _ (either-of Stops _ _ _ (stops-asks_late (Some named) at who _) (stops-ended (Ok (Refused Stale))))
 
-stops-other : (purpose : Purpose) → Stops-after (other_of purpose)
-stops-other shown = record { later = stops-ended; at_fault = λ f es o h. h }
-stops-other (judged path d) = record { later = (stops-late path).later; at_fault = (stops-late path).at_fault }
-stops-other (withdrawn named) = record { later = stops-stale.later; at_fault = stops-stale.at_fault }
+stops-other : (purpose : Purpose) (p : Text) (at : ℕ) (who : Credential) → Stops-after (other_of purpose p at who)
+stops-other shown p at who = record { later = stops-ended; at_fault = λ f es o h. h }
+stops-other (judged path d) p at who = record { later = (stops-late path).later; at_fault = (stops-late path).at_fault }
+stops-other (withdrawn named) p at who = record { later = λ c. either-of Stops (is_gone c) _ _ (stops-or_memory _ (stops-right (Some named) p at who)) (stops-ended c); at_fault = λ f es o h. h }
 
 stops-for_names : (next : List Text → Leads) (names : Option (List Text)) → ((ns : List Text) → Stops (next ns)) → Stops (for_names next names)
 stops-for_names next None f = stops-ended (Err Database)
@@ -456,25 +469,25 @@ stops-for_document : (next : Text → Leads) (other : Leads) (t : Option Text) �
 stops-for_document next other None f g = g
 stops-for_document next other (Some text) f g = f text
 
-stops-named : (purpose : Purpose) (next : List Text → Leads) → ((ns : List Text) → Stops (next ns)) → Stops-after (named_by (other_of purpose) next)
-stops-named purpose next f = record {
-  later = λ c. stops-for_document (with_names next) (other_of purpose c) (document_of c) (λ text. stops-or_memory _ (stops-for_names next (names_in text) f)) ((stops-other purpose).later c);
-  at_fault = λ f es o h. (stops-other purpose).at_fault f es o h;
+stops-named : (other : Outcome → Leads) (next : List Text → Leads) → Stops-after other → ((ns : List Text) → Stops (next ns)) → Stops-after (named_by other next)
+stops-named other next s f = record {
+  later = λ c. stops-for_document (with_names next) (other c) (document_of c) (λ text. stops-or_memory _ (stops-for_names next (names_in text) f)) (s.later c);
+  at_fault = λ f es o h. s.at_fault f es o h;
 }
 
-stops-asks_names : (purpose : Purpose) (p : Text) (at : ℕ) (who : Credential) (next : List Text → Leads) → ((ns : List Text) → Stops (next ns)) → Stops (asks_names p at who (other_of purpose) next)
-stops-asks_names purpose p at who next f = either-of Stops (is_some (scope_of p)) _ _ (f []) (stops-tries (request at who (Maintainers p)) _ (stops-named purpose next f))
+stops-asks_names : (purpose : Purpose) (p : Text) (at : ℕ) (who : Credential) (next : List Text → Leads) → ((ns : List Text) → Stops (next ns)) → Stops (asks_names p at who (other_of purpose p at who) next)
+stops-asks_names purpose p at who next f = either-of Stops (is_some (scope_of p)) _ _ (f []) (stops-tries (request at who (Maintainers p)) _ (stops-named (other_of purpose p at who) next (stops-other purpose p at who) f))
 
 stops-serves : (purpose : Purpose) (p : Text) (at : ℕ) (who : Credential) → Stops (serves purpose p at who)
 stops-serves purpose p at who = stops-tries (request at who (Packument p)) _ (record {
-  later = λ c. stops-for_document _ (other_of purpose c) (document_of c) (λ text. stops-asks_names purpose p at who _ (stops-fulfils purpose p at who text)) ((stops-other purpose).later c);
-  at_fault = λ f es o h. (stops-other purpose).at_fault f es o h;
+  later = λ c. stops-for_document _ (other_of purpose p at who c) (document_of c) (λ text. stops-asks_names purpose p at who _ (stops-fulfils purpose p at who text)) ((stops-other purpose p at who).later c);
+  at_fault = λ f es o h. (stops-other purpose p at who).at_fault f es o h;
 })
 
 stops-serves_user : (purpose : Purpose) (p : Text) (at : ℕ) (who : Credential) → Stops (serves_user purpose p at who)
 stops-serves_user purpose p at who = stops-asks (request at who WhoAmI) _ (record {
-  later = λ c. either-of Stops (is_stop c) _ _ ((stops-other purpose).later c) (stops-serves purpose p at who);
-  at_fault = λ f es o h. (stops-other purpose).at_fault f es o h;
+  later = λ c. either-of Stops (is_stop c) _ _ ((stops-other purpose p at who).later c) (stops-serves purpose p at who);
+  at_fault = λ f es o h. (stops-other purpose p at who).at_fault f es o h;
 })
 
 stops-asks_as : (purpose : Purpose) (p : Text) (at : ℕ) (who : Credential) → Stops (asks_as purpose p at who)
@@ -591,36 +604,79 @@ npm-is_apart meet w h = apart-by meet w.method w.target w.body (npm_route_of w.m
 
 -- ---- archives' files
 
-came-not_served : (c : Outcome) (es : List Exchange) → not_served c es (Ok (Refused NotFound)) → c ≡ Ok (Refused NotFound)
+-- the first of what was asked, and the last, wasn't found
+came-not_served : (c : Outcome) (es : List Exchange) → not_served c es (Ok (Refused NotFound)) → (es ≡ []) × (c ≡ Ok (Refused NotFound))
 came-not_served c es h = elim (cases_Bool (is_stop c)) [
-  | inl y ↦ let stop : ends c es (Ok (Refused NotFound)) = either-yes (is_stop c) (ends c) (ends (Ok (Refused NotServed))) es (Ok (Refused NotFound)) y h in sym stop.1
+  | inl y ↦ let stop : ends c es (Ok (Refused NotFound)) = either-yes (is_stop c) (ends c) (ends (Ok (Refused NotServed))) es (Ok (Refused NotFound)) y h in (stop.0, sym stop.1)
   | inr n ↦ let other : ends (Ok (Refused NotServed)) es (Ok (Refused NotFound)) = (either-no (is_stop c) (ends c) (ends (Ok (Refused NotServed))) es (Ok (Refused NotFound)) n).0 h in absurd (cc)
 ]
 
-came-asks : (r : Request) (es : List Exchange) → asks r not_served es (Ok (Refused NotFound)) → CameTo es (Ok (Refused NotFound))
+came-asks : (r : Request) (es : List Exchange) → asks r not_served es (Ok (Refused NotFound)) → es ≡ exchange r (Ok (Refused NotFound)) ∷ []
 unfolding asks
-came-asks r [] h = tt
-came-asks r (e ∷ es) h = came-not_served e.outcome es h.1
+came-asks r [] h = absurd h
+came-asks r (e ∷ es) h = let last = came-not_served e.outcome es h.1 in rw (last.0, ← h.0, ← last.1) refl
 
-came-nothing : (es : List Exchange) (c : Outcome) → es ≡ [] → CameTo es c
-came-nothing es c e = rw e tt
+-- a caller who shows no token in form isn't answered by NotFound
+caller-found : (a : Authorization) (s : Stop) → reads_caller a (Err s) → ◌≢◌ {A = Outcome} (stopped s) (Ok (Refused NotFound))
+caller-found Absent s h e = cc
+caller-found (Once value) s h e = let same : s ≡ Refuses NoCaller = h.0 in let other : ◌≡◌ {A = Outcome} (Ok (Refused NoCaller)) (Ok (Refused NotFound)) = ap stopped (sym same) ∙ e in cc
+caller-found Repeated s h e = let same : s ≡ Refuses NoCaller = cc in let other : ◌≡◌ {A = Outcome} (Ok (Refused NoCaller)) (Ok (Refused NotFound)) = ap stopped (sym same) ∙ e in cc
 
-came-reading : {A : Type 0} (reads : Reading A) (next : A → Leads) → ((a : A) (es : List Exchange) → next a es (Ok (Refused NotFound)) → CameTo es (Ok (Refused NotFound)))
-    → (es : List Exchange) → reading reads next es (Ok (Refused NotFound)) → CameTo es (Ok (Refused NotFound))
-unfolding reading
-came-reading reads next f es (inl (a, r, h)) = f a es h
-came-reading reads next f es (inr (s, r, h)) = came-nothing es _ h.0
+not-decoded : (written : Text) (s : Stop) → StopsDecoding written s → ◌≢◌ {A = Outcome} (stopped s) (Ok (Refused NotFound))
+not-decoded written s (inl e) h = let other : ◌≡◌ {A = Outcome} (Err Memory) (Ok (Refused NotFound)) = ap stopped (sym e) ∙ h in cc
+not-decoded written s (inr (e, fails)) h = let other : ◌≡◌ {A = Outcome} (Ok (Refused BadName)) (Ok (Refused NotFound)) = ap stopped (sym e) ∙ h in cc
 
-came-file : (e : NpmEndpoint) (v : Values) (w : Wanted) (at : ℕ) (es : List Exchange) → reading (reads_first e v w.body) (λ what. by_caller w (λ who. asks (request at who what) not_served)) es (Ok (Refused NotFound)) → CameTo es (Ok (Refused NotFound))
-came-file e v w at es h = came-reading (reads_first e v w.body) (λ what. by_caller w (λ who. asks (request at who what) not_served)) (λ what es2 h2. came-reading (reads_caller w.authorization) (λ who. asks (request at who what) not_served) (λ who es3 h3. came-asks (request at who what) es3 h3) es2 h2) es h
+name-found : (v : Values) (s : Stop) → one reads_name v (Err s) → ◌≢◌ {A = Outcome} (stopped s) (Ok (Refused NotFound))
+unfolding one
+name-found v s (inl h) e = not-decoded v.first s h e
+name-found v s (inr (is, utf8, fails)) e = let other : ◌≡◌ {A = Outcome} (Ok (Refused BadName)) (Ok (Refused NotFound)) = ap stopped (sym is) ∙ e in cc
 
-gone-by : (e : NpmEndpoint) (v : Values) (w : Wanted) (at : ℕ) (es : List Exchange) → is_file_drop e ≡ true → either (is_npms e w.body) (leads e v w at) (profile w at) es (Ok (Refused NotFound)) → CameTo es (Ok (Refused NotFound))
+same-named : (v : Values) (x y : Text) → one reads_name v (Ok x) → one reads_name v (Ok y) → x ≡ y
+unfolding one
+same-named v x y p q = p.0 ∙ sym q.0
+
+file-no : (p written : Text) (s : Stop) → reads_file p written (Err s) → stopped s ≡ Ok (Refused NotFound) → (version : VersionParts) → ¬ (reads_file p written (Ok version))
+unfolding reads_file
+file-no p written s (inl h) e version is = not-decoded written s h e
+file-no p written s (inr (same, utf8, fails)) e version is = fails version is
+
+-- the file that one of the path's values names
+module _ (v : Values) (written : Text) where
+  abbrev Names : Text → VersionParts → Type 0
+  Names p version = one reads_name v (Ok p) × reads_file p written (Ok version)
+
+  abbrev reads : Reading Action
+  reads = (then) (one reads_name v) (λ p. (then) (reads_file p written) (λ version. gives (VersionDoc p (Exact version))))
+
+  came-stop : (s : Stop) → reads (Err s) → stopped s ≡ Ok (Refused NotFound) → (p : Text) (version : VersionParts) → ¬ (Names p version)
+  came-stop s (inl h) e p version is = name-found v s h e
+  came-stop s (inr (q, named, inl h)) e p version is = let same : q ≡ p = same-named v q p named is.0 in file-no q written s h e version (rw same is.1)
+  came-stop s (inr (q, named, inr (u, found, given))) e p version is = cc
+
+  came-action : (w : Wanted) (at : ℕ) (es : List Exchange) (what : Action) → reads (Ok what) → by_caller w (λ who. asks (request at who what) not_served) es (Ok (Refused NotFound))
+      → (p : Text) × (version : VersionParts) × Names p version × IsGone at p version es
+  unfolding reading
+  came-action w at es what (p, named, (version, found, given)) (inl (who, r, h)) =
+      let same : what ≡ VersionDoc p (Exact version) = cc in
+      (p, version, (named, found), (who, rw (← same) (came-asks (request at who what) es h)))
+  came-action w at es what (p, named, (version, found, given)) (inr (s, r, h)) = absurd (caller-found w.authorization s r (sym h.1))
+
+  came-file : (w : Wanted) (at : ℕ) (es : List Exchange) → reading reads (λ what. by_caller w (λ who. asks (request at who what) not_served)) es (Ok (Refused NotFound))
+      → ((p : Text) (version : VersionParts) → ¬ (Names p version)) ⊎ ((p : Text) × (version : VersionParts) × Names p version × IsGone at p version es)
+  unfolding reading
+  came-file w at es (inl (what, r, h)) = inr (came-action w at es what r h)
+  came-file w at es (inr (s, r, h)) = inl (came-stop s r (sym h.1))
+
+abbrev Came : NpmEndpoint → Values → ℕ → List Exchange → Type 0
+Came e v at es = ((p : Text) (version : VersionParts) → ¬ (NamesFile e v p version)) ⊎ ((p : Text) × (version : VersionParts) × NamesFile e v p version × IsGone at p version es)
+
+gone-by : (e : NpmEndpoint) (v : Values) (w : Wanted) (at : ℕ) (es : List Exchange) → is_file_drop e ≡ true → either (is_npms e w.body) (leads e v w at) (profile w at) es (Ok (Refused NotFound)) → Came e v at es
+gone-by by.FileDrop v w at es d h = came-file v v.second w at es h
+gone-by by.ScopedFileDrop v w at es d h = came-file v v.third w at es h
 gone-by by.Packument v w at es d h = absurd (cc)
 gone-by by.Document v w at es d h = absurd (cc)
 gone-by by.Revised v w at es d h = absurd (cc)
 gone-by by.Unpublish v w at es d h = absurd (cc)
-gone-by by.FileDrop v w at es d h = came-file by.FileDrop v w at es h
-gone-by by.ScopedFileDrop v w at es d h = came-file by.ScopedFileDrop v w at es h
 gone-by by.Visibility v w at es d h = absurd (cc)
 gone-by by.SetAccess v w at es d h = absurd (cc)
 gone-by by.Collaborators v w at es d h = absurd (cc)
@@ -644,9 +700,11 @@ gone-by by.Logout v w at es d h = absurd (cc)
 gone-by by.Ping v w at es d h = absurd (cc)
 gone-by by.NotServed v w at es d h = absurd (cc)
 
-gone-found : (x : Option NpmRoute) (r : NpmRoute) (w : Wanted) (at : ℕ) (es : List Exchange) → x ≡ Some r → is_file_drop r.endpoint ≡ true → speaks_by x w at es (Ok (Refused NotFound)) → CameTo es (Ok (Refused NotFound))
+gone-found : (x : Option NpmRoute) (r : NpmRoute) (w : Wanted) (at : ℕ) (es : List Exchange) → x ≡ Some r → is_file_drop r.endpoint ≡ true → speaks_by x w at es (Ok (Refused NotFound)) → Came r.endpoint r.values at es
 gone-found None r w at es e d h = absurd (cc)
-gone-found (Some x) r w at es e d h = let same : x ≡ r = cc in gone-by x.endpoint x.values w at es (ap (λ (y : NpmRoute). is_file_drop y.endpoint) same ∙ d) h
+gone-found (Some x) r w at es e d h =
+    let same : x ≡ r = cc in
+    subst (λ (y : NpmRoute). Came y.endpoint y.values at es) same (gone-by x.endpoint x.values w at es (ap (λ (y : NpmRoute). is_file_drop y.endpoint) same ∙ d) h)
 
 pub files-are_gone : FilesAreGone
 files-are_gone w at es r found drop h = gone-found (npm_route_of w.method w.target) r w at es found drop h

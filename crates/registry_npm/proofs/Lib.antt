@@ -1,6 +1,8 @@
 pub mod CallerFacts
 pub mod CallFacts
+pub mod ChangeFacts
 pub mod ComesFacts
+pub mod DeterminedFacts
 pub mod FormFacts
 pub mod LawFacts
 pub mod NeverFacts

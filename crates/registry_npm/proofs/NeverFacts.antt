@@ -1,54 +1,40 @@
 -- Why nothing that is sent under a revision is answered by 404.
-use Rattle.std.proofs.Common.{◌≡◌, ◌≤◌, ◌+◌, ◌∷◌, ◌⊎◌, [], ℕ, Bool, true, false, List, Option, Some, None, Ok, Err, option_map, option_and_then, is_some, refl, sym, ap, subst, ◌∙◌, inl, inr, arith}
-use Rattle.std.specs.Prelude.{if◌then◌else◌}
+use Rattle.std.proofs.Common.{◌≡◌, ◌∷◌, [], ℕ, Bool, true, false, List, Option, Some, None, Ok, Err, is_some, refl, ap, ◌∙◌, inl, inr}
 use Rattle.std.proofs.lemmas.Bool.{cases_Bool}
-use Rattle.registry_access.specs.declared.role.Role.{Role}
 use Rattle.registry_names.specs.Names.{scope_of}
 use Rattle.registry_names.specs.Texts.{Text}
-use Rattle.registry_names.specs.declared.method.Method.{Method}
 use Rattle.registry_names.specs.declared.refusal.Refusal.{Refusal}
-use Rattle.registry_names.specs.declared.refusal.Refusal.TheVariants.{BadBody, NoCaller, NotServed, Stale}
-use Rattle.registry_names.specs.declared.stop.Fault.{Fault}
+use Rattle.registry_names.specs.declared.refusal.Refusal.TheVariants.{BadBody, BadName, NoCaller, Stale}
 use Rattle.registry_names.specs.declared.stop.Fault.TheVariants.{Database}
 use Rattle.registry_names.specs.declared.stop.Stop.{Stop}
 use Rattle.registry_names.specs.declared.stop.Stop.TheVariants.{Refused as Refuses, Fault as Faulted}
-use Rattle.registry_routes.specs.NpmLaws.{TablesMeet, endpoint_of, met}
 use Rattle.registry_routes.specs.NpmRoutes.{NpmRoute, npm_route_of}
-use Rattle.registry_routes.specs.Routes.{Route, Values, route_of}
-use Rattle.registry_routes.specs.declared.endpoint.Endpoint.{Endpoint}
+use Rattle.registry_routes.specs.Routes.{Values}
 use Rattle.registry_routes.specs.declared.npm_endpoint.NpmEndpoint.{NpmEndpoint}
 use Rattle.registry_routes.specs.declared.npm_endpoint.NpmEndpoint.TheVariants as by
-use Rattle.registry_rules.specs.Actions.{is_command}
-use Rattle.registry_rules.specs.declared.reply.Reply.{Reply}
-use Rattle.registry_rules.specs.declared.reply.Reply.TheVariants.{Done, Refused}
+use Rattle.registry_rules.specs.declared.reply.Reply.TheVariants.{Refused}
 use Rattle.registry_rules.specs.declared.request.Action.{Action}
-use Rattle.registry_rules.specs.declared.request.Action.TheVariants.{OrgSet, Maintainers, Members, MyPackages, Packument, Tags, Teams, WhoAmI}
+use Rattle.registry_rules.specs.declared.request.Action.TheVariants.{Maintainers, OwnerAdd, Packument, WhoAmI}
 use Rattle.registry_rules.specs.declared.request.Credential.{Credential}
-use Rattle.registry_rules.specs.declared.request.Credential.TheVariants.{Anonymous}
 use Rattle.registry_rules.specs.declared.request.Request.{Request}
 use Rattle.registry_service.specs.Callers.{reads_caller}
 use Rattle.registry_service.specs.HttpAnswers.{Outcome}
-use Rattle.registry_service.specs.Readings.{Reading, one, reads_ident, reads_name}
-use Rattle.registry_service.specs.Requests.{reads_request, reads_routed}
-use Rattle.registry_service.specs.Turns.{Exchange, exchange, profile, stopped}
+use Rattle.registry_service.specs.Readings.{Reading, one, reads_name}
+use Rattle.registry_service.specs.Turns.{Exchange, profile, stopped}
 use Rattle.registry_wire.specs.declared.wanted.Wanted.{Wanted}
-use Rattle.registry_npm.specs.Asked.{reads_first, reads_member, reads_user}
-use Rattle.registry_npm.specs.Bodies.{begins_object}
-use Rattle.registry_npm.specs.Forms.{empty_text, grants_form, membership_form, names_in, profile_form, teams_form, user_text, visibility_text, writers_form}
+use Rattle.registry_npm.specs.Forms.{names_in}
 use Rattle.registry_npm.specs.Laws.{NeverNotFound, is_revised}
 use Rattle.registry_documents.specs.declared.asked.Asked.{Asked}
 use Rattle.registry_documents.specs.declared.asked.Asked.TheVariants.{AlreadySo, Deprecation as Deprecates, Withdrawal, OwnerAdd as AddsOwner, OwnerRemove as RemovesOwner}
 use Rattle.serde_json.specs.Data.{Data}
-use Rattle.registry_npm.specs.Packages.{Purpose, asks_as, asks_for, asks_late, asks_names, does, for_document, for_names, fulfils, is_gone, judged, judges, late, leads_claim, leads_document, leads_stopped, named_by, other_of, reads_claim, reads_document, reads_owner, reads_revision, reads_versions, reads_withdrawn, serves, serves_user, shown, stale, tries, with_names, withdrawn}
-use Rattle.registry_npm.specs.Leading.{Leads, asks, by_caller, document_of, either, ends, in_form, is_refused, is_stop, or_memory, reading, request, shown_as, shows, unless_stopped}
-use Rattle.registry_npm.specs.Npm.{asks_action, asks_first, asks_nobody, asks_own, asks_role, asks_size, follows, is_npms, is_user, leads, not_served, npm, sets_member, shows_own, shows_public, shows_teams, shows_user, shows_visibility, shows_writers, speaks_by}
+use Rattle.registry_npm.specs.Packages.{Purpose, asks_late, asks_names, does, for_document, for_names, fulfils, is_gone, judged, judges, no_version, other_of, reads_document, reads_owner, reads_revision, reads_versions, reads_withdrawn, serves, serves_user, stale, tries_right, withdrawn}
+use Rattle.registry_npm.specs.Leading.{Leads, asks, document_of, either, ends, is_stop, or_memory, reading, request}
+use Rattle.registry_npm.specs.Npm.{is_npms, leads, speaks_by}
 use Rattle.std.proofs.lemmas.Bool.{false≢true}
 use Rattle.registry_documents.specs.Judging.{answer_of}
 use Rattle.registry_routes.specs.Written.{StopsDecoding}
 use Rattle.registry_wire.specs.declared.wanted.Authorization.{Authorization}
 use Rattle.registry_wire.specs.declared.wanted.Authorization.TheVariants.{Absent, Once, Repeated}
-use Rattle.registry_names.specs.Refusals.{refusal_status}
-use Rattle.registry_names.specs.declared.stop.Fault.TheVariants.{Memory}
 
 abbrev Never : Leads → Type 0
 Never leading = (es : List Exchange) (o : Outcome) → leading es o → is_gone o ≡ false
@@ -107,7 +93,7 @@ bad-caller Repeated s h = let same : s ≡ Refuses NoCaller = cc in rw same refl
 bad-versions : (selector message : Text) (s : Stop) → reads_versions selector message (Err s) → is_gone (stopped s) ≡ false
 bad-versions selector message s (inl (inl e)) = rw e refl
 bad-versions selector message s (inl (inr (e, h))) = rw e refl
-bad-versions selector message s (inr (e, h)) = rw e refl
+bad-versions selector message s (inr (e, m, h)) = rw e refl
 
 bad-withdrawn : (text : Text) (s : Stop) → reads_withdrawn text (Err s) → is_gone (stopped s) ≡ false
 bad-withdrawn text s (inl e) = rw e refl
@@ -136,11 +122,20 @@ bad-judged d path text names (Faulted fault) h = refl
 never-asks_late : (named : Text) (at : ℕ) (who : Credential) (what : Action) → Never (asks_late (Some named) at who what)
 never-asks_late named at who what = never-asks (request at who what) _ never-stale
 
+never-right : (named : Text) (p : Text) (at : ℕ) (who : Credential) → Never (tries_right (Some named) p at who)
+never-right named p at who = never-reading (reads_versions no_version []) _ (bad-versions no_version []) (λ d. never-asks_late named at who _)
+
+never-unless : (c d : Outcome) → is_gone d ≡ false → Never (either (is_gone c) (ends d) (ends c))
+never-unless c d e es o h = elim (cases_Bool (is_gone c)) [
+  | inl y ↦ let same : ends d es o = rw y at h in rw same.1 e
+  | inr n ↦ let same : ends c es o = rw n at h in rw same.1 n
+]
+
 never-does : (named : Text) (p : Text) (at : ℕ) (who : Credential) (asked : Asked) → Never (does (Some named) p at who asked)
-never-does named p at who AlreadySo = never-ends (Ok Done) refl
+never-does named p at who AlreadySo = never-right named p at who
 never-does named p at who (Deprecates selector message) = never-reading (reads_versions selector message) _ (bad-versions selector message) (λ d. never-asks_late named at who _)
 never-does named p at who (Withdrawal version) = never-reading (reads_withdrawn version) _ (bad-withdrawn version) (λ v. never-asks_late named at who _)
-never-does named p at who (AddsOwner user) = never-reading (reads_owner user) _ (bad-owner user) (λ u. never-asks_late named at who _)
+never-does named p at who (AddsOwner user) = never-reading (reads_owner user) _ (bad-owner user) (λ u. never-asks (request at who (OwnerAdd p u)) _ (λ c. never-unless c (Ok (Refused BadName)) refl))
 never-does named p at who (RemovesOwner user) = never-reading (reads_owner user) _ (bad-owner user) (λ u. never-asks_late named at who _)
 
 never-judged : (named : Text) (d : Data) (p : Text) (at : ℕ) (who : Credential) (text : Text) (names : List Text) → Never (fulfils (judged (Some named) d) p at who text names)
@@ -157,25 +152,31 @@ never-for_document : (next : Text → Leads) (other : Leads) (t : Option Text) �
 never-for_document next other None f g = g
 never-for_document next other (Some text) f g = f text
 
-module _ (purpose : Purpose) (other : (c : Outcome) → Never (other_of purpose c)) (goes : (p : Text) (at : ℕ) (who : Credential) (text : Text) (names : List Text) → Never (fulfils purpose p at who text names)) where
-  never-asks_names : (p : Text) (at : ℕ) (who : Credential) (text : Text) → Never (asks_names p at who (other_of purpose) (fulfils purpose p at who text))
+never-gone : (named : Text) (p : Text) (at : ℕ) (who : Credential) (c : Outcome) → Never (other_of (withdrawn named) p at who c)
+never-gone named p at who c es o h = elim (cases_Bool (is_gone c)) [
+  | inl y ↦ let tried : or_memory (tries_right (Some named) p at who) es o = rw y at h in never-or_memory _ (never-right named p at who) es o tried
+  | inr n ↦ let same : ends c es o = rw n at h in rw same.1 n
+]
+
+module _ (purpose : Purpose) (other : (p : Text) (at : ℕ) (who : Credential) (c : Outcome) → Never (other_of purpose p at who c)) (goes : (p : Text) (at : ℕ) (who : Credential) (text : Text) (names : List Text) → Never (fulfils purpose p at who text names)) where
+  never-asks_names : (p : Text) (at : ℕ) (who : Credential) (text : Text) → Never (asks_names p at who (other_of purpose p at who) (fulfils purpose p at who text))
   never-asks_names p at who text = never-either (is_some (scope_of p)) _ _ (goes p at who text []) (never-or_memory _ (never-asks (request at who (Maintainers p)) _
-      (λ c. never-for_document _ (other_of purpose c) (document_of c) (λ t. never-or_memory _ (never-for_names _ (names_in t) (goes p at who text))) (other c))))
+      (λ c. never-for_document _ (other_of purpose p at who c) (document_of c) (λ t. never-or_memory _ (never-for_names _ (names_in t) (goes p at who text))) (other p at who c))))
 
   never-serves : (p : Text) (at : ℕ) (who : Credential) → Never (serves purpose p at who)
   never-serves p at who = never-or_memory _ (never-asks (request at who (Packument p)) _
-      (λ c. never-for_document _ (other_of purpose c) (document_of c) (λ text. never-asks_names p at who text) (other c)))
+      (λ c. never-for_document _ (other_of purpose p at who c) (document_of c) (λ text. never-asks_names p at who text) (other p at who c)))
 
   never-serves_user : (p : Text) (at : ℕ) (who : Credential) → Never (serves_user purpose p at who)
-  never-serves_user p at who = never-asks (request at who WhoAmI) _ (λ c. never-either (is_stop c) _ _ (other c) (never-serves p at who))
+  never-serves_user p at who = never-asks (request at who WhoAmI) _ (λ c. never-either (is_stop c) _ _ (other p at who c) (never-serves p at who))
 
 never-revised : (v : Values) (w : Wanted) (at : ℕ) → Never (leads by.Revised v w at)
 never-revised v w at = never-reading (one reads_name v) _ (bad-name v) (λ p. never-reading (reads_revision v.second) _ (bad-decoding v.second) (λ named. never-reading (reads_document w.body) _ (bad-document w.body)
-    (λ d. never-reading (reads_caller w.authorization) _ (bad-caller w.authorization) (λ who. never-serves_user (judged (Some named) d) never-stale (never-judged named d) p at who))))
+    (λ d. never-reading (reads_caller w.authorization) _ (bad-caller w.authorization) (λ who. never-serves_user (judged (Some named) d) (λ q when whose. never-stale) (never-judged named d) p at who))))
 
 never-unpublish : (v : Values) (w : Wanted) (at : ℕ) → Never (leads by.Unpublish v w at)
 never-unpublish v w at = never-reading (one reads_name v) _ (bad-name v) (λ p. never-reading (reads_revision v.second) _ (bad-decoding v.second)
-    (λ named. never-reading (reads_caller w.authorization) _ (bad-caller w.authorization) (λ who. never-serves_user (withdrawn named) never-stale (never-withdrawn named) p at who)))
+    (λ named. never-reading (reads_caller w.authorization) _ (bad-caller w.authorization) (λ who. never-serves_user (withdrawn named) (never-gone named) (never-withdrawn named) p at who)))
 
 never-by : (e : NpmEndpoint) (v : Values) (w : Wanted) (at : ℕ) (es : List Exchange) (o : Outcome) → is_revised e ≡ true → either (is_npms e w.body) (leads e v w at) (profile w at) es o → is_gone o ≡ false
 never-by by.Packument v w at es o d h = absurd (false≢true d)

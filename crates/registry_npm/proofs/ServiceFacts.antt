@@ -1,7 +1,5 @@
 -- What is asked of a service through another one that holds it.
 use Rattle.std.proofs.Common.{◌≡◌, ◌∷◌, [], ℕ, Bool, List, sym, subst}
-use Rattle.registry_rules.specs.declared.request.Request.{Request}
-use Rattle.registry_service.specs.HttpAnswers.{Outcome}
 use Rattle.registry_service.specs.Turns.{Answering, AnswersEach, Exchange, Turns, request, spoken}
 use Rattle.registry_service.specs.declared.turning.Turned.{Turned}
 use Rattle.registry_wire.specs.declared.wanted.Wanted.{Wanted}

@@ -1,5 +1,5 @@
 -- Documents in another form.
-use Rattle.std.proofs.Common.{◌≡◌, [], ℕ, List, Option, Some, None, Result, Ok, Err, refl, inr, unwrap_or}
+use Rattle.std.proofs.Common.{◌≡◌, [], ℕ, List, Option, None, Result, Ok, Err, refl, inr, unwrap_or}
 use Rattle.std.specs.Prelude.{IfOk, MatchResult}
 use Rattle.registry_names.specs.declared.stop.Fault.{Fault}
 use Rattle.registry_names.specs.declared.stop.Fault.TheVariants.{Memory}

@@ -1,5 +1,5 @@
 -- The name of a user after npm's prefix.
-use Rattle.std.proofs.Common.{◌≡◌, ◌≢◌, ◌∙◌, ◌++◌, ℕ, List, drop, Bool, true, false, Result, Ok, Err, refl, sym, ap, inl, inr}
+use Rattle.std.proofs.Common.{◌≡◌, ◌≢◌, ◌∙◌, ◌++◌, ℕ, List, drop, true, false, Result, Ok, Err, refl, sym, ap, inl, inr}
 use Rattle.std.specs.Prelude.{IfErr, IfOk, IsUtf8}
 use Rattle.std.proofs.lemmas.Bool.{false≢true}
 use Rattle.registry_names.specs.Faults.{IsMemoryOr}
@@ -10,12 +10,12 @@ use Rattle.registry_names.specs.declared.stop.Stop.TheVariants.{Refused}
 use Rattle.registry_routes.specs.Routes.{Values}
 use Rattle.registry_routes.specs.Written.{text_of}
 use Rattle.registry_service.specs.Readings.{one}
-use Rattle.registry_npm.specs.Asked.{IsUserName, reads_user, reads_user_in, user_prefix}
+use Rattle.registry_npm.specs.Asked.{reads_user, reads_user_in, user_prefix}
 
 abbrev Text : Type 0
 Text = List ℕ
 
-cancel : (a b : Text) → user_prefix ++ a ≡ user_prefix ++ b → a ≡ b
+pub cancel : (a b : Text) → user_prefix ++ a ≡ user_prefix ++ b → a ≡ b
 cancel a b e = ap (λ (t : Text). drop 17 t) e
 
 pub user_some : (text name : Text) (r : Result Text Stop) → text ≡ user_prefix ++ name → IfOk r (λ i. (i ≡ name) × (is_ident name ≡ true)) → IfErr r (IsMemoryOr BadName (is_ident name ≡ false)) → reads_user_in text r

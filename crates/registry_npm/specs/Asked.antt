@@ -1,5 +1,5 @@
 -- What the routes of npm's ask of the registry first.
-use Rattle.std.specs.Prelude.{◌≡◌, ◌++◌, ℕ, List, Option, Some, None, true, false, codes, Ok, Err}
+use Rattle.std.specs.Prelude.{◌≡◌, ◌++◌, ℕ, List, Some, None, true, codes, Ok, Err}
 use Rattle.registry_access.specs.declared.role.Role.{Role}
 use Rattle.registry_names.specs.Faults.{IsMemoryOr}
 use Rattle.registry_names.specs.Idents.{is_ident}

@@ -1,5 +1,5 @@
 -- Documents in the forms that npm reads, made of those that the registry answers.
-use Rattle.std.specs.Prelude.{ℕ, suc, Bool, true, false, List, [], ◌∷◌, ◌++◌, map, codes, decimal, Option, Some, None, option_map, option_and_then}
+use Rattle.std.specs.Prelude.{ℕ, suc, Bool, List, [], ◌∷◌, ◌++◌, map, codes, decimal, Option, Some, None, option_map, option_and_then}
 use Rattle.json.specs.Print.{quoted}
 use Rattle.serde_json.specs.Data.{Items, Members, boolean, item, member, no_items, no_members, object}
 use Rattle.serde_json.specs.Find.{as_array, as_object, as_str, get}

@@ -1,19 +1,26 @@
 -- What holds of the dialect of npm's own requests: the laws that the functions of `src/laws.rt` ensure.
-use Rattle.std.specs.Prelude.{◌≡◌, ◌≤◌, ◌+◌, ◌∷◌, ◌⊎◌, [], ℕ, Bool, true, false, List, Option, Some, None, Ok, Err, option_map, unwrap_or, if◌then◌else◌}
+use Rattle.std.specs.Prelude.{◌≡◌, ◌≤◌, ◌+◌, ◌∷◌, ◌⊎◌, [], ℕ, Bool, true, false, List, Option, Some, None, Ok, Err, if◌then◌else◌}
 use Rattle.registry_names.specs.Texts.{Text}
+use Rattle.registry_names.specs.Versions.{VersionParts}
 use Rattle.registry_names.specs.declared.refusal.Refusal.TheVariants.{NotFound}
 use Rattle.registry_routes.specs.NpmRoutes.{NpmRoute, npm_route_of}
-use Rattle.registry_routes.specs.Routes.{route_of}
+use Rattle.registry_routes.specs.Routes.{Values, route_of}
 use Rattle.registry_routes.specs.declared.npm_endpoint.NpmEndpoint.{NpmEndpoint}
 use Rattle.registry_routes.specs.declared.npm_endpoint.NpmEndpoint.TheVariants as by
 use Rattle.registry_rules.specs.Actions.{is_command}
 use Rattle.registry_rules.specs.declared.reply.Reply.TheVariants.{Refused}
+use Rattle.registry_rules.specs.declared.request.Action.TheVariants.{VersionDoc}
+use Rattle.registry_rules.specs.declared.request.Asked.TheVariants.{Exact}
+use Rattle.registry_rules.specs.declared.request.Credential.{Credential}
 use Rattle.registry_rules.specs.declared.request.Credential.TheVariants.{Anonymous}
+use Rattle.registry_service.specs.Bodies.{reads_file}
 use Rattle.registry_service.specs.Callers.{reads_caller}
 use Rattle.registry_service.specs.HttpAnswers.{Outcome}
-use Rattle.registry_service.specs.Turns.{Dialect, Exchange, profile}
+use Rattle.registry_service.specs.Readings.{one, reads_name}
+use Rattle.registry_service.specs.Turns.{Dialect, Exchange, exchange, profile}
 use Rattle.registry_wire.specs.declared.wanted.Wanted.{Wanted}
 use Rattle.registry_npm.specs.Bodies.{begins_object}
+use Rattle.registry_npm.specs.Leading.{request}
 use Rattle.registry_npm.specs.Npm.{is_npms, npm}
 use Rattle.registry_npm.specs.Packages.{is_gone}
 
@@ -79,16 +86,22 @@ is_file_drop by.FileDrop = true
 is_file_drop by.ScopedFileDrop = true
 is_file_drop _ = false
 
--- the first of what was asked came to this
-abbrev pub CameTo : List Exchange → Outcome → Type 0
-CameTo [] o = Unit {0}
-CameTo (e ∷ es) o = e.outcome ≡ o
+-- the path names the archive's file of this version of the package
+abbrev pub NamesFile : NpmEndpoint → Values → Text → VersionParts → Type 0
+NamesFile by.FileDrop v p version = one reads_name v (Ok p) × reads_file p v.second (Ok version)
+NamesFile by.ScopedFileDrop v p version = one reads_name v (Ok p) × reads_file p v.third (Ok version)
+NamesFile _ v p version = ⊥
 
--- Where the deletion of an archive's file is answered by NotFound, that is what the registry answers of
--- the version's document, if the file is one of the package
+-- nothing was asked but for the document of this version, which wasn't found
+abbrev pub IsGone : ℕ → Text → VersionParts → List Exchange → Type 0
+IsGone at p version es = (who : Credential) × (es ≡ exchange (request at who (VersionDoc p (Exact version))) (Ok (Refused NotFound)) ∷ [])
+
+-- Where the deletion of an archive's file is answered by NotFound, the path names the file of no version
+-- of the package, or the registry doesn't find the version whose file it names
 abbrev pub FilesAreGone : Type 0
 FilesAreGone = (w : Wanted) (at : ℕ) (es : List Exchange) (r : NpmRoute) → npm_route_of w.method w.target ≡ Some r → is_file_drop r.endpoint ≡ true
-    → npm w at es (Ok (Refused NotFound)) → CameTo es (Ok (Refused NotFound))
+    → npm w at es (Ok (Refused NotFound)) → ((p : Text) (version : VersionParts) → ¬ (NamesFile r.endpoint r.values p version))
+    ⊎ ((p : Text) × (version : VersionParts) × NamesFile r.endpoint r.values p version × IsGone at p version es)
 
 -- a document or a whole withdrawal under a revision
 abbrev pub is_revised : NpmEndpoint → Bool

@@ -1,6 +1,7 @@
 pub mod Asked
 pub mod Bodies
 pub mod Callers
+pub mod Changes
 pub mod Forms
 pub mod Laws
 pub mod Leading

@@ -1,5 +1,5 @@
 -- The dialect of npm's own requests.
-use Rattle.std.specs.Prelude.{◌≡◌, ◌||◌, ℕ, not, Bool, true, false, List, bytes_eq, is_some, option_map, unwrap_or, Option, Some, None, Ok, Err}
+use Rattle.std.specs.Prelude.{◌||◌, ℕ, not, Bool, true, false, bytes_eq, is_some, option_map, unwrap_or, Option, Some, None, Ok, Err}
 use Rattle.registry_access.specs.declared.role.Role.{Role}
 use Rattle.registry_names.specs.Names.{scope_of}
 use Rattle.registry_names.specs.Texts.{Text}
@@ -9,6 +9,7 @@ use Rattle.registry_routes.specs.NpmRoutes.{NpmRoute, npm_route_of}
 use Rattle.registry_routes.specs.Routes.{Values}
 use Rattle.registry_routes.specs.declared.npm_endpoint.NpmEndpoint.{NpmEndpoint}
 use Rattle.registry_routes.specs.declared.npm_endpoint.NpmEndpoint.TheVariants as by
+use Rattle.registry_rules.specs.declared.reply.Reply.{Reply}
 use Rattle.registry_rules.specs.declared.reply.Reply.TheVariants.{Refused}
 use Rattle.registry_rules.specs.declared.request.Action.{Action}
 use Rattle.registry_rules.specs.declared.request.Action.TheVariants.{OrgSet, Maintainers, Members, MyPackages, Tags, Teams, WhoAmI}
@@ -16,7 +17,7 @@ use Rattle.registry_rules.specs.declared.request.Credential.TheVariants.{Anonymo
 use Rattle.registry_rules.specs.declared.request.Credential.{Credential}
 use Rattle.registry_service.specs.HttpAnswers.{Outcome}
 use Rattle.registry_service.specs.Readings.{one, reads_ident, reads_name}
-use Rattle.registry_service.specs.Turns.{Dialect, Exchange, profile}
+use Rattle.registry_service.specs.Turns.{Dialect, profile}
 use Rattle.registry_wire.specs.declared.wanted.Wanted.{Wanted}
 use Rattle.registry_npm.specs.Asked.{reads_first, reads_member, reads_user}
 use Rattle.registry_npm.specs.Bodies.{begins_object}
@@ -41,18 +42,18 @@ follows _ = ends
 
 -- ---- packages
 
--- whether nobody, too, is told of the package
-abbrev pub shows_public : Outcome → Leads
-shows_public (Err fault) = ends (Err fault)
-shows_public (Ok reply) = shows (visibility_text (not (is_refused reply)))
+-- whether nobody was told of the package
+abbrev pub shows_public : Reply → Leads
+shows_public told = shows (visibility_text (not (is_refused told)))
 
--- the same, asked as nobody
-abbrev pub asks_nobody : Action → ℕ → Leads
-asks_nobody what at = asks (request at Anonymous what) shows_public
+-- what is told of the package to the caller; and then, whether nobody was told of it
+abbrev pub asks_caller : Text → ℕ → Credential → Outcome → Leads
+asks_caller p at who (Err fault) = ends (Err fault)
+asks_caller p at who (Ok told) = asks (request at who (Tags p)) (unless_stopped (shows_public told))
 
--- what is told of the package to the caller, and then to nobody
+-- what is told of the package to nobody, and then to the caller
 abbrev pub shows_visibility : Text → Wanted → ℕ → Leads
-shows_visibility p w at = by_caller w (λ who. asks (request at who (Tags p)) (unless_stopped (asks_nobody (Tags p) at)))
+shows_visibility p w at = by_caller w (λ who. asks (request at Anonymous (Tags p)) (asks_caller p at who))
 
 -- the maintainers of a package that has no scope
 abbrev pub shows_writers : Text → Wanted → ℕ → Leads

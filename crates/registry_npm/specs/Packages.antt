@@ -1,6 +1,6 @@
 -- Packages as npm reads them and sends them back: packuments with a revision, documents, and the
 -- withdrawal of all versions.
-use Rattle.std.specs.Prelude.{◌≡◌, ◌≢◌, ◌⊎◌, ◌++◌, ◌∷◌, ◌==◌, ℕ, Bool, true, false, List, [], bytes_eq, is_some, Option, Some, None, Ok, Err, if◌then◌else◌}
+use Rattle.std.specs.Prelude.{◌≡◌, ◌≢◌, ◌⊎◌, ◌++◌, ◌∷◌, ◌==◌, ℕ, Bool, true, false, List, [], bytes_eq, codes, is_some, Option, Some, None, Ok, Err, if◌then◌else◌}
 use Rattle.serde_json.specs.Data.{Data}
 use Rattle.sha2.specs.Sha256.{sha256}
 use Rattle.registry_documents.specs.Documents.{IsDocumentOf, IsNoDocument, kind_of}
@@ -27,7 +27,7 @@ use Rattle.registry_routes.specs.Routes.{Values}
 use Rattle.registry_routes.specs.Written.{StopsDecoding, text_of}
 use Rattle.registry_routes.specs.declared.body.Deprecation.{Deprecation}
 use Rattle.registry_rules.specs.declared.reply.Reply.{Reply}
-use Rattle.registry_rules.specs.declared.reply.Reply.TheVariants.{Done, Refused}
+use Rattle.registry_rules.specs.declared.reply.Reply.TheVariants.{Refused}
 use Rattle.registry_rules.specs.declared.request.Action.{Action}
 use Rattle.registry_rules.specs.declared.request.Action.TheVariants.{Deprecate, Maintainers, OwnerAdd, OwnerRemove, Packument, WhoAmI, Withdraw, WithdrawAll}
 use Rattle.registry_rules.specs.declared.request.Credential.{Credential}
@@ -35,7 +35,6 @@ use Rattle.registry_rules.specs.declared.request.Request.{Request}
 use Rattle.registry_service.specs.HttpAnswers.{Outcome}
 use Rattle.registry_service.specs.Readings.{Reading, one, reads_name}
 use Rattle.registry_service.specs.Requests.{reads_request}
-use Rattle.registry_service.specs.Turns.{Exchange}
 use Rattle.registry_wire.specs.declared.wanted.Wanted.{Wanted}
 use Rattle.registry_npm.specs.Forms.{names_in}
 use Rattle.registry_npm.specs.Leading.{Leads, asks, by_caller, document_of, either, ends, or_memory, is_stop, reading, request, shows}
@@ -122,7 +121,7 @@ judges d path text names (Err stop) = StopsJudging d path text names (revision t
 
 abbrev pub reads_versions : Text → Text → Reading Deprecation
 reads_versions selector message (Ok d) = (d.message ≡ message) × (is_message message ≡ true) × HasConditions selector d.selector
-reads_versions selector message (Err stop) = IsMemoryOr BadBody (is_message message ≡ false) stop ⊎ ((stop ≡ Refuses BadSelector) × ¬ (IsSelector selector))
+reads_versions selector message (Err stop) = IsMemoryOr BadBody (is_message message ≡ false) stop ⊎ ((stop ≡ Refuses BadSelector) × (is_message message ≡ true) × ¬ (IsSelector selector))
 
 abbrev pub reads_withdrawn : Text → Reading VersionParts
 reads_withdrawn text (Ok version) = IsVersionOf text version
@@ -138,18 +137,31 @@ deprecates path p at who d = asks_late path at who (Deprecate p d.selector d.mes
 abbrev pub withdraws : Option Text → Text → ℕ → Credential → VersionParts → Leads
 withdraws path p at who v = asks_late path at who (Withdraw p v)
 
-abbrev pub adds : Option Text → Text → ℕ → Credential → Text → Leads
-adds path p at who u = asks_late path at who (OwnerAdd p u)
+-- the outcome; but where it is NotFound, the document names nobody: BadName
+abbrev pub unless_nobody : Outcome → Leads
+unless_nobody o = either (is_gone o) (ends (Ok (Refused BadName))) (ends o)
+
+abbrev pub adds : Text → ℕ → Credential → Text → Leads
+adds p at who u = asks (request at who (OwnerAdd p u)) unless_nobody
 
 abbrev pub removes : Option Text → Text → ℕ → Credential → Text → Leads
 removes path p at who u = asks_late path at who (OwnerRemove p u)
 
--- the one command that a document asks for. Without a revision in its path it may ask for messages alone
+-- a selector that selects nothing, since no version is below 0.0.0-0
+abbrev pub no_version : Text
+no_version = codes "<0.0.0-0"
+
+-- the right to write the package is tried: the message of no version is changed
+abbrev pub tries_right : Option Text → Text → ℕ → Credential → Leads
+tries_right path p at who = reading (reads_versions no_version []) (deprecates path p at who)
+
+-- The one command that a document asks for. One that says what is so already tries the right to say
+-- it, and changes nothing. Without a revision in its path it may ask for messages alone
 abbrev pub does : Option Text → Text → ℕ → Credential → Asked → Leads
-does path p at who AlreadySo = ends (Ok Done)
+does path p at who AlreadySo = tries_right path p at who
 does path p at who (Deprecates selector message) = reading (reads_versions selector message) (deprecates path p at who)
 does path p at who (Withdrawal version) = either (is_some path) (reading (reads_withdrawn version) (withdraws path p at who)) (ends (Ok (Refused BadBody)))
-does path p at who (AddsOwner user) = either (is_some path) (reading (reads_owner user) (adds path p at who)) (ends (Ok (Refused BadBody)))
+does path p at who (AddsOwner user) = either (is_some path) (reading (reads_owner user) (adds p at who)) (ends (Ok (Refused BadBody)))
 does path p at who (RemovesOwner user) = either (is_some path) (reading (reads_owner user) (removes path p at who)) (ends (Ok (Refused BadBody)))
 
 -- the document is judged by what there is, and what it asks for is asked
@@ -171,11 +183,15 @@ pub data Purpose : Type 0 where
   judged : Option Text → Data → Purpose
   withdrawn : Text → Purpose
 
--- what is answered where the registry doesn't show the package
-abbrev pub other_of : Purpose → Outcome → Leads
-other_of shown o = ends o
-other_of (judged path d) o = late path o
-other_of (withdrawn named) o = late (Some named) o
+-- where no version is found, there is nothing to withdraw, and the right to write the package is tried
+abbrev pub unless_gone : Text → Text → ℕ → Credential → Outcome → Leads
+unless_gone named p at who o = either (is_gone o) (or_memory (tries_right (Some named) p at who)) (ends o)
+
+-- what follows where the registry doesn't show the package
+abbrev pub other_of : Purpose → Text → ℕ → Credential → Outcome → Leads
+other_of shown p at who o = ends o
+other_of (judged path d) p at who o = late path o
+other_of (withdrawn named) p at who o = unless_gone named p at who o
 
 abbrev pub fulfils : Purpose → Text → ℕ → Credential → Text → List Text → Leads
 fulfils shown p at who text names = shows_fronted text names
@@ -184,10 +200,10 @@ fulfils (withdrawn named) p at who text names = unpublished_by p named at who te
 
 -- what there is of the package is asked, and then the purpose is fulfilled
 abbrev pub serves : Purpose → Text → ℕ → Credential → Leads
-serves purpose p at who = asks_package p at who (other_of purpose) (fulfils purpose p at who)
+serves purpose p at who = asks_package p at who (other_of purpose p at who) (fulfils purpose p at who)
 
 abbrev pub served_after : Purpose → Text → ℕ → Credential → Outcome → Leads
-served_after purpose p at who named = either (is_stop named) (other_of purpose named) (serves purpose p at who)
+served_after purpose p at who named = either (is_stop named) (other_of purpose p at who named) (serves purpose p at who)
 
 -- who the caller is is asked before anything is read for them
 abbrev pub serves_user : Purpose → Text → ℕ → Credential → Leads

@@ -1,6 +1,5 @@
 -- What npm wants of a package, as the code has it.
-use Rattle.std.specs.Prelude.{Option, Some, None, option_map}
-use Rattle.std.specs.Borrow.{Bor}
+use Rattle.std.specs.Prelude.{option_map}
 use Rattle.registry_documents.specs.Documents.{value_of}
 use Rattle.registry_npm.specs.Packages as spec
 use Rattle.registry_npm.specs.declared.packages.Purpose.{Purpose}

@@ -4,7 +4,7 @@ use Rattle.std.proofs.lemmas.Bool.{false≢true}
 use Rattle.registry_names.specs.Names.{scope_of}
 use Rattle.registry_names.specs.Texts.{Text}
 use Rattle.registry_names.specs.declared.method.Method.{Method}
-use Rattle.registry_names.specs.declared.method.Method.TheVariants.{Get, Other}
+use Rattle.registry_names.specs.declared.method.Method.TheVariants.{Get}
 use Rattle.registry_names.specs.declared.refusal.Refusal.TheVariants.{NotFound, NotServed}
 use Rattle.registry_names.specs.declared.stop.Fault.TheVariants.{Database}
 use Rattle.registry_names.specs.declared.stop.Stop.{Stop}
@@ -32,7 +32,7 @@ use Rattle.registry_npm.specs.Asked.{reads_first, reads_user}
 use Rattle.registry_npm.specs.Forms.{empty_text, grants_form, names_in, profile_form, teams_form, user_text, writers_form}
 use Rattle.registry_npm.specs.Packages.{asks_names, for_document, for_names, fulfils, other_of, serves, shown, shows_fronted, with_names}
 use Rattle.registry_npm.specs.Leading.{Leads, asks, document_of, either, ends, in_form, is_stop, or_memory, reading, request, shown_as, shows, unless_stopped}
-use Rattle.registry_npm.specs.Npm.{asks_first, asks_nobody, follows, is_npms, is_user, leads, not_served, npm, shows_own, shows_public, shows_teams, shows_user, shows_visibility, shows_writers, speaks_by}
+use Rattle.registry_npm.specs.Npm.{asks_caller, asks_first, follows, is_npms, is_user, leads, not_served, npm, shows_public, speaks_by}
 
 -- ---- the routes of `GET`
 
@@ -131,9 +131,9 @@ q-in_form form (Some t) c = q-shows _
 q-shown : (form : Text → Option Text) (c : Outcome) → Queries (shown_as form c)
 q-shown form c = q-in_form form (document_of c) c
 
-q-public : (c : Outcome) → Queries (shows_public c)
-q-public (Err fault) = q-ends (Err fault)
-q-public (Ok reply) = q-shows _
+q-caller : (p : Text) (at : ℕ) (who : Credential) (c : Outcome) → Queries (asks_caller p at who c)
+q-caller p at who (Err fault) = q-ends (Err fault)
+q-caller p at who (Ok told) = q-asks (request at who (Tags p)) _ refl (λ c. q-unless (shows_public told) c (q-shows _))
 
 q-not_served : (c : Outcome) → Queries (not_served c)
 q-not_served c = q-unless (ends (Ok (Refused NotServed))) c (q-ends (Ok (Refused NotServed)))
@@ -156,10 +156,10 @@ q-named : (text : Text) (t : Option Text) (c : Outcome) → Queries (for_documen
 q-named text None c = q-ends c
 q-named text (Some names) c = q-or_memory _ (q-for_names text (names_in names))
 
-q-shown_text : (p : Text) (at : ℕ) (who : Credential) (text : Text) → Queries (asks_names p at who (other_of shown) (fulfils shown p at who text))
+q-shown_text : (p : Text) (at : ℕ) (who : Credential) (text : Text) → Queries (asks_names p at who (other_of shown p at who) (fulfils shown p at who text))
 q-shown_text p at who text = q-either (is_some (scope_of p)) _ _ (q-shows _) (q-or_memory _ (q-asks (request at who (Maintainers p)) _ refl (λ c. q-named text (document_of c) c)))
 
-q-shown_by : (p : Text) (at : ℕ) (who : Credential) (t : Option Text) (c : Outcome) → Queries (for_document (λ text. asks_names p at who (other_of shown) (fulfils shown p at who text)) (ends c) t)
+q-shown_by : (p : Text) (at : ℕ) (who : Credential) (t : Option Text) (c : Outcome) → Queries (for_document (λ text. asks_names p at who (other_of shown p at who) (fulfils shown p at who text)) (ends c) t)
 q-shown_by p at who None c = q-ends c
 q-shown_by p at who (Some text) c = q-shown_text p at who text
 
@@ -173,7 +173,7 @@ q-leads by.Revised v w at is own = absurd (false≢true is)
 q-leads by.Unpublish v w at is own = absurd (false≢true is)
 q-leads by.FileDrop v w at is own = absurd (false≢true is)
 q-leads by.ScopedFileDrop v w at is own = absurd (false≢true is)
-q-leads by.Visibility v w at is own = q-reading (one reads_name v) _ (λ p _. q-reading (reads_caller w.authorization) _ (λ who _. q-asks (request at who (Tags p)) _ refl (λ c. q-unless (asks_nobody (Tags p) at) c (q-asks (request at Anonymous (Tags p)) shows_public refl q-public))))
+q-leads by.Visibility v w at is own = q-reading (one reads_name v) _ (λ p _. q-reading (reads_caller w.authorization) _ (λ who _. q-asks (request at Anonymous (Tags p)) _ refl (q-caller p at who)))
 q-leads by.SetAccess v w at is own = absurd (false≢true is)
 q-leads by.Collaborators v w at is own = q-reading (one reads_name v) _ (λ p _. q-reading (reads_caller w.authorization) _ (λ who _. q-asks (request at who (Maintainers p)) _ refl (q-writers (is_some (scope_of p)))))
 q-leads by.OrgPackages v w at is own = q-first by.OrgPackages v w at (λ what x. gave what _ x.2 refl) q-ends

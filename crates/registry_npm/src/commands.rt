@@ -16,6 +16,9 @@ use registry_rules::{Action, Reply};
 use registry_service::Service;
 use std::alloc::Global;
 
+// No version is below 0.0.0-0.
+const NO_VERSION: &str = "<0.0.0-0";
+
 fn is_not_found(reply: &Reply) -> bool
     ensures { result ≡ spec.is_not_found reply.now }
 {
@@ -25,7 +28,8 @@ fn is_not_found(reply: &Reply) -> bool
     }
 }
 
-fn is_gone(outcome: &Result<Reply, Fault>) -> bool
+/// Whether an outcome is answered by 404.
+pub(crate) fn is_gone(outcome: &Result<Reply, Fault>) -> bool
     ensures { result ≡ spec.is_gone outcome.now }
 {
     match outcome {
@@ -53,6 +57,16 @@ fn stale(outcome: Result<Reply, Fault>) -> Result<Reply, Fault>
     outcome
 }
 
+// The outcome of adding a maintainer; but where it is answered by 404, there is no such user.
+fn unless_nobody(outcome: Result<Reply, Fault>) -> Result<Reply, Fault>
+    ensures { spec.unless_nobody outcome [] result }
+{
+    if is_gone(&outcome) {
+        return Ok(Reply::Refused(Refusal::BadName));
+    }
+    outcome
+}
+
 /// A command, whose outcome is the answer.
 pub(crate) fn command<D: Service>(
     alloc: Global,
@@ -71,11 +85,11 @@ pub(crate) fn command<D: Service>(
 }
 
 // The versions and the message of a deprecation.
-fn versions(alloc: Global, selector: &Text, message: &Text) -> Result<Deprecation, Stop>
+fn versions(alloc: Global, selector: &str, message: &str) -> Result<Deprecation, Stop>
     ensures { spec.reads_versions selector.now message.now result }
 {
-    let message = Message::parse(alloc, message.as_str())?;
-    let selector = Selector::parse(alloc, selector.as_str())?;
+    let message = Message::parse(alloc, message)?;
+    let selector = Selector::parse(alloc, selector)?;
     Ok(Deprecation { selector, message })
 }
 
@@ -98,7 +112,23 @@ fn is_revised(path: Option<&str>) -> bool
     path.is_some()
 }
 
-/// What a document asks for is asked. Without a revision in its path it may ask for messages alone.
+/// The right to write a package is tried, by a deprecation that selects no version.
+pub(crate) fn right<D: Service>(
+    alloc: Global,
+    service: &mut D,
+    path: Option<&str>,
+    name: Name,
+    who: &Caller,
+    at: Moment,
+) -> Result<Reply, Fault>
+    ensures { Comes D.answers service.old
+        (spec.tries_right (option_map (λ t. t.now) path.entry) name at (who_of who.now)) result service.new }
+{
+    deprecate(alloc, service, path, name, NO_VERSION, "", who, at)
+}
+
+/// What a document asks for is asked. One that says what is so already tries the right to say it, and
+/// changes nothing. Without a revision in its path it may ask for messages alone.
 pub(crate) fn does<D: Service>(
     alloc: Global,
     service: &mut D,
@@ -112,9 +142,18 @@ pub(crate) fn does<D: Service>(
         (spec.does (option_map (λ t. t.now) path.entry) name at (who_of who.now) asked) result service.new }
 {
     match asked {
-        Asked::AlreadySo => Ok(Reply::Done),
+        Asked::AlreadySo => right(alloc, service, path, name, who, at),
         Asked::Deprecation { selector, message } => {
-            deprecate(alloc, service, path, name, &selector, &message, who, at)
+            deprecate(
+                alloc,
+                service,
+                path,
+                name,
+                selector.as_str(),
+                message.as_str(),
+                who,
+                at,
+            )
         }
         Asked::Withdrawal { version } => {
             if is_revised(path) {
@@ -124,7 +163,7 @@ pub(crate) fn does<D: Service>(
         }
         Asked::OwnerAdd { user } => {
             if is_revised(path) {
-                return owner_add(alloc, service, path, name, &user, who, at);
+                return owner_add(alloc, service, name, &user, who, at);
             }
             Ok(Reply::Refused(Refusal::BadBody))
         }
@@ -142,8 +181,8 @@ fn deprecate<D: Service>(
     service: &mut D,
     path: Option<&str>,
     name: Name,
-    selector: &Text,
-    message: &Text,
+    selector: &str,
+    message: &str,
     who: &Caller,
     at: Moment,
 ) -> Result<Reply, Fault>
@@ -190,14 +229,13 @@ fn withdraw<D: Service>(
 fn owner_add<D: Service>(
     alloc: Global,
     service: &mut D,
-    path: Option<&str>,
     name: Name,
     text: &Text,
     who: &Caller,
     at: Moment,
 ) -> Result<Reply, Fault>
     ensures { Comes D.answers service.old (reading (spec.reads_owner text.now)
-        (spec.adds (option_map (λ t. t.now) path.entry) name at (who_of who.now))) result service.new }
+        (spec.adds name at (who_of who.now))) result service.new }
 {
     match owner(alloc, text) {
         Ok(user) => {
@@ -205,7 +243,9 @@ fn owner_add<D: Service>(
                 package: name,
                 user,
             };
-            command(alloc, service, path, what, who, at)
+            let request = request(at, who, what);
+            let outcome = service.answer(alloc, &request);
+            unless_nobody(outcome)
         }
         Err(stop) => stopped(stop),
     }

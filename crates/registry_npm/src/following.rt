@@ -8,7 +8,7 @@ ghost use Rattle.registry_rules.specs.declared.reply.Reply.TheVariants.{Refused}
 ghost use Rattle.registry_rules.specs.declared.request.Action.TheVariants.{MyPackages};
 ghost use Rattle.registry_npm.specs.Callers.{who_of};
 ghost use Rattle.registry_npm.specs.Leading as leading;
-ghost use Rattle.registry_npm.specs.Leading.{Comes, asks, either, ends, or_memory};
+ghost use Rattle.registry_npm.specs.Leading.{Comes, asks, either, ends, or_memory, unless_stopped};
 ghost use Rattle.registry_npm.specs.Npm as spec;
 ghost use Rattle.registry_routes.specs.declared.npm_endpoint.NpmEndpoint.TheVariants as by;
 
@@ -207,7 +207,7 @@ fn visibility<D: Service>(
     }
 }
 
-// What is told of the package to the caller, and then to nobody.
+// What is told of the package to nobody, and then to the caller, who is the last whom a turn asks for.
 fn visibility_of<D: Service>(
     alloc: Global,
     service: &mut D,
@@ -223,26 +223,35 @@ fn visibility_of<D: Service>(
         Err(stop) => return stopped(stop),
     };
     let what = Action::Tags { package: name };
-    let mut request = request(at, &who, what);
-    let told = service.answer(alloc, &request);
-    if is_stop(&told) {
-        return told;
+    let mut request = Request {
+        at,
+        who: Credential::Anonymous,
+        what,
+    };
+    match service.answer(alloc, &request) {
+        Ok(told) => {
+            request.who = credential(&who);
+            told_to_caller(alloc, service, &request, &told)
+        }
+        Err(fault) => Err(fault),
     }
-    request.who = Credential::Anonymous;
-    told_to_nobody(alloc, service, &request)
 }
 
-// What is told of it to nobody.
-fn told_to_nobody<D: Service>(
+// What is told of it to the caller; and then, whether nobody was told of it.
+fn told_to_caller<D: Service>(
     alloc: Global,
     service: &mut D,
     request: &Request,
+    told: &Reply,
 ) -> Result<Reply, Fault>
-    ensures { Comes D.answers service.old (asks request.now spec.shows_public)
-        result service.new }
+    ensures { Comes D.answers service.old
+        (asks request.now (unless_stopped (spec.shows_public told.now))) result service.new }
 {
     let outcome = service.answer(alloc, request);
-    shown::public(alloc, outcome)
+    if is_stop(&outcome) {
+        return outcome;
+    }
+    shown::public(alloc, told)
 }
 
 fn collaborators<D: Service>(

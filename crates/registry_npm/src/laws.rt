@@ -1,6 +1,7 @@
 //! Laws of npm's own requests. Each is the contract of a function that does nothing.
 
-ghost use Rattle.registry_service.specs.Dialects.{AsksQueriesByGet};
+ghost use Rattle.registry_service.specs.Dialects.{AsksQueriesByGet, IsDetermined};
+ghost use Rattle.registry_npm.specs.Changes.{DocumentsChangeOneThing};
 ghost use Rattle.registry_npm.specs.Laws.{AsksForCaller, FaultsEnd, FilesAreGone, NeverNotFound, NpmIsApart, OneCommand, OthersStay};
 ghost use Rattle.registry_npm.specs.Npm.{npm};
 
@@ -34,8 +35,8 @@ pub fn get_asks_queries()
     ensures { AsksQueriesByGet npm }
 {}
 
-/// The deletion of an archive's file is answered by `NotFound` only where the registry answers so of
-/// the version's document, or where the file is none of the package.
+/// The deletion of an archive's file is answered by `NotFound` only where the path names the file of no
+/// version of the package, or where the registry answers so of the document of that version.
 pub fn files_are_gone()
     ensures { FilesAreGone }
 {}
@@ -44,6 +45,22 @@ pub fn files_are_gone()
 /// success.
 pub fn never_not_found()
     ensures { NeverNotFound }
+{}
+
+/// A turn on a document asks for no command, or for one: the one thing in which the document differs
+/// from the packument and the maintainers that were read in the turn, with nothing between. That is a
+/// message for some versions, one version withdrawn, or one maintainer more or less. A document of
+/// another revision, or one that differs in anything else, asks for no command, and one that says what
+/// is so already for one that changes nothing. If the command is refused, so is the document. What is also
+/// a publication in form is one.
+pub fn documents_change_one_thing()
+    ensures { DocumentsChangeOneThing }
+{}
+
+/// What a turn that asked something answers is determined by what it asked, and by what that came to,
+/// unless it answers a fault.
+pub fn answers_are_determined()
+    ensures { IsDetermined npm }
 {}
 
 /// Whatever a turn asks is asked at the moment of its request, for its caller or for nobody.

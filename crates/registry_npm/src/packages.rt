@@ -12,7 +12,7 @@ ghost use Rattle.registry_npm.specs.Packages as spec;
 ghost use Rattle.registry_npm.specs.Purposes.{purpose_view};
 
 use crate::caller::{Caller, caller_of};
-use crate::commands::{command, does, late};
+use crate::commands::{command, does, is_gone, late, right};
 use crate::following::{is_scoped, request};
 use crate::forms::names_in;
 use crate::fronted::{fronted, revision_of};
@@ -92,7 +92,7 @@ fn serve_user<D: Service>(
     let request = request(at, who, Action::WhoAmI);
     let named = service.answer(alloc, &request);
     if is_stop(&named) {
-        return otherwise(purpose, named);
+        return otherwise(alloc, service, purpose, name, who, at, named);
     }
     serve(alloc, service, purpose, name, who, at)
 }
@@ -137,25 +137,74 @@ fn packument<D: Service>(
 ) -> Result<Reply, Fault>
     requires { copy ≡ name.now }
     ensures { Comes D.answers service.old (asks (leading.request at (who_of who.now) (action.Packument name.now))
-        (spec.shown_by name.now at (who_of who.now) (spec.other_of (purpose_view purpose.entry))
+        (spec.shown_by name.now at (who_of who.now) (spec.other_of (purpose_view purpose.entry) name.now at (who_of who.now))
         (spec.fulfils (purpose_view purpose.entry) name.now at (who_of who.now)))) result service.new }
 {
     let request = request(at, who, Action::Packument { package: copy });
     let outcome = service.answer(alloc, &request);
     match document(outcome) {
         Ok(text) => with_text(alloc, service, purpose, name, text.as_str(), who, at),
-        Err(other) => otherwise(purpose, other),
+        Err(other) => otherwise(alloc, service, purpose, name, who, at, other),
     }
 }
 
 // The registry doesn't show the package.
-fn otherwise(purpose: Purpose<'_>, outcome: Result<Reply, Fault>) -> Result<Reply, Fault>
-    ensures { spec.other_of (purpose_view purpose.entry) outcome [] result }
+fn otherwise<D: Service>(
+    alloc: Global,
+    service: &mut D,
+    purpose: Purpose<'_>,
+    name: &Name,
+    who: &Caller,
+    at: Moment,
+    outcome: Result<Reply, Fault>,
+) -> Result<Reply, Fault>
+    ensures { Comes D.answers service.old
+        (spec.other_of (purpose_view purpose.entry) name.now at (who_of who.now) outcome)
+        result service.new }
 {
     match purpose {
         Purpose::Shown => outcome,
         Purpose::Judged { path, .. } => late(path, outcome),
-        Purpose::Withdrawn { named } => late(Some(named), outcome),
+        Purpose::Withdrawn { named } => {
+            withdrawn_from(alloc, service, named, name, who, at, outcome)
+        }
+    }
+}
+
+// Where no version is found, there is nothing to withdraw, and the right to do so is tried.
+fn withdrawn_from<D: Service>(
+    alloc: Global,
+    service: &mut D,
+    named: &str,
+    name: &Name,
+    who: &Caller,
+    at: Moment,
+    outcome: Result<Reply, Fault>,
+) -> Result<Reply, Fault>
+    ensures { Comes D.answers service.old
+        (spec.unless_gone named.now name.now at (who_of who.now) outcome) result service.new }
+{
+    if is_gone(&outcome) {
+        return tried(alloc, service, named, name, who, at);
+    }
+    outcome
+}
+
+fn tried<D: Service>(
+    alloc: Global,
+    service: &mut D,
+    named: &str,
+    name: &Name,
+    who: &Caller,
+    at: Moment,
+) -> Result<Reply, Fault>
+    ensures { Comes D.answers service.old
+        (or_memory (spec.tries_right (Some named.now) name.now at (who_of who.now)))
+        result service.new }
+{
+    match copied(alloc, name) {
+        Ok(package) => right(alloc, service, Some(named), package, who, at),
+        Err(fault) => Err(fault),
     }
 }
 
@@ -170,7 +219,7 @@ fn with_text<D: Service>(
     at: Moment,
 ) -> Result<Reply, Fault>
     ensures { Comes D.answers service.old (spec.asks_names name.now at (who_of who.now)
-        (spec.other_of (purpose_view purpose.entry))
+        (spec.other_of (purpose_view purpose.entry) name.now at (who_of who.now))
         (spec.fulfils (purpose_view purpose.entry) name.now at (who_of who.now) text.now))
         result service.new }
 {
@@ -196,7 +245,7 @@ fn maintainers<D: Service>(
 ) -> Result<Reply, Fault>
     requires { copy ≡ name.now }
     ensures { Comes D.answers service.old (asks (leading.request at (who_of who.now) (action.Maintainers name.now))
-        (spec.named_by (spec.other_of (purpose_view purpose.entry))
+        (spec.named_by (spec.other_of (purpose_view purpose.entry) name.now at (who_of who.now))
         (spec.fulfils (purpose_view purpose.entry) name.now at (who_of who.now) text.now)))
         result service.new }
 {
@@ -204,7 +253,7 @@ fn maintainers<D: Service>(
     let outcome = service.answer(alloc, &request);
     match document(outcome) {
         Ok(names) => with_names(alloc, service, purpose, name, text, names.as_str(), who, at),
-        Err(other) => otherwise(purpose, other),
+        Err(other) => otherwise(alloc, service, purpose, name, who, at, other),
     }
 }
 

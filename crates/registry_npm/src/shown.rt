@@ -167,12 +167,11 @@ pub(crate) fn not_served(outcome: Result<Reply, Fault>) -> Result<Reply, Fault>
     Ok(Reply::Refused(Refusal::NotServed))
 }
 
-/// Whether nobody, too, is told of the package.
-pub(crate) fn public(alloc: Global, outcome: Result<Reply, Fault>) -> Result<Reply, Fault>
-    ensures { npm.shows_public outcome [] result }
+/// Whether nobody was told of the package.
+pub(crate) fn public(alloc: Global, told: &Reply) -> Result<Reply, Fault>
+    ensures { npm.shows_public told.now [] result }
 {
-    let reply = outcome?;
-    let text = forms::visibility(alloc, !is_refused(&reply))?;
+    let text = forms::visibility(alloc, !is_refused(told))?;
     doc(text)
 }
 

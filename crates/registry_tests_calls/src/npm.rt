@@ -3,11 +3,13 @@
 
 ghost use Rattle.std.specs.Prelude.{false};
 
+mod documents;
+
 use crate::outcome::same;
 use crate::parts::{as_text, blob};
 use registry_cache::SharedText;
 use registry_names::Method::{Delete, Get, Post, Put};
-use registry_names::{Fault, Method, Moment, Refusal};
+use registry_names::{Fault, Method, Moment, Refusal, Rule};
 use registry_npm::npm_turn;
 use registry_rules::{Action, Credential, Reply, Request};
 use registry_service::{Service, Turned};
@@ -49,6 +51,12 @@ fn answer_to(action: &Action, is_known: bool) -> (&'static str, Result<&'static 
         Action::Revoke { .. } => ("Revoke", Ok("")),
         Action::SetAccess { .. } => ("SetAccess", Ok("")),
         Action::TokenRemove { .. } => ("TokenRemove", Ok("")),
+        Action::Packument { package } => ("Packument", packument(package.text())),
+        Action::Deprecate { package, .. } => ("Deprecate", written(package.text())),
+        Action::Withdraw { package, .. } => ("Withdraw", version_of(package.text())),
+        Action::WithdrawAll { .. } => ("WithdrawAll", Ok("")),
+        Action::OwnerAdd { user, .. } => ("OwnerAdd", done(user.text())),
+        Action::OwnerRemove { .. } => ("OwnerRemove", Ok("")),
         _ => ("another", Err(Refusal::Waiting)),
     }
 }
@@ -65,6 +73,30 @@ fn tags(package: &str, is_known: bool) -> Result<&'static str, Refusal> {
 fn version(package: &str) -> Result<&'static str, Refusal> {
     match package {
         "tool" => Ok("{}"),
+        _ => Err(Refusal::NotFound),
+    }
+}
+
+// No version of `gone` or `others` lives.
+fn packument(package: &str) -> Result<&'static str, Refusal> {
+    match package {
+        "tool" | "theirs" => Ok(documents::TOOL),
+        _ => Err(Refusal::NotFound),
+    }
+}
+
+// Bob writes two packages, reads two, and isn't told of others.
+fn written(package: &str) -> Result<&'static str, Refusal> {
+    match package {
+        "tool" | "gone" => Ok(""),
+        "theirs" | "others" => Err(Refusal::Denied(Rule::A6)),
+        _ => Err(Refusal::NotFound),
+    }
+}
+
+fn version_of(package: &str) -> Result<&'static str, Refusal> {
+    match package {
+        "tool" => Ok(""),
         _ => Err(Refusal::NotFound),
     }
 }
@@ -169,7 +201,7 @@ static CASES: [Case; 46] = [
         Get,
         "/-/package/@lab%2fhidden/visibility",
         "",
-        "Tags ",
+        "Tags Tags ",
         404,
         NOT_FOUND,
     ),

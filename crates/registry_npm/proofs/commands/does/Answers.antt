@@ -3,7 +3,7 @@ use Rattle.registry_npm.proofs.ComesFacts.{comes-either}
 use Rattle.registry_npm.proofs.commands.does.Goals as goal
 
 pub returns-in-Deprecation : goal.returns-in-Deprecation
-returns-in-Deprecation g c = rw c.in-Deprecation.is c.deprecate.ensures
+returns-in-Deprecation g c = rw c.in-Deprecation.is (rw (c.as_str.ensures.text, c.as_str-in-Deprecation.ensures.text) at c.deprecate.ensures)
 
 pub returns-then-is_revised : goal.returns-then-is_revised
 returns-then-is_revised g c = rw c.in-Withdrawal.is (comes-either g.D.Service.answers _ _ _ _ _ _ (sym c.is_revised.ensures ∙ c.if-is_revised.true) c.withdraw.ensures)

@@ -1,4 +1,4 @@
-use Rattle.std.proofs.Common.{◌≡◌, ◌∙◌, Bool, true, false, Option, Some, None, List, ℕ, option_map, is_some, refl, sym, ap}
+use Rattle.std.proofs.Common.{is_some, sym, ap}
 use Rattle.registry_npm.proofs.following.is_scoped.Goals as goal
 
 pub returns-in-Some : goal.returns-in-Some

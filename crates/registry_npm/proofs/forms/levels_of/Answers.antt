@@ -1,5 +1,4 @@
-use Rattle.std.proofs.Common.{◌∙◌, sym}
-use Rattle.registry_npm.proofs.FormFacts.{row_first, row_none, row_step}
+use Rattle.registry_npm.proofs.FormFacts.{row_step}
 use Rattle.registry_npm.proofs.forms.levels_of.Goals as goal
 
 pub loop-name-preserved : goal.loop-name-preserved

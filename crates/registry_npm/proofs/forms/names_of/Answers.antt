@@ -1,4 +1,3 @@
-use Rattle.std.proofs.Common.{◌∙◌, sym}
 use Rattle.registry_npm.proofs.FormFacts.{name_first, name_last, name_step}
 use Rattle.registry_npm.proofs.forms.names_of.Goals as goal
 

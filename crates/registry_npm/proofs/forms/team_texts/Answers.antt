@@ -1,4 +1,3 @@
-use Rattle.std.proofs.Common.{◌∙◌, sym}
 use Rattle.registry_npm.specs.Forms.{team_text}
 use Rattle.registry_npm.proofs.FormFacts.{map_last, map_step}
 use Rattle.registry_npm.proofs.forms.team_texts.Goals as goal

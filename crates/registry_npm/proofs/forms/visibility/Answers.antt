@@ -1,5 +1,5 @@
-use Rattle.std.proofs.Common.{◌≡◌, [], ◌++◌, true, false, codes, rules}
-use Rattle.serde_json.specs.Data.{array, boolean, member, no_items, no_members, number, object, string, unsigned}
+use Rattle.std.proofs.Common.{◌≡◌, codes, rules}
+use Rattle.serde_json.specs.Data.{boolean, member, no_members, object}
 use Rattle.serde_json.specs.View.{view}
 use Rattle.serde_json.specs.declared.value.Value.{the_lemmas}
 use Rattle.serde_json.proofs.OnLiterals.{serde_json_on_literals}

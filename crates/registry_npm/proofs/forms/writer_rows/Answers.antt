@@ -1,4 +1,4 @@
-use Rattle.std.proofs.Common.{◌∙◌, sym, ap}
+use Rattle.std.proofs.Common.{ap}
 use Rattle.registry_npm.specs.Forms.{writer}
 use Rattle.registry_npm.proofs.FormFacts.{map_last, map_step}
 use Rattle.registry_npm.proofs.forms.writer_rows.Goals as goal

@@ -1,4 +1,4 @@
-use Rattle.std.proofs.Common.{None, Some, sym, ◌∙◌}
+use Rattle.std.proofs.Common.{Some, sym, ◌∙◌}
 use Rattle.registry_routes.specs.Readings.{npm_route_view}
 use Rattle.registry_npm.proofs.TurnFacts.{npms-turn, other-turn}
 use Rattle.registry_npm.proofs.turning.npm_turn.Goals as goal

@@ -1,0 +1,125 @@
+-- What a turn on one of npm's documents may change.
+use Rattle.std.specs.Prelude.{◌≡◌, ◌≢◌, ◌⊎◌, ◌++◌, ◌∷◌, [], ℕ, true, false, is_some, List, Option, Some, None, Ok}
+use Rattle.serde_json.specs.Data.{Data, Members}
+use Rattle.serde_json.specs.Read.{read}
+use Rattle.registry_documents.specs.Differences.{besides, says_no_other}
+use Rattle.registry_documents.specs.Documents.{IsDocumentOf, is_of, kind_of, names_in as maintainers_in, versions_in}
+use Rattle.registry_documents.specs.Judging.{asked_in}
+use Rattle.registry_documents.specs.Laws.{IsDeprecation, IsWithdrawal}
+use Rattle.registry_documents.specs.declared.asked.Asked.TheVariants.{AlreadySo}
+use Rattle.registry_documents.specs.declared.document.Kind.TheVariants.{Publication}
+use Rattle.registry_names.specs.Names.{scope_of}
+use Rattle.registry_names.specs.Texts.{Text}
+use Rattle.registry_names.specs.Versions.{VersionParts, text_of_version}
+use Rattle.registry_ranges.specs.Laws.{IsInForm}
+use Rattle.registry_ranges.specs.Selectors.{Condition, HasConditions, set_selects}
+use Rattle.registry_routes.specs.NpmRoutes.{NpmRoute, npm_route_of}
+use Rattle.registry_routes.specs.Routes.{Values}
+use Rattle.registry_routes.specs.Written.{text_of}
+use Rattle.registry_routes.specs.declared.npm_endpoint.NpmEndpoint.{NpmEndpoint}
+use Rattle.registry_routes.specs.declared.npm_endpoint.NpmEndpoint.TheVariants as by
+use Rattle.registry_rules.specs.declared.reply.Reply.TheVariants.{Doc}
+use Rattle.registry_rules.specs.declared.request.Action.{Action}
+use Rattle.registry_rules.specs.declared.request.Action.TheVariants.{Deprecate, Maintainers, OwnerAdd, OwnerRemove, Packument, WhoAmI, Withdraw}
+use Rattle.registry_rules.specs.declared.request.Credential.{Credential}
+use Rattle.registry_rules.specs.declared.request.Request.{Request}
+use Rattle.registry_service.specs.Dialects.{AreQueries}
+use Rattle.registry_service.specs.HttpAnswers.{Outcome}
+use Rattle.registry_service.specs.Readings.{one, reads_name}
+use Rattle.registry_service.specs.Requests.{reads_request}
+use Rattle.registry_service.specs.Turns.{Exchange, exchange}
+use Rattle.registry_wire.specs.declared.wanted.Wanted.{Wanted}
+use Rattle.registry_npm.specs.Forms.{names_in}
+use Rattle.registry_npm.specs.Leading.{is_stop, request}
+use Rattle.registry_npm.specs.Npm.{npm}
+use Rattle.registry_npm.specs.Packages.{revision}
+
+-- ---- what was sent, and what was read
+
+-- A document under a revision, or one without, that brings no archive
+abbrev pub IsSent : NpmEndpoint → Values → Text → Option Text → Data → Type 0
+IsSent by.Revised v body path d = IsDocumentOf body d × (path ≡ Some (text_of v.second))
+IsSent by.Document v body path d = IsDocumentOf body d × (kind_of d ≢ Publication) × (path ≡ None)
+IsSent _ v body path d = ⊥
+
+-- the maintainers that were asked for. A package with a scope has none, and isn't asked
+abbrev pub AreNamed : ℕ → Credential → Text → List Text → List Exchange → Type 0
+AreNamed at who p names es = ((is_some (scope_of p) ≡ true) × (names ≡ []) × (es ≡ []))
+    ⊎ ((text : Text) × (is_some (scope_of p) ≡ false) × (names_in text ≡ Some names) × (es ≡ exchange (request at who (Maintainers p)) (Ok (Doc text)) ∷ []))
+
+-- who the caller is, the packument of the package, and its maintainers were asked for, in this order
+abbrev pub AreRead : ℕ → Credential → Text → Text → List Text → List Exchange → Type 0
+AreRead at who p text names es = (caller : Outcome) × (named : List Exchange) × AreNamed at who p names named
+    × (es ≡ exchange (request at who WhoAmI) caller ∷ exchange (request at who (Packument p)) (Ok (Doc text)) ∷ named)
+
+-- ---- the one thing
+
+module _ (d m : Data) (names : List Text) where
+  -- beside the revision and maintainers the document says nothing but what is there, and these are its
+  -- maintainers
+  abbrev pub SaysMaintainers : List Text → Type 0
+  SaysMaintainers owners = (says_no_other d m ≡ true) × (maintainers_in d ≡ Some owners)
+
+  -- these are the versions that are there, and the maintainers whom the document says
+  abbrev pub AreCompared : Members → List Text → Type 0
+  AreCompared vs owners = (versions_in m ≡ Some vs) × (maintainers_in d ≡ Some owners)
+
+  -- A command makes what a document d says, where the packument m and these maintainers are there: a
+  -- message for the versions that have another one, the withdrawal of the version that is missing, or
+  -- the maintainer who is more or less. Nothing else differs
+  abbrev pub Makes : Action → Type 0
+  Makes (Deprecate p conditions message) = (vs : Members) × (owners : List Text) × (selector : Text) × AreCompared vs owners × HasConditions selector conditions × IsDeprecation d m vs names owners selector message
+  Makes (Withdraw p v) = (vs : Members) × (owners : List Text) × AreCompared vs owners × IsWithdrawal d m vs names owners (text_of_version v)
+  Makes (OwnerAdd p u) = (owners : List Text) × SaysMaintainers owners × (besides names owners ≡ u ∷ []) × (besides owners names ≡ [])
+  Makes (OwnerRemove p u) = (owners : List Text) × SaysMaintainers owners × (besides names owners ≡ []) × (besides owners names ≡ u ∷ [])
+  Makes _ = ⊥
+
+-- of the package p
+abbrev pub IsAbout : Text → Action → Type 0
+IsAbout p (Deprecate q conditions message) = q ≡ p
+IsAbout p (Withdraw q v) = q ≡ p
+IsAbout p (OwnerAdd q u) = q ≡ p
+IsAbout p (OwnerRemove q u) = q ≡ p
+IsAbout p _ = ⊥
+
+-- the conditions select no version
+abbrev pub SelectNothing : List (List Condition) → Type 0
+SelectNothing conditions = (v : VersionParts) → IsInForm v → set_selects v conditions ≡ false
+
+-- a deprecation of no version
+abbrev pub ChangesNothing : Action → Type 0
+ChangesNothing (Deprecate p conditions message) = SelectNothing conditions
+ChangesNothing _ = ⊥
+
+-- A document of the present revision, and the command that makes the one thing in which it differs; or a
+-- document of any revision that differs in nothing, and a command that changes nothing
+abbrev pub IsOneThing : Option Text → Data → Text → Data → List Text → Action → Type 0
+IsOneThing path d text m names what = ((is_of (revision text names) path d ≡ true) × Makes d m names what) ⊎ ((asked_in d m names ≡ Some AlreadySo) × ChangesNothing what)
+
+-- an outcome is answered as it is, unless it is a refusal or a fault: then so is the answer
+abbrev pub Answers : Outcome → Outcome → Type 0
+Answers c o = (is_stop c ≡ false → o ≡ c) × (is_stop c ≡ true → is_stop o ≡ true)
+
+-- The last that a turn asks is a command, for the one thing in which the document differs from what was
+-- read in that turn, and its outcome is the answer
+pub record ChangesOneThing (path : Option Text) (d : Data) (p : Text) (at : ℕ) (es : List Exchange) (o : Outcome) : Type 0 where
+  pub who : Credential
+  pub text : Text
+  pub names : List Text
+  pub packument : Data
+  pub is_packument : read text ≡ Some packument
+  pub what : Action
+  pub outcome : Outcome
+  pub reads : List Exchange
+  pub are_read : AreRead at who p text names reads
+  pub asked : es ≡ reads ++ exchange (request at who what) outcome ∷ []
+  pub is_about : IsAbout p what
+  pub is_one_thing : IsOneThing path d text packument names what
+  pub answers : Answers outcome o
+
+-- A turn on a document asks for no command, or for the one thing in which the document differs from what
+-- was read in that turn. What is also a publication in form is one
+abbrev pub DocumentsChangeOneThing : Type 0
+DocumentsChangeOneThing = (w : Wanted) (at : ℕ) (es : List Exchange) (o : Outcome) (r : NpmRoute) (path : Option Text) (d : Data) (p : Text)
+    → npm_route_of w.method w.target ≡ Some r → IsSent r.endpoint r.values w.body path d → one reads_name r.values (Ok p)
+    → npm w at es o → AreQueries es ⊎ ChangesOneThing path d p at es o ⊎ ((asked : Request) × reads_request w at (Ok asked) × (es ≡ exchange asked o ∷ []))
