@@ -11,7 +11,7 @@ EVERY := 1
 JOBS := 1
 SECONDS := 600
 
-.PHONY: help demo quick try run build test check stories stops plants fmt npm npm-team front beside log socket kill files older limits large soak starve fuzz bench compare house copy examples kit
+.PHONY: help demo quick try run build test check stories stops plants fmt npm npm-team front beside log socket kill files older page limits large soak starve fuzz bench compare house copy examples kit
 
 help:
 	@echo 'Build:'
@@ -33,6 +33,7 @@ help:
 	@echo '  make npm      publishes and installs with the stock npm client: a minute'
 	@echo '  make npm-team runs all that npm offers a team, directly and through nginx: 4 minutes; it needs nginx'
 	@echo '  make front    the same through nginx with TLS, hostile clients, public packages: 3 minutes; it needs nginx'
+	@echo '  make page     looks at the page through nginx in headless Chromium: 4 minutes; it needs both'
 	@echo '  make beside   runs commands beside a server, and kills, halts and stops it meanwhile: 4 minutes'
 	@echo '  make socket   serves at a Unix socket: who may connect, takeovers, stops: ten seconds'
 	@echo '  make log      keeps a log of requests: moves it away, and fills its disk: half a minute'
@@ -88,6 +89,9 @@ npm-team: out/registry
 
 front: out/registry
 	@examples/front.sh out/registry
+
+page: out/registry
+	@examples/page.sh out/registry
 
 beside: out/registry
 	@examples/beside.sh out/registry
