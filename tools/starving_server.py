@@ -13,15 +13,16 @@ PATIENCE, TRIES = 30, 5
 
 
 class StarvedServer:
-    """`registry serve` on a place's file. A call of its start may be refused: then it may have ended."""
+    """`registry serve` on a place's file, with these options. A call of its start may be refused: then
+    it may have ended."""
 
-    def __init__(self, place, refused=0):
+    def __init__(self, place, refused=0, options=()):
         self.place = place
         place.begin_anew()
         place.shared.begin(refused)
         with socket.create_server(('127.0.0.1', 0)) as door:
             self.port = door.getsockname()[1]
-        words = [place.program, '--db', str(place.db), 'serve', '--port', str(self.port)]
+        words = [place.program, '--db', str(place.db), 'serve', '--port', str(self.port), *options]
         self.process = subprocess.Popen(words, stdout=subprocess.PIPE, stderr=subprocess.PIPE, env=place.environment())
         self.says = self.process.stdout.readline() == f'listening 127.0.0.1:{self.port}\n'.encode()
         self.settle()
@@ -108,8 +109,8 @@ class Expected:
     """What a server that was just started answers to a request, and to the same one again; how many
     bytes each call asks for until then; and what the file holds before and after it."""
 
-    def __init__(self, place, request):
-        with StarvedServer(place) as server:
+    def __init__(self, place, request, options):
+        with StarvedServer(place, options=options) as server:
             first, self.before = place.shared.calls() + 1, place.rows()
             self.answer = ask(server.port, request)
             self.sizes = place.shared.sizes(first, server.settle() + 1)
@@ -120,8 +121,9 @@ class Starving:
     """A request of which each call is refused in turn. One server is asked for many, until the file
     holds something else, or it takes memory otherwise than one that was just started."""
 
-    def __init__(self, place, request):
-        self.place, self.request, self.expected, self.server = place, request, Expected(place, request), None
+    def __init__(self, place, request, options):
+        self.place, self.request, self.options, self.server = place, request, options, None
+        self.expected = Expected(place, request, options)
 
     def __enter__(self):
         return self
@@ -150,7 +152,7 @@ class Starving:
     def came(self, number):
         """What comes where this call is refused, of a server that takes memory as one that was just started."""
         for _ in range(TRIES):
-            self.server = self.server or StarvedServer(self.place)
+            self.server = self.server or StarvedServer(self.place, options=self.options)
             first = self.place.shared.calls() + 1
             self.place.shared.refuse_next(number)
             came = ask(self.server.port, self.request)
@@ -161,10 +163,10 @@ class Starving:
         raise Otherwise(f'{self.request[:60]}: {TRIES} servers that were just started take memory each in another way')
 
 
-def starve_request(place, request, every):
-    """Each call of a request refused in turn. Gives how many there are, how many were refused, and
+def starve_request(place, request, every, options=()):
+    """Each call of a request refused in turn, of a server with these options. Gives how many there are, how many were refused, and
     in how many runs a fault came."""
-    with Starving(place, request) as starving:
+    with Starving(place, request, options) as starving:
         calls = len(starving.expected.sizes)
         numbers = range(1, calls + 1, every)
         return calls, len(numbers), sum(starving.refuse(number) for number in numbers)
