@@ -101,6 +101,7 @@ join() {
     done
 }
 serve() {
+    : > "$work/server"
     "$program" --db "$work/registry.db" serve --socket "$work/http.sock" "$@" > "$work/server" 2>&1 &
     server=$!
     wait_for grep -q listening "$work/server" || give_up "the registry does not listen: $(cat "$work/server")"

@@ -276,11 +276,22 @@ other_fields() {
                 'cache-control: no-store' 'pragma: no-cache' 'x-accel-expires: 1000' 'x-http-method-override: HEAD' 'host: evil.example'; do
                 same $reader -H "$field" "$address$target" || return 1
             done
-            same $reader --head -o /dev/null "$address$target" && same $reader -X OPTIONS "$address$target" && same $reader -X DELETE "$address$target?x" || return 1
+            same $reader --head -o /dev/null "$address$target" || return 1
         done
     done
+    same bob -X OPTIONS "$address/tool" && same bob -X POST -d '{}' "$address/tool" && same bob -X DELETE "$address/tool/-/tool-1.0.0.tgz"
 }
 try 'so it is with ranges, other conditions and methods, and fields that speak to caches' other_fields
+
+# An archive of 2 MB, which doesn't fit into nginx's buffers.
+keeps_large() {
+    node -e '
+const bytes = require("crypto").randomBytes(2000000).toString("base64");
+process.stdout.write(JSON.stringify({ name: "large", versions: { "1.0.0": { name: "large", version: "1.0.0" } }, _attachments: { "a.tgz": { data: bytes } } }))' > "$work/body.json"
+    registry --as bob publish "$work/body.json"
+    reads bob /large/-/large-1.0.0.tgz 200 200 && reads bob /large/-/large-1.0.0.tgz 200 304 && same bob "$address/large/-/large-1.0.0.tgz" && [ "$(wc -c < "$work/came")" -gt 2000000 ]
+}
+try 'an archive of 2 MB is kept, and sent whole' keeps_large
 
 # ---- several at once
 
@@ -403,6 +414,40 @@ front_away() {
     wait_for ask "$address/-/ping" && reads bob /@lab%2fkit 200 304
 }
 try 'so it is where the first front is away' front_away
+not_another() {
+    certificate localhost other-
+    sed -i "s|proxy_ssl_trusted_certificate .*;|proxy_ssl_trusted_certificate $work/other-cert.pem;|" "$work/further/first-front" && ends && begins
+    is_away && sed -i "s|other-cert|cert|" "$work/further/first-front" && ends && begins && reads bob /@lab%2fkit 200 304
+}
+try 'it takes no answer of a server without the certificate of the first front' not_another
+
+# A first front that ends its connection amid an answer, once it sent half of it.
+cat > "$work/cut.js" << 'TEXT'
+const [port, work] = process.argv.slice(2);
+const fs = require("fs");
+const options = { key: fs.readFileSync(`${work}/key.pem`), cert: fs.readFileSync(`${work}/cert.pem`) };
+require("https").createServer(options, (request, response) => {
+    fs.appendFileSync(`${work}/cut.log`, `${request.url} ${request.headers["if-none-match"]}\n`);
+    const half = "x".repeat(50000);
+    response.writeHead(200, { "content-type": "application/octet-stream", etag: '"tag"', ...(request.url.includes("counted") ? { "content-length": 100000 } : {}) });
+    response.write(half, () => request.url.includes("whole") ? response.end(half) : setTimeout(() => response.destroy(), 100));
+}).listen(Number(port), "127.0.0.1");
+TEXT
+keeps_whole() {
+    node "$work/cut.js" "$stub" "$work" > "$work/out" 2>&1 &
+    stand_ins="$stand_ins $!"
+    sed -i "s|server 127\.0\.0\.1:$secure|server 127.0.0.1:$stub|" "$work/further/first-front" && ends && begin_front "$work/further"
+    further=$!
+    wait_for at_further --fail -o /dev/null "$address/whole" || return 1
+    : > "$work/cut.log"
+    for name in cut counted-cut whole counted-whole; do
+        for _ in 1 2; do at_further -o "$work/body" "$address/$name" > "$work/out" 2>&1 || true; done
+    done
+    cp "$work/cut.log" "$work/out"
+    sed -i "s|server 127\.0\.0\.1:$stub|server 127.0.0.1:$secure|" "$work/further/first-front" && ends && begins
+    [ "$(tr '\n' ' ' < "$work/cut.log")" = '/cut undefined /cut undefined /counted-cut undefined /counted-cut undefined /whole "tag" /whole "tag" /counted-whole undefined /counted-whole "tag" ' ]
+}
+try 'half an answer is not kept' keeps_whole
 says_so() {
     sed -i '/X-Accel-Expires/d' "$work/further/first-front" && ends && begins && reads bob /@lab%2fopen 200 200 && reads bob /@lab%2fopen 200 200 && all_the_same
 }
