@@ -113,7 +113,7 @@ all_the_same() {
 mark() { marked=$(wc -l < "$work/requests.log"); }
 has_come() { [ "$(tail -n "+$((marked + 1))" "$work/requests.log" | wc -l)" -ge "$1" ]; }
 asked() {
-    wait_for has_come "$1" || true
+    for _ in $(seq 1 20); do if has_come "$1"; then break; fi; sleep 0.1; done
     tail -n "+$((marked + 1))" "$work/requests.log" | cut -d ' ' -f 2-5 > "$work/asked"
     cat "$work/asked" >> "$work/out"
     [ "$(wc -l < "$work/asked")" = "$1" ]
