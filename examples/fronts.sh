@@ -50,7 +50,7 @@ parts='further first-front'
 host=127.0.0.2
 configure "$work/further" "127.0.0.1:$inner" "$plain" "$secure"
 sed -i -e "s|listen 127\.0\.0\.1:8080|listen 127.0.0.1:$inner|" -e "s|server 192\.0\.2\.1:443|server 127.0.0.1:$secure|" \
-    -e "s|/var/cache/nginx/registry|$work/kept|" -e 's|proxy_next_upstream off;|& proxy_bind 127.0.0.2;|' "$work/further/first-front"
+    -e "s|/var/cache/registry-front|$work/kept|" -e 's|proxy_next_upstream off;|& proxy_bind 127.0.0.2;|' "$work/further/first-front"
 begin_front "$work/further"
 further=$!
 
@@ -184,6 +184,13 @@ asks_each_time() {
     done
 }
 try 'each read is asked for with the reader'"'"'s own token: 304 to the registry'"'"'s log, and 404 for who may not read' asks_each_time
+keeps_once() {
+    for field in 'accept-encoding: gzip' 'accept-encoding: gzip, deflate, br' 'user-agent: another'; do
+        mark
+        [ "$(at_further -H "$field" -o /dev/null -w '%{http_code}' "$address/tool")" = 200 ] && asked 1 && grep -q ' 304$' "$work/asked" || return 1
+    done
+}
+try 'compressed or not, it is kept once' keeps_once
 keeps_no_others() {
     for target in /@lab%2fkit/1.0.0 /-/package/@lab%2fkit/dist-tags '/@lab%2fkit?write=true' /-/whoami; do
         reads bob "$target" 200 200 && reads bob "$target" 200 200 || { say "$target" >> "$work/out"; return 1; }

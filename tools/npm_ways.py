@@ -236,7 +236,7 @@ def further_front(first, certificates, folder):
     """nginx as a further front, which asks the first one at its port, and its own port."""
     inner = free_port()
     edits = [('listen 127.0.0.1:8080', f'listen 127.0.0.1:{inner}'), ('192.0.2.1:443', f'127.0.0.1:{first}'),
-             ('/var/cache/nginx/registry', f'{folder}/kept'), ('/etc/ssl/certs/ca-certificates.crt', f'{certificates}/cert.pem')]
+             ('/var/cache/registry-front', f'{folder}/kept'), ('/etc/ssl/certs/ca-certificates.crt', f'{certificates}/cert.pem')]
     return front(inner, certificates, folder, ('further.conf', 'first-front.conf'), edits)
 
 
