@@ -262,7 +262,9 @@ try 'If-None-Match of a client, which is known, old, a list or *, is answered as
 
 # The further front has the old document, and a client the new one: its 304 says nothing of what is kept.
 not_its_own() {
-    reads nobody /tool 200 304 && old=$(rev_of) && more tool 3.0.0
+    reads nobody /tool 200 304 || return 1
+    old=$(rev_of)
+    more tool 3.0.0
     [ "$(status_at ask nobody "$address/tool")" = 200 ] && rev=$(rev_of) && [ "$rev" != "$old" ] || return 1
     [ "$(status_at at_further eve -H "if-none-match: \"$rev\"" "$address/tool")" = 304 ] && reads nobody /tool 200 304 && [ "$(rev_of)" = "$rev" ] || return 1
     more tool 4.0.0
