@@ -33,7 +33,7 @@ help:
 	@echo '  make npm      publishes and installs with the stock npm client: a minute'
 	@echo '  make npm-team runs all that npm offers a team, directly and through nginx: 4 minutes; it needs nginx'
 	@echo '  make front    the same through nginx with TLS, hostile clients, public packages: 3 minutes; it needs nginx'
-	@echo '  make fronts   a further front that keeps answers and asks before each use: 3 minutes; it needs nginx'
+	@echo '  make fronts   a further front that keeps answers and asks before each use: a minute; it needs nginx'
 	@echo '  make page     looks at the page through nginx in headless Chromium: 4 minutes; it needs both'
 	@echo '  make beside   runs commands beside a server, and kills, halts and stops it meanwhile: 4 minutes'
 	@echo '  make socket   serves at a Unix socket: who may connect, takeovers, stops: ten seconds'
