@@ -177,7 +177,7 @@ fn send<S: Socket>(socket: &mut S, unsent: &mut Unsent) -> Visit
     ensures over { result ≡ visits.Over → IsOverIn [] (Some unsent.new) (S.is_ended socket.new) (S.is_broken socket.new) }
 {
     let (front, text) = unsent.parts();
-    match socket.send(front, text) {
+    match socket.send(front, text, &[]) {
         Flow::Moved(count) => {
             unsent.advance(count);
             if unsent.is_empty() {

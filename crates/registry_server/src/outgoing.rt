@@ -56,23 +56,19 @@ impl Outgoing {
     pub fn is_empty(&self) -> bool
         ensures { result ≡ (length self.now == 0) }
     {
-        let (head, body) = self.parts();
-        head.is_empty() && body.is_empty()
+        let (head, body, rest) = self.parts();
+        head.is_empty() && body.is_empty() && rest.is_empty()
     }
 
-    /// What is left of the head, and what is left of the body.
-    pub fn parts(&self) -> (&[u8], &[u8])
-        ensures { result.0.now ++ result.1.now ≡ self.now }
+    /// What is left of the head, of the first piece of the body, and of the rest of it.
+    pub fn parts(&self) -> (&[u8], &[u8], &[u8])
+        ensures { result.0.now ++ result.1.now ++ result.2.now ≡ self.now }
     {
-        let head = self.head.as_slice();
-        let body = body_in(&self.turned);
-        if self.sent < head.len() {
-            let (_, rest) = head.split_at(self.sent);
-            (rest, body)
-        } else {
-            let (_, rest) = body.split_at(self.sent - head.len());
-            (&[], rest)
-        }
+        let (body, rest) = body_in(&self.turned);
+        let (head, over) = unsent_of(self.head.as_slice(), self.sent);
+        let (body, over) = unsent_of(body, over);
+        let (rest, _) = unsent_of(rest, over);
+        (head, body, rest)
     }
 
     /// This many more bytes were sent. Once all are sent, the memory of the body is given back.
@@ -88,12 +84,22 @@ impl Outgoing {
     }
 }
 
-fn body_in(turned: &Option<Turned>) -> &[u8]
-    ensures { result.now ≡ spec.body_in turned.now }
+// What is left of a piece of which so many bytes were sent, and how many were sent of what follows.
+fn unsent_of(piece: &[u8], sent: usize) -> (&[u8], usize)
+    ensures left { result.0.now ≡ drop sent piece.now }
+    ensures over { result.1 ≡ sent - length piece.now }
+{
+    let (_, left) = piece.split_at(sent.min(piece.len()));
+    (left, sent.saturating_sub(piece.len()))
+}
+
+// Both pieces of the body of a turn's answer.
+fn body_in(turned: &Option<Turned>) -> (&[u8], &[u8])
+    ensures { result.0.now ++ result.1.now ≡ spec.body_in turned.now }
 {
     match turned {
-        Some(turned) => turned.answer.body.as_slice(),
-        None => &[],
+        Some(turned) => (turned.answer.body.as_slice(), &[]),
+        None => (&[], &[]),
     }
 }
 
@@ -101,7 +107,8 @@ fn body_in(turned: &Option<Turned>) -> &[u8]
 fn total(head: &ShortText, turned: &Option<Turned>) -> usize
     ensures { result ≡ length (head.now ++ spec.body_in turned.now) }
 {
-    head.as_slice().len() + body_in(turned).len()
+    let (body, rest) = body_in(turned);
+    head.as_slice().len() + body.len() + rest.len()
 }
 
 fn head_of(turned: &Turned) -> ShortText

@@ -4,7 +4,7 @@ ghost use Rattle.std.specs.Prelude.{length};
 ghost use Rattle.registry_server.specs.Sockets.{MovesAtMost};
 
 use crate::outcome::same;
-use crate::parts::{as_text, text, texts};
+use crate::parts::{as_text, first_of, text, texts};
 use crate::talk::connections::{FixedTags, Steps};
 use registry_cache::SharedBlob;
 use registry_guests::{
@@ -63,8 +63,8 @@ impl Socket for Memory {
         Flow::Moved(0)
     }
 
-    fn send(&mut self, head: &[u8], body: &[u8]) -> Flow {
-        let bytes = if head.is_empty() { body } else { head };
+    fn send(&mut self, head: &[u8], body: &[u8], rest: &[u8]) -> Flow {
+        let bytes = first_of(head, body, rest);
         let count = bytes.len().min(self.piece_len);
         match self.got.extend_from_slice(&bytes[..count]) {
             Ok(()) => Flow::Moved(count),
