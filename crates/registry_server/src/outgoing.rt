@@ -64,11 +64,7 @@ impl Outgoing {
     pub fn parts(&self) -> (&[u8], &[u8], &[u8])
         ensures { result.0.now ++ result.1.now ++ result.2.now ≡ self.now }
     {
-        let (body, rest) = body_in(&self.turned);
-        let (head, over) = unsent_of(self.head.as_slice(), self.sent);
-        let (body, over) = unsent_of(body, over);
-        let (rest, _) = unsent_of(rest, over);
-        (head, body, rest)
+        left_of(self.head.as_slice(), body_in(&self.turned), self.sent)
     }
 
     /// This many more bytes were sent. Once all are sent, the memory of the body is given back.
@@ -84,8 +80,24 @@ impl Outgoing {
     }
 }
 
+/// What is left of a head and of a body in two pieces, of which so many bytes were sent together.
+pub fn left_of<'a>(
+    head: &'a [u8],
+    body: (&'a [u8], &'a [u8]),
+    sent: usize,
+) -> (&'a [u8], &'a [u8], &'a [u8])
+    ensures { result.0.now ++ result.1.now ++ result.2.now
+        ≡ drop sent (head.now ++ (body.0.now ++ body.1.now)) }
+{
+    let (body, rest) = body;
+    let (head, over) = left_of_piece(head, sent);
+    let (body, over) = left_of_piece(body, over);
+    let (rest, _) = left_of_piece(rest, over);
+    (head, body, rest)
+}
+
 // What is left of a piece of which so many bytes were sent, and how many were sent of what follows.
-fn unsent_of(piece: &[u8], sent: usize) -> (&[u8], usize)
+fn left_of_piece(piece: &[u8], sent: usize) -> (&[u8], usize)
     ensures left { result.0.now ≡ drop sent piece.now }
     ensures over { result.1 ≡ sent - length piece.now }
 {
@@ -98,7 +110,7 @@ fn body_in(turned: &Option<Turned>) -> (&[u8], &[u8])
     ensures { result.0.now ++ result.1.now ≡ spec.body_in turned.now }
 {
     match turned {
-        Some(turned) => (turned.answer.body.as_slice(), &[]),
+        Some(turned) => turned.answer.body.as_slices(),
         None => (&[], &[]),
     }
 }
@@ -115,10 +127,13 @@ fn head_of(turned: &Turned) -> ShortText
     ensures { result ≡ spec.head_in turned.now }
 {
     let answer = &turned.answer;
+    let (body, rest) = answer.body.as_slices();
     let response = Response {
         status: answer.status,
         kind: answer.kind,
-        body: answer.body.as_slice(),
+        labels: &answer.labels,
+        body,
+        rest,
         closes: turned.end.is_some(),
     };
     response.head()

@@ -126,8 +126,9 @@ fn a_message_is_read_as_it_was_written(rt: HostRuntime) {
 fn is_printed(rt: &impl Abort, alloc: Global, output: CommandOutput, status: u8, wanted: &str) {
     let mut bytes = Vec::new(alloc);
     let unsent = Unsent::of(output);
-    let (front, rest) = unsent.parts();
+    let (front, text, rest) = unsent.parts();
     bytes.extend_from_slice(front).expect(rt, "memory");
+    bytes.extend_from_slice(text).expect(rt, "memory");
     bytes.extend_from_slice(rest).expect(rt, "memory");
     is_reply(rt, alloc, &bytes, status, wanted);
 }

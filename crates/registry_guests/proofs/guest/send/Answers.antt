@@ -1,14 +1,14 @@
-use Rattle.std.proofs.Common.{◌∙◌, append-nil, inl, refl, sym}
+use Rattle.std.proofs.Common.{◌∙◌, inl, refl, sym}
 use Rattle.registry_guests.proofs.GuestFacts.{none-left, sends-count, sends-none}
 use Rattle.registry_guests.proofs.guest.send.Goals as goal
 
 pub returns-then-is_empty-clause-sends : goal.returns-then-is_empty-clause-sends
 returns-then-is_empty-clause-sends g c =
-    sends-count g.S.Socket.received g.S.Socket.sent c.in-Moved.count _ _ _ _ _ (append-nil _ ∙ c.parts.ensures) c.in-Moved.ensures.sent c.in-Moved.ensures.received c.advance.ensures
+    sends-count g.S.Socket.received g.S.Socket.sent c.in-Moved.count _ _ _ _ _ c.parts.ensures c.in-Moved.ensures.sent c.in-Moved.ensures.received c.advance.ensures
 
 pub returns-else-is_empty-clause-sends : goal.returns-else-is_empty-clause-sends
 returns-else-is_empty-clause-sends g c =
-    sends-count g.S.Socket.received g.S.Socket.sent c.in-Moved.count _ _ _ _ _ (append-nil _ ∙ c.parts.ensures) c.in-Moved.ensures.sent c.in-Moved.ensures.received c.advance.ensures
+    sends-count g.S.Socket.received g.S.Socket.sent c.in-Moved.count _ _ _ _ _ c.parts.ensures c.in-Moved.ensures.sent c.in-Moved.ensures.received c.advance.ensures
 
 pub returns-in-Waits-clause-sends : goal.returns-in-Waits-clause-sends
 returns-in-Waits-clause-sends g c = sends-none g.S.Socket.received g.S.Socket.sent _ _ _ c.in-Waits.ensures.sent c.in-Waits.ensures.received
