@@ -6,25 +6,19 @@
 //! Foreign keys are always on, so no statement breaks one, and a file in which one is broken doesn't
 //! open.
 
-ghost use Rattle.std.specs.Prelude.{◌≡◌, false};
-ghost use Rattle.sqlite.specs.Held.{state};
-ghost use Rattle.registry_desk.specs.Adopted.{CanBeAdopted, CanBeAdoptedAgain};
+ghost use Rattle.registry_desk.specs.Adopted.{CanBeAdoptedAgain};
 
-use super::rows::push_digits;
-use super::{connected, files_of, new_files, options, run_all};
-use registry_check::{Problem, TextTable, Thing, check};
-use registry_desk::{Registry, Unopened, has_tables};
-use registry_names::{Blob, Fault, Text};
+use crate::disks::{NEVER, Stopping, StoppingDisk, empty_files, open};
+use crate::outcome::same;
+use crate::tests::migrations::{TestFiles, ran, refusing, told};
+use crate::told::told_by;
+use registry_desk::{Registry, Unopened};
+use registry_names::Fault;
 use registry_tables::TABLES;
-use registry_tests_support::same;
-use sqlite::{Alter, Connection, Constraint, Error, ErrorCode, FileStore, Files};
-use sqlite_disk::Memory;
+use sqlite::{FileStore, Files};
+use sqlite_disk::Disk;
 use std::alloc::Global;
-use std::test::Fail;
-
-const BROKEN_KEY: Error = Error::SqliteFailure(ErrorCode::ConstraintViolation(
-    Constraint::ForeignKey,
-));
+use std::process::Abort;
 
 /// A change of a registry in which nothing is wrong.
 struct Case {
@@ -298,168 +292,88 @@ static REFUSED: [&str; 15] = [
 ];
 
 #[test]
-fn each_broken_row_is_told(rt: HostRuntime) -> Result<(), Fail> {
-    let alloc = rt.alloc();
+fn each_broken_row_is_told(rt: HostRuntime) {
     for case in &CASES {
-        let mut conn = right(alloc)?;
-        conn.execute_batch(case.change)?;
-        let told = told_of(alloc, files_of(conn)?)?;
-        same(case.change, told.as_str(), case.told)?;
+        let files: TestFiles = right(&rt, rt.alloc());
+        is_told(&rt, rt.alloc(), files, case);
     }
-    Ok(())
 }
 
 #[test]
-fn no_statement_breaks_a_reference(rt: HostRuntime) -> Result<(), Fail> {
-    let alloc = rt.alloc();
+fn no_statement_breaks_a_reference(rt: HostRuntime) {
     for change in &REFUSED {
-        let mut conn = right(alloc)?;
-        let outcome = conn.execute_batch(change);
-        same(*change, outcome, Err(BROKEN_KEY))?;
-        let told = told_of(alloc, files_of(conn)?)?;
-        same(*change, told.as_str(), "")?;
+        let files: TestFiles = right(&rt, rt.alloc());
+        is_refused(&rt, rt.alloc(), files, change);
     }
-    Ok(())
 }
 
-// A connection to a registry in which nothing is wrong.
-fn right(alloc: Global) -> Result<Connection<FileStore<Memory>>, Fail> {
-    let mut conn = connected(alloc, new_files(alloc))?;
-    run_all(&mut conn, &TABLES)?;
-    run_all(&mut conn, &ROWS)?;
-    Ok(conn)
+fn is_told<D: Disk + Drop>(ends: &impl Abort, alloc: Global, files: Files<D>, case: &Case) {
+    let files = ran(ends, alloc, files, &[case.change]);
+    same(
+        ends,
+        case.change,
+        told_of(ends, alloc, files).as_str(),
+        case.told,
+    );
+}
+
+fn is_refused<D: Disk + Drop>(ends: &impl Abort, alloc: Global, files: Files<D>, change: &str) {
+    let files = refusing(ends, alloc, files, change);
+    same(ends, change, told_of(ends, alloc, files).as_str(), "");
+}
+
+// A registry in which nothing is wrong.
+fn right<D: StoppingDisk>(ends: &impl Abort, alloc: Global) -> Files<D> {
+    let tables = ran(
+        ends,
+        alloc,
+        empty_files(alloc, Stopping::Both, NEVER),
+        &TABLES,
+    );
+    ran(ends, alloc, tables, &ROWS)
 }
 
 // What the check says of the registry in these files.
-fn told_of(alloc: Global, files: Files<Memory>) -> Result<String, Fail> {
+fn told_of<D: Disk + Drop>(ends: &impl Abort, alloc: Global, files: Files<D>) -> String {
     if !files.may_be_used() {
-        return Err(Fail::new(format_args!("the files can't be used")));
+        panic!(ends; "the files can't be used");
     }
-    match Registry::open_files(alloc, files, options()) {
-        Ok(registry) => {
-            let mut conn = registry.release();
-            let told = told_by(alloc, &mut conn)?;
-            files_of(conn)?;
-            Ok(told)
-        }
-        Err((Fault::Database, left)) => {
-            let mut left = left;
-            let told = told_inside(alloc, &mut left)?;
-            Ok(format!(in alloc; "closed: {}", told.as_str())?)
-        }
-        Err((fault, _)) => Err(Fail::new(format_args!("no database opens: {fault:?}"))),
+    match open(alloc, files) {
+        Ok(registry) => told_open(ends, alloc, registry),
+        Err((Fault::Database, left)) => told_closed(ends, alloc, left),
+        Err((fault, _)) => panic!(ends; "no database opens: {fault:?}"),
     }
 }
 
+// What the check says of an open registry.
+fn told_open<D: Disk + Drop>(
+    ends: &impl Abort,
+    alloc: Global,
+    registry: Registry<FileStore<D>>,
+) -> String {
+    let (text, _files) = told(ends, alloc, registry, &[]);
+    text
+}
+
 // What the check says of the database in files that don't open as a registry.
-fn told_inside(alloc: Global, left: &mut Unopened<Memory>) -> Result<String, Fail>
+fn told_closed<D: Disk + Drop>(ends: &impl Abort, alloc: Global, left: Unopened<D>) -> String
+    requires again { CanBeAdoptedAgain left }
+{
+    let mut left = left;
+    let told = told_inside(ends, alloc, &mut left);
+    format!(in alloc; "closed: {}", told.as_str()).expect(ends, "memory")
+}
+
+fn told_inside<D: Disk + Drop>(ends: &impl Abort, alloc: Global, left: &mut Unopened<D>) -> String
     requires again { CanBeAdoptedAgain left.old }
 {
     match left {
         Unopened::Database(conn) => {
             if !conn.is_autocommit() {
-                return Err(Fail::new(format_args!("a transaction is open")));
+                panic!(ends; "a transaction is open");
             }
-            told_by(alloc, conn)
+            told_by(ends, alloc, conn)
         }
-        Unopened::Files(_) => Err(Fail::new(format_args!("no database opens"))),
+        Unopened::Files(_) => panic!(ends; "no database opens"),
     }
-}
-
-// What the check says of a registry's tables, even if no registry opens from them.
-fn told_by<S: Alter>(alloc: Global, conn: &mut Connection<S>) -> Result<String, Fail>
-    requires idle { conn.old.in_transaction ≡ false }
-    requires rises { CanBeAdopted (state S.Store conn.old) }
-{
-    if !has_tables(alloc, conn)? {
-        return Err(Fail::new(format_args!("the tables aren't a registry's")));
-    }
-    let mut tx = conn.transaction();
-    let problems = check(alloc, &mut tx)?;
-    problems_text(alloc, &problems)
-}
-
-fn problems_text(alloc: Global, problems: &[Problem]) -> Result<String, Fail> {
-    let mut text = String::new(alloc);
-    for problem in problems {
-        if !text.is_empty() {
-            text.push_str("; ")?;
-        }
-        text.push_str(thing_text(alloc, &problem.thing)?.as_str())?;
-        text.push_str(" ")?;
-        text.push_str(problem.rule.text())?;
-    }
-    Ok(text)
-}
-
-// A thing: its kind, and what names it.
-fn thing_text(alloc: Global, thing: &Thing) -> Result<String, Fail> {
-    match thing {
-        Thing::User { user } => named(alloc, "user", &[user]),
-        Thing::Token { digest } => token_text(alloc, digest),
-        Thing::Organisation { organisation } => named(alloc, "organisation", &[organisation]),
-        Thing::Member { organisation, user } => named(alloc, "member", &[organisation, user]),
-        Thing::Team { organisation, team } => named(alloc, "team", &[organisation, team]),
-        _ => package_text(alloc, thing),
-    }
-}
-
-fn token_text(alloc: Global, digest: &Blob) -> Result<String, Fail> {
-    let mut text = String::from_str(alloc, "token ")?;
-    push_digits(alloc, &mut text, digest.as_slice())?;
-    Ok(text)
-}
-
-// A thing that is about a package.
-fn package_text(alloc: Global, thing: &Thing) -> Result<String, Fail> {
-    match thing {
-        Thing::Package { package } => named(alloc, "package", &[package]),
-        Thing::Maintainer { package, user } => named(alloc, "maintainer", &[package, user]),
-        Thing::Grant {
-            organisation,
-            team,
-            package,
-        } => { named(alloc, "grant", &[organisation, team, package]) }
-        Thing::Tag { package, tag } => named(alloc, "tag", &[package, tag]),
-        _ => version_text(alloc, thing),
-    }
-}
-
-// A thing that is about a version or an archive.
-fn version_text(alloc: Global, thing: &Thing) -> Result<String, Fail> {
-    match thing {
-        Thing::Version { package, version } => named(alloc, "version", &[package, version]),
-        Thing::Withdrawn { package, version } => named(alloc, "withdrawn", &[package, version]),
-        Thing::Need {
-            package,
-            version,
-            target,
-            range,
-        } => { named(alloc, "need", &[package, version, target, range]) }
-        Thing::Target {
-            package,
-            version,
-            target,
-        } => { named(alloc, "target", &[package, version, target]) }
-        Thing::Archive { number } => Ok(format!(in alloc; "archive {number}")?),
-        Thing::Counter => Ok(String::from_str(alloc, "counter")?),
-        Thing::Row { table, row } => row_text(alloc, *table, *row),
-        _ => Ok(format!(in alloc; "{thing:?}")?),
-    }
-}
-
-fn row_text(alloc: Global, table: TextTable, row: i64) -> Result<String, Fail> {
-    let mut text = String::from_str(alloc, "row ")?;
-    text.push_str(table.name())?;
-    text.push_str(format!(in alloc; " {row}")?.as_str())?;
-    Ok(text)
-}
-
-fn named(alloc: Global, kind: &str, names: &[&Text]) -> Result<String, Fail> {
-    let mut text = String::from_str(alloc, kind)?;
-    for name in names {
-        text.push_str(" ")?;
-        text.push_str(name.as_str())?;
-    }
-    Ok(text)
 }

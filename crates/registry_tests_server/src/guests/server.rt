@@ -12,8 +12,9 @@ use registry_server::{FIRST_GUEST, GUEST_TOKENS, Guests};
 use registry_service::{AnsweredCommand, Clock, HttpService, Service, Turned, turn};
 use registry_wire::Wanted;
 use std::alloc::{AllocError, Global};
+use std::io;
 use std::marker::Model;
-use std::test::Fail;
+use std::process::Abort;
 use std::time::Duration;
 
 /// How many rounds a server makes in one go: enough for a message and its answer.
@@ -104,44 +105,47 @@ pub struct ServerSide {
 
 impl ServerSide {
     /// One that listens at the sockets of a file.
-    pub fn open(rt: &HostRuntime, file: &str) -> Result<ServerSide, Fail> {
+    pub fn open(rt: &HostRuntime, file: &str) -> io::Result<ServerSide> {
+        let mut server = ServerSide::closed(rt)?;
+        server.listen(rt, file)?;
+        Ok(server)
+    }
+
+    fn closed(rt: &HostRuntime) -> io::Result<ServerSide> {
         let alloc = rt.alloc();
-        let poll = Poll::new(rt)?;
-        let mut listener = CommandListener::closed(alloc)?;
-        listener.open(rt, alloc, poll.registry(), file)?;
-        let mut buffer = Vec::new(alloc);
-        for _ in 0..1_024 {
-            buffer.push(b'x')?;
-        }
         Ok(ServerSide {
-            listener,
+            listener: CommandListener::closed(alloc)?,
             service: Counting {
                 asked: 0,
                 told: String::new(alloc),
             },
-            poll,
+            poll: Poll::new(rt)?,
             events: Events::with_capacity(alloc, GUEST_TOKENS)?,
-            buffer,
+            buffer: Vec::from_slice(alloc, &[b'x'; 1_024])?,
         })
     }
 
+    fn listen(&mut self, rt: &HostRuntime, file: &str) -> io::Result<()> {
+        self.listener
+            .open(rt, rt.alloc(), self.poll.registry(), file)
+    }
+
     /// Some rounds, each at this time in milliseconds.
-    pub fn go_on(&mut self, rt: &HostRuntime, now: u64) -> Result<(), Fail> {
+    pub fn go_on(&mut self, rt: &impl Abort, alloc: Global, now: u64) {
         for _ in 0..ROUNDS {
-            self.round(rt, now)?;
+            self.round(alloc, now).expect(rt, "a round");
         }
-        Ok(())
     }
 
     // A round, as `Server::run_beside` makes it.
-    fn round(&mut self, rt: &HostRuntime, now: u64) -> Result<(), Fail> {
+    fn round(&mut self, alloc: Global, now: u64) -> io::Result<()> {
         self.poll
             .poll(&mut self.events, Some(Duration::from_millis(0)))?;
         wake_all(&self.events, &mut self.listener);
         self.listener.attend(self.poll.registry(), now);
         if !self.listener.holds() {
             self.listener.visit(
-                rt.alloc(),
+                alloc,
                 &mut self.service,
                 &mut Still,
                 &mut self.buffer,

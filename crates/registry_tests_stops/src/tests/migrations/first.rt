@@ -1,8 +1,8 @@
 //! A registry of schema 1, as it was left: its archives are in the rows of versions, and it has
 //! only the targets of needs.
 
-use super::Shown;
-use super::asked::Asked;
+use crate::told::Asked;
+use crate::work::Shown;
 
 /// The statements that put the rows.
 pub fn rows() -> &'static [&'static str] {
@@ -10,12 +10,12 @@ pub fn rows() -> &'static [&'static str] {
 }
 
 /// What its tables hold afterwards.
-pub fn shown() -> &'static [Shown] {
+pub fn shown() -> &'static [Shown<'static>] {
     &SHOWN
 }
 
 /// What it is asked afterwards, and what it answers.
-pub fn asked() -> &'static [Asked] {
+pub fn asked() -> &'static [Asked<'static>] {
     &ASKED
 }
 
@@ -63,7 +63,7 @@ static ROWS: [&str; 39] = [
 ];
 
 /// What it shows afterwards: each table, with every column of each row.
-static SHOWN: [Shown; 18] = [
+static SHOWN: [Shown<'static>; 18] = [
     ("SELECT * FROM meta ORDER BY name", " schema|3"),
     ("SELECT * FROM users ORDER BY name", " ann bob eve"),
     (
@@ -125,7 +125,7 @@ static SHOWN: [Shown; 18] = [
 
 /// Queries of each kind, and a withdrawal. `tool` 2.0.0 needs `@lab/kit`, in a range that doesn't allow
 /// 1.0.0. The older schema has only the targets, so the registry refused the withdrawal before.
-static ASKED: [Asked; 32] = [
+static ASKED: [Asked<'static>; 32] = [
     (
         "--at 125 --as bob packument @lab/kit",
         r#"{"_id":"@lab/kit","dist-tags":{"beta":"1.1.0-beta","latest":"1.0.0"},"name":"@lab/kit","time":{"1.0.0":"1970-01-01T00:01:40.000Z","1.1.0-beta":"1970-01-01T00:01:41.000Z","created":"1970-01-01T00:01:30.000Z","modified":"1970-01-01T00:01:41.000Z"},"versions":{"1.0.0":{"dependencies":{"tool":"^1"},"name":"@lab/kit","optionalDependencies":{"@lab/pad":"~2"},"peerDependencies":{"tool":">=1.0.0"},"version":"1.0.0"},"1.1.0-beta":{"dependencies":{"tool":"^2"},"deprecated":"old","name":"@lab/kit","optionalDependencies":{"tool":"2.x"},"version":"1.1.0-beta"}}}"#,

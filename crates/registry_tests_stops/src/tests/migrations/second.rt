@@ -1,8 +1,8 @@
 //! A registry of schema 2, as it was left: each archive is stored once, and it has only the targets
 //! of needs.
 
-use super::Shown;
-use super::asked::Asked;
+use crate::told::Asked;
+use crate::work::Shown;
 
 /// The statements that put the rows.
 pub fn rows() -> &'static [&'static str] {
@@ -10,12 +10,12 @@ pub fn rows() -> &'static [&'static str] {
 }
 
 /// What its tables hold afterwards.
-pub fn shown() -> &'static [Shown] {
+pub fn shown() -> &'static [Shown<'static>] {
     &SHOWN
 }
 
 /// What it is asked afterwards, and what it answers.
-pub fn asked() -> &'static [Asked] {
+pub fn asked() -> &'static [Asked<'static>] {
     &ASKED
 }
 
@@ -60,7 +60,7 @@ static ROWS: [&str; 35] = [
 ];
 
 /// What it shows afterwards: each table, with every column of each row.
-static SHOWN: [Shown; 18] = [
+static SHOWN: [Shown<'static>; 18] = [
     ("SELECT * FROM meta ORDER BY name", " schema|3"),
     ("SELECT * FROM users ORDER BY name", " ann bob eve"),
     (
@@ -119,7 +119,7 @@ static SHOWN: [Shown; 18] = [
 
 /// Queries of each kind, and a withdrawal. `tool` 1.1.0 needs `@lab/kit`, in a range that doesn't allow
 /// 1.0.0. The older schema has only the targets, so the registry refused the withdrawal before.
-static ASKED: [Asked; 28] = [
+static ASKED: [Asked<'static>; 28] = [
     (
         "--at 125 --as bob packument @lab/kit",
         r#"{"_id":"@lab/kit","dist-tags":{"latest":"1.0.0"},"name":"@lab/kit","time":{"1.0.0":"1970-01-01T00:01:40.000Z","created":"1970-01-01T00:01:30.000Z","modified":"1970-01-01T00:01:40.000Z"},"versions":{"1.0.0":{"dependencies":{"tool":"^1"},"deprecated":"old","name":"@lab/kit","version":"1.0.0"}}}"#,
