@@ -54,6 +54,11 @@ abbrev pub begins_solid : List ℕ → Bool
 begins_solid [] = true
 begins_solid (b ∷ bs) = not (is_empty b)
 
+-- what follows this byte, where it is the first
+abbrev pub after_byte : ℕ → List ℕ → Option (List ℕ)
+after_byte byte [] = None
+after_byte byte (b ∷ bs) = if b == byte then Some bs else None
+
 -- a tag with this opaque text is before the rest
 abbrev pub BeginsWithTag : List ℕ → List ℕ → List ℕ → Type 0
 BeginsWithTag text opaque rest = (length rest < length text) × ((tag : List ℕ) (found : Bool) → reads tag found before text ≡ reads tag (found || bytes_eq opaque tag) behind rest)

@@ -1,6 +1,6 @@
 //! Entity tags, and the tags that a request names.
 
-ghost use Rattle.std.specs.Prelude.{◌≡◌, ◌↔◌, ◌≤◌, ◌<◌, None, IsTrue, IfSome, length, true, false};
+ghost use Rattle.std.specs.Prelude.{◌≡◌, ◌↔◌, ◌≤◌, ◌<◌, ◌||◌, bytes_eq, None, IsTrue, IfSome, length, option_map, true, false};
 ghost use Rattle.std.specs.List.{take_while};
 ghost use Rattle.registry_wire.specs.EntityTags as spec;
 ghost use Rattle.registry_wire.specs.EntityTags.{NamesTag, is_etagc};
@@ -88,6 +88,7 @@ pub fn names_tag(field: &FieldValue, tag: &EntityTag) -> bool
     }
 }
 
+#[tactic(auto, unfolding(crate::specs::TagReading::names))]
 fn names(value: &[u8], tag: &[u8]) -> bool
     ensures { result ≡ reading.names value.now tag.now }
 {
@@ -99,7 +100,7 @@ fn lists(mut text: &[u8], tag: &[u8]) -> bool
     ensures { result ≡ reading.reads tag.now false reading.before text.now }
 {
     let mut found = false;
-    loop {
+    'tags: loop {
         let first = skip_empty(text);
         if first.is_empty() {
             return found;
@@ -107,13 +108,22 @@ fn lists(mut text: &[u8], tag: &[u8]) -> bool
         let Some((opaque, rest)) = tag_at(first) else {
             return false;
         };
-        found = found || opaque == tag;
-        match skip_front(rest) {
-            [] => return found,
-            [b',', later @ ..] => text = later,
-            _ => return false,
+        found = is_found(found, opaque, tag);
+        let rest = skip_front(rest);
+        if rest.is_empty() {
+            return found;
         }
+        let Some(later) = after_byte(rest, b',') else {
+            return false;
+        };
+        text = later;
     }
+}
+
+fn is_found(found: bool, opaque: &[u8], tag: &[u8]) -> bool
+    ensures { result ≡ (found || bytes_eq opaque.now tag.now) }
+{
+    found || opaque == tag
 }
 
 // What is left without the empty elements before it.
@@ -137,30 +147,38 @@ fn is_empty(byte: u8) -> bool
 }
 
 // The opaque text of the tag that this begins with, and what follows it.
+#[tactic(auto, using(crate::proofs::TagFacts::tag_parts))]
 fn tag_at(text: &[u8]) -> Option<(&[u8], &[u8])>
     requires some { 0 < length text.now }
     requires first { reading.begins_solid text.now ≡ true }
     ensures some { IfSome result (λ r. reading.BeginsWithTag text.now r.0.now r.1.now) }
     ensures none { result ≡ None → reading.IsNoList reading.before text.now }
 {
-    match text {
-        [b'W', b'/', rest @ ..] => opaque_at(rest),
-        _ => opaque_at(text),
+    match after_byte(text, b'W') {
+        Some(rest) => opaque_at(after_byte(rest, b'/')?),
+        None => opaque_at(text),
     }
 }
 
+#[tactic(auto, using(crate::proofs::TagFacts::opaque_parts))]
 fn opaque_at(text: &[u8]) -> Option<(&[u8], &[u8])>
     ensures some { IfSome result (λ r. reading.BeginsWithOpaque text.now r.0.now r.1.now) }
     ensures none { result ≡ None → reading.IsNoList reading.slashed text.now }
 {
-    let [b'"', rest @ ..] = text else {
+    let rest = after_byte(text, b'"')?;
+    let (opaque, rest) = rest.split_at(opaque_len(rest));
+    let rest = after_byte(rest, b'"')?;
+    Some((opaque, rest))
+}
+
+// What follows this byte, where it is the first.
+fn after_byte(text: &[u8], byte: u8) -> Option<&[u8]>
+    ensures { option_map (λ r. r.now) result ≡ reading.after_byte byte text.now }
+{
+    let [first, rest @ ..] = text else {
         return None;
     };
-    let (opaque, rest) = rest.split_at(opaque_len(rest));
-    match rest {
-        [b'"', rest @ ..] => Some((opaque, rest)),
-        _ => None,
-    }
+    if *first == byte { Some(rest) } else { None }
 }
 
 fn opaque_len(text: &[u8]) -> usize

@@ -214,8 +214,21 @@ pub fn write_response<W: ByteOut>(
     let (prefix, later) = response.body.split_at(prefix_len(response.body));
     let first = gathered(head.as_slice(), prefix);
     write_whole(writer, first.as_slice())?;
-    write_whole(writer, later)?;
-    write_whole(writer, response.rest)
+    write_both(writer, later, response.rest)
+}
+
+// Writes two texts, one after the other, or a prefix of both up to the first failed write.
+fn write_both<W: ByteOut>(writer: &mut W, first: &[u8], second: &[u8]) -> Result<(), WriteFailed>
+    ensures ok { OnOk result (Writes (W.bytes writer.old) (W.bytes writer.new)
+        (W.is_unknown writer.new) (first.now ++ second.now)) }
+    ensures err { OnErr result (WritesPrefix (W.bytes writer.old) (W.bytes writer.new)
+        (W.is_unknown writer.new) (first.now ++ second.now)) }
+    ensures counted { W.failures writer.new ≡ failures_after result (W.failures writer.old) }
+    ensures told { OnOk result (W.is_unknown writer.new ≡ W.is_unknown writer.old) }
+    ensures unknown { W.is_unknown writer.old ≡ true → W.is_unknown writer.new ≡ true }
+{
+    write_whole(writer, first)?;
+    write_whole(writer, second)
 }
 
 // How much of a body goes out with the head.
