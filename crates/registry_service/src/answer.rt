@@ -25,6 +25,13 @@ pub struct Fronted {
 }
 
 impl Fronted {
+    // The front, and what follows it.
+    pub(crate) fn pieces(&self) -> (&[u8], &[u8])
+        ensures { result.0.now ++ result.1.now ≡ fronted_text self.now }
+    {
+        (self.front.as_str().as_bytes(), self.rest())
+    }
+
     // What is left of the shared text.
     fn rest(&self) -> &[u8]
         ensures { result.now ≡ drop self.now.skipped self.now.text }
@@ -59,7 +66,7 @@ impl Body {
             Body::Short(text) => (text.as_slice(), b""),
             Body::Text(text) => (text.as_str().as_bytes(), b""),
             Body::Doc(text) => (text.as_str().as_bytes(), b""),
-            Body::Fronted(fronted) => (fronted.front.as_str().as_bytes(), fronted.rest()),
+            Body::Fronted(fronted) => fronted.pieces(),
             Body::Bytes(bytes) => (bytes.as_slice(), b""),
         }
     }

@@ -1,7 +1,8 @@
 //! What a request came to, with a document that may lie in two pieces.
 
-ghost use Rattle.std.specs.Prelude.{◌≡◌, Ok};
+ghost use Rattle.std.specs.Prelude.{◌≡◌, ◌++◌, Ok, option_map};
 ghost use Rattle.registry_service.specs.HttpAnswers.{fronted_text};
+ghost use Rattle.registry_service.specs.Told.{document_in};
 ghost use Rattle.registry_service.specs.Turns.{end_of};
 
 use crate::answer::Fronted;
@@ -48,6 +49,17 @@ impl Told {
     {
         Told {
             what: What::Fronted(fronted),
+        }
+    }
+
+    /// The bytes of the document, in two pieces. `None` for any other outcome.
+    pub fn pieces(&self) -> Option<(&[u8], &[u8])>
+        ensures { option_map (λ p. p.0.now ++ p.1.now) result ≡ document_in self.now }
+    {
+        match &self.what {
+            What::Outcome(Ok(Reply::Doc(text))) => Some((text.as_str().as_bytes(), b"")),
+            What::Outcome(_) => None,
+            What::Fronted(fronted) => Some(fronted.pieces()),
         }
     }
 
