@@ -218,7 +218,7 @@ fn a_fault_of_the_disk_is_met_again(rt: HostRuntime) {
     let mut faults = 0u64;
     for calls in 0..MOST_CALLS {
         let files: TestFiles = empty_files(rt.alloc(), Stopping::Log, calls);
-        match adoption(&rt, rt.alloc(), calls, files) {
+        match adoption_in(&rt, rt.alloc(), calls, files) {
             Adoption::Unopened => {}
             Adoption::Fails => faults = faults.saturating_add(1),
             Adoption::Succeeds => return same(&rt, "some adoptions fail", faults > 0, true),
@@ -236,7 +236,7 @@ enum Adoption {
     Succeeds,
 }
 
-fn adoption<D: StoppingDisk>(
+fn adoption_in<D: StoppingDisk>(
     ends: &impl Abort,
     alloc: Global,
     calls: u64,

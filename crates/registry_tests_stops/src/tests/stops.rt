@@ -139,7 +139,7 @@ fn no_stop_loses_an_answer(
         leaves,
         every: every(rt),
     };
-    let story = story(ends, rt.alloc());
+    let story = story_in_memory(ends, rt.alloc());
     let mut made = Made {
         stopped: Vec::new(rt.alloc()),
         in_opens: 0,
@@ -388,7 +388,7 @@ fn are_all_stopped(ends: &impl Abort, story: &Story, stopped: &[usize]) {
 }
 
 // What is asked, and what a registry in memory answers.
-fn story(ends: &impl Abort, alloc: Global) -> Story {
+fn story_in_memory(ends: &impl Abort, alloc: Global) -> Story {
     let commands = requests_of(alloc, COMMANDS).expect(ends, "commands");
     let queries = requests_of(alloc, QUERIES).expect(ends, "queries");
     let registry = Registry::in_memory(alloc).expect(ends, "a registry");
