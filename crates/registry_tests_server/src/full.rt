@@ -70,14 +70,6 @@ impl HttpService for Waking<'_> {
     ghost asks_queries = { profile_asks_queries };
 }
 
-// A client that has asked, and sends no more.
-fn ask(rt: &HostRuntime, server: &Server) -> Result<TcpStream, Fail> {
-    let client = client(rt, server)?;
-    send(&client)?;
-    client.shutdown(Shutdown::Write)?;
-    Ok(client)
-}
-
 // Clients come in the order in which they connect: two that are idle; `left` that leave at once;
 // enough that ask and leave to take all other places; and then newcomers, one more than have left
 // at once. When the server comes to the clients that have asked and left, it has looked at the
