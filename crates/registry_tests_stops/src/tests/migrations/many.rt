@@ -1,21 +1,21 @@
 //! A registry of schema 1 with many versions, each with seven needs.
 
-use crate::tests::migrations::{TestFiles, made, migrated, ran, showing};
+use crate::disks::{StoppingDisk, TestDisk};
+use crate::tests::migrations::{made, migrated, ran, showing};
 use registry_migration::Older;
 use sqlite::Files;
-use sqlite_disk::Disk;
 use std::alloc::Global;
 use std::process::Abort;
 
 /// How many versions there are.
 const VERSIONS: u32 = 100;
 
-static ROWS: [&str; 4] = [
-    "INSERT INTO meta VALUES ('schema', 1)",
-    "INSERT INTO users VALUES ('ann')",
-    "INSERT INTO packages VALUES ('kit', 1)",
-    "INSERT INTO owners VALUES ('kit', 'ann')",
-];
+const ROWS: &str = "
+INSERT INTO meta VALUES ('schema', 1);
+INSERT INTO users VALUES ('ann');
+INSERT INTO packages VALUES ('kit', 1);
+INSERT INTO owners VALUES ('kit', 'ann');
+";
 
 /// A manifest, up to the text of its version.
 const MANIFEST: &str =
@@ -35,14 +35,14 @@ static SHOWN: [(&str, &str); 5] = [
 
 #[test]
 fn many_versions_are_migrated(rt: HostRuntime) {
-    let files: TestFiles = made(&rt, rt.alloc(), Older::First, &ROWS);
-    are_migrated(&rt, rt.alloc(), files);
+    are_migrated::<TestDisk>(&rt, rt.alloc());
 }
 
-fn are_migrated<D: Disk + Drop>(ends: &impl Abort, alloc: Global, files: Files<D>) {
+fn are_migrated<D: StoppingDisk>(ends: &impl Abort, alloc: Global) {
+    let files: Files<D> = made(ends, alloc, Older::First, ROWS);
     let versions = versions(ends, alloc);
     let files = ran(ends, alloc, files, &texts_of(ends, alloc, &versions));
-    let _files = showing(ends, alloc, migrated(ends, alloc, files, &[]), &SHOWN);
+    let _files = showing(ends, alloc, migrated(ends, alloc, files, ""), &SHOWN);
 }
 
 // The statements that put each version, which have sixteen archives in turn.
@@ -58,7 +58,7 @@ fn versions(ends: &impl Abort, alloc: Global) -> Vec<String> {
 fn one_version(ends: &impl Abort, alloc: Global, number: u32) -> String {
     let (it, archive) = (number, number % 16);
     let version = format!(in alloc;
-        "INSERT INTO versions VALUES ('kit', '1.0.{it}', {it}, '{MANIFEST}1.0.{it}\"}}', '', CAST('archive {archive}' AS BLOB));
+        "INSERT INTO versions VALUES ('kit', '1.0.{it}', {it}, '{MANIFEST}1.0.{it}\"}}', '', x'{archive:02x}');
         INSERT INTO needs VALUES ('kit', '1.0.{it}', 'a'), ('kit', '1.0.{it}', 'b'), ('kit', '1.0.{it}', 'c'), ('kit', '1.0.{it}', 'd'), ('kit', '1.0.{it}', 'e'), ('kit', '1.0.{it}', 'f'), ('kit', '1.0.{it}', 'g')"
     );
     version.expect(ends, "memory")
