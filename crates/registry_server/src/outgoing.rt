@@ -56,23 +56,15 @@ impl Outgoing {
     pub fn is_empty(&self) -> bool
         ensures { result ≡ (length self.now == 0) }
     {
-        let (head, body) = self.parts();
-        head.is_empty() && body.is_empty()
+        let (head, body, rest) = self.parts();
+        head.is_empty() && body.is_empty() && rest.is_empty()
     }
 
-    /// What is left of the head, and what is left of the body.
-    pub fn parts(&self) -> (&[u8], &[u8])
-        ensures { result.0.now ++ result.1.now ≡ self.now }
+    /// What is left of the head, of the first piece of the body, and of the rest of it.
+    pub fn parts(&self) -> (&[u8], &[u8], &[u8])
+        ensures { result.0.now ++ result.1.now ++ result.2.now ≡ self.now }
     {
-        let head = self.head.as_slice();
-        let body = body_in(&self.turned);
-        if self.sent < head.len() {
-            let (_, rest) = head.split_at(self.sent);
-            (rest, body)
-        } else {
-            let (_, rest) = body.split_at(self.sent - head.len());
-            (&[], rest)
-        }
+        left_of(self.head.as_slice(), body_in(&self.turned), self.sent)
     }
 
     /// This many more bytes were sent. Once all are sent, the memory of the body is given back.
@@ -88,12 +80,38 @@ impl Outgoing {
     }
 }
 
-fn body_in(turned: &Option<Turned>) -> &[u8]
-    ensures { result.now ≡ spec.body_in turned.now }
+/// What is left of a head and of a body in two pieces, of which so many bytes were sent together.
+pub fn left_of<'a>(
+    head: &'a [u8],
+    body: (&'a [u8], &'a [u8]),
+    sent: usize,
+) -> (&'a [u8], &'a [u8], &'a [u8])
+    ensures { result.0.now ++ result.1.now ++ result.2.now
+        ≡ drop sent (head.now ++ (body.0.now ++ body.1.now)) }
+{
+    let (body, rest) = body;
+    let (head, over) = left_of_piece(head, sent);
+    let (body, over) = left_of_piece(body, over);
+    let (rest, _) = left_of_piece(rest, over);
+    (head, body, rest)
+}
+
+// What is left of a piece of which so many bytes were sent, and how many were sent of what follows.
+fn left_of_piece(piece: &[u8], sent: usize) -> (&[u8], usize)
+    ensures left { result.0.now ≡ drop sent piece.now }
+    ensures over { result.1 ≡ sent - length piece.now }
+{
+    let (_, left) = piece.split_at(sent.min(piece.len()));
+    (left, sent.saturating_sub(piece.len()))
+}
+
+// Both pieces of the body of a turn's answer.
+fn body_in(turned: &Option<Turned>) -> (&[u8], &[u8])
+    ensures { result.0.now ++ result.1.now ≡ spec.body_in turned.now }
 {
     match turned {
-        Some(turned) => turned.answer.body.as_slice(),
-        None => &[],
+        Some(turned) => turned.answer.body.as_slices(),
+        None => (&[], &[]),
     }
 }
 
@@ -101,17 +119,21 @@ fn body_in(turned: &Option<Turned>) -> &[u8]
 fn total(head: &ShortText, turned: &Option<Turned>) -> usize
     ensures { result ≡ length (head.now ++ spec.body_in turned.now) }
 {
-    head.as_slice().len() + body_in(turned).len()
+    let (body, rest) = body_in(turned);
+    head.as_slice().len() + body.len() + rest.len()
 }
 
 fn head_of(turned: &Turned) -> ShortText
     ensures { result ≡ spec.head_in turned.now }
 {
     let answer = &turned.answer;
+    let (body, rest) = answer.body.as_slices();
     let response = Response {
         status: answer.status,
         kind: answer.kind,
-        body: answer.body.as_slice(),
+        labels: &answer.labels,
+        body,
+        rest,
         closes: turned.end.is_some(),
     };
     response.head()

@@ -13,6 +13,8 @@ mod arguments;
 #[cfg(test)]
 mod crowd;
 #[cfg(test)]
+mod digests;
+#[cfg(test)]
 mod documents;
 #[cfg(test)]
 mod ends;

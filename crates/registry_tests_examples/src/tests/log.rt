@@ -241,15 +241,10 @@ fn serve<D: HttpService>(ends: &impl Abort, alloc: Global, service: &mut D, asks
 
 // Sends a response whole.
 fn send(state: &mut ConnectionState) {
-    for _ in 0..2 {
-        let (head, body) = state.outgoing().parts();
-        let count = if head.is_empty() {
-            body.len()
-        } else {
-            head.len()
-        };
-        state.sent(count);
-    }
+    let (head, body, rest) = state.outgoing().parts();
+    let front = head.len().saturating_add(body.len());
+    let count = front.saturating_add(rest.len());
+    state.sent(count);
 }
 
 #[test]
