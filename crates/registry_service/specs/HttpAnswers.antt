@@ -1,5 +1,5 @@
 -- What an outcome of the registry is in HTTP.
-use Rattle.std.specs.Prelude.{◌≡◌, ◌==◌, ℕ, Bool, true, false, List, [], ◌++◌, length, drop, codes, decimal, if◌then◌else◌, Result, Ok, Err}
+use Rattle.std.specs.Prelude.{◌≡◌, ◌==◌, ℕ, Bool, false, List, [], ◌++◌, length, drop, codes, decimal, if◌then◌else◌, Result, Ok, Err}
 use Rattle.registry_names.specs.Faults.{fault_status, fault_text}
 use Rattle.registry_names.specs.Refusals.{refusal_status, refusal_text}
 use Rattle.registry_names.specs.Texts.{Text}
@@ -101,10 +101,10 @@ abbrev pub answer_bytes : Answer → Bool → List ℕ
 answer_bytes a closes = head_bytes a.status a.kind a.labels (length (body_bytes a.body)) closes ++ body_bytes a.body
 
 -- the answer is that of the outcome, with these labels, to one who has the document or doesn't
-pub record AnswersSo (labels : Labels) (known : Bool) (o : Outcome) (a : Answer) : Type 0 where
+pub record AnswersSo (says : Labels) (known : Bool) (o : Outcome) (a : Answer) : Type 0 where
   pub status : a.status ≡ sent_status known o
   pub kind : a.kind ≡ kind_of o
-  pub labels : a.labels ≡ labels
+  pub labels : a.labels ≡ says
   pub body : body_bytes a.body ≡ sent_body known o
 
 -- the answer that says nothing to those who keep documents

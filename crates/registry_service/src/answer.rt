@@ -1,6 +1,6 @@
 //! What an outcome of the registry is in HTTP.
 
-ghost use Rattle.std.specs.Prelude.{◌≡◌, ◌≤◌, ◌++◌, length, drop, Ok, Err};
+ghost use Rattle.std.specs.Prelude.{◌≡◌, ◌≤◌, ◌++◌, [], length, drop, Ok, Err};
 ghost use Rattle.http.specs.StatusCode.{IsStatusCode};
 ghost use Rattle.registry_wire.specs.Responses.{no_labels, response_bytes};
 ghost use Rattle.registry_wire.specs.TagReading.{names_some};

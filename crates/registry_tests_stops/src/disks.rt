@@ -54,6 +54,9 @@ impl StoppingDisk for Fuse<Memory> {
     }
 }
 
+/// The disk of the tests. A test names it in one call, since each that does takes seconds to check.
+pub(crate) type TestDisk = Fuse<Memory>;
+
 /// Which of the two files stops.
 #[derive(Clone, Copy, Debug)]
 pub(crate) enum Stopping {

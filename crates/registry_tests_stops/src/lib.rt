@@ -19,6 +19,8 @@ mod checks;
 #[cfg(test)]
 mod disks;
 #[cfg(test)]
+mod lines;
+#[cfg(test)]
 mod outcome;
 #[cfg(test)]
 mod requests;

@@ -4,6 +4,7 @@ ghost use Rattle.std.specs.Prelude.{◌≡◌, false};
 ghost use Rattle.sqlite.specs.Held.{state};
 ghost use Rattle.registry_desk.specs.Adopted.{CanBeAdopted};
 
+use crate::lines::parts;
 use crate::outcome::same;
 use crate::rows::{push, push_digits, push_number};
 use registry_check::{Problem, TextTable, Thing, check};
@@ -15,16 +16,14 @@ use sqlite::{Alter, Connection};
 use std::alloc::Global;
 use std::process::Abort;
 
-/// A request as a line, and its answer: a document or the bytes of an archive as they are, or the
-/// name of another reply.
-pub type Asked<'a> = (&'a str, &'a str);
-
-/// What the check says of a registry that first gives these answers, and its connection.
+/// What the check says of a registry that first gives these answers, and its connection. Each is a
+/// line: the request, and after ` =>` the answer, which is a document or the bytes of an archive as
+/// they are, or the name of another reply.
 pub fn told_by_registry<S: Alter + Drop>(
     ends: &impl Abort,
     alloc: Global,
     registry: Registry<S>,
-    asked: &[Asked],
+    asked: &str,
 ) -> (String, Connection<S>) {
     let mut registry = registry;
     answer_all(ends, alloc, &mut registry, asked);
@@ -33,27 +32,19 @@ pub fn told_by_registry<S: Alter + Drop>(
     (text, connection)
 }
 
-fn answer_all<S: Alter>(
-    ends: &impl Abort,
-    alloc: Global,
-    registry: &mut Registry<S>,
-    asked: &[Asked],
-) {
-    for (line, wanted) in asked {
-        is_answered(ends, alloc, registry, line, wanted);
+fn answer_all<S: Alter>(ends: &impl Abort, alloc: Global, registry: &mut Registry<S>, asked: &str) {
+    for line in asked.lines() {
+        if !line.is_empty() {
+            is_answered(ends, alloc, registry, line);
+        }
     }
 }
 
-fn is_answered<S: Alter>(
-    ends: &impl Abort,
-    alloc: Global,
-    registry: &mut Registry<S>,
-    line: &str,
-    wanted: &str,
-) {
-    let request = request_of(alloc, line).expect(ends, line);
-    let reply = outcome_of(alloc, registry, &request).expect(ends, line);
-    same(ends, line, text_of(ends, alloc, &reply).as_str(), wanted);
+fn is_answered<S: Alter>(ends: &impl Abort, alloc: Global, registry: &mut Registry<S>, line: &str) {
+    let (words, wanted) = parts(ends, line);
+    let request = request_of(alloc, words).expect(ends, words);
+    let reply = outcome_of(alloc, registry, &request).expect(ends, words);
+    same(ends, words, text_of(ends, alloc, &reply).as_str(), wanted);
 }
 
 fn text_of(ends: &impl Abort, alloc: Global, reply: &Reply) -> String {

@@ -7,8 +7,8 @@ ghost use Rattle.registry_desk.specs.Adopted.{CanBeAdopted};
 
 use crate::checks::adopted;
 use crate::disks::{
-    Closed, Leaves, NEVER, Stopping, StoppingDisk, are_replies, asked, asked_of, close, connected,
-    empty_files, ended, left_of, opened, opens, refused, with_work,
+    Closed, Leaves, NEVER, Stopping, StoppingDisk, TestDisk, are_replies, asked, asked_of, close,
+    connected, empty_files, ended, left_of, opened, opens, refused, with_work,
 };
 use crate::outcome::same;
 use crate::requests::{COMMANDS, QUERIES};
@@ -18,7 +18,6 @@ use registry_names::Fault;
 use registry_rules::Request;
 use registry_tests_requests::requests_of;
 use sqlite::{Alter, Connection, FileStore, Files};
-use sqlite_disk::{Fuse, Memory};
 use std::alloc::Global;
 use std::process::Abort;
 
@@ -36,24 +35,16 @@ static CHANGES: [&str; 4] = [
     "UPDATE meta SET value = 4 WHERE name = 'schema'",
 ];
 
-/// Files of the tests.
-type TestFiles = Files<Fuse<Memory>>;
-
 #[test]
 fn a_released_registry_is_adopted(rt: HostRuntime) {
-    let queries = requests_of(rt.alloc(), QUERIES).expect(&rt, "queries");
-    let files: TestFiles = files_after(&rt, rt.alloc(), SAME);
-    is_adopted(&rt, rt.alloc(), files, &queries);
+    is_adopted::<TestDisk>(&rt, rt.alloc());
 }
 
-fn is_adopted<D: StoppingDisk>(
-    ends: &impl Abort,
-    alloc: Global,
-    files: Files<D>,
-    queries: &[Request],
-) {
+fn is_adopted<D: StoppingDisk>(ends: &impl Abort, alloc: Global) {
+    let queries = requests_of(alloc, QUERIES).expect(ends, "queries");
+    let files: Files<D> = files_after(ends, alloc, SAME);
     match opened(alloc, files) {
-        Ok(registry) => shows_the_same(ends, alloc, registry, queries),
+        Ok(registry) => shows_the_same(ends, alloc, registry, &queries),
         Err(_files) => panic!(ends; "nothing opens"),
     }
 }
@@ -103,12 +94,12 @@ fn files_handed_back<D: StoppingDisk>(
 #[test]
 fn what_another_hand_changed_is_handed_back(rt: HostRuntime) {
     for change in &CHANGES {
-        let files: TestFiles = files_after(&rt, rt.alloc(), change);
-        is_refused(&rt, rt.alloc(), files, change);
+        is_refused::<TestDisk>(&rt, rt.alloc(), change);
     }
 }
 
-fn is_refused<D: StoppingDisk>(ends: &impl Abort, alloc: Global, files: Files<D>, change: &str) {
+fn is_refused<D: StoppingDisk>(ends: &impl Abort, alloc: Global, change: &str) {
+    let files: Files<D> = files_after(ends, alloc, change);
     match connected(alloc, files) {
         Ok(connection) => is_handed_back(ends, alloc, change, connection),
         Err(_files) => panic!(ends; "after {change} nothing opens"),
@@ -152,11 +143,11 @@ fn is_back_again<D: StoppingDisk>(
 
 #[test]
 fn a_connection_inside_a_transaction_is_handed_back(rt: HostRuntime) {
-    let files: TestFiles = files_after(&rt, rt.alloc(), SAME);
-    is_back_inside(&rt, rt.alloc(), files);
+    is_back_inside::<TestDisk>(&rt, rt.alloc());
 }
 
-fn is_back_inside<D: StoppingDisk>(ends: &impl Abort, alloc: Global, files: Files<D>) {
+fn is_back_inside<D: StoppingDisk>(ends: &impl Abort, alloc: Global) {
+    let files: Files<D> = files_after(ends, alloc, SAME);
     match connected(alloc, files) {
         Ok(connection) => is_back_once_begun(ends, alloc, connection),
         Err(_files) => panic!(ends; "nothing opens"),
@@ -195,12 +186,12 @@ fn is_back_as_it_was<D: StoppingDisk>(
 
 #[test]
 fn files_come_back_from_an_open(rt: HostRuntime) {
-    let files: TestFiles = files_after(&rt, rt.alloc(), "CREATE TABLE notes (note TEXT)");
-    come_back(&rt, rt.alloc(), files);
+    come_back::<TestDisk>(&rt, rt.alloc());
 }
 
 // The open fails with the fault of the database, and one without notes doesn't fail.
-fn come_back<D: StoppingDisk>(ends: &impl Abort, alloc: Global, files: Files<D>) {
+fn come_back<D: StoppingDisk>(ends: &impl Abort, alloc: Global) {
+    let files: Files<D> = files_after(ends, alloc, "CREATE TABLE notes (note TEXT)");
     match refused(ends, alloc, files) {
         None => panic!(ends; "a registry with notes"),
         Some((fault, files)) => {
@@ -217,8 +208,7 @@ fn come_back<D: StoppingDisk>(ends: &impl Abort, alloc: Global, files: Files<D>)
 fn a_fault_of_the_disk_is_met_again(rt: HostRuntime) {
     let mut faults = 0u64;
     for calls in 0..MOST_CALLS {
-        let files: TestFiles = empty_files(rt.alloc(), Stopping::Log, calls);
-        match adoption(&rt, rt.alloc(), calls, files) {
+        match adoption_at::<TestDisk>(&rt, rt.alloc(), calls) {
             Adoption::Unopened => {}
             Adoption::Fails => faults = faults.saturating_add(1),
             Adoption::Succeeds => return same(&rt, "some adoptions fail", faults > 0, true),
@@ -227,7 +217,7 @@ fn a_fault_of_the_disk_is_met_again(rt: HostRuntime) {
     panic!(rt; "it stops after {MOST_CALLS} calls, too")
 }
 
-/// The result of an adoption of files whose log stops.
+/// The result of an adoption of empty files whose log stops.
 enum Adoption {
     /// They weren't opened.
     Unopened,
@@ -236,12 +226,8 @@ enum Adoption {
     Succeeds,
 }
 
-fn adoption<D: StoppingDisk>(
-    ends: &impl Abort,
-    alloc: Global,
-    calls: u64,
-    files: Files<D>,
-) -> Adoption {
+fn adoption_at<D: StoppingDisk>(ends: &impl Abort, alloc: Global, calls: u64) -> Adoption {
+    let files: Files<D> = empty_files(alloc, Stopping::Log, calls);
     match connected(alloc, files) {
         Ok(connection) => adoption_of(ends, alloc, calls, connection),
         Err(_files) => Adoption::Unopened,

@@ -9,35 +9,40 @@ mod second;
 mod stops;
 
 use crate::disks::{
-    Closed, NEVER, Stopping, StoppingDisk, close, connected, empty_files, open, with_work,
+    Closed, NEVER, Stopping, StoppingDisk, TestDisk, close, connected, empty_files, open, with_work,
 };
 use crate::outcome::same;
-use crate::told::{Asked, told_by_registry};
+use crate::told::told_by_registry;
 use crate::work::{Shown, Work};
 use registry_desk::Registry;
 use registry_migration::Older;
 use registry_tables::TABLES;
 use sqlite::{FileStore, Files};
-use sqlite_disk::{Disk, Fuse, Memory};
+use sqlite_disk::Disk;
 use std::alloc::Global;
 use std::process::Abort;
-
-/// Files of the tests.
-pub type TestFiles = Files<Fuse<Memory>>;
 
 /// Everything that a database says of its tables and indexes, with the tree of each.
 pub const SCHEMA: &str = "SELECT rowid, type, name, tbl_name, sql FROM sqlite_schema";
 
 #[test]
 fn a_registry_of_schema_1_is_migrated(rt: HostRuntime) {
-    let files: TestFiles = made(&rt, rt.alloc(), Older::First, first::rows());
-    becomes(&rt, rt.alloc(), files, first::shown(), first::asked());
+    first_is_migrated::<TestDisk>(&rt, rt.alloc());
+}
+
+fn first_is_migrated<D: StoppingDisk>(ends: &impl Abort, alloc: Global) {
+    let files: Files<D> = made(ends, alloc, Older::First, first::ROWS);
+    becomes(ends, alloc, files, first::shown(), first::ASKED);
 }
 
 #[test]
 fn a_registry_of_schema_2_is_migrated(rt: HostRuntime) {
-    let files: TestFiles = made(&rt, rt.alloc(), Older::Second, second::rows());
-    becomes(&rt, rt.alloc(), files, second::shown(), second::asked());
+    second_is_migrated::<TestDisk>(&rt, rt.alloc());
+}
+
+fn second_is_migrated<D: StoppingDisk>(ends: &impl Abort, alloc: Global) {
+    let files: Files<D> = made(ends, alloc, Older::Second, second::ROWS);
+    becomes(ends, alloc, files, second::shown(), second::ASKED);
 }
 
 // A registry of an older schema opens, shows these rows afterwards, and has the schema of a fresh
@@ -47,11 +52,11 @@ fn becomes<D: StoppingDisk>(
     alloc: Global,
     files: Files<D>,
     shows: &[Shown<'static>],
-    asked: &[Asked<'static>],
+    asked: &str,
 ) {
-    let files = showing(ends, alloc, migrated(ends, alloc, files, &[]), shows);
+    let files = showing(ends, alloc, migrated(ends, alloc, files, ""), shows);
     let files = has_fresh_schema(ends, alloc, files);
-    let files = showing(ends, alloc, migrated(ends, alloc, files, &[]), shows);
+    let files = showing(ends, alloc, migrated(ends, alloc, files, ""), shows);
     let _files = migrated(ends, alloc, files, asked);
 }
 
@@ -62,17 +67,17 @@ fn has_fresh_schema<D: StoppingDisk>(
     files: Files<D>,
 ) -> Files<D> {
     let fresh: Files<D> = empty_files(alloc, Stopping::Both, NEVER);
-    let fresh = migrated(ends, alloc, fresh, &[]);
+    let fresh = migrated(ends, alloc, fresh, "");
     let (schema, _fresh) = shown(ends, alloc, fresh, &[SCHEMA]);
     showing(ends, alloc, files, &[(SCHEMA, schema.as_str())])
 }
 
-/// Files with the tables of the older schema, and these rows.
+/// Files with the tables of the older schema, and the rows that the statements of a text put.
 pub fn made<D: StoppingDisk>(
     ends: &impl Abort,
     alloc: Global,
     older: Older,
-    rows: &[&str],
+    rows: &str,
 ) -> Files<D> {
     let tables = ran(
         ends,
@@ -80,7 +85,7 @@ pub fn made<D: StoppingDisk>(
         empty_files(alloc, Stopping::Both, NEVER),
         texts_of(older),
     );
-    ran(ends, alloc, tables, rows)
+    ran(ends, alloc, tables, &[rows])
 }
 
 // The texts that make the tables of the older schema.
@@ -162,7 +167,7 @@ pub(crate) fn told<D: Disk + Drop>(
     ends: &impl Abort,
     alloc: Global,
     registry: Registry<FileStore<D>>,
-    asked: &[Asked],
+    asked: &str,
 ) -> (String, Files<D>) {
     let (text, connection) = told_by_registry(ends, alloc, registry, asked);
     (text, closed(ends, close(connection)))
@@ -173,7 +178,7 @@ pub(crate) fn migrated<D: Disk + Drop>(
     ends: &impl Abort,
     alloc: Global,
     files: Files<D>,
-    asked: &[Asked],
+    asked: &str,
 ) -> Files<D> {
     if !files.may_be_used() {
         panic!(ends; "the files can't be used");
@@ -189,7 +194,7 @@ fn in_order<D: Disk + Drop>(
     ends: &impl Abort,
     alloc: Global,
     registry: Registry<FileStore<D>>,
-    asked: &[Asked],
+    asked: &str,
 ) -> Files<D> {
     let (text, files) = told(ends, alloc, registry, asked);
     same(ends, "what is wrong", text.as_str(), "");

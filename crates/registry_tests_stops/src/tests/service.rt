@@ -1,7 +1,7 @@
 //! A service over a registry whose log fails after some calls: a fault is returned, and the service
 //! is over where the fault has shut the registry.
 
-use crate::disks::{Stopping, StoppingDisk, empty_files, opened};
+use crate::disks::{Stopping, StoppingDisk, TestDisk, empty_files, opened};
 use crate::outcome::same;
 use crate::requests::{ADD_ANN, TAGS_OF_NONE};
 use registry_desk::Registry;
@@ -11,7 +11,6 @@ use registry_rules::Request;
 use registry_service::Service;
 use registry_tests_requests::request_of;
 use sqlite::{Alter, Files};
-use sqlite_disk::{Fuse, Memory};
 use std::alloc::Global;
 use std::process::Abort;
 
@@ -55,8 +54,7 @@ fn a_service_is_over_once_the_disk_has_shut_its_registry(rt: HostRuntime) {
     let mut is_over = false;
     let mut goes_on = false;
     for calls in 0..ENOUGH {
-        let files: Files<Fuse<Memory>> = empty_files(rt.alloc(), Stopping::Log, calls);
-        match comes_of(&rt, rt.alloc(), calls, files, &asked) {
+        match comes_at::<TestDisk>(&rt, rt.alloc(), calls, &asked) {
             Comes::Unopened => {}
             Comes::GoesOn => goes_on = true,
             Comes::IsOver => is_over = true,
@@ -68,14 +66,9 @@ fn a_service_is_over_once_the_disk_has_shut_its_registry(rt: HostRuntime) {
     panic!(rt; "no request is answered")
 }
 
-// The result of a registry in these files, whose log fails after this many calls.
-fn comes_of<D: StoppingDisk>(
-    ends: &impl Abort,
-    alloc: Global,
-    calls: u64,
-    files: Files<D>,
-    asked: &Asked,
-) -> Comes {
+// The result of a registry in empty files, whose log fails after this many calls.
+fn comes_at<D: StoppingDisk>(ends: &impl Abort, alloc: Global, calls: u64, asked: &Asked) -> Comes {
+    let files: Files<D> = empty_files(alloc, Stopping::Log, calls);
     match opened(alloc, files) {
         Ok(registry) => served(ends, alloc, calls, registry, asked),
         Err(_files) => Comes::Unopened,

@@ -2,8 +2,8 @@
 //! never read as data.
 
 use crate::disks::{
-    Closed, NEVER, Stopping, StoppingDisk, are_replies, asked, empty_files, ended, files_of,
-    opened, refused,
+    Closed, NEVER, Stopping, StoppingDisk, TestDisk, are_replies, asked, empty_files, ended,
+    files_of, opened, refused,
 };
 use crate::outcome::same;
 use crate::requests::{ADD_ANN, COMMANDS, QUERIES, TAGS_OF_NONE};
@@ -12,7 +12,7 @@ use registry_names::{Fault, Refusal};
 use registry_rules::{Reply, Request};
 use registry_tests_requests::{Outcome, push_requests, requests_of};
 use sqlite::{FileFrom, FileStore, Files};
-use sqlite_disk::{Disk, Fuse, Memory, Wary};
+use sqlite_disk::{Disk, Wary};
 use std::alloc::Global;
 use std::fs;
 use std::process::Abort;
@@ -42,16 +42,17 @@ const ANN_IS_THERE: Told = (ADD_ANN, Some(Refusal::Exists));
 
 const NONE_IS_FOUND: Told = (TAGS_OF_NONE, Some(Refusal::NotFound));
 
-/// Files of the tests.
-type TestFiles = Files<Fuse<Memory>>;
-
-// In the second run, a registry holds what was answered in the first.
 #[test]
 fn a_registry_in_files_in_memory_lasts(rt: HostRuntime) {
-    let files: TestFiles = empty_files(rt.alloc(), Stopping::Both, NEVER);
-    let files = told_in(&rt, rt.alloc(), files, ANN_IS_ADDED);
-    let files = told_in(&rt, rt.alloc(), files, ANN_IS_THERE);
-    let _files = told_in(&rt, rt.alloc(), files, NONE_IS_FOUND);
+    lasts::<TestDisk>(&rt, rt.alloc());
+}
+
+// In the second run, a registry holds what was answered in the first.
+fn lasts<D: StoppingDisk>(ends: &impl Abort, alloc: Global) {
+    let files: Files<D> = empty_files(alloc, Stopping::Both, NEVER);
+    let files = told_in(ends, alloc, files, ANN_IS_ADDED);
+    let files = told_in(ends, alloc, files, ANN_IS_THERE);
+    let _files = told_in(ends, alloc, files, NONE_IS_FOUND);
 }
 
 // No registry opens from files with one byte of the header changed. The first page ends in a
@@ -59,14 +60,13 @@ fn a_registry_in_files_in_memory_lasts(rt: HostRuntime) {
 // and a changed size of pages or of checksums isn't a valid size.
 #[test]
 fn a_byte_changed_in_the_head_is_refused(rt: HostRuntime) {
-    let files: TestFiles = empty_files(rt.alloc(), Stopping::Both, NEVER);
-    let files = told_in(&rt, rt.alloc(), files, ANN_IS_ADDED);
-    whole_alone_opens(&rt, rt.alloc(), &files);
+    whole_alone_opens::<TestDisk>(&rt, rt.alloc());
 }
 
-// A registry opens from a copy of these files, and none opens where one byte of the header is
-// changed.
-fn whole_alone_opens<D: StoppingDisk>(ends: &impl Abort, alloc: Global, files: &Files<D>) {
+// A registry opens from a copy of its files, and none opens where one byte of the header is changed.
+fn whole_alone_opens<D: StoppingDisk>(ends: &impl Abort, alloc: Global) {
+    let files: Files<D> = empty_files(alloc, Stopping::Both, NEVER);
+    let files = told_in(ends, alloc, files, ANN_IS_ADDED);
     let whole = files.db.written();
     let copy: Files<D> = files_of(ends, alloc, whole);
     let _copy = told_in(ends, alloc, copy, ANN_IS_THERE);

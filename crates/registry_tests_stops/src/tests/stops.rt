@@ -3,7 +3,8 @@
 
 use crate::checks::checked;
 use crate::disks::{
-    Closed, Leaves, Stopping, StoppingDisk, asked, copied, empty_files, ended, left_of, opened,
+    Closed, Leaves, Stopping, StoppingDisk, TestDisk, asked, copied, empty_files, ended, left_of,
+    opened,
 };
 use crate::outcome::same;
 use crate::requests::{COMMANDS, QUERIES};
@@ -11,7 +12,7 @@ use registry_desk::Registry;
 use registry_rules::{Reply, Request};
 use registry_tests_requests::{Outcome, outcome_of, outcomes_of, requests_of};
 use sqlite::{Alter, FileStore, Files};
-use sqlite_disk::{Disk, Fuse, Memory};
+use sqlite_disk::Disk;
 use std::alloc::Global;
 use std::env;
 use std::process::Abort;
@@ -139,7 +140,7 @@ fn no_stop_loses_an_answer(
         leaves,
         every: every(rt),
     };
-    let story = story(ends, rt.alloc());
+    let story = story_in_memory(ends, rt.alloc());
     let mut made = Made {
         stopped: Vec::new(rt.alloc()),
         in_opens: 0,
@@ -189,8 +190,7 @@ fn count_at(stopped: &[usize], commands: usize) -> usize {
 
 fn make_stops(ends: &impl Abort, alloc: Global, story: &Story, stops: Stops, made: &mut Made) {
     for calls in 0..MOST_CALLS {
-        let files: Files<Fuse<Memory>> = empty_files(alloc, stops.stopping, calls);
-        if !is_stopped(ends, alloc, calls, files, story, stops, made) {
+        if !is_stopped::<TestDisk>(ends, alloc, calls, story, stops, made) {
             return;
         }
     }
@@ -203,11 +203,11 @@ fn is_stopped<D: StoppingDisk>(
     ends: &impl Abort,
     alloc: Global,
     calls: u64,
-    files: Files<D>,
     story: &Story,
     stops: Stops,
     made: &mut Made,
 ) -> bool {
+    let files: Files<D> = empty_files(alloc, stops.stopping, calls);
     let Run {
         answered,
         is_stopped,
@@ -388,7 +388,7 @@ fn are_all_stopped(ends: &impl Abort, story: &Story, stopped: &[usize]) {
 }
 
 // What is asked, and what a registry in memory answers.
-fn story(ends: &impl Abort, alloc: Global) -> Story {
+fn story_in_memory(ends: &impl Abort, alloc: Global) -> Story {
     let commands = requests_of(alloc, COMMANDS).expect(ends, "commands");
     let queries = requests_of(alloc, QUERIES).expect(ends, "queries");
     let registry = Registry::in_memory(alloc).expect(ends, "a registry");

@@ -1,8 +1,8 @@
 //! Registries of older schemas that don't open, and stay as they are.
 
-use crate::disks::{StoppingDisk, refused};
+use crate::disks::{StoppingDisk, TestDisk, refused};
 use crate::outcome::same;
-use crate::tests::migrations::{SCHEMA, TestFiles, first, made, ran, second, shown};
+use crate::tests::migrations::{SCHEMA, first, made, ran, second, shown};
 use registry_migration::Older;
 use registry_names::Fault;
 use sqlite::Files;
@@ -65,8 +65,7 @@ static ASKED: [&str; 5] = [
 #[test]
 fn others_stay_as_they_are(rt: HostRuntime) {
     for (shows, older, change) in &KEPT {
-        let files: TestFiles = changed(&rt, rt.alloc(), *older, change);
-        stays(&rt, rt.alloc(), files, shows);
+        stays::<TestDisk>(&rt, rt.alloc(), shows, *older, change);
     }
 }
 
@@ -78,13 +77,20 @@ fn changed<D: StoppingDisk>(
     change: &str,
 ) -> Files<D> {
     let files = match older {
-        Older::First => made(ends, alloc, older, first::rows()),
-        Older::Second => made(ends, alloc, older, second::rows()),
+        Older::First => made(ends, alloc, older, first::ROWS),
+        Older::Second => made(ends, alloc, older, second::ROWS),
     };
     ran(ends, alloc, files, &[change])
 }
 
-fn stays<D: StoppingDisk>(ends: &impl Abort, alloc: Global, files: Files<D>, shows: &str) {
+fn stays<D: StoppingDisk>(
+    ends: &impl Abort,
+    alloc: Global,
+    shows: &str,
+    older: Older,
+    change: &str,
+) {
+    let files: Files<D> = changed(ends, alloc, older, change);
     let (before, files) = shown(ends, alloc, files, &ASKED);
     match refused(ends, alloc, files) {
         None => panic!(ends; "{shows}: a registry opens"),

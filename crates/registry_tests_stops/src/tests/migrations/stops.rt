@@ -1,8 +1,10 @@
 //! Registries of older schemas whose files stop at each call while they are migrated. Whatever the
 //! stop leaves, the registry opens afterwards with everything that it held.
 
-use crate::disks::{Closed, Leaves, Stopping, StoppingDisk, copied, ended, left_of, opened};
-use crate::tests::migrations::{TestFiles, first, made, migrated, second, showing};
+use crate::disks::{
+    Closed, Leaves, Stopping, StoppingDisk, TestDisk, copied, ended, left_of, opened,
+};
+use crate::tests::migrations::{first, made, migrated, second, showing};
 use crate::work::Shown;
 use registry_migration::Older;
 use sqlite::Files;
@@ -44,9 +46,19 @@ fn a_kill_at_the_log_loses_nothing(rt: HostRuntime) {
 }
 
 fn no_stop_loses_anything(ends: &impl Abort, alloc: Global, stopping: Stopping, leaves: Leaves) {
-    let older: TestFiles = made(ends, alloc, Older::First, first::rows());
+    both_outlive_stops::<TestDisk>(ends, alloc, stopping, leaves);
+}
+
+// Registries of both older schemas outlive all stops.
+fn both_outlive_stops<D: StoppingDisk>(
+    ends: &impl Abort,
+    alloc: Global,
+    stopping: Stopping,
+    leaves: Leaves,
+) {
+    let older: Files<D> = made(ends, alloc, Older::First, first::ROWS);
     outlives_stops(ends, alloc, &older, first::shown(), stopping, leaves);
-    let older: TestFiles = made(ends, alloc, Older::Second, second::rows());
+    let older: Files<D> = made(ends, alloc, Older::Second, second::ROWS);
     outlives_stops(ends, alloc, &older, second::shown(), stopping, leaves);
 }
 
@@ -63,7 +75,7 @@ fn outlives_stops<D: StoppingDisk>(
     for calls in 0..MOST_CALLS {
         let files = copied(ends, alloc, older, stopping, calls);
         let Closed { is_whole, files } = opened_once(alloc, files);
-        let files = migrated(ends, alloc, left_of(ends, alloc, files, leaves), &[]);
+        let files = migrated(ends, alloc, left_of(ends, alloc, files, leaves), "");
         let _files = showing(ends, alloc, files, shows);
         if is_whole {
             return;
