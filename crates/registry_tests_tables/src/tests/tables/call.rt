@@ -151,7 +151,7 @@ pub fn all_tell<S: Alter>(rt: &impl Abort, alloc: Global, tx: &mut Transaction<'
     }
 }
 
-// Makes the call that stands at a place of what shows something.
+// Makes a call. Its place is what the case shows, and how many calls of the case come before it.
 fn tells<S: Alter>(
     rt: &impl Abort,
     alloc: Global,
