@@ -43,7 +43,7 @@ try() {
     else
         failed=$((failed + 1))
         say "FAILED: $title"
-        tail -n 15 "$work/out" | sed 's/^/    /'
+        tail -n 15 "$work/out" | LC_ALL=C tr -cd '\t\n -~' | cut -c 1-1000 | sed 's/^/    /'
     fi
 }
 

@@ -94,19 +94,48 @@ status_at() {
     sed -n 's|^HTTP/[0-9.]* \([0-9]*\).*|\1|p' "$work/out"
 }
 tag_of() { sed -n 's|^etag: *||p' "$work/out"; }
-# The answers of both fronts are the same, but that 304 of the first one has the registry's own tag.
-same() {
-    answer_of at_further "$@" | sed 's|^etag: W/|etag: |' > "$work/came"
-    answer_of ask "$@" | sed 's|^etag: W/|etag: |' > "$work/wanted"
-    cmp "$work/wanted" "$work/came" > "$work/out" 2>&1 || { { say "$*"; head -c 2000 "$work/wanted" "$work/came"; } > "$work/out"; return 1; }
-}
+# Asks both fronts for each line of standard input, `USER METHOD TARGET`, perhaps with a field. All that
+# is the registry's has to be the same; but 304 of the first front has the registry's own tag, and that of
+# the further one the tag that the first one weakened.
+cat > "$work/same.js" << 'TEXT'
+const [port, work] = process.argv.slice(2);
+const https = require("https");
+const fs = require("fs");
+const fronts = ["127.0.0.1", "127.0.0.2"].map((host) => {
+    const agent = new https.Agent({ keepAlive: true, maxSockets: 1, ca: fs.readFileSync(`${work}/cert.pem`), servername: "localhost" });
+    return { host, port, agent };
+});
+const ask = (front, user, method, path, field) => new Promise((done, failed) => {
+    const headers = { host: `localhost:${port}` };
+    if (user !== "nobody") headers.authorization = `Bearer npm_${user}_000000001`;
+    const [, name, value] = /^([^:]*): (.*)$/.exec(field) ?? [];
+    if (name) headers[name] = value;
+    https.request({ ...front, method, path, headers }, (answer) => {
+        const pieces = [];
+        answer.on("data", (piece) => pieces.push(piece)).on("end", () => {
+            const fields = ["content-type", "etag", "cache-control", "www-authenticate", "allow"].map((it) => answer.headers[it]?.replace(/^W\//, ""));
+            done(`${answer.statusCode} ${fields.join(" ")}\n${Buffer.concat(pieces).toString("latin1")}`);
+        });
+    }).on("error", failed).end();
+});
+(async () => {
+    const lines = fs.readFileSync(0, "utf8").trim().split("\n");
+    for (const line of lines) {
+        const [user, method, path, ...field] = line.split(" ");
+        for (const front of fronts) front.came = await ask(front, user, method, path, field.join(" "));
+        if (fronts[0].came !== fronts[1].came) throw new Error([line, ...fronts.map((front) => front.came.slice(0, 400))].join("\n"));
+    }
+    console.log(lines.length, "answers are the same");
+    for (const front of fronts) front.agent.destroy();
+})().catch((error) => { console.error(error.message); process.exit(1); });
+TEXT
+same() { node "$work/same.js" "$secure" "$work" > "$work/out" 2>&1; }
+same_for() { echo "$1 GET $2" | same; }
 targets='/@lab%2fkit /@lab/kit /@lab%2fopen /tool /@lab%2fnone /@lab%2fkit/1.0.0 /tool/latest
     /@lab/kit/-/@lab/kit-1.0.0.tgz /@lab%2fkit/-/kit-1.1.0.tgz /@lab/open/-/@lab/open-1.0.0.tgz /tool/-/tool-1.0.0.tgz /tool/-/tool-9.0.0.tgz
     /-/whoami /-/package/@lab%2fkit/dist-tags /-/org/lab /@lab%2fkit?write=true /-/from/old.example/@lab/kit/-/@lab/kit-1.0.0.tgz'
 all_the_same() {
-    for reader in ann bob cal eve nobody; do
-        for target in $targets; do same $reader "$address$target" || return 1; done
-    done
+    for reader in ann bob cal eve nobody; do for target in $targets; do echo "$reader GET $target"; done; done | same
 }
 
 # What the registry was asked since a mark: `USER METHOD TARGET STATUS` of each request.
@@ -239,7 +268,7 @@ withdraws() {
     more other 2.0.0
     reads nobody /other 200 200 && reads nobody $archive 200 200 && reads eve $archive 200 200 && reads nobody $archive 200 304 && reads eve $archive 200 304 &&
         registry --as bob withdraw other 2.0.0 && reads nobody $archive 404 404 && reads eve $archive 404 404 && reads bob $archive 404 404 &&
-        reads nobody /other 200 200 && ! has '"2.0.0":{' && reads nobody /other 200 304 && same bob "$address$archive" &&
+        reads nobody /other 200 200 && ! has '"2.0.0":{' && reads nobody /other 200 304 && same_for bob $archive &&
         registry --as bob withdraw other 1.0.0 && reads nobody /other 404 404 && reads nobody /other/-/other-1.0.0.tgz 404 404 && reads bob /other 404 404
 }
 try 'a version that is withdrawn: its archive is 404 from the next read on, and the packument lacks it' withdraws
@@ -249,13 +278,11 @@ try 'a version that is withdrawn: its archive is 404 from the next read on, and 
 conditions() {
     [ "$(status_at at_further bob "$address/@lab%2fkit")" = 200 ] || return 1
     rev=$(rev_of)
-    for field in "\"$rev\"" "W/\"$rev\"" "\"a,b\", W/\"$rev\"" '*' '"old"' 'W/"old", "older"'; do
+    for field in "\"$rev\"" "W/\"$rev\"" "\"a,b\", W/\"$rev\"" '*' '"old"' 'W/"old", "older"' "$rev" ', ,' "\"$rev"; do
         for reader in bob cal eve nobody; do
-            for target in /@lab%2fkit /tool /@lab/kit/-/@lab/kit-1.0.0.tgz /@lab%2fnone; do
-                same $reader -H "if-none-match: $field" "$address$target" || return 1
-            done
+            for target in /@lab%2fkit /tool /@lab/kit/-/@lab/kit-1.0.0.tgz /@lab%2fnone /@lab%2fkit/1.0.0; do echo "$reader GET $target if-none-match: $field"; done
         done
-    done
+    done | same || return 1
     [ "$(status_at at_further bob -H "if-none-match: \"$rev\"" "$address/@lab%2fkit")" = 304 ] && [ "$(status_at at_further eve -H "if-none-match: \"$rev\"" "$address/@lab%2fkit")" = 404 ]
 }
 try 'If-None-Match of a client, which is known, old, a list or *, is answered as by the first front' conditions
@@ -268,13 +295,13 @@ not_its_own() {
     [ "$(status_at ask nobody "$address/tool")" = 200 ] && rev=$(rev_of) && [ "$rev" != "$old" ] || return 1
     [ "$(status_at at_further eve -H "if-none-match: \"$rev\"" "$address/tool")" = 304 ] && reads nobody /tool 200 304 && [ "$(rev_of)" = "$rev" ] || return 1
     more tool 4.0.0
-    [ "$(status_at at_further eve -H "if-none-match: \"$rev\"" "$address/tool")" = 200 ] && [ "$(rev_of)" != "$rev" ] && has '"4.0.0"' && same nobody "$address/tool"
+    [ "$(status_at at_further eve -H "if-none-match: \"$rev\"" "$address/tool")" = 200 ] && [ "$(rev_of)" != "$rev" ] && has '"4.0.0"' && same_for nobody /tool
 }
 try 'where the client has the new document and the front the old one, nobody gets the old one' not_its_own
 not_kept_yet() {
     more @lab/new 1.0.0
     [ "$(status_at ask bob "$address/@lab%2fnew")" = 200 ] && rev=$(rev_of) && [ "$(status_at at_further bob -H "if-none-match: \"$rev\"" "$address/@lab%2fnew")" = 304 ] &&
-        reads bob /@lab%2fnew 200 304 && [ "$(rev_of)" = "$rev" ] && same bob "$address/@lab%2fnew"
+        reads bob /@lab%2fnew 200 304 && [ "$(rev_of)" = "$rev" ] && same_for bob /@lab%2fnew
 }
 try 'nor does a client'"'"'s tag of what was not kept yet change what others get' not_kept_yet
 other_fields() {
@@ -283,12 +310,13 @@ other_fields() {
             for field in 'range: bytes=0-9' 'if-range: "x"' 'if-match: "x"' 'if-match: *' 'if-unmodified-since: Mon, 01 Jan 2024 00:00:00 GMT' \
                 'if-modified-since: Mon, 01 Jan 2024 00:00:00 GMT' 'accept: application/vnd.npm.install-v1+json' 'cookie: a=b' 'cache-control: only-if-cached' \
                 'cache-control: no-store' 'pragma: no-cache' 'x-accel-expires: 1000' 'x-http-method-override: HEAD' 'host: evil.example'; do
-                same $reader -H "$field" "$address$target" || return 1
+                echo "$reader GET $target $field"
             done
-            same $reader --head -o /dev/null "$address$target" || return 1
+            echo "$reader HEAD $target"
         done
-    done
-    same bob -X OPTIONS "$address/tool" && same bob -X POST -d '{}' "$address/tool" && same bob -X DELETE "$address/tool/-/tool-1.0.0.tgz"
+    done > "$work/lines"
+    printf 'bob %s /tool\n' OPTIONS POST PATCH DELETE >> "$work/lines"
+    same < "$work/lines"
 }
 try 'so it is with ranges, other conditions and methods, and fields that speak to caches' other_fields
 
@@ -298,7 +326,7 @@ keeps_large() {
 const bytes = require("crypto").randomBytes(2000000).toString("base64");
 process.stdout.write(JSON.stringify({ name: "large", versions: { "1.0.0": { name: "large", version: "1.0.0" } }, _attachments: { "a.tgz": { data: bytes } } }))' > "$work/body.json"
     registry --as bob publish "$work/body.json"
-    reads bob /large/-/large-1.0.0.tgz 200 200 && reads bob /large/-/large-1.0.0.tgz 200 304 && same bob "$address/large/-/large-1.0.0.tgz" && [ "$(wc -c < "$work/came")" -gt 2000000 ]
+    reads bob /large/-/large-1.0.0.tgz 200 200 && reads bob /large/-/large-1.0.0.tgz 200 304 && same_for bob /large/-/large-1.0.0.tgz
 }
 try 'an archive of 2 MB is kept, and sent whole' keeps_large
 
@@ -336,7 +364,7 @@ at_once() {
     for number in $(seq 1 8); do more @lab/new "1.1.$number"; done
     wait "$readers" || true
     cp "$work/statuses" "$work/out"
-    [ "$(cat "$work/out")" = 'ann 200, bob 200, eve 404, nobody 404' ] && same bob "$address/@lab%2fnew"
+    [ "$(cat "$work/out")" = 'ann 200, bob 200, eve 404, nobody 404' ] && same_for bob /@lab%2fnew
 }
 try 'four readers at once, of whom two may read, while the package gets eight versions' at_once
 

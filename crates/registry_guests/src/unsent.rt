@@ -15,7 +15,8 @@ use std::marker::Model;
 pub struct Unsent {
     front: ShortText,
     output: CommandOutput,
-    sent: usize,
+    // It may be more than a `usize` holds, as far as the lengths of three pieces show.
+    sent: u128,
 }
 
 // Written out, so that dropping it is one call, not one for each part.
@@ -64,7 +65,8 @@ impl Unsent {
     pub fn parts(&self) -> (&[u8], &[u8], &[u8])
         ensures { result.0.now ++ result.1.now ++ result.2.now ≡ self.now }
     {
-        left_of(self.front.as_slice(), self.output.texts(), self.sent)
+        let (text, rest) = self.output.texts();
+        left_of(self.front.as_slice(), text, rest, self.sent)
     }
 
     /// This many more bytes were sent.
@@ -74,7 +76,7 @@ impl Unsent {
     {
         // The new sum is at most this, so it doesn't overflow.
         let _total = total(&self.front, &self.output);
-        self.sent += count;
+        self.sent += count as u128;
     }
 }
 
@@ -101,8 +103,8 @@ fn put_word(front: &mut ShortText, bytes: &[u8])
 }
 
 // How many bytes the answer has.
-fn total(front: &ShortText, output: &CommandOutput) -> usize
+fn total(front: &ShortText, output: &CommandOutput) -> u128
     ensures { result ≡ length (front.now ++ output.now.text) }
 {
-    front.as_slice().len() + output.text_len()
+    front.as_slice().len() as u128 + output.text_len() as u128
 }

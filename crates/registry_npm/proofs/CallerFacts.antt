@@ -20,7 +20,7 @@ use Rattle.registry_rules.specs.declared.request.Request.{Request}
 use Rattle.registry_service.specs.Callers.{reads_caller}
 use Rattle.registry_service.specs.HttpAnswers.{Outcome}
 use Rattle.registry_service.specs.Readings.{Reading, one, reads_ident, reads_name}
-use Rattle.registry_service.specs.Requests.{reads_routed}
+use Rattle.registry_service.specs.Requests.{reads_request, reads_routed}
 use Rattle.registry_service.specs.Turns.{AsksByRoute, Exchange}
 use Rattle.registry_wire.specs.declared.wanted.Wanted.{Wanted}
 use Rattle.registry_npm.specs.Asked.{reads_first, reads_member, reads_user}

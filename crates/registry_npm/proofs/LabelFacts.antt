@@ -1,5 +1,5 @@
 -- What is said to those who keep documents.
-use Rattle.std.proofs.Common.{◌≡◌, ◌≢◌, ◌∷◌, ◌∙◌, [], ℕ, Bool, true, false, List, Option, Some, None, Ok, Err, is_some, refl, sym, ap, inl, inr, if◌then◌else◌}
+use Rattle.std.proofs.Common.{◌≡◌, ◌≢◌, ◌∷◌, ◌∙◌, [], ℕ, Bool, true, false, List, Option, Some, None, Ok, Err, is_some, refl, ap, inl, inr, if◌then◌else◌}
 use Rattle.std.proofs.lemmas.Bool.{cases_Bool, false≢true}
 use Rattle.registry_names.specs.Names.{scope_of}
 use Rattle.registry_names.specs.Texts.{Text}
@@ -11,7 +11,6 @@ use Rattle.registry_routes.specs.NpmRoutes.{NpmRoute, npm_route_of}
 use Rattle.registry_routes.specs.Routes.{Values}
 use Rattle.registry_routes.specs.declared.npm_endpoint.NpmEndpoint.{NpmEndpoint}
 use Rattle.registry_routes.specs.declared.npm_endpoint.NpmEndpoint.TheVariants as by
-use Rattle.registry_rules.specs.declared.reply.Reply.{Reply}
 use Rattle.registry_rules.specs.declared.reply.Reply.TheVariants.{Bytes, Count, Created, Doc, Done, Refused}
 use Rattle.registry_rules.specs.declared.request.Action.{Action}
 use Rattle.registry_rules.specs.declared.request.Action.TheVariants as action
@@ -23,18 +22,17 @@ use Rattle.registry_service.specs.HttpAnswers.{Outcome}
 use Rattle.registry_service.specs.Readings.{Reading}
 use Rattle.registry_service.specs.Turns.{AsksByRoute, Exchange, exchange, stopped}
 use Rattle.registry_wire.specs.Responses.{no_labels}
-use Rattle.registry_wire.specs.declared.labels.Caching.{Caching}
-use Rattle.registry_wire.specs.declared.labels.Caching.TheVariants.{Checked, Shared}
+use Rattle.registry_wire.specs.declared.labels.Caching.TheVariants.{Shared}
 use Rattle.registry_wire.specs.declared.labels.Labels.{Labels}
 use Rattle.registry_wire.specs.declared.wanted.Wanted.{Wanted}
 use Rattle.registry_npm.specs.LabelLaws.{ArchiveTagsAreTags, ArchivesKeepTags, IsTagged, RefusalsHaveNoLabels, SharedIsPublic, TagsAreRevisions}
 use Rattle.registry_npm.specs.Changes.{AreNamed}
 use Rattle.registry_npm.specs.Forms.{names_in}
 use Rattle.registry_npm.specs.Labels.{archive_caching, archive_labels, asked_labels, is_packument, other_labels, own_labels, packument_labels, tag_in}
-use Rattle.registry_npm.specs.Laws.{is_npm, is_npms_by}
+use Rattle.registry_npm.specs.Laws.{is_npms_by}
 use Rattle.registry_npm.specs.Leading.{Leads, asks, document_of, ends, is_stop, or_memory, reading, request}
 use Rattle.registry_npm.specs.Npm.{asks_by, is_npms, labels_by, leads}
-use Rattle.registry_npm.specs.Packages.{asks_for, asks_names, for_document, for_names, fulfils, named_by, other_of, serves, shown, shown_text, shows_fronted, tries, with_names}
+use Rattle.registry_npm.specs.Packages.{asks_names, for_document, for_names, named_by, other_of, serves, shown, shown_text, shows_fronted, tries, with_names}
 use Rattle.registry_npm.proofs.CallerFacts.{routed-at}
 use Rattle.registry_npm.proofs.TagFacts.{hex-is_tag, shown-tag}
 

@@ -1,6 +1,5 @@
 -- Turns where npm's own requests are served.
-use Rattle.std.proofs.Common.{◌≡◌, ◌∷◌, ◌∙◌, [], ℕ, Bool, true, false, List, Option, Some, Ok, Err, refl, sym, ap, subst, inl, inr, if◌then◌else◌}
-use Rattle.registry_names.specs.Texts.{Text}
+use Rattle.std.proofs.Common.{◌≡◌, ◌∷◌, ◌∙◌, [], ℕ, Bool, true, false, List, Option, Some, Ok, Err, refl, sym, ap, subst, inl, inr}
 use Rattle.registry_names.specs.declared.stop.Stop.{Stop}
 use Rattle.registry_names.specs.declared.stop.Stop.TheVariants.{Refused, Fault}
 use Rattle.registry_routes.specs.NpmRoutes.{NpmRoute, npm_route_of}
@@ -74,7 +73,7 @@ module _ {D : Type 0} (answers : Answering D) where
     outcome = turns.outcome;
     is_turn = record { answered = (other r w at turns.exchanges turns.outcome e own turns.is_turn.answered.0, turns.is_turn.answered.1); ends = turns.is_turn.ends };
     answer = same-labels w turns.outcome t.answer (other_labels turns.exchanges turns.outcome) (labels_by (npm_route_of w.method w.target) w.body turns.exchanges turns.outcome)
-      (sym (kept-by r w.body turns.exchanges turns.outcome own) ∙ ap (λ (x : Option NpmRoute). labels_by x w.body turns.exchanges turns.outcome) e) turns.answer;
+        (sym (kept-by r w.body turns.exchanges turns.outcome own) ∙ ap (λ (x : Option NpmRoute). labels_by x w.body turns.exchanges turns.outcome) e) turns.answer;
     counts = turns.counts;
   }
 
@@ -89,6 +88,6 @@ module _ {D : Type 0} (answers : Answering D) where
       ends = is.ends;
     };
     answer = same-labels w o t.answer labels (labels_by (npm_route_of w.method w.target) w.body es o)
-      (says ∙ (sym (own-by r w.body es o own) ∙ ap (λ (x : Option NpmRoute). labels_by x w.body es o) e)) is.answer;
+        (says ∙ (sym (own-by r w.body es o own) ∙ ap (λ (x : Option NpmRoute). labels_by x w.body es o) e)) is.answer;
     counts = is.counts;
   }

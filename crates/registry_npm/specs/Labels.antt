@@ -1,5 +1,5 @@
 -- What responses say to those who keep documents, where npm's own requests are served.
-use Rattle.std.specs.Prelude.{ℕ, Bool, true, false, if◌then◌else◌, ◌++◌, ◌∷◌, [], List, take, drop, Option, Some, None, Ok}
+use Rattle.std.specs.Prelude.{Bool, true, false, if◌then◌else◌, ◌++◌, ◌∷◌, [], List, take, drop, Option, Some, Ok}
 use Rattle.hex.specs.Hex.{encode_lower}
 use Rattle.sha2.specs.Sha256.{sha256}
 use Rattle.registry_names.specs.Texts.{Text}

@@ -1,5 +1,5 @@
 -- What is left of the pieces of a response of which so many bytes were sent.
-use Rattle.std.proofs.Common.{◌≡◌, ◌≤◌, ◌+◌, ◌-◌, ◌++◌, ◌∙◌, [], ℕ, Bool, true, false, List, length, drop, nat_le, refl, ap, ap₂, append_assoc, sym, arith}
+use Rattle.std.proofs.Common.{◌≡◌, ◌≤◌, ◌+◌, ◌-◌, ◌++◌, ◌∙◌, ℕ, Bool, true, false, List, length, drop, nat_le, refl, ap, ap₂, append_assoc, sym, arith}
 use Rattle.std.proofs.Math.ListN.{drop_of_length-le}
 use Rattle.std.proofs.Math.Seq.{drop-append-add}
 use Rattle.std.proofs.lemmas.Bool.{leb-false, leb-true}

@@ -4,10 +4,11 @@
 ghost use Rattle.std.specs.Prelude.{false};
 
 mod documents;
+mod labels;
 
 use crate::outcome::same;
 use crate::parts::{as_text, blob, concat};
-use registry_cache::SharedText;
+use registry_cache::{SharedBlob, SharedText};
 use registry_names::Method::{Delete, Get, Post, Put};
 use registry_names::{Fault, Method, Moment, Refusal, Rule};
 use registry_npm::npm_turn;
@@ -52,6 +53,7 @@ fn answer_to(action: &Action, is_known: bool) -> (&'static str, Result<&'static 
         Action::SetAccess { .. } => ("SetAccess", Ok("")),
         Action::TokenRemove { .. } => ("TokenRemove", Ok("")),
         Action::Packument { package } => ("Packument", packument(package.text())),
+        Action::Archive { package, .. } => ("Archive", archive(package.text(), is_known)),
         Action::Deprecate { package, .. } => ("Deprecate", written(package.text())),
         Action::Withdraw { package, .. } => ("Withdraw", version_of(package.text())),
         Action::WithdrawAll { .. } => ("WithdrawAll", Ok("")),
@@ -85,6 +87,15 @@ fn packument(package: &str) -> Result<&'static str, Refusal> {
     }
 }
 
+// Anybody reads `tool`, and users `@lab/kit`.
+fn archive(package: &str, is_known: bool) -> Result<&'static str, Refusal> {
+    match package {
+        "tool" => Ok("archive"),
+        "@lab/kit" if is_known => Ok("archive"),
+        _ => Err(Refusal::NotFound),
+    }
+}
+
 // Bob writes two packages, reads two, and isn't told of others.
 fn written(package: &str) -> Result<&'static str, Refusal> {
     match package {
@@ -112,6 +123,7 @@ fn done(user: &str) -> Result<&'static str, Refusal> {
 fn reply(alloc: Global, answer: Result<&'static str, Refusal>) -> Result<Reply, Fault> {
     match answer {
         Ok("") => Ok(Reply::Done),
+        Ok("archive") => Ok(Reply::Bytes(SharedBlob::from_slice(alloc, b"archive")?)),
         Ok(text) => Ok(Reply::Doc(SharedText::from_str(alloc, text)?)),
         Err(refusal) => Ok(Reply::Refused(refusal)),
     }

@@ -1,8 +1,8 @@
 //! A server with connections over loopback and with commands beside it.
 
 use crate::client::{
-    ANSWER, LAST_ANSWER, ask, ask_command, client, connect, end, forget, hears, hears_answers,
-    is_answered, is_done, lay, message, send_last, wait,
+    ANSWER, LAST_ANSWER, ask, ask_command, connect, end, forget, has_ended, hears, hears_answers,
+    is_answered, is_done, lay, message, send_last, two_clients, wait,
 };
 use crate::outcome::same;
 use crate::service::{Counting, one_more};
@@ -27,9 +27,10 @@ const SIXTH_ROUND: u32 = 12;
 
 // A listener for commands of a file, beside a server for two connections.
 fn listener(rt: &HostRuntime, server: &Server, file: &str) -> io::Result<CommandListener> {
+    let alloc = rt.alloc();
     lay(rt, file)?;
-    let mut listener = CommandListener::closed(rt.alloc())?;
-    listener.open(rt, rt.alloc(), server.registry(), file)?;
+    let mut listener = CommandListener::closed(alloc)?;
+    listener.open(rt, alloc, server.registry(), file)?;
     Ok(listener)
 }
 
@@ -76,16 +77,14 @@ impl Clock for Holding<'_> {
 // server.
 #[test]
 fn commands_wait_during_a_hold(rt: HostRuntime) {
+    let alloc = rt.alloc();
     let file = "hold.db";
-    let server = Server::bind(&rt, rt.alloc(), 0, 2).expect(&rt, "a server");
+    let server = Server::bind(&rt, alloc, 0, 2).expect(&rt, "a server");
     let mut listener = listener(&rt, &server, file).expect(&rt, "sockets");
     let holder = connect(&rt, file, "control", b"h").expect(&rt, "a client");
-    let message = message(&rt, rt.alloc());
+    let message = message(&rt, alloc);
     let user = connect(&rt, file, "command", &message).expect(&rt, "a client");
-    let clients = [
-        client(&rt, &server).expect(&rt, "a client"),
-        client(&rt, &server).expect(&rt, "a client"),
-    ];
+    let clients = two_clients(&rt, &rt, &server);
     ask(&rt, &clients[0]);
     ask(&rt, &clients[1]);
     ask_command(&rt, &clients[1]);
@@ -109,8 +108,8 @@ fn commands_wait_during_a_hold(rt: HostRuntime) {
         command: 0,
     };
     let at = Moment::clamped(0);
-    let ended = server.run_beside(&clock, rt.alloc(), at, &mut service, &mut listener);
-    same(&rt, "it ended", ended.expect(&rt, "an end"), Ended::Enough);
+    let ended = server.run_beside(&clock, alloc, at, &mut service, &mut listener);
+    has_ended(&rt, ended, Ended::Enough);
     same(&rt, "asked during the hold", clock.asked_meanwhile.get(), 2);
     same(
         &rt,
@@ -119,9 +118,9 @@ fn commands_wait_during_a_hold(rt: HostRuntime) {
         true,
     );
     same(&rt, "asked in all", asked.get(), 5);
-    hears(&rt, rt.alloc(), "the first client", &clients[0], "");
-    hears_answers(&rt, rt.alloc(), "the second client", &clients[1], 2);
-    is_done(&rt, rt.alloc(), &user);
+    hears(&rt, alloc, "the first client", &clients[0], "");
+    hears_answers(&rt, alloc, "the second client", &clients[1], 2);
+    is_done(&rt, alloc, &user);
     forget(&rt, file);
 }
 
@@ -167,14 +166,12 @@ impl Clock for Lapsing<'_> {
 
 #[test]
 fn a_hold_of_a_server_lapses_after_a_minute(rt: HostRuntime) {
+    let alloc = rt.alloc();
     let file = "lapse.db";
-    let server = Server::bind(&rt, rt.alloc(), 0, 2).expect(&rt, "a server");
+    let server = Server::bind(&rt, alloc, 0, 2).expect(&rt, "a server");
     let mut listener = listener(&rt, &server, file).expect(&rt, "sockets");
     let holder = connect(&rt, file, "control", b"h").expect(&rt, "a client");
-    let clients = [
-        client(&rt, &server).expect(&rt, "a client"),
-        client(&rt, &server).expect(&rt, "a client"),
-    ];
+    let clients = two_clients(&rt, &rt, &server);
     for client in &clients {
         ask_command(&rt, client);
         end(&rt, client);
@@ -198,8 +195,8 @@ fn a_hold_of_a_server_lapses_after_a_minute(rt: HostRuntime) {
         command: 0,
     };
     let at = Moment::clamped(0);
-    let ended = server.run_beside(&clock, rt.alloc(), at, &mut service, &mut listener);
-    same(&rt, "it ended", ended.expect(&rt, "an end"), Ended::Enough);
+    let ended = server.run_beside(&clock, alloc, at, &mut service, &mut listener);
+    has_ended(&rt, ended, Ended::Enough);
     same(&rt, "asked in 58 s", clock.asked_in_58.get(), 0);
     same(&rt, "it lasted for 66 s", clock.lasted_for_66.get(), false);
     same(&rt, "asked in all", asked.get(), 2);
@@ -209,15 +206,13 @@ fn a_hold_of_a_server_lapses_after_a_minute(rt: HostRuntime) {
 // Each client sends three requests, and in each round one of them is answered.
 #[test]
 fn a_command_is_answered_between_requests(rt: HostRuntime) {
+    let alloc = rt.alloc();
     let file = "between.db";
-    let server = Server::bind(&rt, rt.alloc(), 0, 2).expect(&rt, "a server");
+    let server = Server::bind(&rt, alloc, 0, 2).expect(&rt, "a server");
     let mut listener = listener(&rt, &server, file).expect(&rt, "sockets");
-    let message = message(&rt, rt.alloc());
+    let message = message(&rt, alloc);
     let user = connect(&rt, file, "command", &message).expect(&rt, "a client");
-    let clients = [
-        client(&rt, &server).expect(&rt, "a client"),
-        client(&rt, &server).expect(&rt, "a client"),
-    ];
+    let clients = two_clients(&rt, &rt, &server);
     for client in &clients {
         for _ in 0..3 {
             ask(&rt, client);
@@ -231,16 +226,16 @@ fn a_command_is_answered_between_requests(rt: HostRuntime) {
         command: 0,
     };
     let at = Moment::clamped(0);
-    let ended = server.run_beside(&rt, rt.alloc(), at, &mut service, &mut listener);
-    same(&rt, "it ended", ended.expect(&rt, "an end"), Ended::Enough);
+    let ended = server.run_beside(&rt, alloc, at, &mut service, &mut listener);
+    has_ended(&rt, ended, Ended::Enough);
     let turn = service.command;
     same(&rt, "after the first of both", turn > 2, true);
     same(&rt, "before the last of both", turn < 6, true);
     same(&rt, "asked in all", asked.get(), 7);
     for client in &clients {
-        hears_answers(&rt, rt.alloc(), "a client", client, 3);
+        hears_answers(&rt, alloc, "a client", client, 3);
     }
-    is_done(&rt, rt.alloc(), &user);
+    is_done(&rt, alloc, &user);
     forget(&rt, file);
 }
 
@@ -284,14 +279,12 @@ impl Clock for Stopping<'_> {
 
 #[test]
 fn who_has_asked_is_answered_at_a_stop(rt: HostRuntime) {
+    let alloc = rt.alloc();
     let file = "stop.db";
-    let server = Server::bind(&rt, rt.alloc(), 0, 2).expect(&rt, "a server");
+    let server = Server::bind(&rt, alloc, 0, 2).expect(&rt, "a server");
     let mut listener = listener(&rt, &server, file).expect(&rt, "sockets");
     let stops = connect(&rt, file, "control", b"").expect(&rt, "a client");
-    let clients = [
-        client(&rt, &server).expect(&rt, "a client"),
-        client(&rt, &server).expect(&rt, "a client"),
-    ];
+    let clients = two_clients(&rt, &rt, &server);
     for client in &clients {
         ask(&rt, client);
     }
@@ -308,11 +301,11 @@ fn who_has_asked_is_answered_at_a_stop(rt: HostRuntime) {
         command: 0,
     };
     let at = Moment::clamped(0);
-    let ended = server.run_beside(&clock, rt.alloc(), at, &mut service, &mut listener);
-    same(&rt, "it ended", ended.expect(&rt, "an end"), Ended::Stopped);
-    let both = format!(in rt.alloc(); "{ANSWER}{LAST_ANSWER}").expect(&rt, "memory");
+    let ended = server.run_beside(&clock, alloc, at, &mut service, &mut listener);
+    has_ended(&rt, ended, Ended::Stopped);
+    let both = format!(in alloc; "{ANSWER}{LAST_ANSWER}").expect(&rt, "memory");
     for client in &clients {
-        hears(&rt, rt.alloc(), "a client", client, both.as_str());
+        hears(&rt, alloc, "a client", client, both.as_str());
     }
     forget(&rt, file);
 }

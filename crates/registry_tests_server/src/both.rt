@@ -4,7 +4,7 @@ ghost use Rattle.std.specs.Prelude.{false};
 ghost use Rattle.registry_service.proofs.DialectFacts.{profile_asks_queries};
 ghost use Rattle.registry_service.specs.Turns.{profile};
 
-use crate::client::{ANSWER, asking, hears, wait};
+use crate::client::{ANSWER, asking, has_ended, hears, wait};
 use crate::outcome::same;
 use registry_names::{Fault, Moment};
 use registry_rules::{Action, Reply, Request};
@@ -61,8 +61,9 @@ impl HttpService for Ordering {
 // Three clients wait at the port, and one at the socket, when the server lets in the first.
 #[test]
 fn who_waits_at_a_socket_is_let_in_beside_those_at_the_port(rt: HostRuntime) {
-    let (socket, file) = LocalSocket::bind(&rt, rt.alloc(), "both.sock").expect(&rt, "a socket");
-    let server = Server::bind_at(&rt, rt.alloc(), ListenAt::Both(0, socket), 4);
+    let alloc = rt.alloc();
+    let (socket, file) = LocalSocket::bind(&rt, alloc, "both.sock").expect(&rt, "a socket");
+    let server = Server::bind_at(&rt, alloc, ListenAt::Both(0, socket), 4);
     let server = server.expect(&rt, "a server");
     let clients = [
         asking(&rt, &server).expect(&rt, "a client"),
@@ -72,13 +73,13 @@ fn who_waits_at_a_socket_is_let_in_beside_those_at_the_port(rt: HostRuntime) {
     let beside = asking_for_tool(&rt).expect(&rt, "a client");
     wait(&rt);
     let mut service = Ordering { asked: 0, tool: 0 };
-    let ended = server.run(&rt, rt.alloc(), Moment::clamped(0), &mut service);
-    same(&rt, "it ended", ended.expect(&rt, "an end"), Ended::Enough);
+    let ended = server.run(&rt, alloc, Moment::clamped(0), &mut service);
+    has_ended(&rt, ended, Ended::Enough);
     same(&rt, "asked", service.asked, 4);
     let is_early = service.tool > 0 && service.tool < 3;
     same(&rt, "among the first two", is_early, true);
     for client in &clients {
-        hears(&rt, rt.alloc(), "a client", client, ANSWER);
+        hears(&rt, alloc, "a client", client, ANSWER);
     }
     drop(beside);
     file.remove(&rt).expect(&rt, "the socket is removed");

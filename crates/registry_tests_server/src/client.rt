@@ -3,7 +3,7 @@
 use crate::outcome::same;
 use registry_guests::{fits, folder_of, parse_reply, write};
 use registry_names::Text;
-use registry_server::Server;
+use registry_server::{Ended, Server};
 use std::alloc::Global;
 use std::io::{Read, Write};
 use std::net::{Ipv4Addr, Net, Shutdown, SocketAddr, TcpStream};
@@ -34,6 +34,13 @@ const TRANSIT: u64 = 100;
 pub fn client(rt: &HostRuntime, server: &Server) -> io::Result<TcpStream> {
     let port = server.port()?;
     rt.connect(SocketAddr::from((Ipv4Addr::LOCALHOST, port)))
+}
+
+/// Two clients over HTTP.
+pub fn two_clients(rt: &HostRuntime, ends: &impl Abort, server: &Server) -> [TcpStream; 2] {
+    let first = client(rt, server).expect(ends, "a client");
+    let second = client(rt, server).expect(ends, "a client");
+    [first, second]
 }
 
 /// A client over HTTP that has asked, and sends no more.
@@ -84,6 +91,11 @@ pub fn wait(rt: &HostRuntime) {
     thread::sleep(rt, Duration::from_millis(TRANSIT));
 }
 
+/// Checks that the run of a server ended like this.
+pub fn has_ended(rt: &impl Abort, ended: io::Result<Ended>, wanted: Ended) {
+    same(rt, "it ended", ended.expect(rt, "an end"), wanted);
+}
+
 /// Checks that this is everything that a client over HTTP was sent, once its connection has ended.
 pub fn hears(rt: &impl Abort, alloc: Global, case: &str, mut client: &TcpStream, wanted: &str) {
     let mut text = String::new(alloc);
@@ -120,8 +132,9 @@ pub fn connect(rt: &HostRuntime, file: &str, socket: &str, bytes: &[u8]) -> io::
 }
 
 fn path_of(rt: &HostRuntime, file: &str, socket: &str) -> io::Result<String> {
-    let folder = folder_of(rt, rt.alloc(), file)?;
-    Ok(format!(in rt.alloc(); "{}/{socket}", folder.as_str())?)
+    let alloc = rt.alloc();
+    let folder = folder_of(rt, alloc, file)?;
+    Ok(format!(in alloc; "{}/{socket}", folder.as_str())?)
 }
 
 /// The message of the command that adds a user.

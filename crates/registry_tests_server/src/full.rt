@@ -4,7 +4,7 @@ ghost use Rattle.std.specs.Prelude.{false};
 ghost use Rattle.registry_service.proofs.DialectFacts.{profile_asks_queries};
 ghost use Rattle.registry_service.specs.Turns.{profile};
 
-use crate::client::{ANSWER, asking, client, hears, send_last, wait};
+use crate::client::{ANSWER, asking, client, has_ended, hears, send_last, wait};
 use crate::outcome::same;
 use registry_names::{Fault, Moment};
 use registry_rules::{Reply, Request};
@@ -77,9 +77,10 @@ impl HttpService for Waking<'_> {
 // may often have only 1,024, too few for both ends of each connection.
 // The test ends by `ends`.
 fn newcomers_come(rt: &HostRuntime, ends: &impl Abort, left: usize) {
+    let alloc = rt.alloc();
     let gone = (CONNECTION_COUNT - 2).saturating_sub(left);
     let count = CONNECTION_COUNT.saturating_add(left).saturating_add(1);
-    let server = Server::bind(rt, rt.alloc(), 0, count as u64).expect(ends, "a server");
+    let server = Server::bind(rt, alloc, 0, count as u64).expect(ends, "a server");
     let asks = client(rt, &server).expect(ends, "a client");
     let idle = client(rt, &server).expect(ends, "a client");
     for _ in 0..left {
@@ -88,7 +89,7 @@ fn newcomers_come(rt: &HostRuntime, ends: &impl Abort, left: usize) {
     for _ in 0..gone {
         drop(asking(rt, &server).expect(ends, "a client"));
     }
-    let mut newcomers = Vec::new(rt.alloc());
+    let mut newcomers = Vec::new(alloc);
     for _ in 0..left.saturating_add(1) {
         let newcomer = asking(rt, &server).expect(ends, "a client");
         newcomers.push(newcomer).expect(ends, "memory");
@@ -101,18 +102,13 @@ fn newcomers_come(rt: &HostRuntime, ends: &impl Abort, left: usize) {
         asks: &asks,
         idle: &idle,
     };
-    let ended = server.run(rt, rt.alloc(), Moment::clamped(0), &mut service);
-    same(
-        ends,
-        "it ended",
-        ended.expect(ends, "an end"),
-        Ended::Enough,
-    );
+    let ended = server.run(rt, alloc, Moment::clamped(0), &mut service);
+    has_ended(ends, ended, Ended::Enough);
     same(ends, "asked", service.asked, CONNECTION_COUNT);
-    hears(ends, rt.alloc(), "who has asked", &asks, ANSWER);
-    hears(ends, rt.alloc(), "who is idle", &idle, "");
+    hears(ends, alloc, "who has asked", &asks, ANSWER);
+    hears(ends, alloc, "who is idle", &idle, "");
     for newcomer in &newcomers {
-        hears(ends, rt.alloc(), "a newcomer", newcomer, ANSWER);
+        hears(ends, alloc, "a newcomer", newcomer, ANSWER);
     }
 }
 

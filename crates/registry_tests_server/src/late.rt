@@ -1,6 +1,6 @@
 //! A server whose time passes.
 
-use crate::client::{client, hears_answers, send, send_last, wait};
+use crate::client::{client, has_ended, hears_answers, send, send_last, wait};
 use crate::outcome::same;
 use crate::service::{Counting, one_more};
 use mio::{Token, Waker};
@@ -76,7 +76,8 @@ impl Clock for Passing<'_> {
 
 #[test]
 fn a_silent_connection_ends_after_a_minute(rt: HostRuntime) {
-    let server = Server::bind(&rt, rt.alloc(), 0, 2).expect(&rt, "a server");
+    let alloc = rt.alloc();
+    let server = Server::bind(&rt, alloc, 0, 2).expect(&rt, "a server");
     let silent = client(&rt, &server).expect(&rt, "a client");
     silent.set_nonblocking(true).expect(&rt, "it never waits");
     let asks = client(&rt, &server).expect(&rt, "a client");
@@ -94,9 +95,9 @@ fn a_silent_connection_ends_after_a_minute(rt: HostRuntime) {
         asked: &asked,
         command: 0,
     };
-    let ended = server.run(&clock, rt.alloc(), Moment::clamped(0), &mut service);
-    same(&rt, "it ended", ended.expect(&rt, "an end"), Ended::Enough);
+    let ended = server.run(&clock, alloc, Moment::clamped(0), &mut service);
+    has_ended(&rt, ended, Ended::Enough);
     same(&rt, "ended after 58 s", clock.after_58.get(), false);
     same(&rt, "ended after 62 s", clock.after_62.get(), true);
-    hears_answers(&rt, rt.alloc(), "who has asked", &asks, 2);
+    hears_answers(&rt, alloc, "who has asked", &asks, 2);
 }

@@ -4,7 +4,7 @@ ghost use Rattle.std.specs.Prelude.{false};
 ghost use Rattle.registry_service.proofs.DialectFacts.{profile_asks_queries};
 ghost use Rattle.registry_service.specs.Turns.{profile};
 
-use crate::client::{ANSWER, asking, hears};
+use crate::client::{ANSWER, asking, has_ended, hears};
 use crate::outcome::same;
 use crate::service::one_more;
 use registry_names::{Fault, Moment};
@@ -56,7 +56,8 @@ impl HttpService for Rounds<'_> {
 
 #[test]
 fn a_service_is_told_of_each_round(rt: HostRuntime) {
-    let server = Server::bind(&rt, rt.alloc(), 0, 1).expect(&rt, "a server");
+    let alloc = rt.alloc();
+    let server = Server::bind(&rt, alloc, 0, 1).expect(&rt, "a server");
     let asks = asking(&rt, &server).expect(&rt, "a client");
     let looks = Cell::new(0);
     let rests = Cell::new(0);
@@ -64,9 +65,9 @@ fn a_service_is_told_of_each_round(rt: HostRuntime) {
         looks: &looks,
         rests: &rests,
     };
-    let ended = server.run(&rt, rt.alloc(), Moment::clamped(0), &mut service);
-    same(&rt, "it ended", ended.expect(&rt, "an end"), Ended::Enough);
+    let ended = server.run(&rt, alloc, Moment::clamped(0), &mut service);
+    has_ended(&rt, ended, Ended::Enough);
     same(&rt, "rounds were told", rests.get() > 0, true);
     same(&rt, "with a look each", looks.get(), rests.get());
-    hears(&rt, rt.alloc(), "the client", &asks, ANSWER);
+    hears(&rt, alloc, "the client", &asks, ANSWER);
 }

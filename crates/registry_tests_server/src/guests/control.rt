@@ -26,14 +26,15 @@ fn is_confirmed(rt: &impl Abort, case: &str, hold: &mut Hold, wanted: bool) {
 
 #[test]
 fn a_hold_ends_when_its_time_is_up(rt: HostRuntime) {
+    let alloc = rt.alloc();
     let file = "lapsed.db";
     lay(&rt, file).expect(&rt, "a file");
-    let mut server = ServerSide::open(&rt, file).expect(&rt, "a server");
+    let mut server = ServerSide::open(&rt, &rt, file);
     let stream = connect(&rt, file, "control").expect(&rt, "a client");
-    is_held(&rt, rt.alloc(), &mut server, &stream, 0);
-    server.go_on(&rt, rt.alloc(), HOLD_LIMIT - 1);
+    is_held(&rt, alloc, &mut server, &stream, 0);
+    server.go_on(&rt, alloc, HOLD_LIMIT - 1);
     same(&rt, "in time", server.listener.holds(), true);
-    server.go_on(&rt, rt.alloc(), HOLD_LIMIT);
+    server.go_on(&rt, alloc, HOLD_LIMIT);
     same(&rt, "late", server.listener.holds(), false);
     let mut hold = Hold::of(stream).expect(&rt, "a hold");
     is_confirmed(&rt, "the holder sees it", &mut hold, false);
@@ -54,39 +55,41 @@ fn a_hold_is_confirmed(rt: HostRuntime) {
 
 #[test]
 fn a_newcomer_does_not_end_a_hold(rt: HostRuntime) {
+    let alloc = rt.alloc();
     let file = "newcomer.db";
     lay(&rt, file).expect(&rt, "a file");
-    let mut server = ServerSide::open(&rt, file).expect(&rt, "a server");
+    let mut server = ServerSide::open(&rt, &rt, file);
     let first = connect(&rt, file, "control").expect(&rt, "a client");
-    is_held(&rt, rt.alloc(), &mut server, &first, 0);
+    is_held(&rt, alloc, &mut server, &first, 0);
     let second = connect(&rt, file, "control").expect(&rt, "a client");
     send(&rt, &second, b"h");
-    server.go_on(&rt, rt.alloc(), 1);
-    hears(&rt, rt.alloc(), "the newcomer waits", &second, "");
+    server.go_on(&rt, alloc, 1);
+    hears(&rt, alloc, "the newcomer waits", &second, "");
     send(&rt, &first, b"k");
-    server.go_on(&rt, rt.alloc(), 1);
-    hears(&rt, rt.alloc(), "the first still holds", &first, "k");
+    server.go_on(&rt, alloc, 1);
+    hears(&rt, alloc, "the first still holds", &first, "k");
     drop(first);
-    server.go_on(&rt, rt.alloc(), 2);
-    hears(&rt, rt.alloc(), "then the newcomer", &second, "h");
+    server.go_on(&rt, alloc, 2);
+    hears(&rt, alloc, "then the newcomer", &second, "h");
     forget(&rt, file);
 }
 
 #[test]
 fn a_stop_is_kept(rt: HostRuntime) {
+    let alloc = rt.alloc();
     let file = "stopped.db";
     lay(&rt, file).expect(&rt, "a file");
-    let mut server = ServerSide::open(&rt, file).expect(&rt, "a server");
+    let mut server = ServerSide::open(&rt, &rt, file);
     let client = connect(&rt, file, "control").expect(&rt, "a client");
     send(&rt, &client, b"s");
-    server.go_on(&rt, rt.alloc(), 0);
+    server.go_on(&rt, alloc, 0);
     same(&rt, "it stops", server.listener.stops(), true);
-    server.go_on(&rt, rt.alloc(), u64::MAX);
+    server.go_on(&rt, alloc, u64::MAX);
     same(&rt, "it still does", server.listener.stops(), true);
-    hears(&rt, rt.alloc(), "whoever stops it waits", &client, "");
+    hears(&rt, alloc, "whoever stops it waits", &client, "");
     let is_listening = is_listening(&rt, file);
     same(&rt, "no command comes in", is_listening, false);
     drop(server);
-    hears_the_end(&rt, rt.alloc(), "it has ended", &client);
+    hears_the_end(&rt, alloc, "it has ended", &client);
     forget(&rt, file);
 }

@@ -23,7 +23,14 @@ fn kind_of<T: Drop>(done: io::Result<T>) -> Option<ErrorKind> {
 
 // What comes of a server's attempt to listen for commands of a file.
 fn opened(rt: &HostRuntime, file: &str) -> Option<ErrorKind> {
-    kind_of(ServerSide::open(rt, file))
+    kind_of(open(rt, file))
+}
+
+fn open(rt: &HostRuntime, file: &str) -> io::Result<()> {
+    let alloc = rt.alloc();
+    let poll = mio::Poll::new(rt)?;
+    let mut listener = CommandListener::closed(alloc)?;
+    listener.open(rt, alloc, poll.registry(), file)
 }
 
 // What comes of each attempt of a client to reach a server of a file.
@@ -65,7 +72,7 @@ fn are_removed(rt: &HostRuntime, listener: &CommandListener, file: &str) -> bool
 fn a_new_folder_is_its_owners_alone(rt: HostRuntime) {
     let file = "owned.db";
     lay(&rt, file).expect(&rt, "a file");
-    let server = ServerSide::open(&rt, file).expect(&rt, "a server");
+    let server = ServerSide::open(&rt, &rt, file);
     let folder = folder(rt.alloc(), file).expect(&rt, "memory");
     let mode = mode_of(&rt, folder.as_str()).expect(&rt, "a folder");
     same(&rt, "its mode", mode & 0o777, 0o700);
@@ -111,17 +118,18 @@ fn a_folder_of_another_kind_is_refused(rt: HostRuntime) {
 
 #[test]
 fn a_command_by_a_link_finds_the_server(rt: HostRuntime) {
+    let alloc = rt.alloc();
     let file = temporary(&rt, "-target.db").expect(&rt, "a path");
     let link = temporary(&rt, "-link.db").expect(&rt, "a path");
     let (file, link) = (file.as_str(), link.as_str());
     lay(&rt, file).expect(&rt, "a file");
     forget(&rt, link);
     symlink(&rt, file, link).expect(&rt, "a link");
-    let mut server = ServerSide::open(&rt, link).expect(&rt, "a server");
+    let mut server = ServerSide::open(&rt, &rt, link);
     let client = connect(&rt, file, "command").expect(&rt, "a client");
-    ask(&rt, rt.alloc(), &client, &ADDS_ANN);
-    server.go_on(&rt, rt.alloc(), 0);
-    is_done(&rt, rt.alloc(), "its socket lies beside the file", &client);
+    ask(&rt, alloc, &client, &ADDS_ANN);
+    server.go_on(&rt, alloc, 0);
+    is_done(&rt, alloc, "its socket lies beside the file", &client);
     same(&rt, "by the link", has_other(&rt, link), Some(false));
     same(&rt, "by the file", has_other(&rt, file), Some(false));
     forget(&rt, link);
@@ -130,18 +138,19 @@ fn a_command_by_a_link_finds_the_server(rt: HostRuntime) {
 
 #[test]
 fn a_server_of_another_file_is_told_from_its_own(rt: HostRuntime) {
+    let alloc = rt.alloc();
     let (file, moved) = ("replaced.db", "moved.db");
     lay(&rt, file).expect(&rt, "a file");
     forget(&rt, moved);
-    let first = ServerSide::open(&rt, file).expect(&rt, "a server");
+    let first = ServerSide::open(&rt, &rt, file);
     same(&rt, "its own", has_other(&rt, file), Some(false));
     fs::rename(&rt, file, moved).expect(&rt, "the file moves");
     fs::write(&rt, file, "").expect(&rt, "a file");
     same(&rt, "another", has_other(&rt, file), Some(true));
     let other = Some(ErrorKind::InvalidData);
-    let command = kind_of(connect_to_server(&rt, rt.alloc(), file));
+    let command = kind_of(connect_to_server(&rt, alloc, file));
     same(&rt, "a command", command, other);
-    same(&rt, "a hold", kind_of(hold(&rt, rt.alloc(), file)), other);
+    same(&rt, "a hold", kind_of(hold(&rt, alloc, file)), other);
     let in_use = Some(ErrorKind::AddrInUse);
     same(&rt, "a second server", opened(&rt, file), in_use);
     same(
@@ -153,9 +162,9 @@ fn a_server_of_another_file_is_told_from_its_own(rt: HostRuntime) {
     drop(first);
     same(&rt, "it has ended", has_other(&rt, file), Some(false));
     // A server listens where an earlier one ended without removing its sockets.
-    let mut second = ServerSide::open(&rt, file).expect(&rt, "a server");
+    let mut second = ServerSide::open(&rt, &rt, file);
     let client = connect(&rt, file, "command").expect(&rt, "a client");
-    answers(&rt, rt.alloc(), &mut second, &client);
+    answers(&rt, alloc, &mut second, &client);
     forget(&rt, moved);
     forget(&rt, file);
 }
@@ -173,7 +182,7 @@ fn a_server_that_ends_leaves_the_next_ones_sockets(rt: HostRuntime) {
     lay(&rt, file).expect(&rt, "a file");
     let alloc = rt.alloc();
     let poll = mio::Poll::new(&rt).expect(&rt, "a poll");
-    let first = ServerSide::open(&rt, file).expect(&rt, "a server");
+    let first = ServerSide::open(&rt, &rt, file);
     let mut second = CommandListener::closed(alloc).expect(&rt, "memory");
     let refused = kind_of(second.open(&rt, alloc, poll.registry(), file));
     let in_use = Some(ErrorKind::AddrInUse);

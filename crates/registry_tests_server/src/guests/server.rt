@@ -105,29 +105,19 @@ pub struct ServerSide {
 
 impl ServerSide {
     /// One that listens at the sockets of a file.
-    pub fn open(rt: &HostRuntime, file: &str) -> io::Result<ServerSide> {
-        let mut server = ServerSide::closed(rt)?;
-        server.listen(rt, file)?;
-        Ok(server)
-    }
-
-    fn closed(rt: &HostRuntime) -> io::Result<ServerSide> {
+    pub fn open(rt: &HostRuntime, ends: &impl Abort, file: &str) -> ServerSide {
         let alloc = rt.alloc();
-        Ok(ServerSide {
-            listener: CommandListener::closed(alloc)?,
+        let poll = Poll::new(rt).expect(ends, "a poll");
+        ServerSide {
+            listener: listener(rt, ends, &poll, file),
             service: Counting {
                 asked: 0,
                 told: String::new(alloc),
             },
-            poll: Poll::new(rt)?,
-            events: Events::with_capacity(alloc, GUEST_TOKENS)?,
-            buffer: Vec::from_slice(alloc, &[b'x'; 1_024])?,
-        })
-    }
-
-    fn listen(&mut self, rt: &HostRuntime, file: &str) -> io::Result<()> {
-        self.listener
-            .open(rt, rt.alloc(), self.poll.registry(), file)
+            poll,
+            events: Events::with_capacity(alloc, GUEST_TOKENS).expect(ends, "memory"),
+            buffer: Vec::from_slice(alloc, &[b'x'; 1_024]).expect(ends, "memory"),
+        }
     }
 
     /// Some rounds, each at this time in milliseconds.
@@ -155,6 +145,14 @@ impl ServerSide {
         }
         Ok(())
     }
+}
+
+fn listener(rt: &HostRuntime, ends: &impl Abort, poll: &Poll, file: &str) -> CommandListener {
+    let alloc = rt.alloc();
+    let mut listener = CommandListener::closed(alloc).expect(ends, "memory");
+    let opened = listener.open(rt, alloc, poll.registry(), file);
+    opened.expect(ends, "sockets");
+    listener
 }
 
 fn wake_all(events: &Events, listener: &mut CommandListener) {

@@ -12,7 +12,7 @@ use sqlite::{Alter, Connection, Constraint, Error, ErrorCode, Row, Transaction, 
 use std::alloc::Global;
 use std::process::Abort;
 
-#[derive(Debug, Drop)]
+#[derive(Drop)]
 struct Count {
     word: String,
     times: u32,
@@ -35,7 +35,7 @@ impl RowKind for Count {
 }
 
 /// What is done with the table, in the state that earlier calls left.
-#[derive(Clone, Copy, Debug)]
+#[derive(Clone, Copy)]
 enum Call {
     /// A statement that writes is run.
     Write(&'static str),
@@ -101,13 +101,9 @@ fn all_come_out<S: Alter>(rt: &impl Abort, alloc: Global, conn: &mut Connection<
 fn come_out<S: Alter>(rt: &impl Abort, alloc: Global, tx: &mut Transaction<'_, S>)
     ensures same_reference { tx.new.conn.ghost_name ≡ tx.old.conn.ghost_name }
 {
-    for (call, wanted) in &CALLS {
-        same(
-            rt,
-            *call,
-            told(alloc, tx, *call).as_deref(),
-            wanted.as_deref(),
-        );
+    for (place, (call, wanted)) in CALLS.iter().enumerate() {
+        let came_out = told(alloc, tx, *call);
+        same(rt, place, came_out.as_deref(), wanted.as_deref());
     }
 }
 

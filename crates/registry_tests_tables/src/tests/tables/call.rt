@@ -34,14 +34,17 @@ const TABLE_OF_EACH_ROW: &str =
 pub struct Case {
     /// What they show.
     pub shows: &'static str,
-    /// The calls, each with the name of its package, and its answer.
-    pub calls: &'static [(&'static str, Call, &'static str)],
+    /// The calls, in their order.
+    pub calls: &'static [Told],
     /// What follows them.
     pub end: End,
 }
 
+/// The name of a package, a call on it, and what the call answers.
+pub type Told = (&'static str, Call, &'static str);
+
 /// A call on a package.
-#[derive(Clone, Copy, Debug)]
+#[derive(Clone, Copy)]
 pub enum Call {
     /// Puts its first status.
     NewStatus(Status),
@@ -143,28 +146,27 @@ pub fn all_tell<S: Alter>(rt: &impl Abort, alloc: Global, tx: &mut Transaction<'
     ensures same_reference { tx.new.conn.ghost_name ≡ tx.old.conn.ghost_name }
     ensures in_form { InForm S.Store tx.new }
 {
-    for (name, call, wanted) in case.calls {
-        tells(rt, alloc, tx, (case.shows, *name, *call), *wanted);
+    for (place, call) in case.calls.iter().enumerate() {
+        tells(rt, alloc, tx, (case.shows, place), call);
     }
 }
 
-// What a case shows, the name of a package, and a call on it.
-type Asked = (&'static str, &'static str, Call);
-
+// Makes a call. Its place is what the case shows, and how many calls of the case come before it.
 fn tells<S: Alter>(
     rt: &impl Abort,
     alloc: Global,
     tx: &mut Transaction<'_, S>,
-    asked: Asked,
-    wanted: &'static str,
+    place: (&str, usize),
+    call: &Told,
 )
     requires in_form { InForm S.Store tx.old }
     ensures same_reference { tx.new.conn.ghost_name ≡ tx.old.conn.ghost_name }
     ensures in_form { InForm S.Store tx.new }
 {
-    match told(rt, alloc, tx, asked.1, asked.2) {
-        Ok(text) => same(rt, asked, text.as_str(), wanted),
-        Err(fault) => panic!(rt; "{asked:?} comes out as {fault:?}"),
+    let (name, call, wanted) = *call;
+    match told(rt, alloc, tx, name, call) {
+        Ok(text) => same(rt, place, text.as_str(), wanted),
+        Err(fault) => panic!(rt; "{place:?} comes out as {fault:?}"),
     }
 }
 
@@ -174,7 +176,7 @@ fn ends<S: Alter>(rt: &impl Abort, alloc: Global, tx: &mut Transaction<'_, S>, c
 {
     match case.end {
         End::Nothing => {}
-        End::Fault(name, call) => is_fault(rt, alloc, tx, (case.shows, name, call)),
+        End::Fault(name, call) => is_fault(rt, alloc, tx, case.shows, (name, call)),
         End::Rows(wanted) => {
             let rows = tx.query_all(TABLE_OF_EACH_ROW, &[]).expect(rt, "rows");
             same(rt, case.shows, words_in(rt, alloc, &rows).as_str(), wanted);
@@ -182,12 +184,20 @@ fn ends<S: Alter>(rt: &impl Abort, alloc: Global, tx: &mut Transaction<'_, S>, c
     }
 }
 
-fn is_fault<S: Alter>(rt: &impl Abort, alloc: Global, tx: &mut Transaction<'_, S>, asked: Asked)
+fn is_fault<S: Alter>(
+    rt: &impl Abort,
+    alloc: Global,
+    tx: &mut Transaction<'_, S>,
+    shows: &str,
+    asked: (&str, Call),
+)
     requires in_form { InForm S.Store tx.old }
     ensures same_reference { tx.new.conn.ghost_name ≡ tx.old.conn.ghost_name }
 {
-    let fault = told(rt, alloc, tx, asked.1, asked.2).err();
-    same(rt, asked, fault, Some(Fault::Database));
+    match told(rt, alloc, tx, asked.0, asked.1) {
+        Ok(_) => panic!(rt; "{shows}: there is no fault"),
+        Err(fault) => same(rt, shows, fault, Fault::Database),
+    }
 }
 
 // The words of the rows, one after another.
@@ -233,18 +243,35 @@ fn told_of<S: Alter>(
     ensures in_form { OnOk result (InForm S.Store tx.new) }
 {
     match call {
+        Call::Teams(call) => teams::told(rt, alloc, tx, name, call),
+        Call::Rights(call) => rights::told(rt, alloc, tx, name, call),
+        Call::Tokens(call) => tokens::told(rt, alloc, tx, call),
         Call::Status => Ok(status_text(rt, alloc, load_status(tx, name)?)),
+        Call::Tags => Ok(tags_text(rt, alloc, &load_tags(alloc, tx, name)?)),
+        Call::Times => Ok(times_text(rt, alloc, &load_times(alloc, tx, name)?)),
+        Call::Archive(version) => Ok(archive_text(rt, alloc, &load_archive(tx, name, version)?)),
+        _ => told_so(rt, alloc, tx, name, call),
+    }
+}
+
+// Whether something is so, or `done` for a call that only writes.
+fn told_so<S: Alter>(
+    rt: &impl Abort,
+    alloc: Global,
+    tx: &mut Transaction<'_, S>,
+    name: &Name,
+    call: Call,
+) -> Result<String, Fault>
+    requires in_form { InForm S.Store tx.old }
+    ensures same_reference { tx.new.conn.ghost_name ≡ tx.old.conn.ghost_name }
+    ensures in_form { OnOk result (InForm S.Store tx.new) }
+{
+    match call {
         Call::HasLive => Ok(bool_text(rt, alloc, has_live(tx, name)?)),
         Call::Lives(version) => Ok(bool_text(rt, alloc, has_version(tx, name, version)?)),
         Call::IsSpent(version) => Ok(bool_text(rt, alloc, is_spent(tx, name, version)?)),
         Call::HasTag(tag) => Ok(bool_text(rt, alloc, has_tag(tx, name, tag)?)),
-        Call::Tags => Ok(tags_text(rt, alloc, &load_tags(alloc, tx, name)?)),
-        Call::Times => Ok(times_text(rt, alloc, &load_times(alloc, tx, name)?)),
-        Call::Archive(version) => Ok(archive_text(rt, alloc, &load_archive(tx, name, version)?)),
         Call::InRange => Ok(bool_text(rt, alloc, numbers_are_in_range(alloc, tx)?)),
-        Call::Teams(call) => teams::told(rt, alloc, tx, name, call),
-        Call::Rights(call) => rights::told(rt, alloc, tx, name, call),
-        Call::Tokens(call) => tokens::told(rt, alloc, tx, call),
         _ => {
             put(rt, alloc, tx, name, call)?;
             Ok(word_text(rt, alloc, "done"))

@@ -16,7 +16,7 @@ use std::alloc::Global;
 use std::process::Abort;
 
 /// A call on a package, in which the organisation comes before the team.
-#[derive(Clone, Copy, Debug)]
+#[derive(Clone, Copy)]
 pub enum RightCall {
     /// A team is to be granted this on it.
     NewGrant(&'static str, &'static str, Grant),

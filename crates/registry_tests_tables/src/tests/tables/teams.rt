@@ -12,7 +12,7 @@ use std::alloc::Global;
 use std::process::Abort;
 
 /// A call over an organisation's teams and users; the organisation comes first.
-#[derive(Clone, Copy, Debug)]
+#[derive(Clone, Copy)]
 pub enum TeamCall {
     /// A statement puts a user.
     User(&'static str),

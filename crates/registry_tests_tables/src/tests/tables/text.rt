@@ -9,7 +9,7 @@ use std::alloc::{AllocError, Global};
 use std::process::Abort;
 
 /// The body of a publication.
-#[derive(Clone, Copy, Debug)]
+#[derive(Clone, Copy)]
 pub enum Body {
     /// The body of this version, whose manifest has only its name and its version, with the archive
     /// `abc`.

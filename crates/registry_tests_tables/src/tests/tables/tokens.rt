@@ -15,7 +15,7 @@ use std::alloc::Global;
 use std::process::Abort;
 
 /// A call over tokens. The digest of a token is 32 times a byte.
-#[derive(Clone, Copy, Debug)]
+#[derive(Clone, Copy)]
 pub enum TokenCall {
     /// There is to be the token of this byte, of this user.
     NewToken(u8, &'static str),
