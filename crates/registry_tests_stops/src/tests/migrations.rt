@@ -90,10 +90,16 @@ pub fn made<D: StoppingDisk>(
 
 // The texts that make the tables of the older schema.
 fn texts_of(older: Older) -> &'static [&'static str] {
-    match older {
-        Older::First => &TABLES[..14],
-        Older::Second => &TABLES[..17],
-    }
+    let count = match older {
+        Older::First => 14,
+        Older::Second => 17,
+    };
+    tables().get(..count).unwrap_or(&[])
+}
+
+/// The texts that make a registry's tables. Those of an older schema come first.
+pub fn tables() -> &'static [&'static str] {
+    &TABLES
 }
 
 // The files, after this was done with the database in them. What it tells comes behind the text.

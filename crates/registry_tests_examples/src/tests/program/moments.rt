@@ -63,6 +63,7 @@ fn a_command_has_the_systems_moment(rt: HostRuntime) {
     is_done(&rt, &rt, db, &["--as", "bob", "publish", body]);
     is_published_since(&rt, &rt, db, before);
     forget(&rt, db);
+    let _ = fs::remove_file(&rt, body);
 }
 
 // A registry that knows bob.

@@ -11,11 +11,10 @@ ghost use Rattle.registry_desk.specs.Adopted.{CanBeAdoptedAgain};
 use crate::disks::{NEVER, Stopping, StoppingDisk, TestDisk, copied, empty_files, open};
 use crate::lines::parts;
 use crate::outcome::same;
-use crate::tests::migrations::{ran, refusing, told};
+use crate::tests::migrations::{ran, refusing, tables, told};
 use crate::told::told_by;
 use registry_desk::{Registry, Unopened};
 use registry_names::Fault;
-use registry_tables::TABLES;
 use sqlite::{FileStore, Files};
 use sqlite_disk::Disk;
 use std::alloc::Global;
@@ -169,13 +168,8 @@ fn is_refused<D: Disk + Drop>(ends: &impl Abort, alloc: Global, files: Files<D>,
 
 // A registry in which nothing is wrong.
 fn right<D: StoppingDisk>(ends: &impl Abort, alloc: Global) -> Files<D> {
-    let tables = ran(
-        ends,
-        alloc,
-        empty_files(alloc, Stopping::Both, NEVER),
-        &TABLES,
-    );
-    ran(ends, alloc, tables, &[ROWS])
+    let empty = empty_files(alloc, Stopping::Both, NEVER);
+    ran(ends, alloc, ran(ends, alloc, empty, tables()), &[ROWS])
 }
 
 // What the check says of the registry in these files.
