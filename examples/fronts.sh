@@ -138,12 +138,18 @@ all_the_same() {
     for reader in ann bob cal eve nobody; do for target in $targets; do echo "$reader GET $target"; done; done | same
 }
 
-# What the registry was asked since a mark: `USER METHOD TARGET STATUS` of each request.
-mark() { marked=$(wc -l < "$work/requests.log"); }
-has_come() { [ "$(tail -n "+$((marked + 1))" "$work/requests.log" | wc -l)" -ge "$1" ]; }
+# What the registry was asked since a mark, `USER METHOD TARGET STATUS` of each request. A line may come
+# after its answer; the mark is a request whose line comes after those of all that was answered before.
+marks=0
+mark() {
+    marks=$((marks + 1))
+    curl -sS --unix-socket "$work/http.sock" -o "$work/out" "http://localhost/-/mark-$marks" && wait_for grep -q " /-/mark-$marks " "$work/requests.log"
+}
+since() { sed "1,/ \/-\/mark-$marks /d" "$work/requests.log" | cut -d ' ' -f 2-5 | grep -v ' command '; }
+has_come() { [ "$(since | wc -l)" -ge "$1" ]; }
 asked() {
-    for _ in $(seq 1 20); do if has_come "$1"; then break; fi; sleep 0.1; done
-    tail -n "+$((marked + 1))" "$work/requests.log" | cut -d ' ' -f 2-5 > "$work/asked"
+    for _ in $(seq 1 40); do if has_come "$1"; then break; fi; sleep 0.05; done
+    since > "$work/asked" || true
     cat "$work/asked" >> "$work/out"
     [ "$(wc -l < "$work/asked")" = "$1" ]
 }
@@ -396,9 +402,7 @@ installs() {
     project npm
     mark
     through cal "$work/projects/npm" "$@" && [ "$(required "$work/projects/npm" @lab/kit)" = '@lab/kit 1.1.0' ] && [ "$(required "$work/projects/npm" tool)" = 'tool 1.0.0' ] || return 1
-    sleep 0.5
-    tail -n "+$((marked + 1))" "$work/requests.log" | cut -d ' ' -f 2-5 | grep ' GET ' > "$work/out"
-    [ "$(cut -d ' ' -f 4 "$work/out" | sort -u)" = "$status" ] && [ "$(wc -l < "$work/out")" = "$count" ]
+    asked "$count" && cp "$work/asked" "$work/out" && [ "$(cut -d ' ' -f 4 "$work/out" | sort -u)" = "$status" ]
 }
 npm_installs() { installs "$1" "$2" npm install --no-audit --no-fund @lab/kit; }
 npm_cold() {
