@@ -112,7 +112,7 @@ fn said(alloc: Global, words: &str, body: &str, token: Option<&str>) -> Result<R
     match line(alloc, texts.as_slice()) {
         Ok(line) if !line.asks_to_serve() => meant(alloc, &line, body, token),
         Ok(_) => Err(Unasked::Serves),
-        Err(Usage::Words(_)) => Err(Unasked::Words),
+        Err(Usage::Words(_said)) => Err(Unasked::Words),
         Err(Usage::Memory) => Err(Unasked::Memory),
     }
 }
