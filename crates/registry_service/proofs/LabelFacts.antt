@@ -147,6 +147,7 @@ answers-honestly speaks c es o a is = record {
         is.status ∙ ap (λ (known : Bool). sent_status known o) known,
         is.body ∙ ap (λ (known : Bool). sent_body known o) known,
       );
+  labels = is.labels;
   plain = λ other. is.labels ∙ unlabelled speaks c es o other;
 }
 

@@ -6,7 +6,7 @@ use Rattle.registry_wire.specs.Spelling.{Spells}
 use Rattle.registry_wire.specs.declared.first.Ending.{Ending}
 use Rattle.registry_wire.specs.declared.wanted.Wanted.{Wanted}
 use Rattle.registry_service.specs.Courses.{Course, Side, Took}
-use Rattle.registry_service.specs.Turns.{Answering, AnswersAsBefore, Cause, Dialect, Dialogue, Exchange, IsTurn, Turn, Turns, bad_input, no_memory, request, spoken}
+use Rattle.registry_service.specs.Turns.{Answering, AnswersAsBefore, Cause, Dialect, Dialogue, Exchange, IsTurn, Turn, Turns, bad_input, labels_of, no_memory, request, spoken}
 use Rattle.registry_service.specs.declared.answer.Answer.{Answer}
 use Rattle.registry_service.specs.declared.turning.Turned.{Turned}
 use Rattle.registry_service.specs.HttpAnswers.{Outcome, body_bytes, body_of, status_of}
@@ -45,12 +45,13 @@ KnowsDocument speaks (bad_input r) es o = ⊥
 KnowsDocument speaks no_memory es o = ⊥
 
 -- An answer is a 304 exactly where who asks has the document, and then nothing is sent of it. Any
--- other answer is that of the outcome, whole. Where the status would be another than 200, nothing is
--- said to those who keep documents
+-- other answer is that of the outcome, whole. What either says to those who keep documents is what the
+-- dialect says, and where the status would be another than 200 it is nothing
 pub record IsHonest (speaks : Dialect) (c : Cause) (es : List Exchange) (o : Outcome) (a : Answer) : Type 0 where
   pub exactly : (a.status ≡ not_modified) ↔ KnowsDocument speaks c es o
   pub empty : a.status ≡ not_modified → body_bytes a.body ≡ []
   pub whole : a.status ≢ not_modified → (a.status ≡ status_of o) × (body_bytes a.body ≡ body_of o)
+  pub labels : a.labels ≡ labels_of speaks c es o
   pub plain : status_of o ≢ 200 → a.labels ≡ no_labels
 
 -- so is the answer of every turn

@@ -21,7 +21,8 @@ pub enum Caching {
 /// What a response says of its document to those who keep it.
 #[derive(Drop)]
 pub struct Labels {
-    /// The tag of the document. The same document has the same one, and another document another.
+    /// The document's entity tag (RFC 9110, 8.8.3), if it has one. Who labels has to give the documents
+    /// that one address ever has different tags.
     pub tag: Option<EntityTag>,
     pub caching: Caching,
 }
