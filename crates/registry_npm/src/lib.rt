@@ -5,6 +5,9 @@
 //! so that nothing comes between them ([`npm_turn`]). Which requests it leads to, and what is answered
 //! of their outcomes, is in `specs/Npm`, by cases on the route. Every other request means what it means
 //! without this crate ([`laws`]).
+//!
+//! What is shown of a package has its revision as entity tag, and an archive has one for good
+//! (`specs/Labels`), so that neither is sent again to those who have it.
 #![tactic(auto)]
 
 mod asked;
@@ -15,11 +18,13 @@ mod documents;
 mod following;
 mod forms;
 mod fronted;
+mod labels;
 pub mod laws;
 mod packages;
 mod path;
 mod service;
 mod shown;
+mod told;
 mod turning;
 
 pub use crate::service::NpmService;

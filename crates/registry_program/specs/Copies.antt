@@ -1,14 +1,21 @@
 -- Copies of a registry's file, and files that are made of copies.
-use Rattle.std.specs.Prelude.{◌≡◌, ◌⊎◌, ℕ, List, [], Option, IsTrue}
+use Rattle.std.specs.Prelude.{◌≡◌, ◌⊎◌, ℕ, Bool, false, List, [], Option, IsTrue}
 use Rattle.std.specs.Io.KnownBytes.{Appends}
 use Rattle.sqlite.specs.Files.{AreFoundIn, HoldsDatabase}
 use Rattle.sqlite.specs.State.{State as Shown, HasCleanDisk, KeepsCommit}
+use Rattle.sqlite_catalog.specs.Listing.{IsSound}
+use Rattle.sqlite_schema.specs.declared.schema.Schema.{Schema}
 use Rattle.sqlite_trees.specs.Tree.{Trees}
 use Rattle.sqlite_wal.specs.Recovery.{Image}
-use Rattle.registry_desk.specs.Opened.{GivesFound, IsMadeOf}
-use Rattle.registry_desk.specs.Resting.{IsRegistryOf}
-use Rattle.registry_tables.specs.Contents.{Contents}
+use Rattle.registry_names.specs.Texts.{Text}
+use Rattle.registry_desk.specs.Opened.{IsOurs}
+use Rattle.registry_desk.specs.Resting.{HasTables, IsRegistryOf}
+use Rattle.registry_migration.specs.Older.{schema_of}
+use Rattle.registry_migration.specs.declared.older.Older.{Older}
+use Rattle.registry_tables.specs.Contents.{Contents, contents}
 use Rattle.registry_tables.specs.Effects.{stored}
+use Rattle.registry_tables.specs.Schema.{schema}
+use Rattle.registry_program.specs.Lines.{lines_of}
 
 -- a database file without a log
 abbrev pub alone : List ℕ → Image
@@ -30,23 +37,50 @@ pub record StaysCommitted (old new : Shown) : Type 0 where
   pub clean : HasCleanDisk new → HasCleanDisk old
   pub committed : HasCleanDisk new → KeepsCommit old new
 
--- the registry that was open is in the file alone
-pub record IsHeld (last : Shown) (file : List ℕ) : Type 0 where
+-- the file alone holds a registry with c, and these are the lines on it, if it is to be checked
+abbrev pub HoldsTold : List ℕ → Contents → Bool → List Text → Type 0
+HoldsTold file c checks lines = ∥ ((db : Trees) × HoldsDatabase (alone file) db × IsRegistryOf db c × (lines ≡ lines_of checks db)) ∥₁
+
+-- the registry that was open is in the file alone, and these are the lines on it
+pub record IsHeld (last : Shown) (file : List ℕ) (checks : Bool) (lines : List Text) : Type 0 where
   pub was_clean : HasCleanDisk last
   pub was_open : IsTrue last.is_open
-  pub holds : HoldsRegistry file (stored last)
+  pub holds : HoldsTold file (stored last) checks lines
 
 -- ---- a file that is made of a copy
 
--- What is in the file alone, of a database that was seen: what is made of that at an open, or itself
-pub record HoldsSeen (seen : Shown) (file : List ℕ) : Type 0 where
+-- these are the tables of an older schema
+abbrev pub IsOlder : Schema → Type 0
+IsOlder s = (older : Older) × (s ≡ schema_of older)
+
+-- What is in the file alone, of a database that was seen: a registry with all that its tables held, and
+-- with nothing else, with the lines on it; or, of an older schema, the database as it was, if nothing
+-- was to be checked
+pub record HoldsSeen (seen : Shown) (file : List ℕ) (checks : Bool) (lines : List Text) : Type 0 where
   pub was_clean : HasCleanDisk seen
   pub was_open : IsTrue seen.is_open
-  pub holds : ((c : Contents) × IsMadeOf seen.now c × HoldsRegistry file c) ⊎ ∥ HoldsDatabase (alone file) seen.committed.trees ∥₁
+  pub holds : ((seen.now.schema ≡ schema) × IsOurs (contents seen.now.trees) × HoldsTold file (contents seen.now.trees) checks lines)
+      ⊎ (IsOlder seen.now.schema × (checks ≡ false) × (lines ≡ []) × ∥ HoldsDatabase (alone file) seen.committed.trees ∥₁)
 
--- The file alone holds the registry that an open finds in the copy, or the database of the copy as
--- it is
-pub record IsRestored (copy : Image) (file : List ℕ) : Type 0 where
+-- These are the tables of a registry. The file alone holds a registry with all that they hold, and with
+-- nothing else: none is made anew, and none is migrated. The lines are those on it
+pub record RestoresRegistry (found : Trees) (file : List ℕ) (checks : Bool) (lines : List Text) : Type 0 where
+  pub tables : HasTables found
+  pub ours : IsOurs (contents found)
+  pub holds : HoldsTold file (contents found) checks lines
+
+-- These are tables of an older schema, and nothing is to be checked. The file alone holds the same
+-- tables, so an open migrates it to what it would make of the copy
+pub record RestoresOlder (found : Trees) (file : List ℕ) (checks : Bool) (lines : List Text) : Type 0 where
+  pub older : Older
+  pub tables : IsSound (schema_of older) found
+  pub unchecked : checks ≡ false
+  pub untold : lines ≡ []
+  pub holds : ∥ HoldsDatabase (alone file) found ∥₁
+
+-- The file alone holds what the copy held, which was this and nothing else
+pub record IsRestored (copy : Image) (file : List ℕ) (checks : Bool) (lines : List Text) : Type 0 where
   pub found : Trees
   pub was : AreFoundIn copy found
-  pub holds : ((c : Contents) × GivesFound found c × HoldsRegistry file c) ⊎ ∥ HoldsDatabase (alone file) found ∥₁
+  pub each : (db : Trees) → HoldsDatabase copy db → db ≡ found
+  pub holds : RestoresRegistry found file checks lines ⊎ RestoresOlder found file checks lines

@@ -1,30 +1,31 @@
 //! Checking everything that a registry's file holds.
 
-ghost use Rattle.std.specs.Prelude.{◌≡◌, false, IfOk};
+ghost use Rattle.std.specs.Prelude.{◌≡◌, ◌++◌, [], false, IfOk, OnErr, OnOk, map};
 ghost use Rattle.sqlite.specs.Held.{state};
 ghost use Rattle.sqlite.specs.State.{HasCleanDisk};
-ghost use Rattle.registry_check.specs.Right.{TellsRight};
+ghost use Rattle.registry_names.specs.ByteStreams.{Writes};
+ghost use Rattle.registry_check.specs.Right.{AreProblems, TellsRight};
 ghost use Rattle.registry_rows.specs.Ready.{Ready};
 ghost use Rattle.registry_tables.specs.Schema as tables;
 ghost use Rattle.registry_desk.specs.Adopted.{CanBeAdopted, CanBeAdoptedAgain};
+ghost use Rattle.registry_cli.specs.Prints.{done, newline};
 ghost use Rattle.registry_program.specs.Copies.{StaysCommitted};
+ghost use Rattle.registry_program.specs.Lines.{NoneFailed, printed_lines, problem_line};
 
 use crate::beside::{TRIES, busy, hold_server, is_busy, pause, require_no_other};
 use crate::checking_beside::problems_beside;
 use crate::ending::{Ending, Failure, Obstacle};
-use crate::errands::{DONE, print_done};
+use crate::errands::DONE;
+use crate::lines::{print_wrong, print_wrong_line, problem_lines};
 use crate::opening::{obstacle_left, require_file, unopened};
 use crate::progress::{Progress, Work};
-use crate::run::{obstacle_text, print_line};
-use registry_check::{Problem, TextTable, Thing, check};
+use crate::run::obstacle_text;
+use registry_check::{Problem, check};
 use registry_desk::{Registry, Unopened, has_tables};
-use registry_names::{Blob, ByteOut, Fault, Text};
+use registry_names::{ByteOut, Fault};
 use sqlite::{Alter, Connection, FileStore, Unknown};
 use sqlite_disk::Disk;
-use std::alloc::{AllocError, Global};
-
-/// What stands before each thing that is wrong.
-const WRONG: &str = "wrong: ";
+use std::alloc::Global;
 
 /// Checks the registry in the file at the path, lets go of the file, and gives the exit status: 0
 /// where nothing is wrong, and otherwise 1, with a line on the errors for each thing that is wrong.
@@ -42,47 +43,33 @@ pub fn print_check<O: ByteOut, E: ByteOut>(
     match problems_at(rt, alloc, path) {
         Ok(problems) => print_problems(alloc, &problems, output, errors),
         Err(Ending::Fault(Failure::Opening(Obstacle::Foreign))) => {
-            print_line(errors, WRONG, obstacle_text(Obstacle::Foreign));
+            print_wrong_line(errors, obstacle_text(Obstacle::Foreign));
             Ok(1)
         }
         Err(ending) => Err(ending),
     }
 }
 
+// Says that all is done where there is no problem, and otherwise prints a line for each. Gives the exit
+// status.
 fn print_problems<O: ByteOut, E: ByteOut>(
     alloc: Global,
     problems: &[Problem],
     output: &mut O,
     errors: &mut E,
-) -> Result<u8, Ending> {
+) -> Result<u8, Ending>
+    ensures status { IfOk result (λ status. status
+        ≡ (printed_lines (done ++ newline) (map problem_line problems.now)).status) }
+    ensures output { OnOk result (Writes (O.bytes output.old) (O.bytes output.new)
+        (O.is_unknown output.new)
+        (printed_lines (done ++ newline) (map problem_line problems.now)).out) }
+    ensures errors { OnOk result (NoneFailed (E.failures errors.old) (E.failures errors.new)
+        → Writes (E.bytes errors.old) (E.bytes errors.new) (E.is_unknown errors.new)
+        (printed_lines (done ++ newline) (map problem_line problems.now)).err) }
+    ensures silent { OnErr result (errors.new ≡ errors.old) }
+{
     let lines = problem_lines(alloc, problems)?;
     print_wrong(&lines, DONE, output, errors)
-}
-
-/// The texts of problems, in their order.
-pub fn problem_lines(alloc: Global, problems: &[Problem]) -> Result<Vec<String>, AllocError> {
-    let mut lines = Vec::new(alloc);
-    for problem in problems {
-        lines.push(problem_text(alloc, problem)?)?;
-    }
-    Ok(lines)
-}
-
-/// Says on the output that all is done where nothing is wrong, and otherwise prints what is. Gives the
-/// exit status.
-pub fn print_wrong<O: ByteOut, E: ByteOut>(
-    lines: &[String],
-    done: &str,
-    output: &mut O,
-    errors: &mut E,
-) -> Result<u8, Ending> {
-    if lines.is_empty() {
-        return print_done(done, output);
-    }
-    for line in lines {
-        print_line(errors, WRONG, line.as_str());
-    }
-    Ok(1)
 }
 
 // What is wrong in a file, even if another process has it.
@@ -150,6 +137,11 @@ fn problems_of_tables<S: Alter>(
     conn: &mut Connection<S>,
 ) -> Result<Vec<Problem>, Fault>
     requires rises { CanBeAdopted (state S.Store conn.old) }
+    ensures told { HasCleanDisk (state S.Store conn.new) → conn.old.in_transaction ≡ false
+        → (state S.Store conn.old).now.schema ≡ tables.schema
+        → IfOk result (λ found. AreProblems found.items (state S.Store conn.old).now.trees) }
+    ensures foreign { ¬ ((state S.Store conn.old).now.schema ≡ tables.schema)
+        → IfOk result (λ found. found.items ≡ []) }
 {
     if !conn.is_autocommit() {
         return Ok(Vec::new(alloc));
@@ -167,24 +159,31 @@ pub fn problems_in<D: Disk + Drop>(
     registry: Registry<FileStore<D>>,
 ) -> Result<Vec<Problem>, Ending> {
     match problems_within(alloc, registry) {
-        Ok(problems) => Ok(problems),
+        Ok((_conn, problems)) => Ok(problems),
         Err(fault) => Err(Ending::from(fault)),
     }
 }
 
+// The connection of a registry, and what is wrong in the registry.
 fn problems_within<S: Alter + Drop>(
     alloc: Global,
     registry: Registry<S>,
-) -> Result<Vec<Problem>, Fault> {
+) -> Result<(Connection<S>, Vec<Problem>), Fault>
+    ensures told { IfOk result (λ left. HasCleanDisk (state S.Store left.0)
+        → AreProblems left.1.items (state S.Store registry).now.trees) }
+{
     let mut conn = registry.release();
-    problems_of(alloc, &mut conn)
+    let problems = problems_of(alloc, &mut conn)?;
+    Ok((conn, problems))
 }
 
-/// What is wrong in the tables of a connection that is between requests. Nothing is wrong exactly
-/// where everything holds that the promises suppose. What is committed stays.
+/// All that is wrong in the tables of a connection that is between requests, in its order. Nothing is
+/// wrong exactly where everything holds that the promises suppose. What is committed stays.
 pub fn problems_of<S: Alter>(alloc: Global, conn: &mut Connection<S>) -> Result<Vec<Problem>, Fault>
     requires idle { conn.old.in_transaction ≡ false }
     requires ready { Ready tables.schema (state S.Store conn.old) }
+    ensures told { HasCleanDisk (state S.Store conn.new)
+        → IfOk result (λ found. AreProblems found.items (state S.Store conn.old).now.trees) }
     ensures right { HasCleanDisk (state S.Store conn.new)
         → IfOk result (λ found. TellsRight found.items (state S.Store conn.old).now.trees) }
     ensures still { StaysCommitted (state S.Store conn.old) (state S.Store conn.new) }
@@ -193,130 +192,4 @@ pub fn problems_of<S: Alter>(alloc: Global, conn: &mut Connection<S>) -> Result<
     let problems = check(alloc, &mut tx);
     tx.rollback();
     problems
-}
-
-// A thing, and what is wrong with it.
-fn problem_text(alloc: Global, problem: &Problem) -> Result<String, AllocError> {
-    let thing = thing_text(alloc, &problem.thing)?;
-    joined(alloc, &[thing.as_str(), " ", problem.rule.text()])
-}
-
-fn thing_text(alloc: Global, thing: &Thing) -> Result<String, AllocError> {
-    match thing {
-        Thing::Token { digest } => token_text(alloc, digest),
-        Thing::Organisation { organisation } => named(alloc, "organisation ", organisation),
-        Thing::Member { organisation, user } => part(alloc, "member ", user, organisation),
-        Thing::Team { organisation, team } => part(alloc, "team ", team, organisation),
-        Thing::TeamMember {
-            organisation,
-            team,
-            user,
-        } => member_text(alloc, organisation, team, user),
-        Thing::Package { package } => named(alloc, "package ", package),
-        Thing::Grant {
-            organisation,
-            team,
-            package,
-        } => grant_text(alloc, organisation, team, package),
-        Thing::Maintainer { package, user } => part(alloc, "maintainer ", user, package),
-        Thing::Version { package, version } => part(alloc, "version ", version, package),
-        Thing::Need {
-            package,
-            version,
-            target,
-            range,
-        } => need_text(alloc, package, version, target, range),
-        Thing::Held { package, version } => part(alloc, "archive of version ", version, package),
-        Thing::Archive { number } => format!(in alloc; "archive {number}"),
-        Thing::User { user } => named(alloc, "user ", user),
-        Thing::Withdrawn { package, version } => {
-            part(alloc, "withdrawn version ", version, package)
-        }
-        Thing::Tag { package, tag } => part(alloc, "tag ", tag, package),
-        Thing::Target {
-            package,
-            version,
-            target,
-        } => target_text(alloc, package, version, target),
-        Thing::Counter => String::from_str(alloc, "table sqlite_sequence"),
-        Thing::Row { table, row } => row_text(alloc, *table, *row),
-    }
-}
-
-fn named(alloc: Global, kind: &str, name: &Text) -> Result<String, AllocError> {
-    joined(alloc, &[kind, name.as_str()])
-}
-
-// The text of a thing that is part of another.
-fn part(alloc: Global, kind: &str, name: &Text, whole: &Text) -> Result<String, AllocError> {
-    joined(alloc, &[kind, name.as_str(), " of ", whole.as_str()])
-}
-
-fn token_text(alloc: Global, digest: &Blob) -> Result<String, AllocError> {
-    let digits = hex::encode(alloc, digest.as_slice())?;
-    joined(alloc, &["token with the digest ", digits.as_str()])
-}
-
-fn member_text(
-    alloc: Global,
-    organisation: &Text,
-    team: &Text,
-    user: &Text,
-) -> Result<String, AllocError> {
-    let team = part(alloc, " of team ", team, organisation)?;
-    joined(alloc, &["member ", user.as_str(), team.as_str()])
-}
-
-fn grant_text(
-    alloc: Global,
-    organisation: &Text,
-    team: &Text,
-    package: &Text,
-) -> Result<String, AllocError> {
-    let team = part(alloc, " to team ", team, organisation)?;
-    joined(alloc, &["grant of ", package.as_str(), team.as_str()])
-}
-
-fn need_text(
-    alloc: Global,
-    package: &Text,
-    version: &Text,
-    target: &Text,
-    range: &Text,
-) -> Result<String, AllocError> {
-    let version = part(alloc, " of version ", version, package)?;
-    joined(
-        alloc,
-        &[
-            "need ",
-            target.as_str(),
-            " ",
-            range.as_str(),
-            version.as_str(),
-        ],
-    )
-}
-
-fn target_text(
-    alloc: Global,
-    package: &Text,
-    version: &Text,
-    target: &Text,
-) -> Result<String, AllocError> {
-    let version = part(alloc, " of version ", version, package)?;
-    joined(alloc, &["need ", target.as_str(), version.as_str()])
-}
-
-fn row_text(alloc: Global, table: TextTable, row: i64) -> Result<String, AllocError> {
-    let number = format!(in alloc; "row {row}")?;
-    joined(alloc, &[number.as_str(), " of table ", table.name()])
-}
-
-// The pieces, joined into one text.
-fn joined(alloc: Global, pieces: &[&str]) -> Result<String, AllocError> {
-    let mut text = String::new(alloc);
-    for piece in pieces {
-        text.push_str(piece)?;
-    }
-    Ok(text)
 }

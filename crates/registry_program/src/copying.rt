@@ -1,19 +1,22 @@
 //! Copying the file that keeps a registry.
 
-ghost use Rattle.std.specs.Prelude.{◌≡◌, false, IfOk, IsTrue, OnOk};
+ghost use Rattle.std.specs.Prelude.{◌≡◌, false, true, IfOk, IsTrue, OnOk, map, string_bytes};
 ghost use Rattle.std.specs.Io.KnownBytes.{Appends};
 ghost use Rattle.sqlite.specs.Closing.{IsCopied};
 ghost use Rattle.sqlite.specs.Files.{file_state};
 ghost use Rattle.sqlite.specs.Held.{state};
+ghost use Rattle.sqlite.specs.State.{HasCleanDisk};
 ghost use Rattle.sqlite_wal.specs.Reads.{AreClean};
 ghost use Rattle.registry_rows.specs.Ready.{Ready};
 ghost use Rattle.registry_tables.specs.Schema as tables;
 ghost use Rattle.registry_program.specs.Copies.{IsCopy, IsHeld, StaysCommitted};
+ghost use Rattle.registry_program.specs.Lines.{lines_of};
 
 use crate::beside::{TRIES, busy, hold_server, is_busy, pause, require_held, require_no_other};
-use crate::checking::{problem_lines, problems_of};
+use crate::checking::problems_of;
 use crate::ending::{Ending, Failure, Obstacle, Snag};
 use crate::held::{copy_files, new_file, snag, snagged, written};
+use crate::lines::problem_lines;
 use crate::opening::{close_files, open, open_once, require_file, unclosed};
 use crate::parts::Names;
 use crate::progress::{Progress, Shown, Work};
@@ -40,7 +43,7 @@ const PIECE: usize = 16_384;
 /// A fault is returned where the file isn't there or can't be opened; where a file already has the
 /// name of the copy, or that name and `-wal`, `-part` or `-part-wal` (that file isn't changed);
 /// where the copy can't be written or doesn't open; and where the server went on meanwhile. Then
-/// there is no copy.
+/// there is no copy, or a whole one where its folder can't be synced.
 pub fn back_up(
     rt: &HostRuntime,
     alloc: Global,
@@ -220,7 +223,7 @@ fn see_whole(
 /// Closes a copy at the path that was opened, which copies its log into its database file. Returns the
 /// files, and a line for each thing that is wrong in the copy, if that is asked for.
 ///
-/// The database file then holds the registry alone.
+/// The database file then holds the registry alone, and the lines are those of what it holds.
 pub fn see_inside<D: Disk + Drop>(
     rt: &HostRuntime,
     alloc: Global,
@@ -229,7 +232,8 @@ pub fn see_inside<D: Disk + Drop>(
     checks: bool,
 ) -> Result<(Files<D>, Vec<String>), Ending>
     ensures whole { IfOk result (λ seen. AreClean D.Disk seen.0.log seen.0.db
-        → IsHeld (file_state registry) (D.Disk.seen seen.0.db)) }
+        → IsHeld (file_state registry) (D.Disk.seen seen.0.db) checks
+        (map string_bytes seen.1.items)) }
 {
     let mut conn = registry.release();
     let lines = lines_in(rt, alloc, path, &mut conn, checks);
@@ -264,6 +268,8 @@ fn lines_in<S: Alter>(
     requires idle { conn.old.in_transaction ≡ false }
     requires ready { Ready tables.schema (state S.Store conn.old) }
     ensures still { StaysCommitted (state S.Store conn.old) (state S.Store conn.new) }
+    ensures told { HasCleanDisk (state S.Store conn.new) → IfOk result (λ lines.
+        map string_bytes lines.items ≡ lines_of checks (state S.Store conn.old).now.trees) }
 {
     if checks {
         let _checking = Progress::begin(rt, Work::Checking, path);
@@ -278,6 +284,8 @@ fn wrong_in<S: Alter>(alloc: Global, conn: &mut Connection<S>) -> Result<Vec<Str
     requires idle { conn.old.in_transaction ≡ false }
     requires ready { Ready tables.schema (state S.Store conn.old) }
     ensures still { StaysCommitted (state S.Store conn.old) (state S.Store conn.new) }
+    ensures told { HasCleanDisk (state S.Store conn.new) → IfOk result (λ lines.
+        map string_bytes lines.items ≡ lines_of true (state S.Store conn.old).now.trees) }
 {
     let problems = problems_of(alloc, conn)?;
     Ok(problem_lines(alloc, &problems)?)

@@ -1,11 +1,15 @@
 //! What the program does for the people who run the registry, besides requests.
 
+ghost use Rattle.std.specs.Prelude.{◌≡◌, IfOk, OnErr, OnOk};
+ghost use Rattle.registry_names.specs.ByteStreams.{Writes, WritesPrefix};
+
 use crate::asking::Answer;
 use crate::beside::print_sent_token;
-use crate::checking::{print_check, print_wrong};
+use crate::checking::print_check;
 use crate::commands::{ask_line, given_alone};
 use crate::copying::back_up;
 use crate::ending::{Ending, Failure};
+use crate::lines::print_wrong;
 use crate::registries::Registries;
 use crate::restoring::restore;
 use crate::serving::serve_beside;
@@ -52,7 +56,13 @@ pub fn run_errand<R: Registries, O: ByteOut, E: ByteOut>(
 }
 
 /// Says on the output that an errand was done, and gives the exit status.
-pub fn print_done<O: ByteOut>(done: &str, output: &mut O) -> Result<u8, Ending> {
+pub fn print_done<O: ByteOut>(done: &str, output: &mut O) -> Result<u8, Ending>
+    ensures status { IfOk result (λ status. status ≡ 0) }
+    ensures done { OnOk result (Writes (O.bytes output.old) (O.bytes output.new)
+        (O.is_unknown output.new) done.now) }
+    ensures broken { OnErr result (WritesPrefix (O.bytes output.old) (O.bytes output.new)
+        (O.is_unknown output.new) done.now) }
+{
     write_whole(output, done.as_bytes())?;
     Ok(0)
 }

@@ -10,6 +10,7 @@ mod copying;
 mod ending;
 mod errands;
 mod held;
+mod lines;
 mod log_output;
 mod log_place;
 mod logging;

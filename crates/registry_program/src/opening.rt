@@ -3,8 +3,10 @@
 ghost use Rattle.std.specs.Prelude.{IfOk, IsTrue};
 ghost use Rattle.sqlite.specs.Closing.{IsCopied};
 ghost use Rattle.sqlite.specs.Files.{file_state};
+ghost use Rattle.sqlite.specs.Held.{state};
 ghost use Rattle.sqlite_wal.specs.Reads.{AreClean};
 ghost use Rattle.registry_desk.specs.Resting.{Rests};
+ghost use Rattle.registry_program.specs.Copies.{IsOlder};
 
 use crate::beside::{TRIES, busy, is_busy, pause};
 use crate::ending::{Ending, Failure, Obstacle};
@@ -189,8 +191,10 @@ fn is_newer<S: Alter>(conn: &mut Connection<S>) -> bool {
     }
 }
 
-/// Whether the tables are those of an older schema.
-pub fn is_older<S: Alter>(alloc: Global, conn: &Connection<S>) -> bool {
+/// Whether the tables are those of an older schema. Without memory to see it, they count as none.
+pub fn is_older<S: Alter>(alloc: Global, conn: &Connection<S>) -> bool
+    ensures { IsTrue result → IsOlder (state S.Store conn.now).now.schema }
+{
     matches!(older_schema(alloc, conn.schema()), Ok(Some(_)))
 }
 

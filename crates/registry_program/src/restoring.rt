@@ -1,10 +1,11 @@
 //! Going back to a copy of a registry.
 
-ghost use Rattle.std.specs.Prelude.{IfOk, IsTrue};
+ghost use Rattle.std.specs.Prelude.{◌≡◌, [], IfOk, IsTrue, map, string_bytes};
 ghost use Rattle.sqlite.specs.Files.{IsOpened, file_state, image_of};
 ghost use Rattle.sqlite.specs.State.{HasCleanDisk};
 ghost use Rattle.sqlite_wal.specs.Reads.{AreClean};
 ghost use Rattle.registry_desk.specs.Adopted.{CanBeAdopted};
+ghost use Rattle.registry_tables.specs.Schema as tables;
 ghost use Rattle.registry_program.specs.Copies.{HoldsSeen, IsRestored};
 
 use crate::beside::require_no_server;
@@ -37,7 +38,8 @@ const SEED: u64 = 1;
 /// A fault is returned where a file already has the name at the path, or that name and `-wal`, `-part`
 /// or `-part-wal`; where a server listens there, or another process has the copy; where the copy isn't
 /// there, or holds no registry; where it is to be checked and has an older schema, or its schema is
-/// newer; and where the file can't be written. Then there is no file.
+/// newer; and where the file can't be written. Then there is no file, or a whole one where its folder
+/// can't be synced.
 pub fn restore(
     rt: &HostRuntime,
     alloc: Global,
@@ -91,9 +93,24 @@ fn make_file(
     written(part.sync_all())?;
     let lines = see_whole(rt, alloc, names.part.as_str(), checks)?;
     if lines.is_empty() {
-        written(part.sync_all())?;
-        names.give_name(rt)?;
+        put_in_place(rt, &part, names, lines)
+    } else {
+        Ok(lines)
     }
+}
+
+// Gives the part, in which nothing is wrong, the name of the file. Returns the lines on it, which are
+// none.
+fn put_in_place(
+    rt: &HostRuntime,
+    part: &File,
+    names: &Names<'_>,
+    lines: Vec<String>,
+) -> Result<Vec<String>, Ending>
+    requires right { lines.items ≡ [] }
+{
+    written(part.sync_all())?;
+    names.give_name(rt)?;
     Ok(lines)
 }
 
@@ -195,9 +212,10 @@ fn see_whole(
 /// database file. Returns the files, and a line for each thing that is wrong in the registry, if that is
 /// asked for. The path is that of the database file, whose length is shown meanwhile.
 ///
-/// The database file alone then holds the registry that an open finds in these files. One of an older
-/// schema is returned only where nothing is to be checked, and then it holds the database as it was. A
-/// fault is returned where they hold no registry, and where they can't be read or written.
+/// The database file alone then holds what the registry in these files held, and the lines are those of
+/// what it holds. One of an older schema is returned only where nothing is to be checked, and then the
+/// file holds the database as it was: nothing is migrated. A fault is returned where they hold no
+/// registry, and where they can't be read or written.
 pub fn settle_copy<D: Disk + Drop>(
     rt: &HostRuntime,
     alloc: Global,
@@ -208,7 +226,8 @@ pub fn settle_copy<D: Disk + Drop>(
     requires log { IsTrue (D.Disk.is_usable files.log) }
     requires db { IsTrue (D.Disk.is_usable files.db) }
     ensures restored { IfOk result (λ seen. AreClean D.Disk seen.0.log seen.0.db
-        → IsRestored (image_of D.Disk files) (D.Disk.seen seen.0.db)) }
+        → IsRestored (image_of D.Disk files) (D.Disk.seen seen.0.db) checks
+        (map string_bytes seen.1.items)) }
 {
     let opening = Progress::begin(rt, Work::Opening, path);
     match Registry::connect(alloc, files, Options::new(SEED)) {
@@ -234,7 +253,8 @@ fn see_tables<D: Disk + Drop>(
 ) -> Result<(Files<D>, Vec<String>), Ending>
     requires rises { CanBeAdopted (file_state conn) }
     ensures seen { IfOk result (λ seen. AreClean D.Disk seen.0.log seen.0.db
-        → HoldsSeen (file_state conn) (D.Disk.seen seen.0.db)) }
+        → HoldsSeen (file_state conn) (D.Disk.seen seen.0.db) checks
+        (map string_bytes seen.1.items)) }
 {
     match has_tables(alloc, &conn) {
         Ok(true) => see_registry(rt, alloc, path, conn, checks),
@@ -251,8 +271,10 @@ fn see_registry<D: Disk + Drop>(
     checks: bool,
 ) -> Result<(Files<D>, Vec<String>), Ending>
     requires rises { CanBeAdopted (file_state conn) }
+    requires ours { (file_state conn).now.schema ≡ tables.schema }
     ensures seen { IfOk result (λ seen. AreClean D.Disk seen.0.log seen.0.db
-        → HoldsSeen (file_state conn) (D.Disk.seen seen.0.db)) }
+        → HoldsSeen (file_state conn) (D.Disk.seen seen.0.db) checks
+        (map string_bytes seen.1.items)) }
 {
     match Registry::adopt(alloc, conn) {
         Ok(registry) => see_inside(rt, alloc, path, registry, checks),
@@ -268,7 +290,8 @@ fn see_older<D: Disk + Drop>(
     checks: bool,
 ) -> Result<(Files<D>, Vec<String>), Ending>
     ensures seen { IfOk result (λ seen. AreClean D.Disk seen.0.log seen.0.db
-        → HoldsSeen (file_state conn) (D.Disk.seen seen.0.db)) }
+        → HoldsSeen (file_state conn) (D.Disk.seen seen.0.db) checks
+        (map string_bytes seen.1.items)) }
 {
     if checks || !is_older(alloc, &conn) {
         return Err(unseen(alloc, conn));

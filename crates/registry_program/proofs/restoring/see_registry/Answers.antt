@@ -1,3 +1,5 @@
+use Rattle.std.proofs.Common.{map}
+use Rattle.std.specs.Prelude.{string_bytes}
 use Rattle.std.proofs.lemmas.Result.{IfOk-weaker}
 use Rattle.sqlite.specs.Files.{file_state}
 use Rattle.registry_program.proofs.CopyFacts.{made_seen}
@@ -6,6 +8,6 @@ use Rattle.registry_program.proofs.restoring.see_registry.Goals as goal
 pub returns-in-Ok : goal.returns-in-Ok
 returns-in-Ok g c = record {
   seen = IfOk-weaker c.see_inside.result _ _
-      (λ seen held clean. made_seen (file_state c.args.conn) (file_state c.in-Ok.registry) (g.D.Disk.seen seen.0.db) c.in-Ok.ensures.made (held clean))
+      (λ seen held clean. made_seen (file_state c.args.conn) (file_state c.in-Ok.registry) (g.D.Disk.seen seen.0.db) c.args.checks (map string_bytes seen.1.items) c.requires.ours c.in-Ok.ensures.made (held clean))
       c.see_inside.ensures.whole;
 }

@@ -2,275 +2,217 @@
 
 ghost use Rattle.std.specs.Prelude.{◌≡◌, false};
 
-use registry_names::Fault;
+use crate::outcome::same;
 use registry_tables::{create, opened};
-use registry_tests_support::same;
 use sqlite::{Alter, Connection, Constraint, Error, ErrorCode, Transaction};
-use std::alloc::Global;
-use std::test::Fail;
+use std::process::Abort;
 
 #[test]
-fn tables_are_as_they_are_made(rt: HostRuntime) -> Result<(), Fail> {
-    let alloc = rt.alloc();
-    for (shows, steps) in &CASES {
-        let mut conn = Connection::open_in_memory(alloc)?;
-        comes_out_on(&mut conn, shows, *steps)?;
+fn tables_are_as_they_are_made(rt: HostRuntime) {
+    for case in CASES.trim().split("\n\n") {
+        let mut conn = Connection::open_in_memory(rt.alloc()).expect(&rt, "a database");
+        comes_out_on(&rt, &mut conn, case);
     }
-    Ok(())
-}
-
-/// What is done, and the result.
-#[derive(Clone, Copy, Debug)]
-enum Step {
-    /// The tables are made.
-    Create(Result<(), Fault>),
-    /// The number of the schema is asked for.
-    Schema(Result<Option<u32>, Fault>),
-    /// A text is run without an error.
-    Run(&'static str),
-    /// A text is run that breaks a foreign key.
-    BreakKey(&'static str),
-    /// A text gives this many rows.
-    Rows(&'static str, usize),
 }
 
 const BROKEN_KEY: Error = Error::SqliteFailure(ErrorCode::ConstraintViolation(
     Constraint::ForeignKey,
 ));
 
-/// What steps on an empty database show, and the steps, one after another.
-static CASES: [(&str, &[Step]); 20] = [
-    (
-        "a new database says which schema it has",
-        &[
-            Step::Schema(Ok(None)),
-            Step::Create(Ok(())),
-            Step::Schema(Ok(Some(3))),
-        ],
-    ),
-    (
-        "another number is answered, too",
-        &[
-            Step::Run("CREATE TABLE meta (name TEXT, value INTEGER)"),
-            Step::Run("INSERT INTO meta VALUES ('schema', 7)"),
-            Step::Schema(Ok(Some(7))),
-        ],
-    ),
-    (
-        "a number that is no number of a schema is a fault",
-        &[
-            Step::Create(Ok(())),
-            Step::Run("UPDATE meta SET value = -1"),
-            Step::Schema(Err(Fault::Database)),
-        ],
-    ),
-    (
-        "tables without a number are a fault",
-        &[
-            Step::Create(Ok(())),
-            Step::Run("DELETE FROM meta"),
-            Step::Schema(Err(Fault::Database)),
-        ],
-    ),
-    (
-        "one of the tables alone is a fault",
-        &[
-            Step::Run("CREATE TABLE users (name TEXT NOT NULL, PRIMARY KEY (name)) STRICT"),
-            Step::Schema(Err(Fault::Database)),
-        ],
-    ),
-    (
-        "a table of another is a fault",
-        &[
-            Step::Run("CREATE TABLE notes (text TEXT)"),
-            Step::Schema(Err(Fault::Database)),
-        ],
-    ),
-    (
-        "a view alone is a fault",
-        &[
-            Step::Run("CREATE VIEW notes AS SELECT 1"),
-            Step::Schema(Err(Fault::Database)),
-        ],
-    ),
-    (
-        "a database whose tables are gone has none",
-        &[
-            Step::Run("CREATE TABLE notes (text TEXT)"),
-            Step::Run("DROP TABLE notes"),
-            Step::Schema(Ok(None)),
-        ],
-    ),
-    (
-        "tables are made once",
-        &[Step::Create(Ok(())), Step::Create(Err(Fault::Database))],
-    ),
-    (
-        "tables aren't made where the first is there",
-        &[
-            Step::Run("CREATE TABLE users (name TEXT)"),
-            Step::Create(Err(Fault::Database)),
-        ],
-    ),
-    (
-        "tables aren't made where one between is there",
-        &[
-            Step::Run("CREATE TABLE packages (name TEXT)"),
-            Step::Create(Err(Fault::Database)),
-        ],
-    ),
-    (
-        "tables aren't made where the last is there",
-        &[
-            Step::Run("CREATE TABLE need_ranges (name TEXT)"),
-            Step::Create(Err(Fault::Database)),
-        ],
-    ),
-    (
-        "the tables are empty, and only meta has a row",
-        &[
-            Step::Create(Ok(())),
-            Step::Rows("SELECT name FROM sqlite_schema WHERE type = 'table'", 18),
-            Step::Rows(
-                "SELECT name FROM sqlite_schema WHERE type = 'index' AND tbl_name = 'archives'",
-                1,
-            ),
-            Step::Rows(
-                "SELECT name FROM sqlite_schema WHERE type = 'index' AND tbl_name = 'need_ranges'",
-                2,
-            ),
-            Step::Rows(
-                "SELECT name FROM sqlite_schema WHERE type = 'index' AND tbl_name = 'held'",
-                2,
-            ),
-            Step::Rows(
-                "SELECT name FROM sqlite_schema WHERE type = 'index' AND tbl_name = 'owners'",
-                2,
-            ),
-            Step::Rows(
-                "SELECT name FROM users UNION ALL SELECT user FROM tokens UNION ALL SELECT name FROM orgs UNION ALL SELECT org FROM members UNION ALL SELECT org FROM teams UNION ALL SELECT org FROM team_members UNION ALL SELECT name FROM packages UNION ALL SELECT org FROM grants UNION ALL SELECT package FROM owners UNION ALL SELECT package FROM versions UNION ALL SELECT package FROM spent UNION ALL SELECT package FROM tags UNION ALL SELECT package FROM needs UNION ALL SELECT name FROM meta UNION ALL SELECT package FROM need_ranges UNION ALL SELECT package FROM held UNION ALL SELECT integrity FROM archives",
-                1,
-            ),
-        ],
-    ),
-    (
-        "a version needs its package",
-        &[
-            Step::Create(Ok(())),
-            Step::BreakKey("INSERT INTO versions VALUES ('kit', '1.0.0', 0, '{}', '', x'00')"),
-        ],
-    ),
-    (
-        "a member who leaves is in no team",
-        &[
-            Step::Create(Ok(())),
-            Step::Run("INSERT INTO users VALUES ('ann'), ('bob')"),
-            Step::Run("INSERT INTO orgs VALUES ('lab')"),
-            Step::Run("INSERT INTO members VALUES ('lab', 'ann', 2), ('lab', 'bob', 0)"),
-            Step::Run("INSERT INTO teams VALUES ('lab', 'devs'), ('lab', 'docs')"),
-            Step::Run(
-                "INSERT INTO team_members VALUES ('lab', 'devs', 'ann'), ('lab', 'devs', 'bob'), ('lab', 'docs', 'ann')",
-            ),
-            Step::Run("DELETE FROM members WHERE org = 'lab' AND user = 'ann'"),
-            Step::Rows("SELECT user FROM team_members", 1),
-            Step::Rows("SELECT team FROM teams", 2),
-        ],
-    ),
-    (
-        "a team goes with its members and grants",
-        &[
-            Step::Create(Ok(())),
-            Step::Run("INSERT INTO users VALUES ('ann'), ('bob')"),
-            Step::Run("INSERT INTO orgs VALUES ('lab')"),
-            Step::Run("INSERT INTO members VALUES ('lab', 'ann', 2), ('lab', 'bob', 0)"),
-            Step::Run("INSERT INTO teams VALUES ('lab', 'devs'), ('lab', 'docs')"),
-            Step::Run(
-                "INSERT INTO team_members VALUES ('lab', 'devs', 'ann'), ('lab', 'devs', 'bob'), ('lab', 'docs', 'ann')",
-            ),
-            Step::Run("INSERT INTO packages VALUES ('@lab/kit', 0)"),
-            Step::Run(
-                "INSERT INTO grants VALUES ('lab', 'devs', '@lab/kit', 2), ('lab', 'docs', '@lab/kit', 1)",
-            ),
-            Step::Run("DELETE FROM teams WHERE org = 'lab' AND team = 'devs'"),
-            Step::Rows("SELECT user FROM team_members", 1),
-            Step::Rows("SELECT team FROM grants", 1),
-            Step::Rows("SELECT user FROM members", 2),
-        ],
-    ),
-    (
-        "a need goes with its version",
-        &[
-            Step::Create(Ok(())),
-            Step::Run("INSERT INTO packages VALUES ('kit', 1)"),
-            Step::Run("INSERT INTO versions VALUES ('kit', '1.0.0', 0, '{}', '', x'00')"),
-            Step::Run("INSERT INTO need_ranges VALUES ('kit', '1.0.0', 'left', '^1.0.0')"),
-            Step::Rows("SELECT range FROM need_ranges WHERE target = 'left'", 1),
-            Step::Run("DELETE FROM versions"),
-            Step::Rows("SELECT range FROM need_ranges WHERE target = 'left'", 0),
-        ],
-    ),
-    (
-        "what a version has goes with it, and the archive stays",
-        &[
-            Step::Create(Ok(())),
-            Step::Run("INSERT INTO packages VALUES ('kit', 1)"),
-            Step::Run("INSERT INTO versions VALUES ('kit', '1.0.0', 0, '{}', '', x'')"),
-            Step::Run("INSERT INTO archives (integrity, bytes) VALUES ('sha512-x', x'00')"),
-            Step::Run("INSERT INTO held VALUES ('kit', '1.0.0', 1)"),
-            Step::Run("DELETE FROM versions"),
-            Step::Rows("SELECT archive FROM held", 0),
-            Step::Rows("SELECT id FROM archives", 1),
-        ],
-    ),
-    (
-        "an archive that a version has is there",
-        &[
-            Step::Create(Ok(())),
-            Step::Run("INSERT INTO packages VALUES ('kit', 1)"),
-            Step::Run("INSERT INTO versions VALUES ('kit', '1.0.0', 0, '{}', '', x'')"),
-            Step::BreakKey("INSERT INTO held VALUES ('kit', '1.0.0', 1)"),
-        ],
-    ),
-    (
-        "a number of an archive is never given again",
-        &[
-            Step::Create(Ok(())),
-            Step::Run("INSERT INTO archives (integrity, bytes) VALUES ('sha512-x', x'00')"),
-            Step::Run("DELETE FROM archives"),
-            Step::Run("INSERT INTO archives (integrity, bytes) VALUES ('sha512-x', x'00')"),
-            Step::Rows("SELECT id FROM archives WHERE id = 2", 1),
-        ],
-    ),
-];
+/// Cases, each on an empty database: what it shows, and then its steps, a line for each.
+///
+/// - `create` makes the tables, and `schema` asks for the number of the schema. What that comes to
+///   follows: `done`, a number, `none`, or a fault.
+/// - `run` runs a text without an error, and `break` one that breaks a foreign key.
+/// - `rows` has a number, and a text that gives so many rows.
+const CASES: &str = "
+a new database says which schema it has
+schema none
+create done
+schema 3
 
-fn comes_out_on<S: Alter>(conn: &mut Connection<S>, shows: &str, steps: &[Step]) -> Result<(), Fail>
+another number is answered, too
+run CREATE TABLE meta (name TEXT, value INTEGER)
+run INSERT INTO meta VALUES ('schema', 7)
+schema 7
+
+a number that is no number of a schema is a fault
+create done
+run UPDATE meta SET value = -1
+schema Database
+
+tables without a number are a fault
+create done
+run DELETE FROM meta
+schema Database
+
+one of the tables alone is a fault
+run CREATE TABLE users (name TEXT NOT NULL, PRIMARY KEY (name)) STRICT
+schema Database
+
+a table of another is a fault
+run CREATE TABLE notes (text TEXT)
+schema Database
+
+a view alone is a fault
+run CREATE VIEW notes AS SELECT 1
+schema Database
+
+a database whose tables are gone has none
+run CREATE TABLE notes (text TEXT)
+run DROP TABLE notes
+schema none
+
+tables are made once
+create done
+create Database
+
+tables aren't made where the first is there
+run CREATE TABLE users (name TEXT)
+create Database
+
+tables aren't made where one between is there
+run CREATE TABLE packages (name TEXT)
+create Database
+
+tables aren't made where the last is there
+run CREATE TABLE need_ranges (name TEXT)
+create Database
+
+the tables are empty, and only meta has a row
+create done
+rows 18 SELECT name FROM sqlite_schema WHERE type = 'table'
+rows 1 SELECT name FROM sqlite_schema WHERE type = 'index' AND tbl_name = 'archives'
+rows 2 SELECT name FROM sqlite_schema WHERE type = 'index' AND tbl_name = 'need_ranges'
+rows 2 SELECT name FROM sqlite_schema WHERE type = 'index' AND tbl_name = 'held'
+rows 2 SELECT name FROM sqlite_schema WHERE type = 'index' AND tbl_name = 'owners'
+rows 1 SELECT name FROM users UNION ALL SELECT user FROM tokens UNION ALL SELECT name FROM orgs UNION ALL SELECT org FROM members UNION ALL SELECT org FROM teams UNION ALL SELECT org FROM team_members UNION ALL SELECT name FROM packages UNION ALL SELECT org FROM grants UNION ALL SELECT package FROM owners UNION ALL SELECT package FROM versions UNION ALL SELECT package FROM spent UNION ALL SELECT package FROM tags UNION ALL SELECT package FROM needs UNION ALL SELECT name FROM meta UNION ALL SELECT package FROM need_ranges UNION ALL SELECT package FROM held UNION ALL SELECT integrity FROM archives
+
+a version needs its package
+create done
+break INSERT INTO versions VALUES ('kit', '1.0.0', 0, '{}', '', x'00')
+
+a member who leaves is in no team
+create done
+run INSERT INTO users VALUES ('ann'), ('bob')
+run INSERT INTO orgs VALUES ('lab')
+run INSERT INTO members VALUES ('lab', 'ann', 2), ('lab', 'bob', 0)
+run INSERT INTO teams VALUES ('lab', 'devs'), ('lab', 'docs')
+run INSERT INTO team_members VALUES ('lab', 'devs', 'ann'), ('lab', 'devs', 'bob'), ('lab', 'docs', 'ann')
+run DELETE FROM members WHERE org = 'lab' AND user = 'ann'
+rows 1 SELECT user FROM team_members
+rows 2 SELECT team FROM teams
+
+a team goes with its members and grants
+create done
+run INSERT INTO users VALUES ('ann'), ('bob')
+run INSERT INTO orgs VALUES ('lab')
+run INSERT INTO members VALUES ('lab', 'ann', 2), ('lab', 'bob', 0)
+run INSERT INTO teams VALUES ('lab', 'devs'), ('lab', 'docs')
+run INSERT INTO team_members VALUES ('lab', 'devs', 'ann'), ('lab', 'devs', 'bob'), ('lab', 'docs', 'ann')
+run INSERT INTO packages VALUES ('@lab/kit', 0)
+run INSERT INTO grants VALUES ('lab', 'devs', '@lab/kit', 2), ('lab', 'docs', '@lab/kit', 1)
+run DELETE FROM teams WHERE org = 'lab' AND team = 'devs'
+rows 1 SELECT user FROM team_members
+rows 1 SELECT team FROM grants
+rows 2 SELECT user FROM members
+
+a need goes with its version
+create done
+run INSERT INTO packages VALUES ('kit', 1)
+run INSERT INTO versions VALUES ('kit', '1.0.0', 0, '{}', '', x'00')
+run INSERT INTO need_ranges VALUES ('kit', '1.0.0', 'left', '^1.0.0')
+rows 1 SELECT range FROM need_ranges WHERE target = 'left'
+run DELETE FROM versions
+rows 0 SELECT range FROM need_ranges WHERE target = 'left'
+
+what a version has goes with it, and the archive stays
+create done
+run INSERT INTO packages VALUES ('kit', 1)
+run INSERT INTO versions VALUES ('kit', '1.0.0', 0, '{}', '', x'')
+run INSERT INTO archives (integrity, bytes) VALUES ('sha512-x', x'00')
+run INSERT INTO held VALUES ('kit', '1.0.0', 1)
+run DELETE FROM versions
+rows 0 SELECT archive FROM held
+rows 1 SELECT id FROM archives
+
+an archive that a version has is there
+create done
+run INSERT INTO packages VALUES ('kit', 1)
+run INSERT INTO versions VALUES ('kit', '1.0.0', 0, '{}', '', x'')
+break INSERT INTO held VALUES ('kit', '1.0.0', 1)
+
+a number of an archive is never given again
+create done
+run INSERT INTO archives (integrity, bytes) VALUES ('sha512-x', x'00')
+run DELETE FROM archives
+run INSERT INTO archives (integrity, bytes) VALUES ('sha512-x', x'00')
+rows 1 SELECT id FROM archives WHERE id = 2
+";
+
+fn comes_out_on<S: Alter>(rt: &impl Abort, conn: &mut Connection<S>, case: &str)
     requires idle { conn.old.in_transaction ≡ false }
 {
     let mut tx = conn.transaction();
-    all_come_out(&mut tx, shows, steps)
+    all_come_out(rt, &mut tx, case);
 }
 
-fn all_come_out<S: Alter>(
+fn all_come_out<S: Alter>(rt: &impl Abort, tx: &mut Transaction<'_, S>, case: &str)
+    ensures same_reference { tx.new.conn.ghost_name ≡ tx.old.conn.ghost_name }
+{
+    let (shows, steps) = case.split_once('\n').expect(rt, case);
+    for step in steps.lines() {
+        comes_out(rt, tx, (shows, step));
+    }
+}
+
+fn comes_out<S: Alter>(rt: &impl Abort, tx: &mut Transaction<'_, S>, case: (&str, &str))
+    ensures same_reference { tx.new.conn.ghost_name ≡ tx.old.conn.ghost_name }
+{
+    let (does, rest) = case.1.split_once(' ').expect(rt, case.1);
+    match does {
+        "create" => is_made(rt, tx, case, rest),
+        "schema" => is_schema(rt, tx, case, rest),
+        "run" => same(rt, case, tx.execute(rest, &[]).err(), None),
+        "break" => same(rt, case, tx.execute(rest, &[]).err(), Some(BROKEN_KEY)),
+        "rows" => has_rows(rt, tx, case, rest),
+        _ => panic!(rt; "{case:?} is no step"),
+    }
+}
+
+fn is_made<S: Alter>(rt: &impl Abort, tx: &mut Transaction<'_, S>, case: (&str, &str), wanted: &str)
+    ensures same_reference { tx.new.conn.ghost_name ≡ tx.old.conn.ghost_name }
+{
+    match create(tx) {
+        Ok(()) => same(rt, case, "done", wanted),
+        Err(fault) => same(rt, case, fault.text(), wanted),
+    }
+}
+
+fn is_schema<S: Alter>(
+    rt: &impl Abort,
     tx: &mut Transaction<'_, S>,
-    shows: &str,
-    steps: &[Step],
-) -> Result<(), Fail>
+    case: (&str, &str),
+    wanted: &str,
+)
     ensures same_reference { tx.new.conn.ghost_name ≡ tx.old.conn.ghost_name }
 {
-    for step in steps {
-        comes_out(tx, (shows, *step))?;
+    match opened(tx) {
+        Ok(None) => same(rt, case, "none", wanted),
+        Ok(number) => same(rt, case, number, wanted.parse::<u32>().ok()),
+        Err(fault) => same(rt, case, fault.text(), wanted),
     }
-    Ok(())
 }
 
-fn comes_out<S: Alter>(tx: &mut Transaction<'_, S>, case: (&str, Step)) -> Result<(), Fail>
+fn has_rows<S: Alter>(
+    rt: &impl Abort,
+    tx: &mut Transaction<'_, S>,
+    case: (&str, &str),
+    wanted: &str,
+)
     ensures same_reference { tx.new.conn.ghost_name ≡ tx.old.conn.ghost_name }
 {
-    match case.1 {
-        Step::Create(made) => same(case, create(tx), made),
-        Step::Schema(number) => same(case, opened(tx), number),
-        Step::Run(text) => same(case, tx.execute(text, &[]).err(), None),
-        Step::BreakKey(text) => same(case, tx.execute(text, &[]).err(), Some(BROKEN_KEY)),
-        Step::Rows(text, count) => same(case, tx.query_all(text, &[])?.len(), count),
-    }
+    let (count, text) = wanted.split_once(' ').expect(rt, wanted);
+    let rows = tx.query_all(text, &[]).expect(rt, text);
+    same(rt, case, Some(rows.len()), count.parse::<usize>().ok());
 }
