@@ -89,7 +89,15 @@ static CASES: [Case; 19] = [
         Unsaid,
         "{\"username\":\"bob\"}",
     ),
-    ("/-/package/tool/dist-tags", true, "*", 200, "", Unsaid, "{}"),
+    (
+        "/-/package/tool/dist-tags",
+        true,
+        "*",
+        200,
+        "",
+        Unsaid,
+        "{}",
+    ),
     ("/-/ping", true, "*", 200, "", Unsaid, "{}"),
     // Archives.
     (
