@@ -176,11 +176,11 @@ module _ (p : Text) (S T : State) (start : AreNear p S T) where
         let have = first-older ms t first in
         let have' = second-older ms u second in (
           λ here.
-          let asked = stranger-asks ms t u first second (near-after ms have have' differ.1) differ.0 (strangers.0 here) in (
-            differ.0.0,
-            asked,
-            same-told (spoken speaks (applied show)) determined t u follow.0 L follow'.0 N _ _ follow.2 follow'.2 differ.0.0 asked (strangers.0 here).1,
-          ),
+              let asked = stranger-asks ms t u first second (near-after ms have have' differ.1) differ.0 (strangers.0 here) in (
+                differ.0.0,
+                asked,
+                same-told (spoken speaks (applied show)) determined t u follow.0 L follow'.0 N _ _ follow.2 follow'.2 differ.0.0 asked (strangers.0 here).1,
+              ),
           strangers-turns k ms K follow.0 M follow'.0 follow.1 follow'.1 have have' differ.1 strangers.1,
         )
     strangers-turns k (in_first j stops t ∷ ms) K L M N follow follow' first second differ strangers =

@@ -159,11 +159,11 @@ module _ (p : Text) (S T : State) (start : AreNear p S T) where
             differ.0.0.0,
             differ.0.0.1,
             λ here.
-            let asked = unseen-asked ms (by_connection e) (by_connection f) have have' near differ.0 (strangers.0 here).0 in (
-              differ.0.0.2,
-              asked,
-              same-told talk determined e.turn f.turn follow.0 L follow'.0 N _ _ follow.2 follow'.2 differ.0.0.2 asked (strangers.0 here).1,
-            ),
+                let asked = unseen-asked ms (by_connection e) (by_connection f) have have' near differ.0 (strangers.0 here).0 in (
+                  differ.0.0.2,
+                  asked,
+                  same-told talk determined e.turn f.turn follow.0 L follow'.0 N _ _ follow.2 follow'.2 differ.0.0.2 asked (strangers.0 here).1,
+                ),
           ),
           strangers-turns k ms K follow.0 M follow'.0 follow.1 follow'.1 before before' differ.1 strangers.1,
         )
