@@ -159,22 +159,17 @@ pub fn problems_in<D: Disk + Drop>(
     registry: Registry<FileStore<D>>,
 ) -> Result<Vec<Problem>, Ending> {
     match problems_within(alloc, registry) {
-        Ok((_conn, problems)) => Ok(problems),
+        Ok(problems) => Ok(problems),
         Err(fault) => Err(Ending::from(fault)),
     }
 }
 
-// The connection of a registry, and what is wrong in the registry.
 fn problems_within<S: Alter + Drop>(
     alloc: Global,
     registry: Registry<S>,
-) -> Result<(Connection<S>, Vec<Problem>), Fault>
-    ensures told { IfOk result (λ left. HasCleanDisk (state S.Store left.0)
-        → AreProblems left.1.items (state S.Store registry).now.trees) }
-{
+) -> Result<Vec<Problem>, Fault> {
     let mut conn = registry.release();
-    let problems = problems_of(alloc, &mut conn)?;
-    Ok((conn, problems))
+    problems_of(alloc, &mut conn)
 }
 
 /// All that is wrong in the tables of a connection that is between requests, in its order. Nothing is
