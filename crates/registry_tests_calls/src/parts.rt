@@ -1,5 +1,7 @@
 //! Values in form, from which cases are made.
 
+ghost use Rattle.std.specs.Prelude.{◌≤◌, ◌++◌, length};
+
 use registry_cache::{SharedBlob, SharedText};
 use registry_names::{Blob, Ident, Name, Text, Ver};
 use std::alloc::Global;
@@ -43,7 +45,9 @@ pub fn as_text(bytes: &[u8]) -> &str {
 }
 
 /// The first of three pieces that isn't empty, or the last of them.
-pub fn first_of<'a>(head: &'a [u8], body: &'a [u8], rest: &'a [u8]) -> &'a [u8] {
+pub fn first_of<'a>(head: &'a [u8], body: &'a [u8], rest: &'a [u8]) -> &'a [u8]
+    ensures { length result.now ≤ length (head.now ++ body.now ++ rest.now) }
+{
     if !head.is_empty() {
         head
     } else if !body.is_empty() {
