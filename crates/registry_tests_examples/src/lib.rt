@@ -6,6 +6,4 @@
 #![tactic(auto)]
 
 #[cfg(test)]
-mod outcome;
-#[cfg(test)]
 mod tests;

@@ -2,7 +2,6 @@
 
 ghost use Rattle.std.specs.Prelude.{None, ◌≤◌, length};
 
-use crate::outcome::same;
 use crate::tests::lists::LAB_KIT;
 use registry_desk::Registry;
 use registry_http::RegistryService;
@@ -11,11 +10,12 @@ use registry_names::{Method, Moment, Text};
 use registry_server::{ConnectionState, Progress};
 use registry_service::{AnsweredCommand, Clock, HttpService, Service};
 use registry_tests_requests::{outcomes_of, request_of, requests_of};
+use registry_tests_support::same;
 use sqlite::MemStore;
 use std::alloc::Global;
 use std::fs::OpenOptions;
 use std::io::Write;
-use std::process::Abort;
+use std::test::Fail;
 use std::{fs, io, str};
 
 /// 2026-11-26, at 10:00.
@@ -78,8 +78,8 @@ impl Clock for Still {
     }
 }
 
-// Checks that the line for the target of a request of nobody shows it so.
-fn is_shown(ends: &impl Abort, alloc: Global, target: &[u8], shown: &str) {
+// The line for the target of a request of nobody.
+fn line_of(alloc: Global, target: &[u8]) -> Result<Vec<u8>, Fail> {
     let entry = Entry {
         at: Moment::clamped(TEN),
         user: "",
@@ -89,15 +89,7 @@ fn is_shown(ends: &impl Abort, alloc: Global, target: &[u8], shown: &str) {
         length: 20,
         micros: None,
     };
-    let wanted = format!(in alloc; "2026-11-26T10:00:00.000Z - GET {shown} 404 20 -\n");
-    is_line(ends, alloc, &entry, wanted.expect(ends, "memory").as_str());
-}
-
-// Checks that this is the line.
-fn is_line(ends: &impl Abort, alloc: Global, entry: &Entry, wanted: &str) {
-    let line = entry.line(alloc).expect(ends, "memory");
-    let line = str::from_utf8(&line).expect(ends, "a text");
-    same(ends, wanted, line, wanted);
+    Ok(entry.line(alloc)?)
 }
 
 /// Targets, and how the log shows them.
@@ -124,14 +116,17 @@ static TARGETS: [(&[u8], &str); 19] = [
 ];
 
 #[test]
-fn targets_are_put_without_tokens(rt: HostRuntime) {
+fn targets_are_put_without_tokens(rt: HostRuntime) -> Result<(), Fail> {
     for (target, put) in &TARGETS {
-        is_shown(&rt, rt.alloc(), target, put);
+        let line = line_of(rt.alloc(), target)?;
+        let wanted = format!(in rt.alloc(); "2026-11-26T10:00:00.000Z - GET {put} 404 20 -\n")?;
+        same(*put, str::from_utf8(&line)?, wanted.as_str())?;
     }
+    Ok(())
 }
 
 #[test]
-fn a_line_has_what_is_known(rt: HostRuntime) {
+fn a_line_has_what_is_known(rt: HostRuntime) -> Result<(), Fail> {
     let whole = Entry {
         at: Moment::clamped(TEN),
         user: "ann",
@@ -141,8 +136,12 @@ fn a_line_has_what_is_known(rt: HostRuntime) {
         length: 11,
         micros: Some(12_399),
     };
-    let line = "2026-11-26T10:00:00.000Z ann PUT /kit 201 11 12.3\n";
-    is_line(&rt, rt.alloc(), &whole, line);
+    let line = whole.line(rt.alloc())?;
+    same(
+        "all",
+        str::from_utf8(&line)?,
+        "2026-11-26T10:00:00.000Z ann PUT /kit 201 11 12.3\n",
+    )?;
     let none = Entry {
         at: Moment::clamped(0),
         user: "",
@@ -152,19 +151,34 @@ fn a_line_has_what_is_known(rt: HostRuntime) {
         length: 22,
         micros: None,
     };
-    let line = "1970-01-01T00:00:00.000Z - - - 400 22 -\n";
-    is_line(&rt, rt.alloc(), &none, line);
+    let line = none.line(rt.alloc())?;
+    same(
+        "nothing",
+        str::from_utf8(&line)?,
+        "1970-01-01T00:00:00.000Z - - - 400 22 -\n",
+    )
 }
 
 #[test]
-fn long_targets_are_cut(rt: HostRuntime) {
-    let shown = "a".repeat(rt.alloc(), 511).expect(&rt, "memory");
-    let shown = shown.as_str();
-    for (more, end) in [("", ""), ("a", "...")] {
-        let target = format!(in rt.alloc(); "/{shown}{more}").expect(&rt, "memory");
-        let shown = format!(in rt.alloc(); "/{shown}{end}").expect(&rt, "memory");
-        is_shown(&rt, rt.alloc(), target.as_bytes(), shown.as_str());
+fn long_targets_are_cut(rt: HostRuntime) -> Result<(), Fail> {
+    let alloc = rt.alloc();
+    for (count, end) in [(511, ""), (512, "...")] {
+        let mut target = Vec::from_slice(alloc, b"/")?;
+        let mut shown = String::from_str(alloc, "/")?;
+        for at in 0..count {
+            target.push(b'a')?;
+            if at < 511 {
+                shown.push('a')?;
+            }
+        }
+        let line = line_of(alloc, &target)?;
+        let wanted = format!(in alloc;
+            "2026-11-26T10:00:00.000Z - GET {}{end} 404 20 -\n",
+            shown.as_str()
+        )?;
+        same("cut", str::from_utf8(&line)?, wanted.as_str())?;
     }
+    Ok(())
 }
 
 /// A request with bob's token, one without a token, one that has no route, one with a token of
@@ -173,70 +187,60 @@ const ASKS: &[u8] =
     b"GET /-/package/@lab%2fkit/dist-tags HTTP/1.1\r\nauthorization: Bearer npm_bob_000000001\r\n\r\nGET /-/package/kit/dist-tags HTTP/1.1\r\n\r\nGET /-/ping HTTP/1.1\r\n\r\nGET /-/package/kit/dist-tags HTTP/1.1\r\nauthorization: Bearer npm_zed_000000001\r\n\r\nwhat\r\n\r\n";
 
 /// Serves these bytes with a registry in which `@lab/kit` 1.0.0 is published, with a round for each
-/// turn, and checks the log. Its file is at this path, and takes this many bytes of each text.
-fn is_logged(
-    rt: &HostRuntime,
-    ends: &impl Abort,
-    path: &str,
-    takes: &[usize],
-    asks: &[u8],
-    wanted: &str,
-) {
-    let mut service = lab_kit_logged(rt, ends, path, takes);
+/// turn, and returns the log. Its file is at this path, and takes this many bytes of each text.
+fn logged(rt: &HostRuntime, path: &str, asks: &[u8], takes: &[usize]) -> Result<String, Fail> {
+    let alloc = rt.alloc();
+    let mut service = lab_kit_logged(rt, path, takes)?;
     service.say("begun");
-    serve(ends, rt.alloc(), &mut service, asks);
+    serve(alloc, &mut service, asks)?;
     service.say("ended");
-    is_written(rt, ends, path, wanted);
+    written(rt, path)
 }
 
 // A registry in which `@lab/kit` 1.0.0 is published, and its log at this path.
 fn lab_kit_logged(
     rt: &HostRuntime,
-    ends: &impl Abort,
     path: &str,
     takes: &[usize],
-) -> LoggedService<MemStore, Still, Paper> {
-    let registry = lab_kit(ends, rt.alloc());
+) -> Result<LoggedService<MemStore, Still, Paper>, Fail> {
+    let alloc = rt.alloc();
+    let mut registry = Registry::in_memory(alloc)?;
+    let requests = requests_of(alloc, LAB_KIT)?;
+    let _outcomes = outcomes_of(alloc, &mut registry, &requests)?;
     let paper = Paper {
         rt: *rt,
-        path: Text::from_str(rt.alloc(), path).expect(ends, "memory"),
-        takes: Vec::from_slice(rt.alloc(), takes).expect(ends, "memory"),
+        path: Text::from_str(alloc, path)?,
+        takes: Vec::from_slice(alloc, takes)?,
         calls: 0,
     };
-    let log = Log::new(rt.alloc(), Still { micros: 0 }, paper).expect(ends, "memory");
-    LoggedService::new(RegistryService::new(registry), Some(log))
+    let log = Log::new(alloc, Still { micros: 0 }, paper)?;
+    Ok(LoggedService::new(RegistryService::new(registry), Some(log)))
 }
 
-fn lab_kit(ends: &impl Abort, alloc: Global) -> Registry<MemStore> {
-    let mut registry = Registry::in_memory(alloc).expect(ends, "a registry");
-    let requests = requests_of(alloc, LAB_KIT).expect(ends, "requests");
-    let _outcomes = outcomes_of(alloc, &mut registry, &requests).expect(ends, "memory");
-    registry
-}
-
-// Checks that this was written at this path. It is removed.
-fn is_written(rt: &HostRuntime, ends: &impl Abort, path: &str, wanted: &str) {
-    let text = fs::read_to_string(rt, path).expect(ends, "a log");
-    fs::remove_file(rt, path).expect(ends, "no log");
-    same(ends, "the log", text.as_str(), wanted);
+// What was written at this path, which is removed.
+fn written(rt: &HostRuntime, path: &str) -> Result<String, Fail> {
+    let text = fs::read_to_string(rt, path)?;
+    fs::remove_file(rt, path)?;
+    Ok(text)
 }
 
 // Takes the turns of these bytes, after which the connection gets no more.
-fn serve<D: HttpService>(ends: &impl Abort, alloc: Global, service: &mut D, asks: &[u8]) {
+fn serve<D: HttpService>(alloc: Global, service: &mut D, asks: &[u8]) -> Result<(), Fail> {
     let mut clock = Still { micros: 0 };
     let mut state = ConnectionState::new(alloc);
-    state.came(asks).expect(ends, "memory");
+    state.came(asks)?;
     for _ in 0..10 {
         if !state.may_take_turn() {
-            return;
+            return Ok(());
         }
         match state.take_turn(alloc, service, &mut clock, true) {
             Progress::Answered => send(&mut state),
-            Progress::Waits | Progress::Closed => return,
+            Progress::Waits | Progress::Closed => return Ok(()),
         }
         service.look_up(alloc);
         service.rest();
     }
+    Ok(())
 }
 
 // Sends a response whole.
@@ -248,19 +252,25 @@ fn send(state: &mut ConnectionState) {
 }
 
 #[test]
-fn each_turn_has_a_line(rt: HostRuntime) {
-    let wanted =
-        "2026-11-26T10:00:00.000Z # begun\n2026-11-26T10:00:00.000Z bob GET /-/package/@lab%2fkit/dist-tags 200 18 1.2\n2026-11-26T10:00:00.000Z - GET /-/package/kit/dist-tags 404 20 1.2\n2026-11-26T10:00:00.000Z - GET /-/ping 404 20 -\n2026-11-26T10:00:00.000Z - GET /-/package/kit/dist-tags 401 20 1.2\n2026-11-26T10:00:00.000Z - - - 400 19 -\n2026-11-26T10:00:00.000Z # ended\n";
-    is_logged(&rt, &rt, "requests.log", &[], ASKS, wanted);
+fn each_turn_has_a_line(rt: HostRuntime) -> Result<(), Fail> {
+    let text = logged(&rt, "requests.log", ASKS, &[])?;
+    same(
+        "the log",
+        text.as_str(),
+        "2026-11-26T10:00:00.000Z # begun\n2026-11-26T10:00:00.000Z bob GET /-/package/@lab%2fkit/dist-tags 200 18 1.2\n2026-11-26T10:00:00.000Z - GET /-/package/kit/dist-tags 404 20 1.2\n2026-11-26T10:00:00.000Z - GET /-/ping 404 20 -\n2026-11-26T10:00:00.000Z - GET /-/package/kit/dist-tags 401 20 1.2\n2026-11-26T10:00:00.000Z - - - 400 19 -\n2026-11-26T10:00:00.000Z # ended\n",
+    )
 }
 
 /// The first line is written; then the disk is full in the middle of the second line, and for the
 /// third.
 #[test]
-fn lost_lines_are_told(rt: HostRuntime) {
-    let wanted =
-        "2026-11-26T10:00:00.000Z # begun\n2026-11-26T10:00:00.000Z bob G\n2026-11-26T10:00:00.000Z # lost lines: 2\n2026-11-26T10:00:00.000Z - GET /-/ping 404 20 -\n2026-11-26T10:00:00.000Z - GET /-/package/kit/dist-tags 401 20 1.2\n2026-11-26T10:00:00.000Z - - - 400 19 -\n2026-11-26T10:00:00.000Z # ended\n";
-    is_logged(&rt, &rt, "lost-requests.log", &[1_000, 30, 0], ASKS, wanted);
+fn lost_lines_are_told(rt: HostRuntime) -> Result<(), Fail> {
+    let text = logged(&rt, "lost-requests.log", ASKS, &[1_000, 30, 0])?;
+    same(
+        "the log",
+        text.as_str(),
+        "2026-11-26T10:00:00.000Z # begun\n2026-11-26T10:00:00.000Z bob G\n2026-11-26T10:00:00.000Z # lost lines: 2\n2026-11-26T10:00:00.000Z - GET /-/ping 404 20 -\n2026-11-26T10:00:00.000Z - GET /-/package/kit/dist-tags 401 20 1.2\n2026-11-26T10:00:00.000Z - - - 400 19 -\n2026-11-26T10:00:00.000Z # ended\n",
+    )
 }
 
 /// Requests that the registry isn't asked: with bob's token, with a token of nobody, with a body that
@@ -269,23 +279,25 @@ const OUT_OF_FORM: &[u8] =
     b"GET /-/ping HTTP/1.1\r\nauthorization: Bearer npm_bob_000000001\r\n\r\nGET /-/ping HTTP/1.1\r\nauthorization: Bearer npm_zed_000000001\r\n\r\nPUT /kit HTTP/1.1\r\nauthorization: Bearer npm_bob_000000001\r\ncontent-length: 1\r\n\r\nxPUT /kit HTTP/1.1\r\ncontent-length: 1\r\n\r\nx";
 
 #[test]
-fn requests_out_of_form_name_their_user(rt: HostRuntime) {
-    let wanted =
-        "2026-11-26T10:00:00.000Z # begun\n2026-11-26T10:00:00.000Z bob GET /-/ping 404 20 -\n2026-11-26T10:00:00.000Z - GET /-/ping 404 20 -\n2026-11-26T10:00:00.000Z bob PUT /kit 400 19 -\n2026-11-26T10:00:00.000Z - PUT /kit 400 19 -\n2026-11-26T10:00:00.000Z # ended\n";
-    is_logged(&rt, &rt, "named-requests.log", &[], OUT_OF_FORM, wanted);
+fn requests_out_of_form_name_their_user(rt: HostRuntime) -> Result<(), Fail> {
+    let text = logged(&rt, "named-requests.log", OUT_OF_FORM, &[])?;
+    same(
+        "the log",
+        text.as_str(),
+        "2026-11-26T10:00:00.000Z # begun\n2026-11-26T10:00:00.000Z bob GET /-/ping 404 20 -\n2026-11-26T10:00:00.000Z - GET /-/ping 404 20 -\n2026-11-26T10:00:00.000Z bob PUT /kit 400 19 -\n2026-11-26T10:00:00.000Z - PUT /kit 400 19 -\n2026-11-26T10:00:00.000Z # ended\n",
+    )
 }
 
 /// A command that the registry is asked, and one whose words are no line.
 #[test]
-fn commands_have_lines(rt: HostRuntime) {
+fn commands_have_lines(rt: HostRuntime) -> Result<(), Fail> {
     let alloc = rt.alloc();
-    let mut service = lab_kit_logged(&rt, &rt, "commands.log", &[]);
+    let mut service = lab_kit_logged(&rt, "commands.log", &[])?;
     let words = [
-        Text::from_str(alloc, "user-add").expect(&rt, "memory"),
-        Text::from_str(alloc, "cat").expect(&rt, "memory"),
+        Text::from_str(alloc, "user-add")?,
+        Text::from_str(alloc, "cat")?,
     ];
-    let adds = request_of(alloc, "--operator user-add cat").expect(&rt, "a request");
-    let _done = service.answer(alloc, &adds).expect(&rt, "an answer");
+    let _done = service.answer(alloc, &request_of(alloc, "--operator user-add cat")?)?;
     service.note_command(&AnsweredCommand {
         caller: "operator",
         words: &words,
@@ -300,7 +312,10 @@ fn commands_have_lines(rt: HostRuntime) {
     });
     service.look_up(alloc);
     service.rest();
-    let wanted =
-        "2026-11-26T10:00:00.000Z operator command /user-add/cat 0 12 1.2\n2026-11-26T10:00:00.000Z - command - 2 40 -\n";
-    is_written(&rt, &rt, "commands.log", wanted);
+    let text = written(&rt, "commands.log")?;
+    same(
+        "the log",
+        text.as_str(),
+        "2026-11-26T10:00:00.000Z operator command /user-add/cat 0 12 1.2\n2026-11-26T10:00:00.000Z - command - 2 40 -\n",
+    )
 }

@@ -1,13 +1,14 @@
 //! Registries of older schemas that don't open, and stay as they are.
 
-use crate::disks::{StoppingDisk, TestDisk, refused};
-use crate::outcome::same;
-use crate::tests::migrations::{SCHEMA, first, made, ran, second, shown};
+use super::rows::shown;
+use super::{connected, files_of, first, made, opened, second};
 use registry_migration::Older;
 use registry_names::Fault;
+use registry_tests_support::same;
 use sqlite::Files;
+use sqlite_disk::Memory;
 use std::alloc::Global;
-use std::process::Abort;
+use std::test::Fail;
 
 /// What each case shows, the schema, and what was done to the registry last.
 static KEPT: [(&str, Older, &str); 8] = [
@@ -55,7 +56,7 @@ static KEPT: [(&str, Older, &str); 8] = [
 
 /// What is compared.
 static ASKED: [&str; 5] = [
-    SCHEMA,
+    "SELECT rowid, type, name, tbl_name, sql FROM sqlite_schema",
     "SELECT name, value FROM meta",
     "SELECT package, version, published, manifest, deprecated, archive FROM versions ORDER BY package, version",
     "SELECT package, version, target FROM needs ORDER BY package, version, target",
@@ -63,41 +64,39 @@ static ASKED: [&str; 5] = [
 ];
 
 #[test]
-fn others_stay_as_they_are(rt: HostRuntime) {
+fn others_stay_as_they_are(rt: HostRuntime) -> Result<(), Fail> {
+    let alloc = rt.alloc();
     for (shows, older, change) in &KEPT {
-        stays::<TestDisk>(&rt, rt.alloc(), shows, *older, change);
+        let files = changed(alloc, *older, change)?;
+        stays(alloc, files, shows)?;
     }
+    Ok(())
 }
 
 // A registry of the older schema on which this was run.
-fn changed<D: StoppingDisk>(
-    ends: &impl Abort,
-    alloc: Global,
-    older: Older,
-    change: &str,
-) -> Files<D> {
+fn changed(alloc: Global, older: Older, change: &str) -> Result<Files<Memory>, Fail> {
     let files = match older {
-        Older::First => made(ends, alloc, older, first::ROWS),
-        Older::Second => made(ends, alloc, older, second::ROWS),
+        Older::First => made(alloc, older, first::rows())?,
+        Older::Second => made(alloc, older, second::rows())?,
     };
-    ran(ends, alloc, files, &[change])
+    let mut conn = connected(alloc, files)?;
+    conn.execute_batch(change)?;
+    files_of(conn)
 }
 
-fn stays<D: StoppingDisk>(
-    ends: &impl Abort,
-    alloc: Global,
-    shows: &str,
-    older: Older,
-    change: &str,
-) {
-    let files: Files<D> = changed(ends, alloc, older, change);
-    let (before, files) = shown(ends, alloc, files, &ASKED);
-    match refused(ends, alloc, files) {
-        None => panic!(ends; "{shows}: a registry opens"),
-        Some((fault, files)) => {
-            same(ends, shows, fault, Fault::Database);
-            let (after, _files) = shown(ends, alloc, files, &ASKED);
-            same(ends, shows, after.as_str(), before.as_str());
-        }
+fn stays(alloc: Global, files: Files<Memory>, shows: &str) -> Result<(), Fail> {
+    let (before, files) = all_shown(alloc, files)?;
+    let (outcome, files) = opened(alloc, files)?;
+    same(shows, outcome, Err(Fault::Database))?;
+    let (after, _files) = all_shown(alloc, files)?;
+    same(shows, after.as_str(), before.as_str())
+}
+
+fn all_shown(alloc: Global, files: Files<Memory>) -> Result<(String, Files<Memory>), Fail> {
+    let mut conn = connected(alloc, files)?;
+    let mut text = String::new(alloc);
+    for query in &ASKED {
+        text.push_str(shown(alloc, &mut conn, query)?.as_str())?;
     }
+    Ok((text, files_of(conn)?))
 }
