@@ -1,3 +1,4 @@
+pub mod Abbreviated
 pub mod Calendar
 pub mod Counted
 pub mod Dates

@@ -14,7 +14,9 @@
 //! has no more bytes than a limit, and otherwise only counted.
 #![tactic(auto)]
 
+mod abbreviated;
 mod document;
+mod form;
 mod head;
 mod json_text;
 pub mod laws;
@@ -31,6 +33,7 @@ mod times;
 mod within;
 
 pub use crate::document::version_text;
+pub use crate::form::PackForm;
 pub use crate::head::PackHead;
 pub use crate::list::{Granted, List, Member, Overview, PackageLevel, TokenCount, list_text};
 pub use crate::moment::moment_text;

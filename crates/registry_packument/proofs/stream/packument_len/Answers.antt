@@ -19,7 +19,7 @@ pub versions-preserved : goal.versions-preserved
 versions-preserved g c = record {
   known = λ known. c.versions.invariant.known (c.in_ok-row.ensures.known known);
   counted = λ known.
-      with_left-step (whole_len c.args.head.now (g.S.VersionSource.rows c.args.source.now)) c.versions.count _ c.versions.later c.in-Some.row
+      with_left-step c.args.head.now.form (whole_len c.args.head.now (g.S.VersionSource.rows c.args.source.now)) c.versions.count _ c.versions.later c.in-Some.row
       (g.S.VersionSource.rows c.versions.source) (g.S.VersionSource.rows c.next.new.self) (rw c.in-Some.is at (c.in_ok-row.ensures.gives known))
       (c.versions.invariant.counted (c.in_ok-row.ensures.known known)) c.in_ok-count-2.ensures.ok;
   kept = g.met.S.VersionSource.leaves_through c.args.source.now c.versions.source c.next.new.self c.versions.invariant.kept c.in_ok-row.ensures.behind;

@@ -18,7 +18,7 @@ pub versions-preserved : goal.versions-preserved
 versions-preserved g c = record {
   known = λ known. c.versions.invariant.known (c.in_ok-row.ensures.known known);
   walked = λ known.
-      walked_more c.args.limit c.versions.all _ c.versions.later c.in-Some.row (g.S.VersionSource.rows c.versions.source) (g.S.VersionSource.rows c.next.new.self)
+      walked_more c.args.head.now.form c.args.limit c.versions.all _ c.versions.later c.in-Some.row (g.S.VersionSource.rows c.versions.source) (g.S.VersionSource.rows c.next.new.self)
       (pack_text c.args.head.now (g.S.VersionSource.rows c.args.source.now)) (rw c.in-Some.is at (c.in_ok-row.ensures.gives known))
       (c.versions.invariant.walked (c.in_ok-row.ensures.known known)) c.in_ok-all.ensures.ok;
   kept = g.met.S.VersionSource.leaves_through c.args.source.now c.versions.source c.next.new.self c.versions.invariant.kept c.in_ok-row.ensures.behind;
