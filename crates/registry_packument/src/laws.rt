@@ -1,7 +1,7 @@
 //! Laws of the texts. Each function does nothing: what it ensures holds of the definitions
 //! themselves, and its proof is the law's.
 
-ghost use Rattle.std.specs.Prelude.{◌≡◌, ◌≢◌, ℕ, List, Some, None, codes, if◌then◌else◌, is_some};
+ghost use Rattle.std.specs.Prelude.{◌≡◌, ◌≢◌, ℕ, List, Some, None, codes, if◌then◌else◌, is_some, true};
 ghost use Rattle.serde_json.specs.Data.{Members, boolean, object};
 ghost use Rattle.serde_json.specs.Find.{get_member};
 ghost use Rattle.serde_json.specs.Written.{compact_text};
