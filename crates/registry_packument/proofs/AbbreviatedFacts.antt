@@ -4,7 +4,7 @@ use Rattle.std.specs.Ordering.{match_ordering}
 use Rattle.serde_json.specs.Data.{Data, boolean, Members, no_members, member, put}
 use Rattle.serde_json.specs.Find.{get_member}
 use Rattle.serde_json.proofs.Views.{get_member-put, get_member-put_other}
-use Rattle.registry_names.specs.Texts.{Text, text_cmp}
+use Rattle.registry_names.specs.Texts.{text_cmp}
 use Rattle.registry_names.proofs.TextFacts.{text_exact}
 use Rattle.registry_packument.specs.Abbreviated.{abbreviated, has_unsaid_value, install_values, is_install_key, members_of_form, with_script_value}
 use Rattle.registry_packument.specs.Documents.{document_members, documented, manifest_members}

@@ -25,7 +25,7 @@ use Rattle.serde_json.proofs.Nesting.{depth-read}
 use Rattle.serde_json.proofs.Texts.{print-outline}
 use Rattle.registry_names.specs.Texts.{Text, text_cmp}
 use Rattle.registry_names.proofs.TextFacts.{text_total, text_exact}
-use Rattle.registry_packument.specs.Abbreviated.{abbreviated, document_in, documented_in, has_install_script, has_script_value, has_unsaid_script, has_unsaid_value, install_members, install_values, is_install_key, is_install_script, is_of_scripts, members_of_form, some_member, some_value, with_script, with_script_value}
+use Rattle.registry_packument.specs.Abbreviated.{abbreviated, document_in, has_install_script, has_script_value, has_unsaid_script, has_unsaid_value, install_members, install_values, is_install_key, is_install_script, is_of_scripts, members_of_form, some_member, some_value, with_script, with_script_value}
 use Rattle.registry_packument.specs.Documents.{manifest_members, members_in, written_members, members_without, placed, with_message, documented, document_text, document_members, IsCompact}
 use Rattle.registry_packument.specs.declared.form.PackForm.{PackForm}
 use Rattle.registry_packument.specs.declared.form.PackForm.TheVariants.{Full, Abbreviated}
