@@ -54,9 +54,21 @@ static SCRIPTS: Case = Case {
     modified: 100,
     tags: &[("it's", "1.0.0"), ("next", "1.0.6")],
     versions: &[
-        ("1.0.0", r#"{"name":"kit","scripts":{"preinstall":"a"}}"#, ""),
-        ("1.0.1", r#"{"name":"kit","scripts":{"install":"a","test":"b"}}"#, "old"),
-        ("1.0.2", r#"{"funding":1,"scripts":{"build":"a","postinstall":""}}"#, ""),
+        (
+            "1.0.0",
+            r#"{"name":"kit","scripts":{"preinstall":"a"}}"#,
+            "",
+        ),
+        (
+            "1.0.1",
+            r#"{"name":"kit","scripts":{"install":"a","test":"b"}}"#,
+            "old",
+        ),
+        (
+            "1.0.2",
+            r#"{"funding":1,"scripts":{"build":"a","postinstall":""}}"#,
+            "",
+        ),
         (
             "1.0.3",
             r#"{"scripts":{"Install":"a","installs":"b","prepare":"c","preinstall ":"d"}}"#,
@@ -64,7 +76,11 @@ static SCRIPTS: Case = Case {
         ),
         ("1.0.4", r#"{"scripts":["install"]}"#, ""),
         ("1.0.5", r#"{"install":"a","script":{"install":"a"}}"#, ""),
-        ("1.0.6", r#"{"hasInstallScript":null,"scripts":{"install":"a"}}"#, ""),
+        (
+            "1.0.6",
+            r#"{"hasInstallScript":null,"scripts":{"install":"a"}}"#,
+            "",
+        ),
     ],
     text: r#"{"dist-tags":{"it's":"1.0.0","next":"1.0.6"},"modified":"1970-01-01T00:01:40.000Z","name":"kit","versions":{"1.0.0":{"hasInstallScript":true,"name":"kit"},"1.0.1":{"deprecated":"old","hasInstallScript":true,"name":"kit"},"1.0.2":{"funding":1,"hasInstallScript":true},"1.0.3":{},"1.0.4":{},"1.0.5":{},"1.0.6":{"hasInstallScript":null}}}"#,
 };
@@ -96,7 +112,12 @@ fn short_head(rt: &impl Abort, alloc: Global, case: &Case) -> PackHead {
 // Checks the text, and how long it is.
 fn is_made(rt: &impl Abort, alloc: Global, case: &Case, head: &PackHead) {
     let text = packument_text(alloc, head, &mut source(rt, alloc, case.versions));
-    same(rt, case.name, text.expect(rt, "a packument").as_str(), case.text);
+    same(
+        rt,
+        case.name,
+        text.expect(rt, "a packument").as_str(),
+        case.text,
+    );
     let len = packument_len(alloc, head, &mut source(rt, alloc, case.versions));
     same(rt, case.name, &len, &Ok(case.text.len() as u64));
 }
@@ -125,9 +146,21 @@ fn is_sent(rt: &impl Abort, alloc: Global, case: &Case, head: &PackHead) {
     let mut out = narrow(alloc, usize::MAX);
     let len = case.text.len() as u64;
     let opener = Counted { len };
-    let sent = send_counted(alloc, head, &mut rows, len, &mut ToWrite::new(&mut out), &opener);
+    let sent = send_counted(
+        alloc,
+        head,
+        &mut rows,
+        len,
+        &mut ToWrite::new(&mut out),
+        &opener,
+    );
     same(rt, case.name, &sent, &Sent::Whole);
-    same(rt, case.name, as_text(&out.taken).ends_with(case.text), true);
+    same(
+        rt,
+        case.name,
+        as_text(&out.taken).ends_with(case.text),
+        true,
+    );
 }
 
 fn is_abbreviated(rt: &impl Abort, alloc: Global, case: &Case) {
@@ -170,6 +203,10 @@ fn a_version_without_a_manifest_has_no_document(rt: HostRuntime) {
         text: "",
     };
     let head = short_head(&rt, rt.alloc(), &case);
-    let told = packument_text(rt.alloc(), &head, &mut source(&rt, rt.alloc(), case.versions));
+    let told = packument_text(
+        rt.alloc(),
+        &head,
+        &mut source(&rt, rt.alloc(), case.versions),
+    );
     same(&rt, case.name, &told.err(), &Some(Fault::Database));
 }
