@@ -15,7 +15,7 @@ use std::process::Abort;
 /// A package, and its abbreviated packument.
 struct Case {
     name: &'static str,
-    modified: u64,
+    modified: i64,
     tags: &'static [TagCase],
     versions: &'static [VersionCase],
     text: &'static str,
@@ -91,6 +91,14 @@ static NOTHING: Case = Case {
     tags: &[("latest", "1.0.0")],
     versions: &[],
     text: r#"{"dist-tags":{"latest":"1.0.0"},"modified":"1970-01-01T00:01:40.000Z","name":"kit","versions":{}}"#,
+};
+
+static NO_MANIFEST: Case = Case {
+    name: "kit",
+    modified: 100,
+    tags: &[],
+    versions: &[("1.0.0", "[1]", "")],
+    text: "",
 };
 
 // The head of an abbreviated packument.
@@ -195,18 +203,8 @@ fn a_package_without_versions(rt: HostRuntime) {
 
 #[test]
 fn a_version_without_a_manifest_has_no_document(rt: HostRuntime) {
-    let case = Case {
-        name: "kit",
-        modified: 100,
-        tags: &[],
-        versions: &[("1.0.0", "[1]", "")],
-        text: "",
-    };
-    let head = short_head(&rt, rt.alloc(), &case);
-    let told = packument_text(
-        rt.alloc(),
-        &head,
-        &mut source(&rt, rt.alloc(), case.versions),
-    );
-    same(&rt, case.name, &told.err(), &Some(Fault::Database));
+    let head = short_head(&rt, rt.alloc(), &NO_MANIFEST);
+    let mut rows = source(&rt, rt.alloc(), NO_MANIFEST.versions);
+    let told = packument_text(rt.alloc(), &head, &mut rows);
+    same(&rt, NO_MANIFEST.name, &told.err(), &Some(Fault::Database));
 }
