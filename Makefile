@@ -11,7 +11,7 @@ EVERY := 1
 JOBS := 1
 SECONDS := 600
 
-.PHONY: help demo quick try run build test check stories stops plants fmt npm npm-team front beside log socket kill files older page limits large soak starve fuzz bench compare house copy examples kit
+.PHONY: help demo quick try run build test check stories stops plants fmt npm npm-team front fronts beside log socket kill files older page limits large soak starve fuzz bench compare house copy installs examples kit
 
 help:
 	@echo 'Build:'
@@ -33,6 +33,7 @@ help:
 	@echo '  make npm      publishes and installs with the stock npm client: a minute'
 	@echo '  make npm-team runs all that npm offers a team, directly and through nginx: 4 minutes; it needs nginx'
 	@echo '  make front    the same through nginx with TLS, hostile clients, public packages: 3 minutes; it needs nginx'
+	@echo '  make fronts   a further front that keeps answers and asks before each use: 3 minutes; it needs nginx'
 	@echo '  make page     looks at the page through nginx in headless Chromium: 4 minutes; it needs both'
 	@echo '  make beside   runs commands beside a server, and kills, halts and stops it meanwhile: 4 minutes'
 	@echo '  make socket   serves at a Unix socket: who may connect, takeovers, stops: ten seconds'
@@ -51,6 +52,7 @@ help:
 	@echo '  make compare  measures its speed beside nginx and SQLite: 15 minutes'
 	@echo '  make house    measures registries of up to 10,000 packages: it needs 10 GB of disk'
 	@echo '  make copy     measures what clients notice of a copy of 1 GB: it needs 2 GB of disk'
+	@echo '  make installs measures what npm install fetches, cold and warm, also through nginx: 5 minutes'
 
 kit:
 ifeq ($(KIT),)
@@ -89,6 +91,9 @@ npm-team: out/registry
 
 front: out/registry
 	@examples/front.sh out/registry
+
+fronts: out/registry
+	@examples/fronts.sh out/registry
 
 page: out/registry
 	@examples/page.sh out/registry
@@ -140,6 +145,9 @@ house: out/registry
 
 copy: out/registry
 	@tools/measure_copy --program out/registry
+
+installs: out/registry
+	@tools/measure_installs --program out/registry
 
 # A test may take ten minutes, since the prover works beside it.
 test: kit examples

@@ -16,93 +16,19 @@
 # apt-get install yarnpkg). nginx need not run as root, nor be set up.
 set -eu
 
-top=$(cd "$(dirname "$0")/.." && pwd)
-program=$(realpath "${1:-$top/out/registry}")
-PATH=$PATH:/usr/sbin:/sbin
-[ -x "$program" ] || { echo "front.sh: there is no program $program: make build proves and builds it" >&2; exit 2; }
-for tool in nginx npm node openssl curl tar; do
-    command -v $tool > /dev/null || { echo "front.sh: $tool is needed, and isn't there (Debian: apt-get install nginx npm openssl curl)" >&2; exit 2; }
-done
+name=front.sh
+# shellcheck source=examples/front_ground.sh
+. "$(dirname "$0")/front_ground.sh"
 
-work=$(mktemp -d)
-server=
-fronts=
-stand_ins=
-finish() {
-    for process in $fronts $stand_ins $server; do kill "$process" 2>/dev/null || true; done
-    wait 2>/dev/null || true
-    rm -rf "$work"
-}
-trap finish EXIT
-trap 'exit 130' INT
-trap 'exit 143' TERM
-
-passed=0
-failed=0
-say() { printf '%s\n' "$*"; }
-give_up() { say "front.sh: $*" >&2; exit 1; }
-
-# A try: what it shows, and a function that ends with status 0 where it comes out so.
-try() {
-    title=$1
-    shift
-    : > "$work/out"
-    if "$@"; then
-        passed=$((passed + 1))
-        say "ok: $title"
-    else
-        failed=$((failed + 1))
-        say "FAILED: $title"
-        tail -n 15 "$work/out" | sed 's/^/    /'
-    fi
-}
-
-# npm and yarn as a user, in a folder. What is printed is kept.
-as() {
-    user=$1
-    folder=$2
-    shift 2
-    (cd "$folder" && env HOME="$work/$user" npm_config_userconfig="$work/$user/.npmrc" npm_config_cache="$work/$user/npm" \
-        NODE_EXTRA_CA_CERTS="$work/cert.pem" npm_config_update_notifier=false "$@") > "$work/out" 2>&1
-}
 # npm to the registry itself, without the front.
 directly() {
     folder=$1
     shift
     as bob "$folder" env npm_config_userconfig="$work/bob/direct.npmrc" "$@"
 }
-ask() { curl -sS --cacert "$work/cert.pem" -H 'expect:' "$@"; }
-with_token() { ask -H 'authorization: Bearer npm_bob_000000001' "$@"; }
-status_of() { with_token -o "$work/out" -w '%{http_code}' "$@"; }
-value_of() { node -p "JSON.parse(require('fs').readFileSync(0)).$1"; }
-
-# A package's folder: name, version, and more members of its manifest.
-package() {
-    mkdir -p "$work/$1"
-    printf '{"name":"%s","version":"%s","main":"index.js"%s}\n' "$1" "$2" "${3:-}" > "$work/$1/package.json"
-    printf 'module.exports = "%s %s";\n' "$1" "$2" > "$work/$1/index.js"
-}
-project() {
-    rm -rf "$work/projects/$1"
-    mkdir -p "$work/projects/$1"
-    echo '{"name":"project","version":"1.0.0","license":"MIT"}' > "$work/projects/$1/package.json"
-}
-required() { (cd "$1" && node -p "require('$2')"); }
-has() { grep -q -- "$1" "$work/out"; }
-wait_for() {
-    for _ in $(seq 1 300); do
-        if "$@" > /dev/null 2>&1; then return 0; fi
-        sleep 0.1
-    done
-    return 1
-}
 
 # ---- the registry, which may accept 150 connections in all
 
-ports=$(node -e '
-const servers = [...Array(10)].map(() => require("net").createServer().listen(0, "127.0.0.1"));
-setTimeout(() => { console.log(servers.map((one) => one.address().port).join(" ")); servers.forEach((one) => one.close()); }, 100)')
-nth_port() { echo "$ports" | cut -d ' ' -f "$1"; }
 port=$(nth_port 1)
 plain=$(nth_port 2)
 secure=$(nth_port 3)
@@ -110,73 +36,21 @@ public=$(nth_port 4)
 stub=$(nth_port 5)
 address=https://localhost:$secure
 
-registry() { "$program" --db "$work/registry.db" "$@" > "$work/out" 2>&1 || give_up "$* ended with $(cat "$work/out")"; }
-for user in ann bob; do
-    registry --operator user-add $user
-    registry --operator token-add $user npm_${user}_000000001
-    mkdir "$work/$user"
-    printf 'registry=%s/\n//localhost:%s/:_authToken=npm_%s_000000001\ncafile=%s\n' \
-        "$address" "$secure" $user "$work/cert.pem" > "$work/$user/.npmrc"
-done
+join ann bob
 printf 'registry=http://127.0.0.1:%s/\n//127.0.0.1:%s/:_authToken=npm_bob_000000001\n' "$port" "$port" > "$work/bob/direct.npmrc"
 registry --operator token-add bob npm_bob_leaked.+000001
 registry --operator org-create lab ann
 registry --as ann org-set lab bob
-"$program" --db "$work/registry.db" serve --socket "$work/http.sock" --port "$port" --connections 150 > "$work/server" 2>&1 &
-server=$!
-wait_for grep -q listening "$work/server" || give_up "the registry does not listen: $(cat "$work/server")"
+serve --port "$port" --connections 150
 
-# ---- the front, with the ports, the name and the certificate of this try
+# ---- the front, which has without-npm.conf, too
 
-certificate() {
-    openssl req -x509 -newkey rsa:2048 -nodes -days 1 -subj "/CN=$1" -addext "subjectAltName=DNS:$1" \
-        -keyout "$work/$2key.pem" -out "$work/$2cert.pem" 2> "$work/out" || give_up "openssl: $(cat "$work/out")"
-}
 certificate localhost ''
 certificate public.example public-
+authority=$work/public-cert.pem
+host=127.0.0.1
+parts=without-npm
 
-# A file of examples/front for a front in a folder, between a registry's address and two ports of its own.
-placed() {
-    sed -e "s|unix:/run/registry/http\.sock|$3|" \
-        -e "s|listen 80;|listen 127.0.0.1:$4;|" -e "s|listen 443 ssl;|listen 127.0.0.1:$5 ssl;|" -e '/listen \[::\]/d' \
-        -e "s|/etc/ssl/registry\.example/fullchain\.pem|$work/cert.pem|" -e "s|/etc/ssl/registry\.example/privkey\.pem|$work/key.pem|" \
-        -e 's|server_name registry\.example|server_name localhost|' -e "s|registry\.example|localhost:$5|" \
-        -e "s|/etc/nginx/registry-|$2/|" -e "s|/var/log/nginx/|$2/|" \
-        -e "s|registry\.npmjs\.org|public.example:$public|" -e "s|resolver 127\.0\.0\.53|resolver 127.0.0.1:$stub|" \
-        -e "s|/etc/ssl/certs/ca-certificates\.crt|$work/public-cert.pem|" "$top/examples/front/$1"
-}
-# The whole configuration in a folder, with the number of connections of docs/OPERATIONS.md.
-configure() {
-    mkdir -p "$1"
-    placed registry.conf "$@" > "$1/registry.conf"
-    placed without-npm.conf "$@" > "$1/without-npm"
-    {
-        if [ "$(id -u)" -eq 0 ]; then echo "user $(id -un) $(id -gn);"; fi
-        cat << TEXT
-daemon off;
-worker_processes 1;
-worker_rlimit_nofile 20000;
-pid $1/pid;
-error_log $1/error.log warn;
-events { worker_connections 16384; }
-http {
-    access_log $1/access.log;
-    client_body_temp_path $1/body;
-    proxy_temp_path $1/proxy;
-    fastcgi_temp_path $1/fastcgi;
-    uwsgi_temp_path $1/uwsgi;
-    scgi_temp_path $1/scgi;
-    include $1/registry.conf;
-}
-TEXT
-    } > "$1/nginx.conf"
-}
-is_sound() { nginx -q -t -e "$1/error.log" -p "$1" -c "$1/nginx.conf" 2> "$work/out" || give_up "nginx: $(cat "$work/out")"; }
-begin_front() {
-    is_sound "$1"
-    nginx -e "$1/error.log" -p "$1" -c "$1/nginx.conf" 2> "$work/out" &
-    fronts="$fronts $!"
-}
 configure "$work/nginx" "unix:$work/http.sock" "$plain" "$secure"
 printf '%s 1;\n' npm_bob_leaked.+000001 > "$work/nginx/refused"
 begin_front "$work/nginx"
@@ -574,10 +448,6 @@ try '300 requests more, and the registry has accepted fewer than 150 connections
 
 # ---- classic yarn
 
-yarn=
-for name in yarn yarnpkg; do
-    if [ -z "$yarn" ] && [ "$($name --version 2>/dev/null | cut -d. -f1)" = 1 ]; then yarn=$name; fi
-done
 yarn_installs() {
     project yarn
     as ann "$work/projects/yarn" $yarn add --non-interactive --cache-folder "$work/ann/yarn" @lab/kit @lab/direct older &&
@@ -994,9 +864,8 @@ try 'a stop takes seconds, whatever connections the front keeps and however slow
 is_down() { [ "$(status_of "$address/-/ping")" = 502 ] && [ "$(status_of "$address/@lab%2fkit")" = 502 ] && [ "$(status_of -X PUT -d '{}' "$address/@lab%2fkit")" = 502 ]; }
 try 'then the health check and all else are 502' is_down
 comes_back() {
-    "$program" --db "$work/registry.db" serve --socket "$work/http.sock" > "$work/server" 2>&1 &
-    server=$!
-    wait_for grep -q listening "$work/server" && [ "$(status_of "$address/-/ping")" = 200 ] && [ "$(status_of "$address/@lab%2fkit")" = 200 ]
+    serve
+    [ "$(status_of "$address/-/ping")" = 200 ] && [ "$(status_of "$address/@lab%2fkit")" = 200 ]
 }
 try 'the front asks the next server without a reload' comes_back
 waits_a_minute() {
@@ -1010,10 +879,9 @@ try 'what is not answered within 60 s is 504' waits_a_minute
 
 serves_npm() {
     registry stop && wait "$server"
-    "$program" --db "$work/registry.db" serve --socket "$work/http.sock" --port "$port" --npm > "$work/server" 2>&1 &
-    server=$!
+    serve --port "$port" --npm
     rm "$work/nginx/without-npm"
-    wait_for grep -q listening "$work/server" && reload && [ "$(status_of "$address/@lab%2fkit")" = 200 ]
+    reload && [ "$(status_of "$address/@lab%2fkit")" = 200 ]
 }
 try 'a registry that is served with --npm, and a front without without-npm.conf' serves_npm
 owns() {

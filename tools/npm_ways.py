@@ -201,7 +201,7 @@ def placed(name, port, secure, certificates, folder):
                      ('listen 443 ssl;', f'listen 127.0.0.1:{secure} ssl;'),
                      ('/etc/ssl/registry.example/fullchain.pem', f'{certificates}/cert.pem'),
                      ('/etc/ssl/registry.example/privkey.pem', f'{certificates}/key.pem'),
-                     ('server_name registry.example', 'server_name localhost'), ('registry.example', f'localhost:{secure}'),
+                     ('_name registry.example', '_name localhost'), ('registry.example', f'localhost:{secure}'),
                      ('/etc/nginx/registry-', f'{folder}/'), ('/var/log/nginx/', f'{folder}/'),
                      ('/usr/local/share/registry/', f'{TOP}/examples/front/')]:
         text = text.replace(old, new)
@@ -230,6 +230,14 @@ def front(port, certificates, folder, parts=(), edits=()):
     (folder / 'nginx.conf').write_text(nginx_of(folder))
     with started(['nginx', '-e', folder / 'error.log', '-p', folder, '-c', folder / 'nginx.conf'], folder / 'said', lambda _: is_open(secure)):
         yield secure
+
+
+def further_front(first, certificates, folder):
+    """nginx as a further front, which asks the first one at its port, and its own port."""
+    inner = free_port()
+    edits = [('listen 127.0.0.1:8080', f'listen 127.0.0.1:{inner}'), ('192.0.2.1:443', f'127.0.0.1:{first}'),
+             ('/var/cache/registry-front', f'{folder}/kept'), ('/etc/ssl/certs/ca-certificates.crt', f'{certificates}/cert.pem')]
+    return front(inner, certificates, folder, ('further.conf', 'first-front.conf'), edits)
 
 
 def is_open(port):

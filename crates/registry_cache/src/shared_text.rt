@@ -5,23 +5,33 @@ ghost use Rattle.std.specs.Rc.{rc_str_bytes};
 ghost use Rattle.std.specs.Str.{bytes_eq};
 ghost use Rattle.std.specs.Cmp.Rules.{comparing};
 ghost use Rattle.std.proofs.Common.{rules};
+ghost use Rattle.sha2.specs.Sha256.{sha256};
 
 use crate::shared::Shared;
+use crate::text_digest::TextDigest;
 use registry_names::Text;
 use std::alloc::{AllocError, Global};
 use std::marker::Model;
 use std::rc::RcStr;
 
-/// A text in UTF-8 that is shared, and so can't be changed. Contracts see its bytes.
+/// A text in UTF-8 that is shared, and so can't be changed. It may keep its digest, so that nobody
+/// computes it again. Contracts see its bytes.
 #[derive(Debug, Drop)]
 pub struct SharedText {
     text: RcStr,
+    digest: Option<TextDigest>,
 }
 
 impl Model for SharedText {
+    ghost use Rattle.std.specs.Prelude.{List, ℕ};
+    ghost use Rattle.std.specs.Rc.{rc_str_bytes};
+    ghost use Rattle.registry_cache.specs.Digests.{IsDigestOf};
+
     ghost Value = { List ℕ };
 
     ghost view = { λ t. rc_str_bytes t.text };
+
+    ghost invariant = { λ t. IsDigestOf (rc_str_bytes t.text) t.digest };
 }
 
 impl SharedText {
@@ -43,7 +53,7 @@ impl SharedText {
         let mut text = text.into_string();
         text.shrink_to_fit();
         let text = RcStr::from_string(text)?;
-        Ok(SharedText { text })
+        Ok(SharedText { text, digest: None })
     }
 
     /// The text itself.
@@ -52,6 +62,27 @@ impl SharedText {
         ensures utf8 { IsUtf8 self.now }
     {
         self.text.as_str()
+    }
+
+    /// The same text, which keeps its digest from now on, as do all that share it. It takes no memory.
+    pub fn with_digest(self) -> SharedText
+        ensures { result ≡ self }
+    {
+        let digest = Some(self.digest());
+        SharedText {
+            text: self.text,
+            digest,
+        }
+    }
+
+    /// The SHA-256 of the text. It is computed where the text doesn't keep it.
+    pub fn digest(&self) -> TextDigest
+        ensures { result ≡ sha256 self.now }
+    {
+        match self.digest {
+            Some(digest) => digest,
+            None => TextDigest::of(self.as_str()),
+        }
     }
 }
 
@@ -64,7 +95,10 @@ impl Shared for SharedText {
 
     fn share(&self) -> Result<SharedText, AllocError> {
         let text = self.text.clone()?;
-        Ok(SharedText { text })
+        Ok(SharedText {
+            text,
+            digest: self.digest,
+        })
     }
 }
 

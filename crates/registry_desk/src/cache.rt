@@ -28,6 +28,8 @@ pub(crate) struct Caches {
     pub(crate) packuments: TextCache,
     /// The archives of live versions, by package and version.
     pub(crate) archives: BlobCache,
+    /// Whether the text of a packument that is kept from now on keeps its digest.
+    pub(crate) makes_digests: bool,
 }
 
 impl Caches {
@@ -45,6 +47,7 @@ impl Caches {
         Ok(Caches {
             packuments,
             archives,
+            makes_digests: false,
         })
     }
 }

@@ -258,6 +258,14 @@ impl<S: Alter> Registry<S> {
         Ok(outcomes)
     }
 
+    /// From now on each text of a packument that is kept keeps its digest, and so does each that is
+    /// answered. Nothing else changes.
+    pub fn make_digests(&mut self)
+        ensures { self.new ≡ self.old }
+    {
+        self.caches.makes_digests = true;
+    }
+
     // A law: so it is of each registry between requests.
     fn holds_as_written(&self)
         ensures { HoldsAsWritten (state S.Store self.now) }

@@ -169,11 +169,23 @@ fn made_text<S: Alter>(
     }
 }
 
+// The same text, which keeps its digest if it is to.
+fn digested(text: SharedText, keeps_digest: bool) -> SharedText
+    ensures { result ≡ text }
+{
+    if keeps_digest {
+        text.with_digest()
+    } else {
+        text
+    }
+}
+
 // The reply that is this text, which others may share.
-fn shared(text: Text) -> Result<Reply, Fault>
+fn shared(text: Text, keeps_digest: bool) -> Result<Reply, Fault>
     ensures { IfOk result (λ given. given ≡ Reply.Doc text) }
 {
-    Ok(Reply::Doc(SharedText::from_text(text)?))
+    let text = SharedText::from_text(text)?;
+    Ok(Reply::Doc(digested(text, keeps_digest)))
 }
 
 // ---- the reply
@@ -184,6 +196,7 @@ fn reply_of<S: Alter>(
     conn: &mut Connection<S>,
     name: &Name,
     origin: Origin,
+    keeps_digest: bool,
 ) -> Result<Reply, Fault>
     requires rests { Rests (state S.Store conn.old) }
     requires unshut { HasCleanDisk (state S.Store conn.old)
@@ -197,7 +210,7 @@ fn reply_of<S: Alter>(
     match origin {
         Origin::Refused(refusal) => Ok(Reply::Refused(refusal)),
         Origin::Kept(text) => Ok(Reply::Doc(text)),
-        Origin::Stored(head) => shared(made_text(alloc, conn, name, &head)?),
+        Origin::Stored(head) => shared(made_text(alloc, conn, name, &head)?, keeps_digest),
     }
 }
 
@@ -208,6 +221,7 @@ fn query_reply<S: Alter>(
     cache: &TextCache,
     request: &Request,
     name: &Name,
+    keeps_digest: bool,
 ) -> Result<Reply, Fault>
     requires rests { Rests (state S.Store conn.old) }
     requires right { HasPackuments (state S.Store conn.old) cache.now }
@@ -221,7 +235,7 @@ fn query_reply<S: Alter>(
         (ShowsAlone (registry_in (state S.Store conn.old)) name.now) }
 {
     let origin = origin_of(alloc, conn, cache, request, name)?;
-    reply_of(alloc, conn, name, origin)
+    reply_of(alloc, conn, name, origin, keeps_digest)
 }
 
 /// Answers a query for the packument of the package, and keeps its text as the latest asked.
@@ -245,7 +259,8 @@ pub(crate) fn queried<S: Alter>(
     ensures no_more { OnErr result (KeepNoMore caches.old caches.new) }
     ensures kept { IfOk result (KeepsAnswer request.now.what caches.old caches.new) }
 {
-    let reply = query_reply(alloc, conn, &caches.packuments, request, name)?;
+    let keeps_digest = caches.makes_digests;
+    let reply = query_reply(alloc, conn, &caches.packuments, request, name, keeps_digest)?;
     keep_reply(alloc, caches, &request.what, &reply);
     Ok(reply)
 }

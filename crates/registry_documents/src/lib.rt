@@ -25,4 +25,4 @@ pub use crate::asked::Asked;
 pub use crate::document::{Document, Kind};
 pub use crate::fronts::front;
 pub use crate::judging::{Present, judge};
-pub use crate::revision::{Revision, TextDigest};
+pub use crate::revision::Revision;

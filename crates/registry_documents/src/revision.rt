@@ -1,42 +1,14 @@
 //! Revisions of packages.
 
 ghost use Rattle.std.specs.Prelude.{◌≡◌, ◌++◌, ◌∷◌, [], string_bytes, bytes_eq, IfOk, OnOk};
-ghost use Rattle.sha2.specs.Sha256.{sha256};
 ghost use Rattle.registry_documents.specs.Revisions as spec;
 ghost use Rattle.registry_documents.specs.Revisions.{revision_of};
 
+use registry_cache::TextDigest;
 use registry_names::Text;
 use sha2::{Digest, Sha256};
 use std::alloc::{AllocError, Global};
 use std::marker::Model;
-
-/// The SHA-256 (FIPS 180-4) of a packument's text. It is kept apart from the revision because the
-/// text is long: who holds a text needs its digest only once. Contracts see its 32 bytes.
-#[derive(Clone, Copy, Debug)]
-pub struct TextDigest {
-    bytes: [u8; 32],
-}
-
-impl Model for TextDigest {
-    ghost use Rattle.std.specs.Prelude.{List, ℕ};
-
-    ghost Value = { List ℕ };
-
-    ghost view = { λ d. d.bytes };
-
-    ghost inverse = { λ bytes. record { bytes = bytes } };
-}
-
-impl TextDigest {
-    /// The digest of a packument's text. It takes no memory.
-    pub fn of(packument: &str) -> TextDigest
-        ensures { result ≡ sha256 packument.now }
-    {
-        TextDigest {
-            bytes: Sha256::digest(packument.as_bytes()),
-        }
-    }
-}
 
 /// What npm's `_rev` is here: 64 hexadecimal digits that packages have in common only where their
 /// packuments and maintainers are the same. All readers of a package see the same one. Contracts
@@ -96,7 +68,7 @@ fn revised(
 ) -> Result<String, AllocError>
     ensures { IfOk result (λ text. string_bytes text ≡ spec.revised packument.now maintainers.now) }
 {
-    let mut out = hex::encode(alloc, packument.bytes)?;
+    let mut out = hex::encode(alloc, packument.as_slice())?;
     for name in maintainers {
         push_line(&mut out, name)?;
     }

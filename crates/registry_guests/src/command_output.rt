@@ -80,11 +80,18 @@ impl CommandOutput {
         self.status
     }
 
-    /// The text.
-    pub fn text(&self) -> &[u8]
-        ensures { result.now ≡ self.now.text }
+    /// The text, in two pieces. Mostly the second is empty.
+    pub fn texts(&self) -> (&[u8], &[u8])
+        ensures { result.0.now ++ result.1.now ≡ self.now.text }
     {
-        self.body.as_slice()
+        self.body.as_slices()
+    }
+
+    /// How many bytes the text has.
+    pub fn text_len(&self) -> usize
+        ensures { result ≡ length self.now.text }
+    {
+        self.body.len()
     }
 
     /// What ends it: a newline, or nothing.

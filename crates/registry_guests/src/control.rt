@@ -86,7 +86,7 @@ fn answer<S: Socket>(socket: &mut S, holds: bool, byte: u8) -> Visit
     if !holds {
         return Visit::Again;
     }
-    match socket.send(&[byte], &[]) {
+    match socket.send(&[byte], &[], &[]) {
         Flow::Moved(count) if count > 0 => Visit::Again,
         _ => Visit::Over,
     }

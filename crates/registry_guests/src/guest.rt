@@ -176,8 +176,8 @@ fn send<S: Socket>(socket: &mut S, unsent: &mut Unsent) -> Visit
     ensures waits { result ≡ visits.Rests → S.is_full socket.new ≡ true }
     ensures over { result ≡ visits.Over → IsOverIn [] (Some unsent.new) (S.is_ended socket.new) (S.is_broken socket.new) }
 {
-    let (front, text) = unsent.parts();
-    match socket.send(front, text) {
+    let (front, text, rest) = unsent.parts();
+    match socket.send(front, text, rest) {
         Flow::Moved(count) => {
             unsent.advance(count);
             if unsent.is_empty() {

@@ -28,7 +28,7 @@ impl GuestSocket {
 
     /// Says to the other side that the server is ready for its command. False where that fails.
     pub(crate) fn greet(&mut self) -> bool {
-        match self.send(&[READY], &[]) {
+        match self.send(&[READY], &[], &[]) {
             Flow::Moved(count) => count == 1,
             _ => false,
         }
@@ -75,12 +75,10 @@ impl Socket for GuestSocket {
         Flow::Moved(0)
     }
 
-    // Both pieces go out in one call of the system.
-    fn send(&mut self, head: &[u8], body: &[u8]) -> Flow {
-        match self
-            .stream
-            .write_vectored(&[IoSlice::new(head), IoSlice::new(body)])
-        {
+    // The three pieces go out in one call of the system.
+    fn send(&mut self, head: &[u8], body: &[u8], rest: &[u8]) -> Flow {
+        let pieces = [IoSlice::new(head), IoSlice::new(body), IoSlice::new(rest)];
+        match self.stream.write_vectored(&pieces) {
             Ok(count) => Flow::Moved(count),
             Err(error) => failed(&error),
         }

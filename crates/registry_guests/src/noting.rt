@@ -24,7 +24,7 @@ pub(crate) fn noted<D: Service>(
     ensures output { result ≡ output }
     ensures service { service.new ≡ service.old }
 {
-    let length = output.text().len() as u64;
+    let length = output.text_len() as u64;
     service.note_command(&AnsweredCommand {
         caller,
         words,

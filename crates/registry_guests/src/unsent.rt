@@ -5,6 +5,7 @@ ghost use Rattle.registry_guests.specs.Spelling.{word};
 ghost use Rattle.registry_guests.specs.Outputs.{sent_as};
 
 use crate::command_output::CommandOutput;
+use registry_server::left_of;
 use registry_wire::ShortText;
 use std::marker::Model;
 
@@ -14,7 +15,8 @@ use std::marker::Model;
 pub struct Unsent {
     front: ShortText,
     output: CommandOutput,
-    sent: usize,
+    // It may be more than a `usize` holds, as far as the lengths of three pieces show.
+    sent: u128,
 }
 
 // Written out, so that dropping it is one call, not one for each part.
@@ -55,23 +57,16 @@ impl Unsent {
     pub fn is_empty(&self) -> bool
         ensures { result ≡ (length self.now == 0) }
     {
-        let (front, text) = self.parts();
-        front.is_empty() && text.is_empty()
+        let (front, text, rest) = self.parts();
+        front.is_empty() && text.is_empty() && rest.is_empty()
     }
 
-    /// What is left before the text, and what is left of the text.
-    pub fn parts(&self) -> (&[u8], &[u8])
-        ensures { result.0.now ++ result.1.now ≡ self.now }
+    /// What is left before the text, of the first piece of the text, and of the rest of it.
+    pub fn parts(&self) -> (&[u8], &[u8], &[u8])
+        ensures { result.0.now ++ result.1.now ++ result.2.now ≡ self.now }
     {
-        let front = self.front.as_slice();
-        let text = self.output.text();
-        if self.sent < front.len() {
-            let (_, rest) = front.split_at(self.sent);
-            (rest, text)
-        } else {
-            let (_, rest) = text.split_at(self.sent - front.len());
-            (&[], rest)
-        }
+        let (text, rest) = self.output.texts();
+        left_of(self.front.as_slice(), text, rest, self.sent)
     }
 
     /// This many more bytes were sent.
@@ -81,7 +76,7 @@ impl Unsent {
     {
         // The new sum is at most this, so it doesn't overflow.
         let _total = total(&self.front, &self.output);
-        self.sent += count;
+        self.sent += count as u128;
     }
 }
 
@@ -93,7 +88,7 @@ fn front_of(output: &CommandOutput) -> ShortText
     front.push(&2u32.to_be_bytes());
     put_word(&mut front, &[output.status()]);
     put_word(&mut front, output.end());
-    front.push(&(output.text().len() as u64).to_be_bytes());
+    front.push(&(output.text_len() as u64).to_be_bytes());
     front
 }
 
@@ -108,8 +103,8 @@ fn put_word(front: &mut ShortText, bytes: &[u8])
 }
 
 // How many bytes the answer has.
-fn total(front: &ShortText, output: &CommandOutput) -> usize
+fn total(front: &ShortText, output: &CommandOutput) -> u128
     ensures { result ≡ length (front.now ++ output.now.text) }
 {
-    front.as_slice().len() + output.text().len()
+    front.as_slice().len() as u128 + output.text_len() as u128
 }

@@ -12,7 +12,7 @@ use Rattle.registry_laws_hidden.specs.Runs.{AreAlikeTo}
 use Rattle.registry_laws_hidden.proofs.RunFacts.{AreOneTo, one_start, runs_are_alike}
 use Rattle.registry_service.specs.Dialects.{IsDetermined}
 use Rattle.registry_service.specs.Histories.{FollowAll}
-use Rattle.registry_service.specs.HttpAnswers.{response_to}
+use Rattle.registry_service.specs.HttpAnswers.{plain_response}
 use Rattle.registry_service.specs.Turns.{Dialect, Turn, spoken}
 use Rattle.registry_http.specs.Alone.{AreAnsweredAlikeTo, IsAlone, IsTheirTurn, OneIsAnsweredTheSame, RunsAreAnsweredAlike}
 use Rattle.registry_http.specs.Services.{applied, exchanges_of, turns_in}
@@ -30,7 +30,7 @@ answered-alike who p S T (r ∷ rs) (Ok a ∷ os) [] alike = tt
 answered-alike who p S T (r ∷ rs) (Ok a ∷ os) (Err g ∷ qs) alike = tt
 answered-alike who p S T (r ∷ rs) (Ok a ∷ os) (Ok b ∷ qs) alike = λ theirs one.
     let both = alike theirs one in
-    (λ (closes : Bool). ap (λ (reply : Reply). response_to (Ok reply) closes) both.0, answered-alike who p (next S r (Ok a)) (next T r (Ok b)) rs os qs both.1)
+    (λ (closes : Bool). ap (λ (reply : Reply). plain_response (Ok reply) closes) both.0, answered-alike who p (next S r (Ok a)) (next T r (Ok b)) rs os qs both.1)
 
 pub runs-answered_alike : RunsAreAnsweredAlike
 runs-answered_alike g h p who differ nothing nothing' rs os qs first second = answered-alike who p (after g) (after h) rs os qs (runs_are_alike g h p who differ nothing nothing' rs os qs first second)
@@ -62,7 +62,7 @@ module _ (who : Caller) (p : Text) (S T : State) (start : AreOneTo who p S T) wh
         let rest = their-turns ms K follow.0 M follow'.0 follow.1 follow'.1
         (have-split S (exchanges_of (turns_in (first_log ms))) t.exchanges first).0 (have-split T (exchanges_of (turns_in (second_log ms))) u.exchanges second).0 alone.1 in
         let turn = their-turn ms j stops t u first second rest.1 alone.0 in
-        let one : IsOneTurn t u = (alone.0.0, same-told (spoken speaks (applied show)) determined t u follow.0 L follow'.0 N _ _ follow.2 follow'.2 alone.0.0 turn.0 alone.0.2) in
+        let one : IsOneTurn t u = (alone.0.0, turn.0, same-told (spoken speaks (applied show)) determined t u follow.0 L follow'.0 N _ _ follow.2 follow'.2 alone.0.0 turn.0 alone.0.2) in
         (λ k. (λ here. one, rest.0 k), turn.1)
     their-turns (in_first j stops t ∷ ms) K L M N follow follow' first second alone = absurd alone
     their-turns (in_second j stops u ∷ ms) K L M N follow follow' first second alone = absurd alone

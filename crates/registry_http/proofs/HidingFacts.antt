@@ -18,7 +18,7 @@ use Rattle.registry_rules.specs.declared.request.Action.{Action}
 use Rattle.registry_rules.specs.declared.request.Action.TheVariants.{UserAdd, TokenAdd, TokenRemove, TokensRemove, OrgCreate, OrgSet, OrgRemove, TeamCreate, TeamDestroy, TeamAdd, TeamRemove, Grant, Revoke, SetAccess, OwnerAdd, OwnerRemove, Publish, TagSet, TagRemove, Withdraw, WithdrawAll, Deprecate, Packument, VersionDoc, Archive, Tags, Members, Teams, TeamMembers, TeamPackages, WhoAmI, Maintainers, OrgPackages, MyPackages, Users, Organisations, Packages}
 use Rattle.registry_rules.specs.declared.request.Request.{Request}
 use Rattle.registry_laws_history.specs.Answers.{answer, reply, reply_to, unless_refused}
-use Rattle.registry_service.specs.HttpAnswers.{response_to}
+use Rattle.registry_service.specs.HttpAnswers.{plain_response}
 use Rattle.registry_http.specs.Hiding.{HiddenAreUnheardOf, IsUnread, IsQueryOf, IsUnheardOf}
 
 unread : (b : Bool) (rest : Option Refusal) → b ≡ false → option_or (unless_allowed (where_found b (Ok A8))) rest ≡ Some NotFound
@@ -77,4 +77,4 @@ unheard-hidden S r p (who, known, new) =
 
 pub hidden-unheard_of : HiddenAreUnheardOf
 hidden-unheard_of S T r s p q closes is other hidden new =
-    ap (λ (reply : Reply). response_to (Ok reply) closes) (not-found S r p is hidden ∙ sym (not-found T s q other (unheard-hidden T s q new)))
+    ap (λ (reply : Reply). plain_response (Ok reply) closes) (not-found S r p is hidden ∙ sym (not-found T s q other (unheard-hidden T s q new)))

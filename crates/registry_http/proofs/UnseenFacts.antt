@@ -10,7 +10,7 @@ use Rattle.registry_wire.specs.declared.wanted.Wanted.{Wanted}
 use Rattle.registry_service.specs.Courses.{written}
 use Rattle.registry_service.specs.Dialects.{IsDetermined}
 use Rattle.registry_service.specs.Histories.{FollowAll, IsOneHistory, LogEntry, World, is_last, turns_of}
-use Rattle.registry_service.specs.HttpAnswers.{Outcome, response_to}
+use Rattle.registry_service.specs.HttpAnswers.{Outcome}
 use Rattle.registry_service.specs.Turns.{Cause, Dialect, Dialogue, Exchange, IsTurn, IsTurnFor, Turn, bad_input, no_memory, request, request_limit, response_of, spoken, end_of as turn_end}
 use Rattle.registry_service.specs.declared.turning.End.{End}
 use Rattle.registry_service.proofs.HistoryFacts.{one-history}
@@ -31,18 +31,22 @@ ends-alike dialogue (request w at) K L M N a b es fs o e f last first second = f
 ends-alike dialogue (bad_input r) K L M N a b es fs o e f last first second = first.0.1 ∙ sym second.0.1
 ends-alike dialogue no_memory K L M N a b es fs o e f last first second = first.0.1 ∙ sym second.0.1
 
--- so they are answered the same
-pub same-response : {D : Type 0} (dialogue : Dialogue D) (t u : Turn) (K L M N : D) (a b : Bool) → t.cause ≡ u.cause → t.outcome ≡ u.outcome → a ≡ b → IsTurn dialogue K a t L → IsTurn dialogue M b u N
-    → response_of t ≡ response_of u
-same-response dialogue t u K L M N a b cause outcome last is is' =
+-- the same cause, with what was asked, and the same end
+turn-same : (t u : Turn) → t.cause ≡ u.cause → t.exchanges ≡ u.exchanges → t.outcome ≡ u.outcome → t.ended ≡ u.ended → t ≡ u
+turn-same t u cause asked outcome ended = rw (cause, asked, outcome, ended) refl
+
+-- so they are answered the same, if they asked the same with the same outcomes
+pub same-response : {D : Type 0} (dialogue : Dialogue D) (t u : Turn) (K L M N : D) (a b : Bool) → t.cause ≡ u.cause → t.exchanges ≡ u.exchanges → t.outcome ≡ u.outcome → a ≡ b → IsTurn dialogue K a t L → IsTurn dialogue M b u N
+    → response_of dialogue.speaks t ≡ response_of dialogue.speaks u
+same-response dialogue t u K L M N a b cause asked outcome last is is' =
     let there : IsTurnFor dialogue t.cause M b u.exchanges t.outcome u.ended N =
     subst (λ o. IsTurnFor dialogue t.cause M b u.exchanges o u.ended N) (sym outcome) (subst (λ c. IsTurnFor dialogue c M b u.exchanges u.outcome u.ended N) (sym cause) is') in
-    ap₂ (λ o e. response_to o (is_some e)) outcome (ends-alike dialogue t.cause K L M N a b t.exchanges u.exchanges t.outcome t.ended u.ended last is there)
+    ap (response_of dialogue.speaks) (turn-same t u cause asked outcome (ends-alike dialogue t.cause K L M N a b t.exchanges u.exchanges t.outcome t.ended u.ended last is there))
 
 -- ---- what is determined
 
 module _ {D : Type 0} (dialogue : Dialogue D) (determined : IsDetermined dialogue.speaks) where
-  same-reply : (w : Wanted) (at : ℕ) (es : List Exchange) (o q : Outcome) → dialogue.speaks w at es o → dialogue.speaks w at es q → EndsAlike es o q → o ≡ q
+  same-reply : (w : Wanted) (at : ℕ) (es : List Exchange) (o q : Outcome) → dialogue.speaks.asks w at es o → dialogue.speaks.asks w at es q → EndsAlike es o q → o ≡ q
   same-reply w at [] o q first second alike = alike
   same-reply w at (e ∷ es) (Ok a) (Ok b) first second alike = ap Ok (determined w at e es a b first second)
   same-reply w at (e ∷ es) (Ok a) (Err g) first second alike = absurd alike
@@ -65,9 +69,9 @@ module _ {D : Type 0} (dialogue : Dialogue D) (determined : IsDetermined dialogu
 
 -- ---- the turns of a connection
 
--- what was taken in both worlds for the same, with one outcome
+-- what was taken in both worlds for the same, asked the same with the same outcomes, and has one outcome
 abbrev pub IsOneTurn : Turn → Turn → Type 0
-IsOneTurn t u = (t.cause ≡ u.cause) × (t.outcome ≡ u.outcome)
+IsOneTurn t u = (t.cause ≡ u.cause) × (t.exchanges ≡ u.exchanges) × (t.outcome ≡ u.outcome)
 
 -- each turn of this connection is such
 abbrev pub AreOneTurns : ℕ → List Meeting → Type 0
@@ -76,34 +80,34 @@ AreOneTurns k (in_both j stops t u ∷ ms) = ((k == j) ≡ true → IsOneTurn t 
 AreOneTurns k (in_first j stops t ∷ ms) = ((k == j) ≡ false) × AreOneTurns k ms
 AreOneTurns k (in_second j stops u ∷ ms) = ((k == j) ≡ false) × AreOneTurns k ms
 
--- as many turns, and the same written
-record AreSame (ts us : List Turn) : Type 0 where
+-- as many turns, and the same written in a dialect
+record AreSame (speaks : Dialect) (ts us : List Turn) : Type 0 where
   count : length ts ≡ length us
-  bytes : written ts ≡ written us
+  bytes : written speaks ts ≡ written speaks us
 
 lasts : (stops : Bool) (ts us : List Turn) → length ts ≡ length us → is_last stops ts ≡ is_last stops us
 lasts stops ts us count = ap (λ n. stops || (n + 1 == request_limit)) count
 
 module _ {D : Type 0} (dialogue : Dialogue D) where
   same-turns : (k : ℕ) (ms : List Meeting) (K L M N : D) → FollowAll dialogue K (first_log ms) L → FollowAll dialogue M (second_log ms) N → AreOneTurns k ms
-      → AreSame (turns_of k (first_log ms)) (turns_of k (second_log ms))
+      → AreSame dialogue.speaks (turns_of k (first_log ms)) (turns_of k (second_log ms))
   same-turns k [] K L M N follow follow' one = record { count = refl; bytes = refl }
   same-turns k (in_both j stops t u ∷ ms) K L M N follow follow' one = by (same-turns k ms K follow.0 M follow'.0 follow.1 follow'.1 one.1) (k == j) refl
     where
-      by : AreSame (turns_of k (first_log ms)) (turns_of k (second_log ms)) → (b : Bool) → (k == j) ≡ b
-          → AreSame (if b then t ∷ turns_of k (first_log ms) else turns_of k (first_log ms)) (if b then u ∷ turns_of k (second_log ms) else turns_of k (second_log ms))
+      by : AreSame dialogue.speaks (turns_of k (first_log ms)) (turns_of k (second_log ms)) → (b : Bool) → (k == j) ≡ b
+          → AreSame dialogue.speaks (if b then t ∷ turns_of k (first_log ms) else turns_of k (first_log ms)) (if b then u ∷ turns_of k (second_log ms) else turns_of k (second_log ms))
       by rest false other = rest
       by rest true here = record {
         count = ap suc rest.count;
         bytes = ap₂ (λ x y. x ++ y) rest.bytes
-            (same-response dialogue t u follow.0 L follow'.0 N (is_last stops (turns_of j (first_log ms))) (is_last stops (turns_of j (second_log ms))) (one.0 here).0 (one.0 here).1
+            (same-response dialogue t u follow.0 L follow'.0 N (is_last stops (turns_of j (first_log ms))) (is_last stops (turns_of j (second_log ms))) (one.0 here).0 (one.0 here).1 (one.0 here).2
             (lasts stops (turns_of j (first_log ms)) (turns_of j (second_log ms)) (subst (λ i. length (turns_of i (first_log ms)) ≡ length (turns_of i (second_log ms))) (same-number k j here) rest.count)) follow.2 follow'.2);
       }
   same-turns k (in_first j stops t ∷ ms) K L M N follow follow' one =
-      subst (λ b. AreSame (if b then t ∷ turns_of k (first_log ms) else turns_of k (first_log ms)) (turns_of k (second_log ms))) (sym one.0)
+      subst (λ b. AreSame dialogue.speaks (if b then t ∷ turns_of k (first_log ms) else turns_of k (first_log ms)) (turns_of k (second_log ms))) (sym one.0)
       (same-turns k ms K follow.0 M N follow.1 follow' one.1)
   same-turns k (in_second j stops u ∷ ms) K L M N follow follow' one =
-      subst (λ b. AreSame (turns_of k (first_log ms)) (if b then u ∷ turns_of k (second_log ms) else turns_of k (second_log ms))) (sym one.0)
+      subst (λ b. AreSame dialogue.speaks (turns_of k (first_log ms)) (if b then u ∷ turns_of k (second_log ms) else turns_of k (second_log ms))) (sym one.0)
       (same-turns k ms K L M follow'.0 follow follow'.1 one.1)
 
 -- ---- the registries of both worlds
@@ -171,10 +175,11 @@ module _ (p : Text) (S T : State) (start : AreNear p S T) where
     strangers-turns k (in_both j stops t u ∷ ms) K L M N follow follow' first second differ strangers =
         let have = first-older ms t first in
         let have' = second-older ms u second in (
-          λ here. (
+          λ here.
+          let asked = stranger-asks ms t u first second (near-after ms have have' differ.1) differ.0 (strangers.0 here) in (
             differ.0.0,
-            same-told (spoken speaks (applied show)) determined t u follow.0 L follow'.0 N _ _ follow.2 follow'.2 differ.0.0
-                (stranger-asks ms t u first second (near-after ms have have' differ.1) differ.0 (strangers.0 here)) (strangers.0 here).1,
+            asked,
+            same-told (spoken speaks (applied show)) determined t u follow.0 L follow'.0 N _ _ follow.2 follow'.2 differ.0.0 asked (strangers.0 here).1,
           ),
           strangers-turns k ms K follow.0 M follow'.0 follow.1 follow'.1 have have' differ.1 strangers.1,
         )
@@ -198,8 +203,8 @@ module _ (speaks : Dialect) {D : Type 0} (show : D → Shown) where
       let run : RunsFor (show M) (show w.service) (exchanges_of (turns_in es)) = log-follow_run speaks show M w.service es (follow-log M w h es world) in
       subst (λ U. Have U (exchanges_of (turns_in es))) world.left (run.ran world.needs world.clean).answers
 
-  sent : (M : D) (w : World D) (h : List Entry) (es : List LogEntry) → IsWorldOf speaks show M w h es → (k : ℕ) → (w.transcripts k).out ≡ written (turns_of k es)
-  sent M w h es world k = ((history M w h es world).transcripts k).answered ∙ ap (λ x. written (turns_of k x)) world.log
+  sent : (M : D) (w : World D) (h : List Entry) (es : List LogEntry) → IsWorldOf speaks show M w h es → (k : ℕ) → (w.transcripts k).out ≡ written speaks (turns_of k es)
+  sent M w h es world k = ((history M w h es world).transcripts k).answered ∙ ap (λ x. written speaks (turns_of k x)) world.log
 
   -- a connection all of whose turns are such is answered the same
   pub same-bytes : (M N : D) (w v : World D) (g h : List Entry) (ms : List Meeting) → IsWorldOf speaks show M w g (first_log ms) → IsWorldOf speaks show N v h (second_log ms)

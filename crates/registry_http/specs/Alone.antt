@@ -14,7 +14,7 @@ use Rattle.registry_laws_history.specs.Runs.{Outcome, HaveOutcomes, next}
 use Rattle.registry_laws_hidden.specs.Concerns.{IsShownAlike}
 use Rattle.registry_laws_hidden.specs.Runs.{DifferInPackage, IsTheirs}
 use Rattle.registry_service.specs.Histories.{World}
-use Rattle.registry_service.specs.HttpAnswers.{response_to}
+use Rattle.registry_service.specs.HttpAnswers.{plain_response}
 use Rattle.registry_service.specs.Turns.{Dialect, Exchange, Turn}
 use Rattle.registry_http.specs.Unseen.{AreReplies, EndsAlike, IsWorldOf, Meeting, first_left, first_log, in_both, in_first, in_second, second_left, second_log}
 
@@ -26,7 +26,7 @@ use Rattle.registry_http.specs.Unseen.{AreReplies, EndsAlike, IsWorldOf, Meeting
 -- of them, or by the list of all packages
 abbrev pub AreAnsweredAlikeTo : Caller → Text → State → State → List Request → List Outcome → List Outcome → Type 0
 AreAnsweredAlikeTo who p S T (r ∷ rs) (Ok a ∷ os) (Ok b ∷ qs) = IsTheirs who (caller_of S r.who) → IsShownAlike S T r p
-    → ((closes : Bool) → response_to (Ok a) closes ≡ response_to (Ok b) closes) × AreAnsweredAlikeTo who p (next S r (Ok a)) (next T r (Ok b)) rs os qs
+    → ((closes : Bool) → plain_response (Ok a) closes ≡ plain_response (Ok b) closes) × AreAnsweredAlikeTo who p (next S r (Ok a)) (next T r (Ok b)) rs os qs
 AreAnsweredAlikeTo who p S T _ _ _ = Unit {0}
 
 -- a caller who has no level on the package after either history can't distinguish the two by a byte

@@ -12,7 +12,7 @@ use Rattle.registry_rules.specs.declared.request.Action.TheVariants.{Packument, 
 use Rattle.registry_rules.specs.declared.request.Credential.{Credential}
 use Rattle.registry_rules.specs.declared.request.Request.{Request}
 use Rattle.registry_laws_history.specs.Answers.{answer}
-use Rattle.registry_service.specs.HttpAnswers.{response_to}
+use Rattle.registry_service.specs.HttpAnswers.{plain_response}
 
 -- the query is about this package
 abbrev pub IsQueryOf : Text → Action → Type 0
@@ -35,4 +35,4 @@ IsUnheardOf S who p = (c : Caller) × (caller_of S who ≡ Some c) × (at S.acce
 -- that to any query on a package that was never published, in the same registry or in another
 abbrev pub HiddenAreUnheardOf : Type 0
 HiddenAreUnheardOf = (S T : State) (r s : Request) (p q : Text) (closes : Bool) → IsQueryOf p r.what → IsQueryOf q s.what → IsUnread S r.who p → IsUnheardOf T s.who q
-    → response_to (Ok (answer S r)) closes ≡ response_to (Ok (answer T s)) closes
+    → plain_response (Ok (answer S r)) closes ≡ plain_response (Ok (answer T s)) closes

@@ -30,9 +30,10 @@ same-number k j here = grind (arith, nat_tests, here)
 
 -- ---- the turns of a connection
 
--- of the connection of this number: taken for the same, with one outcome
+-- of the connection of this number: taken for the same, asked the same with the same outcomes, and with one
+-- outcome
 abbrev pub IsOneTurn : ℕ → WorldTurn → WorldTurn → Type 0
-IsOneTurn k (by_connection e) (by_connection f) = (e.from ≡ f.from) × (e.stops ≡ f.stops) × ((k == e.from) ≡ true → (e.turn.cause ≡ f.turn.cause) × (e.turn.outcome ≡ f.turn.outcome))
+IsOneTurn k (by_connection e) (by_connection f) = (e.from ≡ f.from) × (e.stops ≡ f.stops) × ((k == e.from) ≡ true → (e.turn.cause ≡ f.turn.cause) × (e.turn.exchanges ≡ f.turn.exchanges) × (e.turn.outcome ≡ f.turn.outcome))
 IsOneTurn k (by_connection e) (by_command u fs) = ⊥
 IsOneTurn k (by_command t es) (by_connection f) = ⊥
 IsOneTurn k (by_command t es) (by_command u fs) = Unit {0}
@@ -43,18 +44,18 @@ AreOneTurns k (in_both t u ∷ ms) = IsOneTurn k t u × AreOneTurns k ms
 AreOneTurns k (in_first t ∷ ms) = (is_of k t ≡ false) × AreOneTurns k ms
 AreOneTurns k (in_second u ∷ ms) = (is_of k u ≡ false) × AreOneTurns k ms
 
--- as many turns, and the same written
-record AreSame (ts us : List Turn) : Type 0 where
+-- as many turns, and the same written in a dialect
+record AreSame (speaks : Dialect) (ts us : List Turn) : Type 0 where
   count : length ts ≡ length us
-  bytes : written ts ≡ written us
+  bytes : written speaks ts ≡ written speaks us
 
 module _ {D : Type 0} (dialogue : Dialogue D) (k : ℕ) where
   -- one more turn of both
-  with-both : (e f : LogEntry) (es fs : List LogEntry) (K L M N : D) → IsOneTurn k (by_connection e) (by_connection f) → AreSame (turns_of k es) (turns_of k fs)
-      → FollowAll dialogue K (e ∷ es) L → FollowAll dialogue M (f ∷ fs) N → AreSame (turns_of k (e ∷ es)) (turns_of k (f ∷ fs))
+  with-both : (e f : LogEntry) (es fs : List LogEntry) (K L M N : D) → IsOneTurn k (by_connection e) (by_connection f) → AreSame dialogue.speaks (turns_of k es) (turns_of k fs)
+      → FollowAll dialogue K (e ∷ es) L → FollowAll dialogue M (f ∷ fs) N → AreSame dialogue.speaks (turns_of k (e ∷ es)) (turns_of k (f ∷ fs))
   with-both e f es fs K L M N one rest follow follow' = by (k == e.from) (k == f.from) refl refl
     where
-      by : (b c : Bool) → (k == e.from) ≡ b → (k == f.from) ≡ c → AreSame (cond b (e.turn ∷ turns_of k es) (turns_of k es)) (cond c (f.turn ∷ turns_of k fs) (turns_of k fs))
+      by : (b c : Bool) → (k == e.from) ≡ b → (k == f.from) ≡ c → AreSame dialogue.speaks (cond b (e.turn ∷ turns_of k es) (turns_of k es)) (cond c (f.turn ∷ turns_of k fs) (turns_of k fs))
       by false false other other' = rest
       by true false here other = absurd (true≢false (sym here ∙ ap (λ i. k == i) one.0 ∙ other))
       by false true other here = absurd (true≢false (sym here ∙ ap (λ i. k == i) (sym one.0) ∙ other))
@@ -66,11 +67,11 @@ module _ {D : Type 0} (dialogue : Dialogue D) (k : ℕ) where
           record {
             count = ap suc rest.count;
             bytes = ap₂ (λ x y. x ++ y) rest.bytes
-                (same-response dialogue e.turn f.turn follow.0 L follow'.0 N (is_last e.stops (turns_of e.from es)) (is_last f.stops (turns_of f.from fs)) (one.2 here).0 (one.2 here).1 last follow.2 follow'.2);
+                (same-response dialogue e.turn f.turn follow.0 L follow'.0 N (is_last e.stops (turns_of e.from es)) (is_last f.stops (turns_of f.from fs)) (one.2 here).0 (one.2 here).1 (one.2 here).2 last follow.2 follow'.2);
           }
 
   same-turns : (ms : List Meeting) (K L M N : D) → FollowAll dialogue K (entries_in (first ms)) L → FollowAll dialogue M (entries_in (second ms)) N → AreOneTurns k ms
-      → AreSame (turns_of k (entries_in (first ms))) (turns_of k (entries_in (second ms)))
+      → AreSame dialogue.speaks (turns_of k (entries_in (first ms))) (turns_of k (entries_in (second ms)))
   same-turns [] K L M N follow follow' one = record { count = refl; bytes = refl }
   same-turns (in_both (by_connection e) (by_connection f) ∷ ms) K L M N follow follow' one =
       with-both e f (entries_in (first ms)) (entries_in (second ms)) K L M N one.0 (same-turns ms K follow.0 M follow'.0 follow.1 follow'.1 one.1) follow follow'
@@ -78,11 +79,11 @@ module _ {D : Type 0} (dialogue : Dialogue D) (k : ℕ) where
   same-turns (in_both (by_command t es) (by_connection f) ∷ ms) K L M N follow follow' one = absurd one.0
   same-turns (in_both (by_command t es) (by_command u fs) ∷ ms) K L M N follow follow' one = same-turns ms K L M N follow follow' one.1
   same-turns (in_first (by_connection e) ∷ ms) K L M N follow follow' one =
-      subst (λ b. AreSame (cond b (e.turn ∷ turns_of k (entries_in (first ms))) (turns_of k (entries_in (first ms)))) (turns_of k (entries_in (second ms)))) (sym one.0)
+      subst (λ b. AreSame dialogue.speaks (cond b (e.turn ∷ turns_of k (entries_in (first ms))) (turns_of k (entries_in (first ms)))) (turns_of k (entries_in (second ms)))) (sym one.0)
       (same-turns ms K follow.0 M N follow.1 follow' one.1)
   same-turns (in_first (by_command t es) ∷ ms) K L M N follow follow' one = same-turns ms K L M N follow follow' one.1
   same-turns (in_second (by_connection f) ∷ ms) K L M N follow follow' one =
-      subst (λ b. AreSame (turns_of k (entries_in (first ms))) (cond b (f.turn ∷ turns_of k (entries_in (second ms))) (turns_of k (entries_in (second ms))))) (sym one.0)
+      subst (λ b. AreSame dialogue.speaks (turns_of k (entries_in (first ms))) (cond b (f.turn ∷ turns_of k (entries_in (second ms))) (turns_of k (entries_in (second ms))))) (sym one.0)
       (same-turns ms K L M follow'.0 follow follow'.1 one.1)
   same-turns (in_second (by_command u fs) ∷ ms) K L M N follow follow' one = same-turns ms K L M N follow follow' one.1
 
@@ -157,10 +158,11 @@ module _ (p : Text) (S T : State) (start : AreNear p S T) where
           (
             differ.0.0.0,
             differ.0.0.1,
-            λ here. (
+            λ here.
+            let asked = unseen-asked ms (by_connection e) (by_connection f) have have' near differ.0 (strangers.0 here).0 in (
               differ.0.0.2,
-              same-told talk determined e.turn f.turn follow.0 L follow'.0 N _ _ follow.2 follow'.2 differ.0.0.2
-                  (unseen-asked ms (by_connection e) (by_connection f) have have' near differ.0 (strangers.0 here).0) (strangers.0 here).1,
+              asked,
+              same-told talk determined e.turn f.turn follow.0 L follow'.0 N _ _ follow.2 follow'.2 differ.0.0.2 asked (strangers.0 here).1,
             ),
           ),
           strangers-turns k ms K follow.0 M follow'.0 follow.1 follow'.1 before before' differ.1 strangers.1,
@@ -336,8 +338,8 @@ module _ (speaks : Dialect) {D : Type 0} (show : D → Shown) where
   follow-log : (M : D) (w : World (Beside D)) (K : D) (h : List Entry) (xs : List WorldTurn) → IsWorldOf speaks show M w K h xs → FollowAll (beside_guests speaks (applied show)) (beside M []) (entries_in xs) w.service
   follow-log M w K h xs world = subst (λ x. FollowAll (beside_guests speaks (applied show)) (beside M []) x w.service) world.log (history M w K h xs world).service
 
-  told : (M : D) (w : World (Beside D)) (K : D) (h : List Entry) (xs : List WorldTurn) → IsWorldOf speaks show M w K h xs → (k : ℕ) → (w.transcripts k).out ≡ written (turns_of k (entries_in xs))
-  told M w K h xs world k = ((history M w K h xs world).transcripts k).answered ∙ ap (λ x. written (turns_of k x)) world.log
+  told : (M : D) (w : World (Beside D)) (K : D) (h : List Entry) (xs : List WorldTurn) → IsWorldOf speaks show M w K h xs → (k : ℕ) → (w.transcripts k).out ≡ written speaks (turns_of k (entries_in xs))
+  told M w K h xs world k = ((history M w K h xs world).transcripts k).answered ∙ ap (λ x. written speaks (turns_of k x)) world.log
 
   pub connections-answered_the_same : IsDetermined speaks → ConnectionsAreAnsweredTheSame speaks show
   connections-answered_the_same determined M N K L w v g h p ms differ one other meets k strangers =

@@ -6,7 +6,7 @@ use Rattle.registry_names.specs.declared.stop.Stop.{Stop}
 use Rattle.registry_packument.specs.Calendar.{utc_text}
 use Rattle.registry_rules.specs.declared.request.Credential.{Credential}
 use Rattle.registry_rules.specs.declared.request.Credential.TheVariants.{Token}
-use Rattle.registry_wire.specs.declared.wanted.Authorization.{Authorization}
+use Rattle.registry_wire.specs.declared.wanted.FieldValue.{FieldValue}
 use Rattle.registry_wire.specs.declared.wanted.Wanted.{Wanted}
 use Rattle.registry_service.specs.Callers.{reads_caller}
 use Rattle.registry_service.specs.HttpAnswers.{body_bytes}
@@ -71,7 +71,7 @@ abbrev pub token_in : Result Credential Stop → Option (List ℕ)
 token_in (Ok (Token digest)) = Some digest
 token_in _ = None
 
-abbrev pub BearsToken : Authorization → Option (List ℕ) → Type 0
+abbrev pub BearsToken : FieldValue → Option (List ℕ) → Type 0
 BearsToken a found = (who : Result Credential Stop) × reads_caller a who × (found ≡ token_in who)
 
 -- The token of a request whose user isn't known, as the registry wasn't asked.

@@ -280,7 +280,7 @@ fn line(
         kind: kind_in(wanted),
         target: target_in(wanted),
         status: turned.answer.status.as_u16(),
-        length: turned.answer.body.as_slice().len() as u64,
+        length: turned.answer.body.len() as u64,
         micros: micros_in(answered),
     };
     entry.line(alloc)
@@ -312,7 +312,7 @@ fn unnamed(
         kind: kind_in(wanted),
         target: Blob::from_slice(alloc, target_in(wanted))?,
         status: turned.answer.status.as_u16(),
-        length: turned.answer.body.as_slice().len() as u64,
+        length: turned.answer.body.len() as u64,
     })
 }
 

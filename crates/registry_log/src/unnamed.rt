@@ -8,7 +8,7 @@ use registry_names::{Blob, Fault, Moment};
 use registry_publish::TokenDigest;
 use registry_rules::Credential;
 use registry_service::credential;
-use registry_wire::Authorization;
+use registry_wire::FieldValue;
 use std::alloc::Global;
 
 /// A request that the registry wasn't asked, and the token by which its user is to be looked up.
@@ -43,7 +43,7 @@ impl Unnamed {
 }
 
 /// The token by which a caller is known, if they show one in form.
-pub(crate) fn token_in(authorization: &Authorization) -> Option<TokenDigest>
+pub(crate) fn token_in(authorization: &FieldValue) -> Option<TokenDigest>
     ensures { BearsToken authorization.now result }
 {
     let Ok(who) = credential(authorization) else {

@@ -1,7 +1,7 @@
 -- What an authorization of one value is read as.
 use Rattle.std.proofs.Common.{List, ℕ, Result, Ok, Err}
 use Rattle.registry_names.specs.declared.stop.Stop.{Stop}
-use Rattle.registry_wire.specs.declared.wanted.Authorization.TheVariants.{Once}
+use Rattle.registry_wire.specs.declared.wanted.FieldValue.TheVariants.{Once}
 use Rattle.registry_npm.specs.Callers.{reads_bearing, reads_who}
 use Rattle.registry_npm.specs.declared.caller.Caller.{Caller}
 

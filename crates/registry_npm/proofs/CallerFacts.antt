@@ -20,8 +20,8 @@ use Rattle.registry_rules.specs.declared.request.Request.{Request}
 use Rattle.registry_service.specs.Callers.{reads_caller}
 use Rattle.registry_service.specs.HttpAnswers.{Outcome}
 use Rattle.registry_service.specs.Readings.{Reading, one, reads_ident, reads_name}
-use Rattle.registry_service.specs.Requests.{reads_routed}
-use Rattle.registry_service.specs.Turns.{Exchange, profile}
+use Rattle.registry_service.specs.Requests.{reads_request, reads_routed}
+use Rattle.registry_service.specs.Turns.{AsksByRoute, Exchange}
 use Rattle.registry_wire.specs.declared.wanted.Wanted.{Wanted}
 use Rattle.registry_npm.specs.Asked.{reads_first, reads_member, reads_user}
 use Rattle.registry_npm.specs.Forms.{empty_text, grants_form, membership_form, names_in, profile_form, teams_form, user_text, writers_form}
@@ -31,7 +31,7 @@ use Rattle.registry_documents.specs.declared.asked.Asked.TheVariants.{AlreadySo,
 use Rattle.serde_json.specs.Data.{Data}
 use Rattle.registry_npm.specs.Packages.{Purpose, asks_as, asks_for, asks_late, asks_names, does, for_document, for_names, fulfils, is_gone, judged, judges, late, leads_claim, leads_document, leads_stopped, named_by, no_version, other_of, reads_claim, reads_document, reads_owner, reads_revision, reads_versions, reads_withdrawn, serves, serves_user, shown, stale, tries, tries_right, unless_nobody, with_names, withdrawn}
 use Rattle.registry_npm.specs.Leading.{Leads, asks, by_caller, document_of, either, ends, in_form, is_stop, or_memory, reading, request, shown_as, shows, unless_stopped}
-use Rattle.registry_npm.specs.Npm.{asks_caller, asks_first, asks_role, asks_size, follows, is_npms, is_user, leads, not_served, npm, shows_public, speaks_by}
+use Rattle.registry_npm.specs.Npm.{asks_caller, asks_first, asks_role, asks_size, follows, is_npms, is_user, leads, not_served, npm, shows_public, asks_by}
 
 -- ---- what is asked for the caller
 
@@ -210,6 +210,10 @@ request-for : (route : Option Route) (w : Wanted) (at : ℕ) (r : Request) → r
 request-for None w at r h = absurd (cc)
 request-for (Some route) w at r (what, reads, (who, is, same)) = let whole : r ≡ record { at = at; who = who; what = what } = cc in subst (λ (q : Request). IsFor w at q) (sym whole) (refl, inl is)
 
+-- and it is asked at this moment
+pub routed-at : (w : Wanted) (at : ℕ) (r : Request) → reads_request w at (Ok r) → r.at ≡ at
+routed-at w at r is = (request-for (route_of w.method w.target) w at r is).0
+
 by-document : (w : Wanted) (at : ℕ) (v : Values) → By w at (leads_document v w at)
 by-document w at v es o (inl (r, is, h)) = by-asks w at r ends (request-for (route_of w.method w.target) w at r is) (by-ends w at) es o h
 by-document w at v es o (inr (s, is, h)) = by-stopped w at v s es o h
@@ -246,13 +250,13 @@ by-leads w at by.Logout v = by-first w at by.Logout v
 by-leads w at by.Ping v = by-shows w at empty_text
 by-leads w at by.NotServed v = by-ends w at (Ok (Refused NotServed))
 
-by-profile : (w : Wanted) (at : ℕ) → By w at (profile w at)
+by-profile : (w : Wanted) (at : ℕ) → By w at (AsksByRoute w at)
 by-profile w at es o (inl (r, is, same)) = rw same (request-for (route_of w.method w.target) w at r is, tt)
 by-profile w at es o (inr (s, is, none, same)) = by-nothing w at es none
 
-by-route : (r : Option NpmRoute) (w : Wanted) (at : ℕ) → By w at (speaks_by r w at)
+by-route : (r : Option NpmRoute) (w : Wanted) (at : ℕ) → By w at (asks_by r w at)
 by-route None w at = by-profile w at
-by-route (Some r) w at = by-either w at (is_npms r.endpoint w.body) (leads r.endpoint r.values w at) (profile w at) (by-leads w at r.endpoint r.values) (by-profile w at)
+by-route (Some r) w at = by-either w at (is_npms r.endpoint w.body) (leads r.endpoint r.values w at) (AsksByRoute w at) (by-leads w at r.endpoint r.values) (by-profile w at)
 
 pub npm-asks_for_caller : AsksForCaller npm
 npm-asks_for_caller w at es o h = by-route (npm_route_of w.method w.target) w at es o h

@@ -46,13 +46,13 @@ use Rattle.registry_service.specs.Dialects.{AreQueries}
 use Rattle.registry_service.specs.HttpAnswers.{Outcome}
 use Rattle.registry_service.specs.Readings.{Reading, one, reads_name}
 use Rattle.registry_service.specs.Requests.{reads_request}
-use Rattle.registry_service.specs.Turns.{Exchange, exchange, profile}
+use Rattle.registry_service.specs.Turns.{AsksByRoute, Exchange, exchange}
 use Rattle.registry_service.specs.Callers.{reads_caller}
 use Rattle.registry_wire.specs.declared.wanted.Wanted.{Wanted}
 use Rattle.registry_npm.specs.Changes.{Answers, AreCompared, AreNamed, AreRead, ChangesOneThing, DocumentsChangeOneThing, IsAbout, IsOneThing, IsSent, SelectNothing}
 use Rattle.registry_npm.specs.Forms.{names_in}
 use Rattle.registry_npm.specs.Leading.{Leads, asks, document_of, either, ends, is_stop, or_memory, reading, request}
-use Rattle.registry_npm.specs.Npm.{is_npms, leads, speaks_by}
+use Rattle.registry_npm.specs.Npm.{is_npms, leads, asks_by}
 use Rattle.registry_npm.specs.Packages.{asks_for, asks_names, does, for_document, for_names, is_gone, judged, judged_by, judges, late, leads_claim, leads_claimed, leads_document, leads_stopped, named_by, no_version, other_of, reads_claim, reads_document, reads_owner, reads_revision, reads_versions, reads_withdrawn, revision, serves, serves_user, unless_nobody, with_names}
 use Rattle.registry_npm.proofs.DeterminedFacts.{same-claim, same-document, same-name}
 
@@ -468,7 +468,7 @@ document-turn v w at es o path d p sent named (inl (r, is, h)) = inr (inr (r, is
 document-turn v w at es o path d p sent named (inr (s, is, h)) = sent-turn path d p w at es o (stopped-turn v w at s es o path d p sent named h)
 
 sent-by : (e : NpmEndpoint) (v : Values) (w : Wanted) (at : ℕ) (es : List Exchange) (o : Outcome) (path : Option Text) (d : Data) (p : Text) → IsSent e v w.body path d → one reads_name v (Ok p)
-    → either (is_npms e w.body) (leads e v w at) (profile w at) es o → Sent path d p w at es o
+    → either (is_npms e w.body) (leads e v w at) (AsksByRoute w at) es o → Sent path d p w at es o
 sent-by by.Document v w at es o path d p sent named h = document-turn v w at es o path d p sent named h
 sent-by by.Revised v w at es o path d p sent named h = sent-turn path d p w at es o (revised-turn v w at es o path d p sent named h)
 sent-by by.Packument v w at es o path d p sent named h = absurd sent
@@ -499,7 +499,7 @@ sent-by by.Ping v w at es o path d p sent named h = absurd sent
 sent-by by.NotServed v w at es o path d p sent named h = absurd sent
 
 sent-found : (x : Option NpmRoute) (r : NpmRoute) (w : Wanted) (at : ℕ) (es : List Exchange) (o : Outcome) (path : Option Text) (d : Data) (p : Text) → x ≡ Some r → IsSent r.endpoint r.values w.body path d → one reads_name r.values (Ok p)
-    → speaks_by x w at es o → Sent path d p w at es o
+    → asks_by x w at es o → Sent path d p w at es o
 sent-found None r w at es o path d p e sent named h = absurd (cc)
 sent-found (Some x) r w at es o path d p e sent named h =
     let same : r ≡ x = cc in

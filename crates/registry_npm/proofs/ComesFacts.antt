@@ -4,6 +4,7 @@ use Rattle.std.specs.Prelude.{IfOk, MatchResult}
 use Rattle.registry_names.specs.declared.stop.Fault.{Fault}
 use Rattle.registry_names.specs.declared.stop.Fault.TheVariants.{Database, Memory}
 use Rattle.registry_names.specs.declared.stop.Stop.{Stop}
+use Rattle.registry_names.specs.declared.stop.Stop.TheVariants.{Fault as Faulted}
 use Rattle.registry_names.specs.Texts.{Text}
 use Rattle.registry_rules.specs.declared.reply.Reply.TheVariants.{Doc}
 use Rattle.registry_rules.specs.declared.request.Action.TheVariants.{Members, Teams}
@@ -35,6 +36,10 @@ module _ {D : Type 0} (answers : Answering D) where
   pub comes-published : (M N : D) (v : Values) (w : Wanted) (at : ℕ) (r : Request) (o : Outcome) → reads_request w at (Ok r) → answers M r o N → Comes answers M (leads_document v w at) o N
   unfolding asks
   comes-published M N v w at r o is a = (exchange r o ∷ [], inl (r, is, (refl, (refl, refl))), (N, a, refl))
+
+  -- a fault where a request is read
+  pub comes-faulted : (M : D) (v : Values) (w : Wanted) (at : ℕ) (fault : Fault) → reads_request w at (Err (Faulted fault)) → Comes answers M (leads_document v w at) (Err fault) M
+  comes-faulted M v w at fault is = ([], inr (Faulted fault, is, (refl, refl)), refl)
 
   -- the second of two
   pub comes-unless : (M : D) (b : Bool) (fst : Leads) (c : Outcome) → b ≡ false → Comes answers M (or_memory (either b fst (ends c))) c M

@@ -40,13 +40,13 @@ use Rattle.registry_service.specs.Dialects.{IsDetermined}
 use Rattle.registry_service.specs.HttpAnswers.{Outcome}
 use Rattle.registry_service.specs.Readings.{Reading, one, reads_ident, reads_name}
 use Rattle.registry_service.specs.Requests.{reads_request, reads_routed}
-use Rattle.registry_service.specs.Turns.{Exchange, profile}
+use Rattle.registry_service.specs.Turns.{AsksByRoute, Exchange}
 use Rattle.registry_service.proofs.DialectFacts.{profile_is_determined}
 use Rattle.registry_wire.specs.declared.wanted.Wanted.{Wanted}
 use Rattle.registry_npm.specs.Asked.{reads_first, reads_member, reads_user}
 use Rattle.registry_npm.specs.Forms.{grants_form, membership_form, names_in, profile_form, teams_form, user_text, writers_form}
 use Rattle.registry_npm.specs.Leading.{Leads, asks, by_caller, document_of, either, ends, in_form, is_stop, or_memory, reading, request, shown_as, shows, unless_stopped}
-use Rattle.registry_npm.specs.Npm.{asks_caller, asks_first, asks_own, asks_role, asks_size, follows, is_npms, is_user, leads, not_served, npm, sets_member, shows_public, shows_visibility, speaks_by}
+use Rattle.registry_npm.specs.Npm.{asks_caller, asks_first, asks_own, asks_role, asks_size, follows, is_npms, is_user, leads, not_served, npm, sets_member, shows_public, shows_visibility, asks_by}
 use Rattle.registry_npm.specs.Packages.{Purpose, asks_as, asks_for, asks_late, asks_names, does, for_document, for_names, fulfils, is_gone, judged, judges, late, leads_claim, leads_claimed, leads_document, leads_stopped, named_by, no_version, other_of, reads_claim, reads_document, reads_owner, reads_revision, reads_versions, reads_withdrawn, revision, serves, shown, stale, tries_right, unless_nobody, with_names, withdrawn}
 use Rattle.registry_npm.proofs.UserFacts.{cancel}
 
@@ -531,9 +531,9 @@ asked-either : (t : Bool) (fst snd : Leads) → OneAsked fst → OneAsked snd �
 asked-either true fst snd y n = y
 asked-either false fst snd y n = n
 
-asked-by : (r : Option NpmRoute) (w : Wanted) (at : ℕ) → OneAsked (speaks_by r w at)
+asked-by : (r : Option NpmRoute) (w : Wanted) (at : ℕ) → OneAsked (asks_by r w at)
 asked-by None w at = profile_is_determined w at
-asked-by (Some r) w at = asked-either (is_npms r.endpoint w.body) (leads r.endpoint r.values w at) (profile w at) (asked-leads r.endpoint r.values w at) (profile_is_determined w at)
+asked-by (Some r) w at = asked-either (is_npms r.endpoint w.body) (leads r.endpoint r.values w at) (AsksByRoute w at) (asked-leads r.endpoint r.values w at) (profile_is_determined w at)
 
 pub npm_is_determined : IsDetermined npm
 npm_is_determined w at e es a b h k = asked-by (npm_route_of w.method w.target) w at e es a b h k

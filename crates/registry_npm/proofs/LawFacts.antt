@@ -30,10 +30,10 @@ use Rattle.registry_service.specs.Callers.{reads_caller}
 use Rattle.registry_service.specs.HttpAnswers.{Outcome}
 use Rattle.registry_service.specs.Bodies.{reads_file}
 use Rattle.registry_service.specs.Readings.{Reading, gives, one, reads_ident, reads_name, then}
-use Rattle.registry_service.specs.Turns.{Exchange, exchange, profile, stopped}
+use Rattle.registry_service.specs.Turns.{AsksByRoute, Exchange, exchange, stopped}
 use Rattle.registry_routes.specs.Written.{StopsDecoding}
-use Rattle.registry_wire.specs.declared.wanted.Authorization.{Authorization}
-use Rattle.registry_wire.specs.declared.wanted.Authorization.TheVariants.{Absent, Once, Repeated}
+use Rattle.registry_wire.specs.declared.wanted.FieldValue.{FieldValue}
+use Rattle.registry_wire.specs.declared.wanted.FieldValue.TheVariants.{Absent, Once, Repeated}
 use Rattle.registry_wire.specs.declared.wanted.Wanted.{Wanted}
 use Rattle.registry_npm.specs.Asked.{reads_first, reads_member, reads_user}
 use Rattle.registry_npm.specs.Bodies.{begins_object}
@@ -44,7 +44,7 @@ use Rattle.registry_documents.specs.declared.asked.Asked.TheVariants.{AlreadySo,
 use Rattle.serde_json.specs.Data.{Data}
 use Rattle.registry_npm.specs.Packages.{Purpose, asks_as, asks_for, asks_late, asks_names, does, for_document, for_names, fulfils, is_gone, judged, judges, late, leads_claim, leads_document, leads_stopped, named_by, no_version, other_of, reads_claim, reads_document, reads_owner, reads_revision, reads_versions, reads_withdrawn, serves, serves_user, shown, stale, tries, tries_right, unless_nobody, with_names, withdrawn}
 use Rattle.registry_npm.specs.Leading.{Leads, asks, by_caller, document_of, either, ends, in_form, is_stop, or_memory, reading, request, shown_as, shows, unless_stopped}
-use Rattle.registry_npm.specs.Npm.{asks_caller, asks_first, asks_own, asks_role, asks_size, follows, is_npms, is_user, leads, not_served, npm, sets_member, shows_own, shows_public, shows_teams, shows_user, shows_visibility, shows_writers, speaks_by}
+use Rattle.registry_npm.specs.Npm.{asks_caller, asks_first, asks_own, asks_role, asks_size, follows, is_npms, is_user, leads, not_served, npm, sets_member, shows_own, shows_public, shows_teams, shows_user, shows_visibility, shows_writers, asks_by}
 
 -- ---- of either
 
@@ -62,9 +62,9 @@ either-yes false fst snd es o e h = absurd (cc)
 
 -- ---- others stay
 
-pub stays-by : (r : Option NpmRoute) (w : Wanted) (at : ℕ) (es : List Exchange) (o : Outcome) → is_npms_by r w.body ≡ false → (speaks_by r w at es o → profile w at es o) × (profile w at es o → speaks_by r w at es o)
+pub stays-by : (r : Option NpmRoute) (w : Wanted) (at : ℕ) (es : List Exchange) (o : Outcome) → is_npms_by r w.body ≡ false → (asks_by r w at es o → AsksByRoute w at es o) × (AsksByRoute w at es o → asks_by r w at es o)
 stays-by None w at es o e = (λ h. h, λ h. h)
-stays-by (Some r) w at es o e = either-no (is_npms r.endpoint w.body) (leads r.endpoint r.values w at) (profile w at) es o e
+stays-by (Some r) w at es o e = either-no (is_npms r.endpoint w.body) (leads r.endpoint r.values w at) (AsksByRoute w at) es o e
 
 pub others-stay : OthersStay
 others-stay w at es o e = stays-by (npm_route_of w.method w.target) w at es o e
@@ -290,13 +290,13 @@ few-leads by.Logout v w at = few-first by.Logout v w at
 few-leads by.Ping v w at = few-shows 1 empty_text
 few-leads by.NotServed v w at = few-ends 1 (Ok (Refused NotServed))
 
-few-profile : (w : Wanted) (at : ℕ) → Few 1 (profile w at)
+few-profile : (w : Wanted) (at : ℕ) → Few 1 (AsksByRoute w at)
 few-profile w at es o (inl (r, is, same)) = rw same (let one = cost-one r.what in omega (arith, one))
 few-profile w at es o (inr (s, is, none, same)) = rw none (omega arith)
 
-few-by : (r : Option NpmRoute) (w : Wanted) (at : ℕ) → Few 1 (speaks_by r w at)
+few-by : (r : Option NpmRoute) (w : Wanted) (at : ℕ) → Few 1 (asks_by r w at)
 few-by None w at = few-profile w at
-few-by (Some r) w at = either-of (Few 1) (is_npms r.endpoint w.body) (leads r.endpoint r.values w at) (profile w at) (few-leads r.endpoint r.values w at) (few-profile w at)
+few-by (Some r) w at = either-of (Few 1) (is_npms r.endpoint w.body) (leads r.endpoint r.values w at) (AsksByRoute w at) (few-leads r.endpoint r.values w at) (few-profile w at)
 
 pub one-command : OneCommand npm
 one-command w at es o h = few-by (npm_route_of w.method w.target) w at es o h
@@ -544,13 +544,13 @@ stops-once : (r : Request) (c : Outcome) → StopAtFaults (exchange r c ∷ []) 
 stops-once r (Ok reply) = (tt, tt)
 stops-once r (Err fault) = ((refl, refl), tt)
 
-stops-profile : (w : Wanted) (at : ℕ) → Stops (profile w at)
+stops-profile : (w : Wanted) (at : ℕ) → Stops (AsksByRoute w at)
 stops-profile w at es o (inl (r, is, same)) = rw same (stops-once r o)
 stops-profile w at es o (inr (s, is, none, same)) = stops-nothing es o none
 
-stops-by : (r : Option NpmRoute) (w : Wanted) (at : ℕ) → Stops (speaks_by r w at)
+stops-by : (r : Option NpmRoute) (w : Wanted) (at : ℕ) → Stops (asks_by r w at)
 stops-by None w at = stops-profile w at
-stops-by (Some r) w at = either-of Stops (is_npms r.endpoint w.body) (leads r.endpoint r.values w at) (profile w at) (stops-leads r.endpoint r.values w at) (stops-profile w at)
+stops-by (Some r) w at = either-of Stops (is_npms r.endpoint w.body) (leads r.endpoint r.values w at) (AsksByRoute w at) (stops-leads r.endpoint r.values w at) (stops-profile w at)
 
 pub faults-end : FaultsEnd npm
 faults-end w at es o h = stops-by (npm_route_of w.method w.target) w at es o h
@@ -617,7 +617,7 @@ came-asks r [] h = absurd h
 came-asks r (e ∷ es) h = let last = came-not_served e.outcome es h.1 in rw (last.0, ← h.0, ← last.1) refl
 
 -- a caller who shows no token in form isn't answered by NotFound
-caller-found : (a : Authorization) (s : Stop) → reads_caller a (Err s) → ◌≢◌ {A = Outcome} (stopped s) (Ok (Refused NotFound))
+caller-found : (a : FieldValue) (s : Stop) → reads_caller a (Err s) → ◌≢◌ {A = Outcome} (stopped s) (Ok (Refused NotFound))
 caller-found Absent s h e = cc
 caller-found (Once value) s h e = let same : s ≡ Refuses NoCaller = h.0 in let other : ◌≡◌ {A = Outcome} (Ok (Refused NoCaller)) (Ok (Refused NotFound)) = ap stopped (sym same) ∙ e in cc
 caller-found Repeated s h e = let same : s ≡ Refuses NoCaller = cc in let other : ◌≡◌ {A = Outcome} (Ok (Refused NoCaller)) (Ok (Refused NotFound)) = ap stopped (sym same) ∙ e in cc
@@ -670,7 +670,7 @@ module _ (v : Values) (written : Text) where
 abbrev Came : NpmEndpoint → Values → ℕ → List Exchange → Type 0
 Came e v at es = ((p : Text) (version : VersionParts) → ¬ (NamesFile e v p version)) ⊎ ((p : Text) × (version : VersionParts) × NamesFile e v p version × IsGone at p version es)
 
-gone-by : (e : NpmEndpoint) (v : Values) (w : Wanted) (at : ℕ) (es : List Exchange) → is_file_drop e ≡ true → either (is_npms e w.body) (leads e v w at) (profile w at) es (Ok (Refused NotFound)) → Came e v at es
+gone-by : (e : NpmEndpoint) (v : Values) (w : Wanted) (at : ℕ) (es : List Exchange) → is_file_drop e ≡ true → either (is_npms e w.body) (leads e v w at) (AsksByRoute w at) es (Ok (Refused NotFound)) → Came e v at es
 gone-by by.FileDrop v w at es d h = came-file v v.second w at es h
 gone-by by.ScopedFileDrop v w at es d h = came-file v v.third w at es h
 gone-by by.Packument v w at es d h = absurd (cc)
@@ -700,7 +700,7 @@ gone-by by.Logout v w at es d h = absurd (cc)
 gone-by by.Ping v w at es d h = absurd (cc)
 gone-by by.NotServed v w at es d h = absurd (cc)
 
-gone-found : (x : Option NpmRoute) (r : NpmRoute) (w : Wanted) (at : ℕ) (es : List Exchange) → x ≡ Some r → is_file_drop r.endpoint ≡ true → speaks_by x w at es (Ok (Refused NotFound)) → Came r.endpoint r.values at es
+gone-found : (x : Option NpmRoute) (r : NpmRoute) (w : Wanted) (at : ℕ) (es : List Exchange) → x ≡ Some r → is_file_drop r.endpoint ≡ true → asks_by x w at es (Ok (Refused NotFound)) → Came r.endpoint r.values at es
 gone-found None r w at es e d h = absurd (cc)
 gone-found (Some x) r w at es e d h =
     let same : x ≡ r = cc in

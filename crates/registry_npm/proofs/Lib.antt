@@ -4,9 +4,11 @@ pub mod ChangeFacts
 pub mod ComesFacts
 pub mod DeterminedFacts
 pub mod FormFacts
+pub mod LabelFacts
 pub mod LawFacts
 pub mod NeverFacts
 pub mod ServiceFacts
 pub mod ShownFacts
+pub mod TagFacts
 pub mod TurnFacts
 pub mod UserFacts

@@ -20,7 +20,7 @@ use Rattle.registry_rules.specs.declared.request.Request.{Request}
 use Rattle.registry_service.specs.Callers.{reads_caller}
 use Rattle.registry_service.specs.HttpAnswers.{Outcome}
 use Rattle.registry_service.specs.Readings.{Reading, one, reads_name}
-use Rattle.registry_service.specs.Turns.{Exchange, profile, stopped}
+use Rattle.registry_service.specs.Turns.{AsksByRoute, Exchange, stopped}
 use Rattle.registry_wire.specs.declared.wanted.Wanted.{Wanted}
 use Rattle.registry_npm.specs.Forms.{names_in}
 use Rattle.registry_npm.specs.Laws.{NeverNotFound, is_revised}
@@ -29,12 +29,12 @@ use Rattle.registry_documents.specs.declared.asked.Asked.TheVariants.{AlreadySo,
 use Rattle.serde_json.specs.Data.{Data}
 use Rattle.registry_npm.specs.Packages.{Purpose, asks_late, asks_names, does, for_document, for_names, fulfils, is_gone, judged, judges, no_version, other_of, reads_document, reads_owner, reads_revision, reads_versions, reads_withdrawn, serves, serves_user, stale, tries_right, withdrawn}
 use Rattle.registry_npm.specs.Leading.{Leads, asks, document_of, either, ends, is_stop, or_memory, reading, request}
-use Rattle.registry_npm.specs.Npm.{is_npms, leads, speaks_by}
+use Rattle.registry_npm.specs.Npm.{is_npms, leads, asks_by}
 use Rattle.std.proofs.lemmas.Bool.{false≢true}
 use Rattle.registry_documents.specs.Judging.{answer_of}
 use Rattle.registry_routes.specs.Written.{StopsDecoding}
-use Rattle.registry_wire.specs.declared.wanted.Authorization.{Authorization}
-use Rattle.registry_wire.specs.declared.wanted.Authorization.TheVariants.{Absent, Once, Repeated}
+use Rattle.registry_wire.specs.declared.wanted.FieldValue.{FieldValue}
+use Rattle.registry_wire.specs.declared.wanted.FieldValue.TheVariants.{Absent, Once, Repeated}
 
 abbrev Never : Leads → Type 0
 Never leading = (es : List Exchange) (o : Outcome) → leading es o → is_gone o ≡ false
@@ -85,7 +85,7 @@ bad-document : (body : Text) (s : Stop) → reads_document body (Err s) → is_g
 bad-document body s (inl e) = rw e refl
 bad-document body s (inr (e, h)) = rw e refl
 
-bad-caller : (a : Authorization) (s : Stop) → reads_caller a (Err s) → is_gone (stopped s) ≡ false
+bad-caller : (a : FieldValue) (s : Stop) → reads_caller a (Err s) → is_gone (stopped s) ≡ false
 bad-caller Absent s h = absurd (cc)
 bad-caller (Once value) s h = rw h.0 refl
 bad-caller Repeated s h = let same : s ≡ Refuses NoCaller = cc in rw same refl
@@ -178,7 +178,7 @@ never-unpublish : (v : Values) (w : Wanted) (at : ℕ) → Never (leads by.Unpub
 never-unpublish v w at = never-reading (one reads_name v) _ (bad-name v) (λ p. never-reading (reads_revision v.second) _ (bad-decoding v.second)
     (λ named. never-reading (reads_caller w.authorization) _ (bad-caller w.authorization) (λ who. never-serves_user (withdrawn named) (never-gone named) (never-withdrawn named) p at who)))
 
-never-by : (e : NpmEndpoint) (v : Values) (w : Wanted) (at : ℕ) (es : List Exchange) (o : Outcome) → is_revised e ≡ true → either (is_npms e w.body) (leads e v w at) (profile w at) es o → is_gone o ≡ false
+never-by : (e : NpmEndpoint) (v : Values) (w : Wanted) (at : ℕ) (es : List Exchange) (o : Outcome) → is_revised e ≡ true → either (is_npms e w.body) (leads e v w at) (AsksByRoute w at) es o → is_gone o ≡ false
 never-by by.Packument v w at es o d h = absurd (false≢true d)
 never-by by.Document v w at es o d h = absurd (false≢true d)
 never-by by.Revised v w at es o d h = never-revised v w at es o h
@@ -208,7 +208,7 @@ never-by by.Logout v w at es o d h = absurd (false≢true d)
 never-by by.Ping v w at es o d h = absurd (false≢true d)
 never-by by.NotServed v w at es o d h = absurd (false≢true d)
 
-never-found : (x : Option NpmRoute) (r : NpmRoute) (w : Wanted) (at : ℕ) (es : List Exchange) (o : Outcome) → x ≡ Some r → is_revised r.endpoint ≡ true → speaks_by x w at es o → is_gone o ≡ false
+never-found : (x : Option NpmRoute) (r : NpmRoute) (w : Wanted) (at : ℕ) (es : List Exchange) (o : Outcome) → x ≡ Some r → is_revised r.endpoint ≡ true → asks_by x w at es o → is_gone o ≡ false
 never-found None r w at es o e d h = absurd (cc)
 never-found (Some x) r w at es o e d h = let same : x ≡ r = cc in never-by x.endpoint x.values w at es o (ap (λ (y : NpmRoute). is_revised y.endpoint) same ∙ d) h
 

@@ -5,7 +5,7 @@ use Rattle.registry_rules.specs.declared.request.Credential.{Credential}
 use Rattle.registry_rules.specs.declared.request.Credential.TheVariants as credential
 use Rattle.registry_service.specs.Callers.{reads_bearer, reads_caller}
 use Rattle.registry_service.specs.Readings.{Reading}
-use Rattle.registry_wire.specs.declared.wanted.Authorization.{Authorization}
+use Rattle.registry_wire.specs.declared.wanted.FieldValue.{FieldValue}
 use Rattle.registry_npm.specs.declared.caller.Caller.{Caller}
 use Rattle.registry_npm.specs.declared.caller.Caller.TheVariants.{Token, Nobody}
 
@@ -14,7 +14,7 @@ who_of (Token digest) = credential.Token digest
 who_of Nobody = credential.Anonymous
 
 -- the same as a request's authorization is read
-abbrev pub reads_who : Authorization → Reading Caller
+abbrev pub reads_who : FieldValue → Reading Caller
 reads_who a (Ok who) = reads_caller a (Ok (who_of who))
 reads_who a (Err stop) = reads_caller a (Err stop)
 

@@ -122,4 +122,4 @@ pub record ChangesOneThing (path : Option Text) (d : Data) (p : Text) (at : ℕ)
 abbrev pub DocumentsChangeOneThing : Type 0
 DocumentsChangeOneThing = (w : Wanted) (at : ℕ) (es : List Exchange) (o : Outcome) (r : NpmRoute) (path : Option Text) (d : Data) (p : Text)
     → npm_route_of w.method w.target ≡ Some r → IsSent r.endpoint r.values w.body path d → one reads_name r.values (Ok p)
-    → npm w at es o → AreQueries es ⊎ ChangesOneThing path d p at es o ⊎ ((asked : Request) × reads_request w at (Ok asked) × (es ≡ exchange asked o ∷ []))
+    → npm.asks w at es o → AreQueries es ⊎ ChangesOneThing path d p at es o ⊎ ((asked : Request) × reads_request w at (Ok asked) × (es ≡ exchange asked o ∷ []))

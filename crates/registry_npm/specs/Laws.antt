@@ -36,7 +36,7 @@ is_npm w = is_npms_by (npm_route_of w.method w.target) w.body
 
 -- any other request means what it means without npm's routes
 abbrev pub OthersStay : Type 0
-OthersStay = (w : Wanted) (at : ℕ) (es : List Exchange) (o : Outcome) → is_npm w ≡ false → (npm w at es o → profile w at es o) × (profile w at es o → npm w at es o)
+OthersStay = (w : Wanted) (at : ℕ) (es : List Exchange) (o : Outcome) → is_npm w ≡ false → (npm.asks w at es o → profile.asks w at es o) × (profile.asks w at es o → npm.asks w at es o)
 
 -- a packument is read, or a package put
 abbrev pub is_package : NpmEndpoint → Bool
@@ -64,7 +64,7 @@ commands (e ∷ es) = command_count e + commands es
 
 -- a turn asks for one command at most
 abbrev pub OneCommand : Dialect → Type 0
-OneCommand speaks = (w : Wanted) (at : ℕ) (es : List Exchange) (o : Outcome) → speaks w at es o → commands es ≤ 1
+OneCommand speaks = (w : Wanted) (at : ℕ) (es : List Exchange) (o : Outcome) → speaks.asks w at es o → commands es ≤ 1
 
 -- after a fault nothing more is asked, and it is the answer
 abbrev pub StopsAtFault : Outcome → List Exchange → Outcome → Type 0
@@ -77,7 +77,7 @@ StopAtFaults (e ∷ es) o = StopsAtFault e.outcome es o × StopAtFaults es o
 
 -- a fault of what is asked ends a turn, which answers it
 abbrev pub FaultsEnd : Dialect → Type 0
-FaultsEnd speaks = (w : Wanted) (at : ℕ) (es : List Exchange) (o : Outcome) → speaks w at es o → StopAtFaults es o
+FaultsEnd speaks = (w : Wanted) (at : ℕ) (es : List Exchange) (o : Outcome) → speaks.asks w at es o → StopAtFaults es o
 
 -- ---- what npm takes for success
 
@@ -100,7 +100,7 @@ IsGone at p version es = (who : Credential) × (es ≡ exchange (request at who 
 -- of the package, or the registry doesn't find the version whose file it names
 abbrev pub FilesAreGone : Type 0
 FilesAreGone = (w : Wanted) (at : ℕ) (es : List Exchange) (r : NpmRoute) → npm_route_of w.method w.target ≡ Some r → is_file_drop r.endpoint ≡ true
-    → npm w at es (Ok (Refused NotFound)) → ((p : Text) (version : VersionParts) → ¬ (NamesFile r.endpoint r.values p version))
+    → npm.asks w at es (Ok (Refused NotFound)) → ((p : Text) (version : VersionParts) → ¬ (NamesFile r.endpoint r.values p version))
     ⊎ ((p : Text) × (version : VersionParts) × NamesFile r.endpoint r.values p version × IsGone at p version es)
 
 -- a document or a whole withdrawal under a revision
@@ -112,7 +112,7 @@ is_revised _ = false
 -- what is sent under a revision is never answered by 404, which npm takes for success
 abbrev pub NeverNotFound : Type 0
 NeverNotFound = (w : Wanted) (at : ℕ) (es : List Exchange) (o : Outcome) (r : NpmRoute) → npm_route_of w.method w.target ≡ Some r → is_revised r.endpoint ≡ true
-    → npm w at es o → is_gone o ≡ false
+    → npm.asks w at es o → is_gone o ≡ false
 
 -- ---- on whose behalf
 
@@ -126,4 +126,4 @@ AreAskedFor w at (e ∷ es) = IsAskedFor w at e × AreAskedFor w at es
 
 -- whatever is asked is asked for the caller of the request, or for nobody
 abbrev pub AsksForCaller : Dialect → Type 0
-AsksForCaller speaks = (w : Wanted) (at : ℕ) (es : List Exchange) (o : Outcome) → speaks w at es o → AreAskedFor w at es
+AsksForCaller speaks = (w : Wanted) (at : ℕ) (es : List Exchange) (o : Outcome) → speaks.asks w at es o → AreAskedFor w at es

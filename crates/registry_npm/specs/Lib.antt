@@ -3,6 +3,8 @@ pub mod Bodies
 pub mod Callers
 pub mod Changes
 pub mod Forms
+pub mod LabelLaws
+pub mod Labels
 pub mod Laws
 pub mod Leading
 pub mod Npm

@@ -1,5 +1,5 @@
 -- The dialect of npm's own requests.
-use Rattle.std.specs.Prelude.{◌||◌, ℕ, not, Bool, true, false, bytes_eq, is_some, option_map, unwrap_or, Option, Some, None, Ok, Err}
+use Rattle.std.specs.Prelude.{◌||◌, ℕ, not, Bool, true, false, bytes_eq, is_some, option_map, unwrap_or, List, Option, Some, None, Ok, Err, if◌then◌else◌}
 use Rattle.registry_access.specs.declared.role.Role.{Role}
 use Rattle.registry_names.specs.Names.{scope_of}
 use Rattle.registry_names.specs.Texts.{Text}
@@ -17,11 +17,13 @@ use Rattle.registry_rules.specs.declared.request.Credential.TheVariants.{Anonymo
 use Rattle.registry_rules.specs.declared.request.Credential.{Credential}
 use Rattle.registry_service.specs.HttpAnswers.{Outcome}
 use Rattle.registry_service.specs.Readings.{one, reads_ident, reads_name}
-use Rattle.registry_service.specs.Turns.{Dialect, profile}
+use Rattle.registry_service.specs.Turns.{AsksByRoute, Dialect, Exchange}
+use Rattle.registry_wire.specs.declared.labels.Labels.{Labels}
 use Rattle.registry_wire.specs.declared.wanted.Wanted.{Wanted}
 use Rattle.registry_npm.specs.Asked.{reads_first, reads_member, reads_user}
 use Rattle.registry_npm.specs.Bodies.{begins_object}
 use Rattle.registry_npm.specs.Forms.{empty_text, grants_form, membership_form, profile_form, teams_form, user_text, visibility_text, writers_form}
+use Rattle.registry_npm.specs.Labels.{other_labels, own_labels}
 use Rattle.registry_npm.specs.Packages.{leads_document, leads_packument, leads_revised, leads_unpublish}
 use Rattle.registry_npm.specs.Leading.{Leads, asks, by_caller, document_of, either, ends, is_refused, or_memory, reading, request, shown_as, shows, unless_stopped}
 
@@ -133,10 +135,21 @@ is_shared _ = false
 abbrev pub is_npms : NpmEndpoint → Text → Bool
 is_npms e body = not (is_shared e) || begins_object body
 
-abbrev pub speaks_by : Option NpmRoute → Dialect
-speaks_by None w at = profile w at
-speaks_by (Some r) w at = either (is_npms r.endpoint w.body) (leads r.endpoint r.values w at) (profile w at)
+abbrev pub asks_by : Option NpmRoute → Wanted → ℕ → Leads
+asks_by None w at = AsksByRoute w at
+asks_by (Some r) w at = either (is_npms r.endpoint w.body) (leads r.endpoint r.values w at) (AsksByRoute w at)
 
--- npm's own requests, and all others as without them
+abbrev pub labels_by : Option NpmRoute → Text → List Exchange → Outcome → Labels
+labels_by None body es o = other_labels es o
+labels_by (Some r) body es o = if is_npms r.endpoint body then own_labels r.endpoint o else other_labels es o
+
+-- the registry's own routes, where an archive has labels
+abbrev pub others : Dialect
+others = record { asks = AsksByRoute; labels = λ w es o. other_labels es o }
+
+-- npm's own requests, and all others as without them, but that archives have labels
 abbrev pub npm : Dialect
-npm w at = speaks_by (npm_route_of w.method w.target) w at
+npm = record {
+  asks = λ w at. asks_by (npm_route_of w.method w.target) w at;
+  labels = λ w es o. labels_by (npm_route_of w.method w.target) w.body es o;
+}

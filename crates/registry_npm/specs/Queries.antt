@@ -25,14 +25,14 @@ use Rattle.registry_service.specs.Callers.{reads_caller}
 use Rattle.registry_service.specs.Dialects.{AreQueries, AsksQueriesByGet, IsReader}
 use Rattle.registry_service.specs.HttpAnswers.{Outcome}
 use Rattle.registry_service.specs.Readings.{Reading, one, reads_ident, reads_name}
-use Rattle.registry_service.specs.Turns.{Exchange, profile}
+use Rattle.registry_service.specs.Turns.{AsksByRoute, Exchange}
 use Rattle.registry_service.proofs.DialectFacts.{profile_asks_queries}
 use Rattle.registry_wire.specs.declared.wanted.Wanted.{Wanted}
 use Rattle.registry_npm.specs.Asked.{reads_first, reads_user}
 use Rattle.registry_npm.specs.Forms.{empty_text, grants_form, names_in, profile_form, teams_form, user_text, writers_form}
 use Rattle.registry_npm.specs.Packages.{asks_names, for_document, for_names, fulfils, other_of, serves, shown, shows_fronted, with_names}
 use Rattle.registry_npm.specs.Leading.{Leads, asks, document_of, either, ends, in_form, is_stop, or_memory, reading, request, shown_as, shows, unless_stopped}
-use Rattle.registry_npm.specs.Npm.{asks_caller, asks_first, follows, is_npms, is_user, leads, not_served, npm, shows_public, speaks_by}
+use Rattle.registry_npm.specs.Npm.{asks_caller, asks_first, follows, is_npms, is_user, leads, not_served, npm, shows_public, asks_by}
 
 -- ---- the routes of `GET`
 
@@ -197,11 +197,11 @@ q-leads by.Ping v w at is own = q-shows empty_text
 q-leads by.NotServed v w at is own = absurd (false≢true is)
 
 q-found : (b : Bool) (r : NpmRoute) (w : Wanted) (at : ℕ) (es : List Exchange) (o : Outcome) → is_npms r.endpoint w.body ≡ b → is_reader r.endpoint ≡ true → IsReader w.method
-    → either b (leads r.endpoint r.values w at) (profile w at) es o → AreQueries es
+    → either b (leads r.endpoint r.values w at) (AsksByRoute w at) es o → AreQueries es
 q-found true r w at es o own is reads h = q-leads r.endpoint r.values w at is own es o h
 q-found false r w at es o own is reads h = profile_asks_queries w at es o reads h
 
-q-by : (r : Option NpmRoute) (w : Wanted) (at : ℕ) (es : List Exchange) (o : Outcome) → RoutesQuery r → IsReader w.method → speaks_by r w at es o → AreQueries es
+q-by : (r : Option NpmRoute) (w : Wanted) (at : ℕ) (es : List Exchange) (o : Outcome) → RoutesQuery r → IsReader w.method → asks_by r w at es o → AreQueries es
 q-by None w at es o queries reads h = profile_asks_queries w at es o reads h
 q-by (Some r) w at es o queries reads h = q-found (is_npms r.endpoint w.body) r w at es o refl (queries r refl) reads h
 

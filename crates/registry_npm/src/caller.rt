@@ -7,7 +7,7 @@ use registry_names::{Refusal, Stop};
 use registry_publish::TokenDigest;
 use registry_routes::bearer_token;
 use registry_rules::Credential;
-use registry_wire::Authorization;
+use registry_wire::FieldValue;
 
 const NO_CALLER: Stop = Stop::Refused(Refusal::NoCaller);
 
@@ -20,13 +20,13 @@ pub(crate) enum Caller {
 }
 
 /// What the caller shows of themselves, as [`credential`](registry_service::credential) reads it.
-pub(crate) fn caller_of(authorization: &Authorization) -> Result<Caller, Stop>
+pub(crate) fn caller_of(authorization: &FieldValue) -> Result<Caller, Stop>
     ensures { spec.reads_who authorization.now result }
 {
     match authorization {
-        Authorization::Absent => Ok(Caller::Nobody),
-        Authorization::Once(value) => bearer(value.as_slice()),
-        Authorization::Repeated => Err(NO_CALLER),
+        FieldValue::Absent => Ok(Caller::Nobody),
+        FieldValue::Once(value) => bearer(value.as_slice()),
+        FieldValue::Repeated => Err(NO_CALLER),
     }
 }
 

@@ -8,12 +8,11 @@ ghost use Rattle.registry_npm.specs.Packages as spec;
 
 use crate::packages::{Purpose, package};
 use crate::path;
-use crate::shown::stopped;
+use crate::told::{faulted, stopped};
 use registry_documents::{Document, Kind};
-use registry_names::{Fault, Moment, Name, Refusal, Stop, Text};
+use registry_names::{Moment, Name, Refusal, Stop, Text};
 use registry_routes::{Values, decode_text};
-use registry_rules::Reply;
-use registry_service::{Service, request_of};
+use registry_service::{Service, Told, request_of};
 use registry_wire::Wanted;
 use std::alloc::Global;
 
@@ -24,7 +23,7 @@ pub(crate) fn packument<D: Service>(
     values: Values<'_>,
     wanted: &Wanted,
     at: Moment,
-) -> Result<Reply, Fault>
+) -> Told
     ensures { Comes D.answers service.old
         (spec.leads_packument (values_view values.entry) wanted.now at) result service.new }
 {
@@ -41,7 +40,7 @@ pub(crate) fn revised<D: Service>(
     values: Values<'_>,
     wanted: &Wanted,
     at: Moment,
-) -> Result<Reply, Fault>
+) -> Told
     ensures { Comes D.answers service.old
         (spec.leads_revised (values_view values.entry) wanted.now at) result service.new }
 {
@@ -58,7 +57,7 @@ fn revised_of<D: Service>(
     written: &[u8],
     wanted: &Wanted,
     at: Moment,
-) -> Result<Reply, Fault>
+) -> Told
     ensures { Comes D.answers service.old (spec.claims_under name.now written.now wanted.now at)
         result service.new }
 {
@@ -75,7 +74,7 @@ fn revised_by<D: Service>(
     named: &str,
     wanted: &Wanted,
     at: Moment,
-) -> Result<Reply, Fault>
+) -> Told
     ensures { Comes D.answers service.old (spec.claims name.now named.now wanted.now at)
         result service.new }
 {
@@ -113,7 +112,7 @@ pub(crate) fn unpublish<D: Service>(
     values: Values<'_>,
     wanted: &Wanted,
     at: Moment,
-) -> Result<Reply, Fault>
+) -> Told
     ensures { Comes D.answers service.old
         (spec.leads_unpublish (values_view values.entry) wanted.now at) result service.new }
 {
@@ -130,7 +129,7 @@ fn unpublish_of<D: Service>(
     written: &[u8],
     wanted: &Wanted,
     at: Moment,
-) -> Result<Reply, Fault>
+) -> Told
     ensures { Comes D.answers service.old (spec.withdraws_under name.now written.now wanted.now at)
         result service.new }
 {
@@ -152,13 +151,13 @@ pub(crate) fn document<D: Service>(
     values: Values<'_>,
     wanted: &Wanted,
     at: Moment,
-) -> Result<Reply, Fault>
+) -> Told
     ensures { Comes D.answers service.old
         (spec.leads_document (values_view values.entry) wanted.now at) result service.new }
 {
     match request_of(alloc, wanted, at) {
-        Ok(request) => service.answer(alloc, &request),
-        Err(Stop::Fault(fault)) => Err(fault),
+        Ok(request) => Told::of(service.answer(alloc, &request)),
+        Err(Stop::Fault(fault)) => faulted(fault),
         Err(Stop::Refused(refusal)) => claim(alloc, service, values, wanted, at, refusal),
     }
 }
@@ -171,13 +170,13 @@ fn claim<D: Service>(
     wanted: &Wanted,
     at: Moment,
     refusal: Refusal,
-) -> Result<Reply, Fault>
+) -> Told
     ensures { Comes D.answers service.old (reading (spec.reads_claim wanted.now.body)
         (spec.leads_claim (values_view values.entry) wanted.now at refusal)) result service.new }
 {
     match claim_of(alloc, wanted.body.as_slice()) {
         Ok(Some(document)) => claimed(alloc, service, values, wanted, at, &document),
-        Ok(None) => Ok(Reply::Refused(refusal)),
+        Ok(None) => stopped(Stop::Refused(refusal)),
         Err(stop) => stopped(stop),
     }
 }
@@ -204,7 +203,7 @@ fn claimed<D: Service>(
     wanted: &Wanted,
     at: Moment,
     document: &Document,
-) -> Result<Reply, Fault>
+) -> Told
     ensures { Comes D.answers service.old
         (spec.leads_claimed (values_view values.entry) wanted.now at (value_of document.now))
         result service.new }

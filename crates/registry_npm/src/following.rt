@@ -15,12 +15,12 @@ ghost use Rattle.registry_routes.specs.declared.npm_endpoint.NpmEndpoint.TheVari
 use crate::asked::{first, member};
 use crate::caller::{Caller, caller_of, credential};
 use crate::shown::{is_stop, stopped};
-use crate::{documents, path, shown};
+use crate::{documents, path, shown, told};
 use registry_access::Role;
-use registry_names::{Fault, Ident, Moment, Name, Refusal};
+use registry_names::{Fault, Ident, Moment, Name, Refusal, Stop};
 use registry_routes::{NpmEndpoint, Values};
 use registry_rules::{Action, Credential, Reply, Request};
-use registry_service::Service;
+use registry_service::{Service, Told};
 use registry_wire::Wanted;
 use std::alloc::Global;
 
@@ -32,19 +32,19 @@ pub(crate) fn by_route<D: Service>(
     values: Values<'_>,
     wanted: &Wanted,
     at: Moment,
-) -> Result<Reply, Fault>
+) -> Told
     ensures { Comes D.answers service.old
         (spec.leads endpoint (values_view values.entry) wanted.now at) result service.new }
 {
     match endpoint {
-        NpmEndpoint::Ping => shown::empty(alloc),
-        NpmEndpoint::NotServed => Ok(Reply::Refused(Refusal::NotServed)),
-        NpmEndpoint::Visibility => visibility(alloc, service, values, wanted, at),
-        NpmEndpoint::Collaborators => collaborators(alloc, service, values, wanted, at),
-        NpmEndpoint::Teams => teams(alloc, service, values, wanted, at),
-        NpmEndpoint::OrgSet => org_set(alloc, service, values, wanted, at),
-        NpmEndpoint::User => user(alloc, service, values, wanted, at),
-        NpmEndpoint::UserPackages => user_packages(alloc, service, values, wanted, at),
+        NpmEndpoint::Ping => Told::of(shown::empty(alloc)),
+        NpmEndpoint::NotServed => told::stopped(Stop::Refused(Refusal::NotServed)),
+        NpmEndpoint::Visibility => Told::of(visibility(alloc, service, values, wanted, at)),
+        NpmEndpoint::Collaborators => Told::of(collaborators(alloc, service, values, wanted, at)),
+        NpmEndpoint::Teams => Told::of(teams(alloc, service, values, wanted, at)),
+        NpmEndpoint::OrgSet => Told::of(org_set(alloc, service, values, wanted, at)),
+        NpmEndpoint::User => Told::of(user(alloc, service, values, wanted, at)),
+        NpmEndpoint::UserPackages => Told::of(user_packages(alloc, service, values, wanted, at)),
         NpmEndpoint::Packument => documents::packument(alloc, service, values, wanted, at),
         NpmEndpoint::Document => documents::document(alloc, service, values, wanted, at),
         NpmEndpoint::Revised => documents::revised(alloc, service, values, wanted, at),
@@ -120,13 +120,13 @@ fn other<D: Service>(
     values: Values<'_>,
     wanted: &Wanted,
     at: Moment,
-) -> Result<Reply, Fault>
+) -> Told
     ensures { Comes D.answers service.old
         (spec.asks_first endpoint (values_view values.entry) wanted.now at) result service.new }
 {
     match first(alloc, endpoint, values, wanted.body.as_slice()) {
-        Ok(what) => asked(alloc, service, endpoint, what, wanted, at),
-        Err(stop) => stopped(stop),
+        Ok(what) => Told::of(asked(alloc, service, endpoint, what, wanted, at)),
+        Err(stop) => told::stopped(stop),
     }
 }
 

@@ -1,38 +1,54 @@
 //! Packuments as npm reads them.
 
-ghost use Rattle.std.specs.Prelude.{◌≡◌, [], option_map, IfErr, IfOk};
+ghost use Rattle.std.specs.Prelude.{◌≡◌, [], drop, IfErr, IfOk};
 ghost use Rattle.registry_npm.specs.Packages as spec;
+ghost use Rattle.registry_service.specs.HttpAnswers.{fronted_text};
 
-use crate::shown::doc;
-use registry_documents::{Revision, TextDigest, front};
+use registry_cache::{Shared, SharedText};
+use registry_documents::{Revision, front};
 use registry_names::{Fault, Text};
-use registry_rules::Reply;
+use registry_service::{Fronted, Told};
 use std::alloc::Global;
 
 /// The revision of a package.
-pub(crate) fn revision_of(alloc: Global, text: &str, names: &[Text]) -> Result<Revision, Fault>
+pub(crate) fn revision_of(
+    alloc: Global,
+    text: &SharedText,
+    names: &[Text],
+) -> Result<Revision, Fault>
     ensures ok { IfOk result (λ revision. revision ≡ spec.revision text.now names.now) }
     ensures err { IfErr result (λ fault. fault ≡ Fault.Memory) }
 {
-    Ok(Revision::of(alloc, &TextDigest::of(text), names)?)
+    Ok(Revision::of(alloc, &text.digest(), names)?)
 }
 
-// What follows the brace at the front.
-fn behind_brace(text: &str) -> &str
-    ensures { result.now ≡ spec.behind_brace text.now }
+// The number of bytes of the brace at the front.
+fn brace_len(text: &SharedText) -> usize
+    ensures { drop result text.now ≡ spec.behind_brace text.now }
 {
-    match text.strip_prefix("{") {
-        Some(rest) => rest,
-        None => text,
-    }
+    if text.as_str().starts_with("{") { 1 } else { 0 }
+}
+
+// The front of a packument, and its text, which isn't copied.
+fn pieces(alloc: Global, text: &SharedText, names: &[Text]) -> Result<Fronted, Fault>
+    ensures ok { IfOk result (λ shown. fronted_text shown ≡ spec.shown_text text.now names.now) }
+    ensures err { IfErr result (λ fault. fault ≡ Fault.Memory) }
+{
+    let revision = revision_of(alloc, text, names)?;
+    let front = front(alloc, &revision, names)?;
+    Ok(Fronted {
+        front: Text::from(front),
+        text: text.share()?,
+        skipped: brace_len(text),
+    })
 }
 
 /// The packument with its revision and its maintainers.
-pub(crate) fn fronted(alloc: Global, text: &str, names: &[Text]) -> Result<Reply, Fault>
+pub(crate) fn fronted(alloc: Global, text: &SharedText, names: &[Text]) -> Told
     ensures { spec.shows_fronted text.now names.now [] result }
 {
-    let revision = revision_of(alloc, text, names)?;
-    let mut shown = front(alloc, &revision, names)?;
-    shown.push_str(behind_brace(text))?;
-    doc(Text::from(shown))
+    match pieces(alloc, text, names) {
+        Ok(shown) => Told::fronted(shown),
+        Err(fault) => Told::of(Err(fault)),
+    }
 }

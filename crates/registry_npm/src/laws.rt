@@ -2,6 +2,7 @@
 
 ghost use Rattle.registry_service.specs.Dialects.{AsksQueriesByGet, IsDetermined};
 ghost use Rattle.registry_npm.specs.Changes.{DocumentsChangeOneThing};
+ghost use Rattle.registry_npm.specs.LabelLaws.{ArchivesKeepTags, ArchiveTagsAreTags, RefusalsHaveNoLabels, SharedIsPublic, TagsAreRevisions};
 ghost use Rattle.registry_npm.specs.Laws.{AsksForCaller, FaultsEnd, FilesAreGone, NeverNotFound, NpmIsApart, OneCommand, OthersStay};
 ghost use Rattle.registry_npm.specs.Npm.{npm};
 
@@ -66,4 +67,27 @@ pub fn answers_are_determined()
 /// Whatever a turn asks is asked at the moment of its request, for its caller or for nobody.
 pub fn asks_for_caller()
     ensures { AsksForCaller npm }
+{}
+
+/// A refusal or a fault says nothing to those who keep documents: neither a tag, nor how long it may
+/// be kept.
+pub fn refusals_have_no_labels()
+    ensures { RefusalsHaveNoLabels }
+{}
+
+/// The tag of a packument that is read is the revision of the packument and the maintainers that were
+/// read in the turn, in front of which they are shown.
+pub fn tags_are_revisions()
+    ensures { TagsAreRevisions }
+{}
+
+/// The tag of an archive is that of its name and version, whoever asks.
+pub fn archives_keep_tags()
+    ensures same { ArchivesKeepTags }
+    ensures form { ArchiveTagsAreTags }
+{}
+
+/// What all may share is an archive that was answered to nobody in particular.
+pub fn what_is_shared_is_public()
+    ensures { SharedIsPublic }
 {}

@@ -15,11 +15,13 @@ mod documents;
 mod following;
 mod forms;
 mod fronted;
+mod labels;
 pub mod laws;
 mod packages;
 mod path;
 mod service;
 mod shown;
+mod told;
 mod turning;
 
 pub use crate::service::NpmService;

@@ -16,11 +16,14 @@ use crate::commands::{command, does, is_gone, late, right};
 use crate::following::{is_scoped, request};
 use crate::forms::names_in;
 use crate::fronted::{fronted, revision_of};
-use crate::shown::{document, is_stop, stopped};
+use crate::shown;
+use crate::shown::{document, is_stop};
+use crate::told::{faulted, stopped};
+use registry_cache::SharedText;
 use registry_documents::{Asked, Document, Present, judge};
 use registry_names::{Fault, Moment, Name, Refusal, Text};
 use registry_rules::{Action, Reply};
-use registry_service::Service;
+use registry_service::{Service, Told};
 use registry_wire::Wanted;
 use std::alloc::Global;
 
@@ -49,7 +52,7 @@ pub(crate) fn package<D: Service>(
     name: &Name,
     wanted: &Wanted,
     at: Moment,
-) -> Result<Reply, Fault>
+) -> Told
     ensures { Comes D.answers service.old
         (spec.asks_for (purpose_view purpose.entry) name.now wanted.now at) result service.new }
 {
@@ -66,7 +69,7 @@ fn package_by<D: Service>(
     name: &Name,
     who: &Caller,
     at: Moment,
-) -> Result<Reply, Fault>
+) -> Told
     ensures { Comes D.answers service.old
         (spec.asks_as (purpose_view purpose.entry) name.now at (who_of who.now)) result service.new }
 {
@@ -85,7 +88,7 @@ fn serve_user<D: Service>(
     name: &Name,
     who: &Caller,
     at: Moment,
-) -> Result<Reply, Fault>
+) -> Told
     ensures { Comes D.answers service.old
         (spec.serves_user (purpose_view purpose.entry) name.now at (who_of who.now)) result service.new }
 {
@@ -104,13 +107,13 @@ fn serve<D: Service>(
     name: &Name,
     who: &Caller,
     at: Moment,
-) -> Result<Reply, Fault>
+) -> Told
     ensures { Comes D.answers service.old
         (spec.serves (purpose_view purpose.entry) name.now at (who_of who.now)) result service.new }
 {
     match copied(alloc, name) {
         Ok(package) => packument(alloc, service, purpose, name, package, who, at),
-        Err(fault) => Err(fault),
+        Err(fault) => faulted(fault),
     }
 }
 
@@ -134,7 +137,7 @@ fn packument<D: Service>(
     copy: Name,
     who: &Caller,
     at: Moment,
-) -> Result<Reply, Fault>
+) -> Told
     requires { copy ≡ name.now }
     ensures { Comes D.answers service.old (asks (leading.request at (who_of who.now) (action.Packument name.now))
         (spec.shown_by name.now at (who_of who.now) (spec.other_of (purpose_view purpose.entry) name.now at (who_of who.now))
@@ -143,7 +146,7 @@ fn packument<D: Service>(
     let request = request(at, who, Action::Packument { package: copy });
     let outcome = service.answer(alloc, &request);
     match document(outcome) {
-        Ok(text) => with_text(alloc, service, purpose, name, text.as_str(), who, at),
+        Ok(text) => with_text(alloc, service, purpose, name, &text, who, at),
         Err(other) => otherwise(alloc, service, purpose, name, who, at, other),
     }
 }
@@ -157,16 +160,16 @@ fn otherwise<D: Service>(
     who: &Caller,
     at: Moment,
     outcome: Result<Reply, Fault>,
-) -> Result<Reply, Fault>
+) -> Told
     ensures { Comes D.answers service.old
         (spec.other_of (purpose_view purpose.entry) name.now at (who_of who.now) outcome)
         result service.new }
 {
     match purpose {
-        Purpose::Shown => outcome,
-        Purpose::Judged { path, .. } => late(path, outcome),
+        Purpose::Shown => Told::of(outcome),
+        Purpose::Judged { path, .. } => Told::of(late(path, outcome)),
         Purpose::Withdrawn { named } => {
-            withdrawn_from(alloc, service, named, name, who, at, outcome)
+            Told::of(withdrawn_from(alloc, service, named, name, who, at, outcome))
         }
     }
 }
@@ -214,10 +217,10 @@ fn with_text<D: Service>(
     service: &mut D,
     purpose: Purpose<'_>,
     name: &Name,
-    text: &str,
+    text: &SharedText,
     who: &Caller,
     at: Moment,
-) -> Result<Reply, Fault>
+) -> Told
     ensures { Comes D.answers service.old (spec.asks_names name.now at (who_of who.now)
         (spec.other_of (purpose_view purpose.entry) name.now at (who_of who.now))
         (spec.fulfils (purpose_view purpose.entry) name.now at (who_of who.now) text.now))
@@ -228,7 +231,7 @@ fn with_text<D: Service>(
     }
     match copied(alloc, name) {
         Ok(package) => maintainers(alloc, service, purpose, name, package, text, who, at),
-        Err(fault) => Err(fault),
+        Err(fault) => faulted(fault),
     }
 }
 
@@ -239,10 +242,10 @@ fn maintainers<D: Service>(
     purpose: Purpose<'_>,
     name: &Name,
     copy: Name,
-    text: &str,
+    text: &SharedText,
     who: &Caller,
     at: Moment,
-) -> Result<Reply, Fault>
+) -> Told
     requires { copy ≡ name.now }
     ensures { Comes D.answers service.old (asks (leading.request at (who_of who.now) (action.Maintainers name.now))
         (spec.named_by (spec.other_of (purpose_view purpose.entry) name.now at (who_of who.now))
@@ -263,19 +266,19 @@ fn with_names<D: Service>(
     service: &mut D,
     purpose: Purpose<'_>,
     name: &Name,
-    text: &str,
+    text: &SharedText,
     names: &str,
     who: &Caller,
     at: Moment,
-) -> Result<Reply, Fault>
+) -> Told
     ensures { Comes D.answers service.old (spec.with_names
         (spec.fulfils (purpose_view purpose.entry) name.now at (who_of who.now) text.now) names.now)
         result service.new }
 {
     match names_in(alloc, names) {
         Ok(Some(names)) => fulfil(alloc, service, purpose, name, text, &names, who, at),
-        Ok(None) => Err(Fault::Database),
-        Err(fault) => Err(fault),
+        Ok(None) => faulted(Fault::Database),
+        Err(fault) => faulted(fault),
     }
 }
 
@@ -284,11 +287,11 @@ fn fulfil<D: Service>(
     service: &mut D,
     purpose: Purpose<'_>,
     name: &Name,
-    text: &str,
+    text: &SharedText,
     names: &[Text],
     who: &Caller,
     at: Moment,
-) -> Result<Reply, Fault>
+) -> Told
     ensures { Comes D.answers service.old
         (spec.fulfils (purpose_view purpose.entry) name.now at (who_of who.now) text.now names.now)
         result service.new }
@@ -296,10 +299,10 @@ fn fulfil<D: Service>(
     match purpose {
         Purpose::Shown => fronted(alloc, text, names),
         Purpose::Judged { path, document } => {
-            judged(alloc, service, path, document, name, text, names, who, at)
+            Told::of(judged(alloc, service, path, document, name, text, names, who, at))
         }
         Purpose::Withdrawn { named } => {
-            withdrawn(alloc, service, named, name, text, names, who, at)
+            Told::of(withdrawn(alloc, service, named, name, text, names, who, at))
         }
     }
 }
@@ -311,7 +314,7 @@ fn judged<D: Service>(
     path: Option<&str>,
     document: &Document,
     name: &Name,
-    packument: &str,
+    packument: &SharedText,
     maintainers: &[Text],
     who: &Caller,
     at: Moment,
@@ -324,13 +327,13 @@ fn judged<D: Service>(
         Err(fault) => return Err(fault),
     };
     let present = Present {
-        packument,
+        packument: packument.as_str(),
         maintainers,
         revision: &revision,
     };
     match judge(alloc, document, path, present) {
         Ok(asked) => done(alloc, service, path, asked, name, who, at),
-        Err(stop) => stopped(stop),
+        Err(stop) => shown::stopped(stop),
     }
 }
 
@@ -360,7 +363,7 @@ fn withdrawn<D: Service>(
     service: &mut D,
     named: &str,
     name: &Name,
-    text: &str,
+    text: &SharedText,
     names: &[Text],
     who: &Caller,
     at: Moment,
@@ -375,7 +378,7 @@ fn withdrawn<D: Service>(
 }
 
 // Whether the path names the present revision.
-fn is_present(alloc: Global, named: &str, text: &str, names: &[Text]) -> Result<bool, Fault>
+fn is_present(alloc: Global, named: &str, text: &SharedText, names: &[Text]) -> Result<bool, Fault>
     ensures ok { IfOk result (λ is. is ≡ bytes_eq named.now (spec.revision text.now names.now)) }
     ensures err { IfErr result (λ fault. fault ≡ Fault.Memory) }
 {

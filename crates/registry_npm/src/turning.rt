@@ -3,14 +3,16 @@
 ghost use Rattle.std.specs.Prelude.{◌≡◌};
 ghost use Rattle.registry_service.specs.Turns.{Turns, request, spoken};
 ghost use Rattle.registry_npm.specs.Npm as spec;
-ghost use Rattle.registry_npm.specs.Npm.{npm};
+ghost use Rattle.registry_npm.specs.Npm.{npm, others};
 
 use crate::body::begins_object;
 use crate::following::by_route;
+use crate::labels::{other_labels, own_labels};
+use crate::told::stopped;
 use registry_names::Moment;
 use registry_routes::{NpmEndpoint, npm_route_of};
-use registry_service::{Service, Turned, turn, turn_with};
-use registry_wire::Wanted;
+use registry_service::{Service, Told, Turned, request_of, turn_told};
+use registry_wire::{Labels, Wanted};
 use std::alloc::Global;
 
 // Whether a request by this route, with this body, is npm's own.
@@ -49,12 +51,34 @@ fn is_npms(endpoint: NpmEndpoint, body: &[u8]) -> bool
     }
 }
 
+// The turn of a request by the registry's own routes. What of it is an archive has labels.
+fn other_turn<D: Service>(
+    alloc: Global,
+    service: &mut D,
+    wanted: &Wanted,
+    at: Moment,
+    is_last: bool,
+) -> Turned
+    ensures { Turns (spoken others D.answers) service.old (request wanted.now at) is_last result
+        service.new }
+{
+    match request_of(alloc, wanted, at) {
+        Ok(request) => {
+            let outcome = service.answer(alloc, &request);
+            let labels = other_labels(&request, &outcome);
+            turn_told(Told::of(outcome), labels, wanted, is_last)
+        }
+        Err(stop) => turn_told(stopped(stop), Labels::none(), wanted, is_last),
+    }
+}
+
 /// The turn of a whole request, asked at this moment, where npm's own requests are served. Any other
-/// request is served as [`turn`] does it. `is_last` says that this is the last request that its
-/// connection may have.
+/// request is served as [`turn`](registry_service::turn) does it. `is_last` says that this is the
+/// last request that its connection may have.
 ///
 /// The service is asked one request after the other, at most one command among them. A fault of one
-/// ends the turn, and is the answer.
+/// ends the turn, and is the answer. A packument that is read as npm reads it has its revision as
+/// entity tag, and an archive one of its own; who names it again is told that it is the same.
 pub fn npm_turn<D: Service>(
     alloc: Global,
     service: &mut D,
@@ -62,14 +86,16 @@ pub fn npm_turn<D: Service>(
     at: Moment,
     is_last: bool,
 ) -> Turned
-    ensures { Turns (spoken npm D.answers) service.old (request wanted.now at) is_last result service.new }
+    ensures { Turns (spoken npm D.answers) service.old (request wanted.now at) is_last result
+        service.new }
 {
     let Some(route) = npm_route_of(wanted.method, wanted.target.as_slice()) else {
-        return turn(alloc, service, wanted, at, is_last);
+        return other_turn(alloc, service, wanted, at, is_last);
     };
     if !is_npms(route.endpoint, wanted.body.as_slice()) {
-        return turn(alloc, service, wanted, at, is_last);
+        return other_turn(alloc, service, wanted, at, is_last);
     }
-    let outcome = by_route(alloc, service, route.endpoint, route.values, wanted, at);
-    turn_with(outcome, is_last, wanted.closes)
+    let told = by_route(alloc, service, route.endpoint, route.values, wanted, at);
+    let labels = own_labels(route.endpoint, &told);
+    turn_told(told, labels, wanted, is_last)
 }

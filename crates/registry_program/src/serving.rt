@@ -259,12 +259,16 @@ fn serve_until_end<S: Alter + Drop, K: LogClock + Drop, W: LineSink + Drop, O: B
     alloc: Global,
     bound: Bound<'_>,
     log: Option<Log<K, W>>,
-    registry: Registry<S>,
+    mut registry: Registry<S>,
     listener: &mut CommandListener,
     output: &mut O,
     errors: &mut E,
 ) -> Served<S> {
     let path = bound.options.path;
+    // What npm reads of a package has the digest of its packument in front.
+    if bound.options.answers_npm {
+        registry.make_digests();
+    }
     let service = LoggedService::new(RegistryService::new(registry), log);
     let (ended, service) = serve_with(rt, alloc, bound, service, listener, output, errors);
     let registry = service.into_inner().into_registry();

@@ -13,3 +13,4 @@ mod RemainderFacts
 mod WokenFacts
 mod QueryFacts
 mod ComingFacts
+mod OutgoingFacts

@@ -5,7 +5,7 @@ use Rattle.std.proofs.lemmas.List.{take-append-drop}
 use Rattle.registry_wire.specs.Reading.{TakenOf}
 use Rattle.registry_service.specs.Courses.{count_of, taken_for}
 use Rattle.registry_service.specs.Histories.{LogEntry, Transcript, Reached, World, at_end, comes, is_last, on_connection, sends, shuts, turned_on, turns, turns_of, with_bytes, with_sent, with_turn}
-use Rattle.registry_service.specs.Turns.{Cause, Dialogue, IsTurn, IsTurnFor, Turn, bad_input, is_request, no_memory, request, response_of}
+use Rattle.registry_service.specs.Turns.{Cause, Dialogue, IsTurn, IsTurnFor, Turn, bad_input, is_request, is_known_in, labels_of, no_memory, request, response_of}
 use Rattle.registry_service.proofs.CourseFacts.{bytes-same, on-not_last, on-request}
 use Rattle.registry_server.specs.ConnectionStates.{Pending, TakesTurn, holding, sending}
 use Rattle.registry_server.specs.Worlds.{AddsNone, AddsOne, Begins, Comes, Lasts, LeadsTo, MayHave, Sends, Shuts, StateShows, TakesTurns}
@@ -193,17 +193,18 @@ module _ {D : Type 0} (answers : Dialogue D) where
       let stops = (p.left == 1) && not (length ts + 1 == 1000) in
       let is_turn : IsTurn answers w.service (is_last stops ts) turn N =
       subst (λ (b : Bool). IsTurnFor answers t.cause w.service b t.turns.exchanges t.turns.outcome t.turned.end N) (same-last (length ts) p.left may.some may.all) t.turns.is_turn in
-      let v = turned_on w k stops turn q.held N in
+      let v = turned_on answers.speaks w k stops turn q.held N in
       let sent : l.out ≡ l.sent = s.outgoing ∙ ap (λ (u : List ℕ). l.sent ++ u) none ∙ append-nil l.sent in
-      let outgoing : l.out ++ response_of turn ≡ l.sent ++ q.outgoing =
-      ap (λ (u : List ℕ). u ++ response_of turn) sent
-      ∙ ap (λ (u : List ℕ). l.sent ++ u) (sym (t.outgoing ∙ bytes-same t.turns.outcome t.turned.answer (is_some t.turned.end) t.turns.answer)) in
+      let outgoing : l.out ++ response_of answers.speaks turn ≡ l.sent ++ q.outgoing =
+      ap (λ (u : List ℕ). u ++ response_of answers.speaks turn) sent
+      ∙ ap (λ (u : List ℕ). l.sent ++ u) (sym (t.outgoing ∙ bytes-same (labels_of answers.speaks t.cause t.turns.exchanges t.turns.outcome) (is_known_in answers.speaks t.cause t.turns.exchanges t.turns.outcome)
+      t.turns.outcome t.turned.answer (is_some t.turned.end) t.turns.answer)) in
       let later : q.ends ≡ None → MayHave (turn ∷ ts) q.left = λ stays.
       let ended = sym t.ends ∙ stays in
       let one = count-one t.cause (on-request answers t.cause w.service (p.left == 1) t.turns.exchanges t.turns.outcome t.turned.end N t.turns.is_turn ended) in
       let last = on-not_last answers t.cause w.service (p.left == 1) t.turns.exchanges t.turns.outcome t.turned.end N t.turns.is_turn ended in
       may-more ts turn p.left q.left may ended last (t.left ∙ ap (λ (n : ℕ). p.left - n) one) in
-      let changed = pick-first (k == k) (with_turn turn q.held l) l (at-same k) in
+      let changed = pick-first (k == k) (with_turn answers.speaks turn q.held l) l (at-same k) in
       let log = record { from = k; stops = stops; turn = turn } ∷ w.log in (
         log,
         record { stops = stops; turn = turn; log = refl; asked = t.asked },
@@ -211,12 +212,12 @@ module _ {D : Type 0} (answers : Dialogue D) where
           world = v;
           reached = turns w r k stops turn q.held N may.go_on took is_turn;
           service = refl;
-          stands = stands-with v k over q (with_turn turn q.held l) (turn ∷ ts) changed (pick-first (k == k) (turn ∷ ts) ts (at-same k)) refl s.shut outgoing later;
+          stands = stands-with v k over q (with_turn answers.speaks turn q.held l) (turn ∷ ts) changed (pick-first (k == k) (turn ∷ ts) ts (at-same k)) refl s.shut outgoing later;
           came_so_far = ap (λ (m : Transcript). m.came) changed;
           sent_so_far = ap (λ (m : Transcript). m.sent) changed;
           log_so_far = refl;
           others = λ j e. record {
-            transcript = pick-second (j == k) (with_turn turn q.held (w.transcripts j)) (w.transcripts j) e;
+            transcript = pick-second (j == k) (with_turn answers.speaks turn q.held (w.transcripts j)) (w.transcripts j) e;
             turned = pick-second (j == k) (turn ∷ turns_of j w.log) (turns_of j w.log) e;
           };
         },

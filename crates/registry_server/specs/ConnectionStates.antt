@@ -14,7 +14,7 @@ use Rattle.registry_server.specs.declared.state.Progress.TheVariants.{Answered, 
 
 -- the head of a turn's response
 abbrev pub head_in : Turned → List ℕ
-head_in t = head_bytes t.answer.status t.answer.kind (length (body_bytes t.answer.body)) (is_some t.end)
+head_in t = head_bytes t.answer.status t.answer.kind t.answer.labels (length (body_bytes t.answer.body)) (is_some t.end)
 
 -- the body of a turn's answer, where there is one
 abbrev pub body_in : Option Turned → List ℕ

@@ -370,8 +370,8 @@ impl<S: Socket> Connection<S> {
         ensures waits { result ≡ visits.Rests → must_wait S.has_none S.is_full self.new ≡ true }
         ensures over { result ≡ visits.Over → IsLost S.is_ended S.is_broken self.new }
     {
-        let (head, body) = self.state.outgoing().parts();
-        match self.socket.send(head, body) {
+        let (head, body, rest) = self.state.outgoing().parts();
+        match self.socket.send(head, body, rest) {
             Flow::Moved(count) => {
                 self.state.sent(count);
                 self.phase.pay(count, now);

@@ -28,7 +28,7 @@ pub use crate::connection::{BODY_LEAST, Connection, Visit};
 pub use crate::guests::{FIRST_GUEST, GUEST_TOKENS, Guests, NoGuests};
 pub use crate::listener::{ListenAt, UNCOUNTED};
 pub use crate::local_socket::{LocalSocket, SocketFile};
-pub use crate::outgoing::Outgoing;
+pub use crate::outgoing::{Outgoing, left_of};
 pub use crate::phase::{
     DRAIN_LIMIT, IDLE_LIMIT, LEAST_RATE, Phase, REQUEST_TIME_LIMIT, RESPONSE_LIMIT, Stage,
     WAIT_LIMIT,

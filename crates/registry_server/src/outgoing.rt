@@ -1,6 +1,6 @@
 //! The part of a response that isn't sent yet.
 
-ghost use Rattle.std.specs.Prelude.{◌≡◌, ◌≤◌, ◌++◌, ◌==◌, [], length, drop};
+ghost use Rattle.std.specs.Prelude.{◌≡◌, ◌≤◌, ◌-◌, ◌++◌, ◌==◌, [], length, drop};
 ghost use Rattle.registry_service.specs.Servings.{bytes_of};
 ghost use Rattle.registry_server.specs.ConnectionStates as spec;
 
@@ -14,7 +14,8 @@ use std::marker::Model;
 pub struct Outgoing {
     head: ShortText,
     turned: Option<Turned>,
-    sent: usize,
+    // It may be more than a `usize` holds, as far as the lengths of three pieces show.
+    sent: u128,
 }
 
 impl Model for Outgoing {
@@ -56,23 +57,16 @@ impl Outgoing {
     pub fn is_empty(&self) -> bool
         ensures { result ≡ (length self.now == 0) }
     {
-        let (head, body) = self.parts();
-        head.is_empty() && body.is_empty()
+        let (head, body, rest) = self.parts();
+        head.is_empty() && body.is_empty() && rest.is_empty()
     }
 
-    /// What is left of the head, and what is left of the body.
-    pub fn parts(&self) -> (&[u8], &[u8])
-        ensures { result.0.now ++ result.1.now ≡ self.now }
+    /// What is left of the head, of the first piece of the body, and of the rest of it.
+    pub fn parts(&self) -> (&[u8], &[u8], &[u8])
+        ensures { result.0.now ++ result.1.now ++ result.2.now ≡ self.now }
     {
-        let head = self.head.as_slice();
-        let body = body_in(&self.turned);
-        if self.sent < head.len() {
-            let (_, rest) = head.split_at(self.sent);
-            (rest, body)
-        } else {
-            let (_, rest) = body.split_at(self.sent - head.len());
-            (&[], rest)
-        }
+        let (body, rest) = body_in(&self.turned);
+        left_of(self.head.as_slice(), body, rest, self.sent)
     }
 
     /// This many more bytes were sent. Once all are sent, the memory of the body is given back.
@@ -81,37 +75,69 @@ impl Outgoing {
         ensures { self.new ≡ drop count self.old }
     {
         let total = total(&self.head, &self.turned);
-        self.sent += count;
+        self.sent += count as u128;
         if self.sent == total {
             *self = Outgoing::none();
         }
     }
 }
 
-fn body_in(turned: &Option<Turned>) -> &[u8]
-    ensures { result.now ≡ spec.body_in turned.now }
+/// What is left of a head, of the first piece of a body, and of the rest of it, of which so many
+/// bytes were sent together.
+pub fn left_of<'a>(
+    head: &'a [u8],
+    body: &'a [u8],
+    rest: &'a [u8],
+    sent: u128,
+) -> (&'a [u8], &'a [u8], &'a [u8])
+    ensures { result.0.now ++ result.1.now ++ result.2.now
+        ≡ drop sent (head.now ++ (body.now ++ rest.now)) }
+{
+    let (head, over) = left_of_piece(head, sent);
+    let (body, over) = left_of_piece(body, over);
+    let (rest, _) = left_of_piece(rest, over);
+    (head, body, rest)
+}
+
+// What is left of a piece of which so many bytes were sent, and how many were sent of what follows.
+fn left_of_piece(piece: &[u8], sent: u128) -> (&[u8], u128)
+    ensures left { result.0.now ≡ drop sent piece.now }
+    ensures over { result.1 ≡ sent - length piece.now }
+{
+    let len = piece.len() as u128;
+    let (_, left) = piece.split_at(sent.min(len) as usize);
+    (left, sent.saturating_sub(len))
+}
+
+// Both pieces of the body of a turn's answer.
+fn body_in(turned: &Option<Turned>) -> (&[u8], &[u8])
+    ensures { result.0.now ++ result.1.now ≡ spec.body_in turned.now }
 {
     match turned {
-        Some(turned) => turned.answer.body.as_slice(),
-        None => &[],
+        Some(turned) => turned.answer.body.as_slices(),
+        None => (&[], &[]),
     }
 }
 
 // How many bytes the response has.
-fn total(head: &ShortText, turned: &Option<Turned>) -> usize
+fn total(head: &ShortText, turned: &Option<Turned>) -> u128
     ensures { result ≡ length (head.now ++ spec.body_in turned.now) }
 {
-    head.as_slice().len() + body_in(turned).len()
+    let (body, rest) = body_in(turned);
+    head.as_slice().len() as u128 + body.len() as u128 + rest.len() as u128
 }
 
 fn head_of(turned: &Turned) -> ShortText
     ensures { result ≡ spec.head_in turned.now }
 {
     let answer = &turned.answer;
+    let (body, rest) = answer.body.as_slices();
     let response = Response {
         status: answer.status,
         kind: answer.kind,
-        body: answer.body.as_slice(),
+        labels: &answer.labels,
+        body,
+        rest,
         closes: turned.end.is_some(),
     };
     response.head()

@@ -70,11 +70,11 @@ pub trait Socket: Drop {
         ensures still_ended { is_ended self.old ≡ true → is_ended self.new ≡ true }
         ensures broken { result ≡ Broken → is_broken self.new ≡ true };
 
-    /// Takes some of the first bytes of these two to send, once.
-    fn send(&mut self, head: &[u8], body: &[u8]) -> Flow
-        ensures bound { MovesAtMost (length (head.now ++ body.now)) result }
+    /// Takes some of the first bytes of these three to send, once.
+    fn send(&mut self, head: &[u8], body: &[u8], rest: &[u8]) -> Flow
+        ensures bound { MovesAtMost (length (head.now ++ body.now ++ rest.now)) result }
         ensures sent { sent self.new
-            ≡ append_known (sent self.old) (moved result (head.now ++ body.now)) }
+            ≡ append_known (sent self.old) (moved result (head.now ++ body.now ++ rest.now)) }
         ensures received { received self.new ≡ received self.old }
         ensures waits { result ≡ Waits → is_full self.new ≡ true }
         ensures goes_on { result ≢ Ended }
@@ -123,10 +123,11 @@ impl Socket for TcpStream {
         }
     }
 
-    // Both pieces go out in one call of the system.
-    fn send(&mut self, head: &[u8], body: &[u8]) -> Flow {
+    // The three pieces go out in one call of the system.
+    fn send(&mut self, head: &[u8], body: &[u8], rest: &[u8]) -> Flow {
         let stream: &TcpStream = self;
-        match stream.write_vectored(&[IoSlice::new(head), IoSlice::new(body)]) {
+        let pieces = [IoSlice::new(head), IoSlice::new(body), IoSlice::new(rest)];
+        match stream.write_vectored(&pieces) {
             Ok(count) => Flow::Moved(count),
             Err(error) => failed(&error),
         }

@@ -1,5 +1,5 @@
 -- Turns of a connection, one after another.
-use Rattle.std.proofs.Common.{◌≡◌, ◌≢◌, ◌≤◌, ◌<◌, ◌+◌, ◌==◌, ◌++◌, ◌∷◌, ◌⊎◌, ◌∙◌, [], ℕ, Bool, true, false, List, length, Option, Some, None, Ok, Err, refl, sym, ap, subst, inl, inr, append_assoc, append-nil, arith, length-append, is_some, if◌then◌else◌}
+use Rattle.std.proofs.Common.{◌≡◌, ◌≢◌, ◌≤◌, ◌<◌, ◌+◌, ◌==◌, ◌++◌, ◌∷◌, ◌⊎◌, ◌∙◌, [], ℕ, Bool, true, false, List, length, Option, Some, None, Ok, Err, refl, sym, ap, subst, inl, inr, append_assoc, append-nil, arith, length-append, if◌then◌else◌}
 use Rattle.std.specs.Int.{from_bool}
 use Rattle.std.proofs.lemmas.Bool.{eqb-false}
 use Rattle.registry_names.specs.ByteStreams.{Writes}
@@ -10,6 +10,7 @@ use Rattle.registry_wire.specs.Reading.{ReadsWhileUnfinished, TakenOf}
 use Rattle.registry_wire.specs.Spelling.{EndsWith, IsBad}
 use Rattle.registry_wire.specs.declared.first.Ending.TheVariants as ending
 use Rattle.registry_wire.proofs.RequestFacts.{request-more, bad-more}
+use Rattle.registry_wire.specs.declared.labels.Labels.{Labels}
 use Rattle.registry_service.specs.HttpAnswers.{AnswersSo, Outcome, answer_bytes, response_to}
 use Rattle.registry_service.specs.Courses.{AtEndOf, Course, EndsAs, EndsUnasked, Follow, Gave, GoOn, GoesTo, IsServed, ReadsFor, ReadsOn, Rests, Side, Took, count_of, moments, requests, taken_for, written}
 use Rattle.registry_service.specs.Responses.{MayBegin, turn_of}
@@ -130,8 +131,8 @@ ends-unasked s ts e on (inr failed) = subst (λ (e : End). EndsAs s ts e) (sym f
 
 -- ---- a response
 
-pub bytes-same : (o : Outcome) (a : Answer) (closes : Bool) → AnswersSo o a → answer_bytes a closes ≡ response_to o closes
-bytes-same o a closes is = rw (is.status, is.kind, is.body) refl
+pub bytes-same : (labels : Labels) (known : Bool) (o : Outcome) (a : Answer) (closes : Bool) → AnswersSo labels known o a → answer_bytes a closes ≡ response_to labels known o closes
+bytes-same labels known o a closes is = rw (is.status, is.kind, is.labels, is.body) refl
 
 -- ---- one turn more
 
@@ -228,7 +229,7 @@ module _ {D : Type 0} (dialogue : Dialogue D) where
     pub turns : List Turn
     pub led : Led old now turns
     pub go_on : GoOn turns
-    pub wrote : Writes out out2 out_unknown (written turns)
+    pub wrote : Writes out out2 out_unknown (written dialogue.speaks turns)
     pub count : n ≡ length turns
 
   pub going-first : (s : Side D) (out : Option (List ℕ)) (out_unknown : Bool) → Going s s out out out_unknown 0

@@ -4,7 +4,7 @@ use Rattle.std.specs.Prelude.{option_and_then}
 use Rattle.std.proofs.lemmas.Bool.{false≢true}
 use Rattle.registry_names.specs.Texts.{Text}
 use Rattle.registry_names.specs.declared.method.Method.{Method}
-use Rattle.registry_names.specs.declared.method.Method.TheVariants.{Get, Other}
+use Rattle.registry_names.specs.declared.method.Method.TheVariants.{Get}
 use Rattle.registry_names.specs.declared.stop.Stop.{Stop}
 use Rattle.registry_routes.specs.Paths.{path_of, segments_of}
 use Rattle.registry_routes.specs.Routes.{Route, Values, or_later, route_in, route_of}
@@ -12,7 +12,6 @@ use Rattle.registry_routes.specs.Table.{table}
 use Rattle.registry_routes.specs.declared.endpoint.Endpoint.{Endpoint}
 use Rattle.registry_routes.specs.declared.endpoint.Endpoint.TheVariants as endpoint
 use Rattle.registry_rules.specs.Actions.{is_command}
-use Rattle.registry_rules.specs.declared.reply.Reply.{Reply}
 use Rattle.registry_rules.specs.declared.request.Action.{Action}
 use Rattle.registry_rules.specs.declared.request.Request.{Request}
 use Rattle.registry_wire.specs.declared.wanted.Wanted.{Wanted}
@@ -20,7 +19,7 @@ use Rattle.registry_service.specs.Actions.{reads_action}
 use Rattle.registry_service.specs.Dialects.{AreQueries, AsksQueriesByGet, IsDetermined, IsReader}
 use Rattle.registry_service.specs.HttpAnswers.{Outcome}
 use Rattle.registry_service.specs.Requests.{reads_request, reads_routed}
-use Rattle.registry_service.specs.Turns.{Exchange, exchange, profile}
+use Rattle.registry_service.specs.Turns.{Exchange, profile}
 
 -- ---- requests of such a method are queries
 
@@ -121,7 +120,7 @@ IsSome [] = ⊥
 IsSome (e ∷ es) = Unit {0}
 
 -- the outcome of a request in form is that of what it asks
-asked-outcome : (w : Wanted) (at : ℕ) (e : Exchange) (es : List Exchange) (o : Outcome) → profile w at (e ∷ es) o → e.outcome ≡ o
+asked-outcome : (w : Wanted) (at : ℕ) (e : Exchange) (es : List Exchange) (o : Outcome) → profile.asks w at (e ∷ es) o → e.outcome ≡ o
 asked-outcome w at e es o (inl (r, is, same)) = ap (first_outcome o) same
 asked-outcome w at e es o (inr (s, is, none, same)) = absurd (subst IsSome none tt)
 

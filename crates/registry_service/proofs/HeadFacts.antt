@@ -8,8 +8,10 @@ use Rattle.registry_service.specs.HttpAnswers.{document_head}
 abbrev pub front : List ℕ
 front = codes "HTTP/1.1 200 OK\r\ncontent-type: application/json\r\ncontent-length: "
 
-behind : (digits end line : List ℕ) → (((digits ++ end) ++ []) ++ line) ++ end ≡ digits ++ (end ++ (line ++ end))
-behind digits end line = append_assoc ((digits ++ end) ++ []) line end ∙ ap (λ (l : List ℕ). l ++ (line ++ end)) (append-nil (digits ++ end)) ∙ append_assoc digits end (line ++ end)
+behind : (digits end line : List ℕ) → ((((digits ++ end) ++ []) ++ []) ++ line) ++ end ≡ digits ++ (end ++ (line ++ end))
+behind digits end line =
+    append_assoc (((digits ++ end) ++ []) ++ []) line end
+    ∙ ap (λ (l : List ℕ). l ++ (line ++ end)) (append-nil ((digits ++ end) ++ []) ∙ append-nil (digits ++ end)) ∙ append_assoc digits end (line ++ end)
 
 pub head-text : (closes : Bool) (len : ℕ) → document_head closes len ≡ front ++ (decimal len ++ (line_end ++ (close_line closes ++ line_end)))
 unfolding phrase

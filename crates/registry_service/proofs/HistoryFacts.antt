@@ -7,7 +7,7 @@ use Rattle.registry_wire.specs.Spelling.{EndsWith, IsBad}
 use Rattle.registry_wire.specs.declared.first.Ending.TheVariants as ending
 use Rattle.registry_service.specs.Courses.{GoOn, Took, taken_for}
 use Rattle.registry_service.specs.Histories.{EndsOnce, FollowAll, IsTranscript, IsOneHistory, Transcript, Reached, World, at_end, is_last, turned_on, begins, comes, sends, shuts, turns, turns_of, with_bytes, with_sent, with_turn}
-use Rattle.registry_service.specs.Turns.{Cause, Dialogue, IsTurn, Turn, bad_input, is_request, no_memory, request, response_of}
+use Rattle.registry_service.specs.Turns.{Cause, Dialect, Dialogue, IsTurn, Turn, bad_input, is_request, no_memory, request, response_of}
 use Rattle.registry_service.proofs.CourseFacts.{on-request, taken-open, took-any, took-more}
 
 -- ---- one connection
@@ -48,33 +48,33 @@ took-going : (came : List ℕ) (ts : List Turn) (held : List ℕ) (AtEnd : Type 
 took-going came [] held AtEnd on asked took = took
 took-going came (t ∷ ts) held AtEnd on asked took = (took.0, took.1, taken-open took.0 held AtEnd t.cause (asked.0 on.0) took.2)
 
-transcript-turns : (ts : List Turn) (l : Transcript) (t : Turn) (rest : List ℕ) → GoOn ts → OpensAsked ts → TakenOf l.rest rest (l.shut ≡ true) (taken_for t.cause) → IsTranscript ts l → IsTranscript (t ∷ ts) (with_turn t rest l)
-transcript-turns ts l t rest on asked took is = record {
+transcript-turns : (speaks : Dialect) (ts : List Turn) (l : Transcript) (t : Turn) (rest : List ℕ) → GoOn ts → OpensAsked ts → TakenOf l.rest rest (l.shut ≡ true) (taken_for t.cause) → IsTranscript speaks ts l → IsTranscript speaks (t ∷ ts) (with_turn speaks t rest l)
+transcript-turns speaks ts l t rest on asked took is = record {
   took = (l.rest, took-going l.came ts l.rest _ on asked is.took, took);
-  answered = ap (λ (out : List ℕ). out ++ response_of t) is.answered;
-  prefix = (is.prefix.0 ++ response_of t, ap (λ (out : List ℕ). out ++ response_of t) is.prefix.1 ∙ append_assoc l.sent is.prefix.0 (response_of t));
+  answered = ap (λ (out : List ℕ). out ++ response_of speaks t) is.answered;
+  prefix = (is.prefix.0 ++ response_of speaks t, ap (λ (out : List ℕ). out ++ response_of speaks t) is.prefix.1 ∙ append_assoc l.sent is.prefix.0 (response_of speaks t));
 }
 
 never : (b : Bool) → b ≡ false → b ≡ true → ⊥
 never true e f = absurd (true≢false e)
 never false e f = absurd (true≢false (sym f))
 
-transcript-comes : (ts : List Turn) (l : Transcript) (bytes : List ℕ) → l.shut ≡ false → IsTranscript ts l → IsTranscript ts (with_bytes bytes l)
-transcript-comes ts l bytes more is = record {
+transcript-comes : (speaks : Dialect) (ts : List Turn) (l : Transcript) (bytes : List ℕ) → l.shut ≡ false → IsTranscript speaks ts l → IsTranscript speaks ts (with_bytes bytes l)
+transcript-comes speaks ts l bytes more is = record {
   took = took-any (l.came ++ bytes) ts (l.rest ++ bytes) _ (took-more l.came bytes ts l.rest (took-none l.came ts l.rest _ (λ shut. never l.shut more shut) is.took));
   answered = is.answered;
   prefix = is.prefix;
 }
 
-transcript-shuts : (ts : List Turn) (l : Transcript) → IsTranscript ts l → IsTranscript ts (at_end l)
-transcript-shuts ts l is = record {
+transcript-shuts : (speaks : Dialect) (ts : List Turn) (l : Transcript) → IsTranscript speaks ts l → IsTranscript speaks ts (at_end l)
+transcript-shuts speaks ts l is = record {
   took = took-shut l.came ts l.rest _ _ (λ _. refl) is.took;
   answered = is.answered;
   prefix = is.prefix;
 }
 
-transcript-sends : (ts : List Turn) (l : Transcript) (sent later : List ℕ) → l.out ≡ sent ++ later → IsTranscript ts l → IsTranscript ts (with_sent sent l)
-transcript-sends ts l sent later prefix is = record { took = is.took; answered = is.answered; prefix = (later, prefix) }
+transcript-sends : (speaks : Dialect) (ts : List Turn) (l : Transcript) (sent later : List ℕ) → l.out ≡ sent ++ later → IsTranscript speaks ts l → IsTranscript speaks ts (with_sent sent l)
+transcript-sends speaks ts l sent later prefix is = record { took = is.took; answered = is.answered; prefix = (later, prefix) }
 
 -- ---- all connections
 
@@ -96,28 +96,28 @@ is-same k on e = grind (arith, nat_tests, e)
 module _ {D : Type 0} (dialogue : Dialogue D) where
   record Holds (M : D) (w : World D) : Type 0 where
     service : FollowAll dialogue M w.log w.service
-    transcripts : (k : ℕ) → IsTranscript (turns_of k w.log) (w.transcripts k)
+    transcripts : (k : ℕ) → IsTranscript dialogue.speaks (turns_of k w.log) (w.transcripts k)
     once : (k : ℕ) → EndsOnce (turns_of k w.log)
     asked : (k : ℕ) → OpensAsked (turns_of k w.log)
 
   -- a change of one connection alone
-  on-transcript : (M : D) (w : World D) (on : ℕ) (change : Transcript → Transcript) → (IsTranscript (turns_of on w.log) (w.transcripts on) → IsTranscript (turns_of on w.log) (change (w.transcripts on))) → Holds M w
+  on-transcript : (M : D) (w : World D) (on : ℕ) (change : Transcript → Transcript) → (IsTranscript dialogue.speaks (turns_of on w.log) (w.transcripts on) → IsTranscript dialogue.speaks (turns_of on w.log) (change (w.transcripts on))) → Holds M w
       → Holds M (record { service = w.service; transcripts = λ k. cond (k == on) (change (w.transcripts k)) (w.transcripts k); log = w.log })
   on-transcript M w on change keeps h = record {
     service = h.service;
-    transcripts = λ k. either-transcript (IsTranscript (turns_of k w.log)) (k == on) (change (w.transcripts k)) (w.transcripts k)
-        (λ e. subst (λ (j : ℕ). IsTranscript (turns_of j w.log) (change (w.transcripts j))) (sym (is-same k on e)) (keeps (h.transcripts on)))
+    transcripts = λ k. either-transcript (IsTranscript dialogue.speaks (turns_of k w.log)) (k == on) (change (w.transcripts k)) (w.transcripts k)
+        (λ e. subst (λ (j : ℕ). IsTranscript dialogue.speaks (turns_of j w.log) (change (w.transcripts j))) (sym (is-same k on e)) (keeps (h.transcripts on)))
         (λ _. h.transcripts k);
     once = h.once;
     asked = h.asked;
   }
 
   on-turn : (M : D) (w : World D) (on : ℕ) (stops : Bool) (t : Turn) (rest : List ℕ) (N : D) → GoOn (turns_of on w.log) → TakenOf (w.transcripts on).rest rest ((w.transcripts on).shut ≡ true) (taken_for t.cause)
-      → IsTurn dialogue w.service (is_last stops (turns_of on w.log)) t N → Holds M w → Holds M (turned_on w on stops t rest N)
+      → IsTurn dialogue w.service (is_last stops (turns_of on w.log)) t N → Holds M w → Holds M (turned_on dialogue.speaks w on stops t rest N)
   on-turn M w on stops t rest N go took turn h = record {
     service = (w.service, h.service, turn);
-    transcripts = λ k. either IsTranscript (k == on) (t ∷ turns_of k w.log) (turns_of k w.log) (with_turn t rest (w.transcripts k)) (w.transcripts k)
-        (λ e. subst (λ (j : ℕ). IsTranscript (t ∷ turns_of j w.log) (with_turn t rest (w.transcripts j))) (sym (is-same k on e)) (transcript-turns (turns_of on w.log) (w.transcripts on) t rest go (h.asked on) took (h.transcripts on)))
+    transcripts = λ k. either (IsTranscript dialogue.speaks) (k == on) (t ∷ turns_of k w.log) (turns_of k w.log) (with_turn dialogue.speaks t rest (w.transcripts k)) (w.transcripts k)
+        (λ e. subst (λ (j : ℕ). IsTranscript dialogue.speaks (t ∷ turns_of j w.log) (with_turn dialogue.speaks t rest (w.transcripts j))) (sym (is-same k on e)) (transcript-turns dialogue.speaks (turns_of on w.log) (w.transcripts on) t rest go (h.asked on) took (h.transcripts on)))
         (λ _. h.transcripts k);
     once = λ k. either-turns EndsOnce (k == on) (t ∷ turns_of k w.log) (turns_of k w.log)
         (λ e. subst (λ (j : ℕ). GoOn (turns_of j w.log)) (sym (is-same k on e)) go)
@@ -134,10 +134,10 @@ module _ {D : Type 0} (dialogue : Dialogue D) where
     once = λ k. tt;
     asked = λ k. tt;
   }
-  holds M _ (comes w r on bytes more) = on-transcript M w on (with_bytes bytes) (transcript-comes (turns_of on w.log) (w.transcripts on) bytes more) (holds M w r)
-  holds M _ (shuts w r on) = on-transcript M w on at_end (transcript-shuts (turns_of on w.log) (w.transcripts on)) (holds M w r)
+  holds M _ (comes w r on bytes more) = on-transcript M w on (with_bytes bytes) (transcript-comes dialogue.speaks (turns_of on w.log) (w.transcripts on) bytes more) (holds M w r)
+  holds M _ (shuts w r on) = on-transcript M w on at_end (transcript-shuts dialogue.speaks (turns_of on w.log) (w.transcripts on)) (holds M w r)
   holds M _ (turns w r on stops t rest N go took turn) = on-turn M w on stops t rest N go took turn (holds M w r)
-  holds M _ (sends w r on sent later prefix) = on-transcript M w on (with_sent sent) (transcript-sends (turns_of on w.log) (w.transcripts on) sent later prefix) (holds M w r)
+  holds M _ (sends w r on sent later prefix) = on-transcript M w on (with_sent sent) (transcript-sends dialogue.speaks (turns_of on w.log) (w.transcripts on) sent later prefix) (holds M w r)
 
   pub one-history : (M : D) (w : World D) → Reached dialogue M w → IsOneHistory dialogue M w
   one-history M w r = let h = holds M w r in record { service = h.service; transcripts = h.transcripts; once = h.once }

@@ -6,4 +6,5 @@ pub mod DialectFacts
 pub mod HeadFacts
 pub mod HistoryFacts
 pub mod LawFacts
+pub mod LabelFacts
 pub mod ResponseFacts

@@ -10,18 +10,19 @@ use Rattle.registry_packument.specs.declared.opener.Sent.TheVariants.{Broken}
 use Rattle.registry_rules.specs.declared.reply.Reply.TheVariants.{Doc}
 use Rattle.registry_rules.specs.declared.request.Request.{Request}
 use Rattle.registry_wire.specs.declared.wanted.Wanted.{Wanted}
-use Rattle.registry_service.specs.HttpAnswers.{AnswersSo, Outcome, document_head, response_to}
+use Rattle.registry_service.specs.HttpAnswers.{Outcome, document_head, plain_response}
 use Rattle.registry_service.specs.Requests.{reads_request}
 use Rattle.registry_service.specs.Responses.{Responds, RespondsTo, turn_of}
 use Rattle.registry_service.specs.Sendings.{IsPackument, Sends}
 use Rattle.registry_service.specs.Servings.{IsTurnWith, RespondsWith}
-use Rattle.registry_service.specs.Turns.{Answering, Cause, Dialogue, Exchange, IsAnswered, IsTurnFor, TurnsAway, bad_input, end_of, exchange, is_request, no_memory, profile, request, spoken, stopped}
+use Rattle.registry_service.specs.Turns.{Answering, AnswersFor, Cause, Dialogue, Exchange, IsAnswered, IsTurnFor, TurnsAway, bad_input, end_of, exchange, is_known_in, is_request, labels_of, no_memory, profile, request, spoken, stopped}
 use Rattle.registry_service.specs.declared.responding.Responded.{Responded}
 use Rattle.registry_service.specs.declared.responding.Responded.TheVariants.{Whole, BrokenOff, CutShort}
 use Rattle.registry_service.specs.declared.turning.End.{End}
 use Rattle.registry_service.specs.declared.turning.End.TheVariants.{Faulted}
 use Rattle.registry_service.specs.declared.turning.Turned.{Turned}
 use Rattle.registry_service.proofs.CourseFacts.{bytes-same}
+use Rattle.registry_service.proofs.LabelFacts.{plain-answers}
 
 -- nothing was written, and then a response
 responds-after : (t : Turned) (out out2 out3 : Option (List ℕ)) (unknown unknown2 : Bool) (responded : Responded) → Writes out out2 unknown [] → (unknown ≡ true → unknown2 ≡ true)
@@ -34,28 +35,22 @@ module _ {D : Type 0} (dialogue : Dialogue D) where
   -- ---- the response of a turn
 
   responds-with : (M N : D) (c : Cause) (last : Bool) (es : List Exchange) (o : Outcome) (t : Turned) (out out2 : Option (List ℕ)) (unknown : Bool) (responded : Responded)
-      → IsTurnFor dialogue c M last es o t.end N → AnswersSo o t.answer → t.is_request ≡ is_request c → RespondsWith t out out2 unknown responded → Responds dialogue M c last N out out2 unknown responded
+      → IsTurnFor dialogue c M last es o t.end N → AnswersFor dialogue.speaks c es o t.answer → t.is_request ≡ is_request c → RespondsWith t out out2 unknown responded → Responds dialogue M c last N out out2 unknown responded
   responds-with M N c last es o t out out2 unknown (Whole ended counts) turn answer same wrote = record {
     exchanges = es;
     outcome = o;
     ended = t.end;
     is_turn = turn;
-    comes = (subst (λ (bs : List ℕ). Writes out out2 unknown bs) (bytes-same o t.answer (is_some t.end) answer) wrote.0, wrote.1, wrote.2 ∙ same);
+    comes = (subst (λ (bs : List ℕ). Writes out out2 unknown bs) (bytes-same (labels_of dialogue.speaks c es o) (is_known_in dialogue.speaks c es o) o t.answer (is_some t.end) answer) wrote.0, wrote.1, wrote.2 ∙ same);
   }
   responds-with M N c last es o t out out2 unknown BrokenOff turn answer same wrote = record {
     exchanges = es;
     outcome = o;
     ended = t.end;
     is_turn = turn;
-    comes = subst (λ (bs : List ℕ). WritesPrefix out out2 unknown bs) (bytes-same o t.answer (is_some t.end) answer) wrote;
+    comes = subst (λ (bs : List ℕ). WritesPrefix out out2 unknown bs) (bytes-same (labels_of dialogue.speaks c es o) (is_known_in dialogue.speaks c es o) o t.answer (is_some t.end) answer) wrote;
   }
   responds-with M N c last es o t out out2 unknown (CutShort fault) turn answer same wrote = absurd wrote
-
-  -- the turn of a whole request
-  pub responds-request : (M N : D) (w : Wanted) (at : ℕ) (last : Bool) (es : List Exchange) (o : Outcome) (t : Turned) (out out2 : Option (List ℕ)) (unknown : Bool) (responded : Responded)
-      → IsAnswered dialogue M w at es o N → IsTurnWith o last w.closes t → RespondsWith t out out2 unknown responded → Responds dialogue M (request w at) last N out out2 unknown responded
-  responds-request M N w at last es o t out out2 unknown responded answered is wrote =
-      responds-with M N (request w at) last es o t out out2 unknown responded (record { answered = answered; ends = is.ends }) is.answer is.counts wrote
 
   -- the turn of what is no request
   pub responds-away : (M : D) (c : Cause) (last : Bool) (t : Turned) (out out2 : Option (List ℕ)) (unknown : Bool) (responded : Responded)
@@ -67,6 +62,12 @@ module _ {D : Type 0} (dialogue : Dialogue D) where
       responds-with M M no_memory last [] away.outcome t out out2 unknown responded (away.is_turn, refl, refl) away.answer away.counts wrote
 
 module _ {D : Type 0} (answers : Answering D) where
+  -- the turn of a whole request
+  pub responds-request : (M N : D) (w : Wanted) (at : ℕ) (last : Bool) (es : List Exchange) (o : Outcome) (t : Turned) (out out2 : Option (List ℕ)) (unknown : Bool) (responded : Responded)
+      → IsAnswered (spoken profile answers) M w at es o N → IsTurnWith o last w.closes t → RespondsWith t out out2 unknown responded → Responds (spoken profile answers) M (request w at) last N out out2 unknown responded
+  responds-request M N w at last es o t out out2 unknown responded answered is wrote =
+      responds-with (spoken profile answers) M N (request w at) last es o t out out2 unknown responded (record { answered = answered; ends = is.ends }) (plain-answers (request w at) es o t.answer is.answer) is.counts wrote
+
   -- a request in form asks for what it spells, and any other asks nothing
   pub one-asked : (M N : D) (w : Wanted) (at : ℕ) (r : Request) (o : Outcome) → reads_request w at (Ok r) → answers M r o N → IsAnswered (spoken profile answers) M w at (exchange r o ∷ []) o N
   one-asked M N w at r o reads answered = (inl (r, reads, refl), (N, answered, refl))
@@ -78,7 +79,7 @@ module _ {D : Type 0} (answers : Answering D) where
   pub responds-to : (M N : D) (r : Request) (last closes : Bool) (o : Outcome) (t : Turned) (out out2 : Option (List ℕ)) (unknown : Bool) (responded : Responded)
       → answers M r o N → IsTurnWith o last closes t → RespondsWith t out out2 unknown responded → RespondsTo (spoken profile answers) M r last closes N out out2 unknown responded
   responds-to M N r last closes o t out out2 unknown responded answered is wrote = λ w at reads same.
-      responds-request (spoken profile answers) M N w at last (exchange r o ∷ []) o t out out2 unknown responded (one-asked M N w at r o reads answered) (subst (λ (b : Bool). IsTurnWith o last b t) (sym same) is) wrote
+      responds-request M N w at last (exchange r o ∷ []) o t out out2 unknown responded (one-asked M N w at r o reads answered) (subst (λ (b : Bool). IsTurnWith o last b t) (sym same) is) wrote
 
   -- the same, where nothing was written before
   pub responds-later : (M N : D) (r : Request) (last closes : Bool) (o : Outcome) (t : Turned) (out out2 out3 : Option (List ℕ)) (unknown unknown2 : Bool) (responded : Responded)
@@ -102,7 +103,7 @@ module _ {D : Type 0} (answers : Answering D) where
     outcome = Ok (Doc text);
     ended = ended;
     is_turn = record { answered = one-asked M N w at r (Ok (Doc text)) reads answered; ends = ends-so text last closes w.closes ended is same };
-    comes = (subst (λ (b : Bool). Writes out out2 unknown (response_to (Ok (Doc text)) b)) head wrote, refl, refl);
+    comes = (subst (λ (b : Bool). Writes out out2 unknown (plain_response (Ok (Doc text)) b)) head wrote, refl, refl);
   }
 
   -- a part of it, and then a write failed
@@ -114,7 +115,7 @@ module _ {D : Type 0} (answers : Answering D) where
     outcome = Ok (Doc text);
     ended = ended;
     is_turn = record { answered = one-asked M N w at r (Ok (Doc text)) reads answered; ends = ends-so text last closes w.closes ended is same };
-    comes = subst (λ (b : Bool). WritesPrefix out out2 unknown (response_to (Ok (Doc text)) b)) head wrote;
+    comes = subst (λ (b : Bool). WritesPrefix out out2 unknown (plain_response (Ok (Doc text)) b)) head wrote;
   }
 
   -- a part of it, and then a fault came
@@ -140,7 +141,7 @@ module _ {D : Type 0} (answers : Answering D) where
           exchanges = exchange r (Err fault) ∷ [];
           after = record { answered = one-asked may.0 N w at r (Err fault) reads may.2; ends = refl };
         },
-        subst (λ (b : Bool). WritesSome out out2 unknown (response_to (Ok (Doc text)) b)) head wrote,
+        subst (λ (b : Bool). WritesSome out out2 unknown (plain_response (Ok (Doc text)) b)) head wrote,
       ),
     );
   }

@@ -7,8 +7,8 @@ use Rattle.registry_publish.specs.Tokens.{digest_of}
 use Rattle.registry_routes.specs.Authorization.{IsBearer, IsNoBearer}
 use Rattle.registry_rules.specs.declared.request.Credential.{Credential}
 use Rattle.registry_rules.specs.declared.request.Credential.TheVariants.{Token, Anonymous}
-use Rattle.registry_wire.specs.declared.wanted.Authorization.{Authorization}
-use Rattle.registry_wire.specs.declared.wanted.Authorization.TheVariants.{Absent, Once, Repeated}
+use Rattle.registry_wire.specs.declared.wanted.FieldValue.{FieldValue}
+use Rattle.registry_wire.specs.declared.wanted.FieldValue.TheVariants.{Absent, Once, Repeated}
 use Rattle.registry_service.specs.Readings.{Reading, gives, refuses}
 
 -- the value bears a token in form, or none
@@ -17,7 +17,7 @@ reads_bearer value (Ok who) = (token : Text) × (digest : List ℕ) × IsBearer 
 reads_bearer value (Err stop) = (stop ≡ Refused NoCaller) × (IsNoBearer value ⊎ ((token : Text) × IsBearer value token × (digest_of token ≡ None)))
 
 -- the caller shows nothing, or one token
-abbrev pub reads_caller : Authorization → Reading Credential
+abbrev pub reads_caller : FieldValue → Reading Credential
 reads_caller Absent = gives Anonymous
 reads_caller (Once value) = reads_bearer value
 reads_caller Repeated = refuses NoCaller

@@ -12,7 +12,7 @@ use Rattle.registry_wire.specs.declared.first.Ending.TheVariants as ending
 use Rattle.registry_wire.specs.declared.inbox.Taken.{Taken}
 use Rattle.registry_wire.specs.declared.inbox.Taken.TheVariants as taken
 use Rattle.registry_service.specs.Responses.{MayBegin, Responds}
-use Rattle.registry_service.specs.Turns.{Cause, Dialogue, IsTurn, Turn, bad_input, is_request, no_memory, request, request_limit, response_of}
+use Rattle.registry_service.specs.Turns.{Cause, Dialect, Dialogue, IsTurn, Turn, bad_input, is_request, no_memory, request, request_limit, response_of}
 use Rattle.registry_service.specs.declared.responding.Responded.{Responded}
 use Rattle.registry_service.specs.declared.serving.Served.{Served}
 use Rattle.registry_service.specs.declared.turning.End.{End}
@@ -26,9 +26,9 @@ GoOn [] = Unit {0}
 GoOn (t ∷ ts) = (t.ended ≡ None) × GoOn ts
 
 -- what is written of the turns, in their order
-abbrev pub written : List Turn → List ℕ
-written [] = []
-written (t ∷ ts) = written ts ++ response_of t
+abbrev pub written : Dialect → List Turn → List ℕ
+written speaks [] = []
+written speaks (t ∷ ts) = written speaks ts ++ response_of speaks t
 
 -- a request has one moment
 abbrev pub moment_of : Cause → List ℕ
@@ -179,7 +179,7 @@ module _ {D : Type 0} (dialogue : Dialogue D) where
     pub turns : List Turn
     pub course : Course old new turns
     pub lean : ReadsUntil old.held turns s.end course.got
-    pub wrote : Writes out out2 out_unknown (written turns)
+    pub wrote : Writes out out2 out_unknown (written dialogue.speaks turns)
     pub ends : EndsAs new turns s.end
     pub count : s.requests ≡ requests turns
 
@@ -192,8 +192,8 @@ module _ {D : Type 0} (dialogue : Dialogue D) where
     pub lean : ReadsFor old.held (newest ∷ older) course.got
     pub go_on : GoOn older
     pub sent : ℕ
-    pub is_less : sent < length (response_of newest)
-    pub wrote : Writes out out2 out_unknown (written older ++ take sent (response_of newest))
+    pub is_less : sent < length (response_of dialogue.speaks newest)
+    pub wrote : Writes out out2 out_unknown (written dialogue.speaks older ++ take sent (response_of dialogue.speaks newest))
     pub ends : s.end ≡ WriteFault
     pub count : s.requests ≡ requests older
 
@@ -213,8 +213,8 @@ module _ {D : Type 0} (dialogue : Dialogue D) where
     pub may_begin : MayBegin dialogue course.follow.0 (length older + 1 == request_limit) newest.cause begun fault new.service
     pub sent : ℕ
     pub some : 0 < sent
-    pub is_within : sent < length (response_of begun)
-    pub wrote : Writes out out2 out_unknown (written older ++ take sent (response_of begun))
+    pub is_within : sent < length (response_of dialogue.speaks begun)
+    pub wrote : Writes out out2 out_unknown (written dialogue.speaks older ++ take sent (response_of dialogue.speaks begun))
     pub ends : s.end ≡ Faulted fault
     pub count : s.requests ≡ requests older
 

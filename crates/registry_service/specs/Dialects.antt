@@ -19,9 +19,9 @@ AreQueries (e ∷ es) = (is_command e.asked.what ≡ false) × AreQueries es
 
 -- a request of such a method asks nothing but queries
 abbrev pub AsksQueriesByGet : Dialect → Type 0
-AsksQueriesByGet speaks = (w : Wanted) (at : ℕ) (es : List Exchange) (o : Outcome) → IsReader w.method → speaks w at es o → AreQueries es
+AsksQueriesByGet speaks = (w : Wanted) (at : ℕ) (es : List Exchange) (o : Outcome) → IsReader w.method → speaks.asks w at es o → AreQueries es
 
 -- what a request of HTTP is answered is determined by what it asks and by what that comes to, except
 -- where a fault is answered
 abbrev pub IsDetermined : Dialect → Type 0
-IsDetermined speaks = (w : Wanted) (at : ℕ) (e : Exchange) (es : List Exchange) (a b : Reply) → speaks w at (e ∷ es) (Ok a) → speaks w at (e ∷ es) (Ok b) → a ≡ b
+IsDetermined speaks = (w : Wanted) (at : ℕ) (e : Exchange) (es : List Exchange) (a b : Reply) → speaks.asks w at (e ∷ es) (Ok a) → speaks.asks w at (e ∷ es) (Ok b) → a ≡ b

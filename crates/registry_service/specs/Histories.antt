@@ -3,7 +3,7 @@
 use Rattle.std.specs.Prelude.{◌≡◌, ◌+◌, ◌==◌, ◌||◌, ◌++◌, ◌∷◌, [], ℕ, Bool, true, false, List, length, if◌then◌else◌}
 use Rattle.registry_wire.specs.Reading.{TakenOf}
 use Rattle.registry_service.specs.Courses.{GoOn, Took, taken_for, written}
-use Rattle.registry_service.specs.Turns.{Dialogue, IsTurn, Turn, request_limit, response_of}
+use Rattle.registry_service.specs.Turns.{Dialect, Dialogue, IsTurn, Turn, request_limit, response_of}
 
 -- a connection
 pub record Transcript : Type 0 where
@@ -30,8 +30,8 @@ abbrev pub at_end : Transcript → Transcript
 at_end l = record { came = l.came; rest = l.rest; shut = true; out = l.out; sent = l.sent }
 
 -- a turn is taken, and leaves this of what had come
-abbrev pub with_turn : Turn → List ℕ → Transcript → Transcript
-with_turn t rest l = record { came = l.came; rest = rest; shut = l.shut; out = l.out ++ response_of t; sent = l.sent }
+abbrev pub with_turn : Dialect → Turn → List ℕ → Transcript → Transcript
+with_turn speaks t rest l = record { came = l.came; rest = rest; shut = l.shut; out = l.out ++ response_of speaks t; sent = l.sent }
 
 -- this was sent by now
 abbrev pub with_sent : List ℕ → Transcript → Transcript
@@ -65,8 +65,8 @@ abbrev pub on_connection : {D : Type 0} → World D → ℕ → (Transcript → 
 on_connection w on change = record { service = w.service; transcripts = changed w.transcripts on change; log = w.log }
 
 -- a turn is taken on a connection, by a server that is to end or isn't
-abbrev pub turned_on : {D : Type 0} → World D → ℕ → Bool → Turn → List ℕ → D → World D
-turned_on w on stops t rest N = record { service = N; transcripts = changed w.transcripts on (with_turn t rest); log = record { from = on; stops = stops; turn = t } ∷ w.log }
+abbrev pub turned_on : {D : Type 0} → Dialect → World D → ℕ → Bool → Turn → List ℕ → D → World D
+turned_on speaks w on stops t rest N = record { service = N; transcripts = changed w.transcripts on (with_turn speaks t rest); log = record { from = on; stops = stops; turn = t } ∷ w.log }
 
 -- the next turn of a connection that had these turns is the last that it may have: because its
 -- server is to end, or by the limit
@@ -74,9 +74,9 @@ abbrev pub is_last : Bool → List Turn → Bool
 is_last stops ts = stops || (length ts + 1 == request_limit)
 
 -- a connection that had these turns is what they leave
-pub record IsTranscript (ts : List Turn) (l : Transcript) : Type 0 where
+pub record IsTranscript (speaks : Dialect) (ts : List Turn) (l : Transcript) : Type 0 where
   pub took : Took l.came ts l.rest (l.shut ≡ true)
-  pub answered : l.out ≡ written ts
+  pub answered : l.out ≡ written speaks ts
   pub prefix : (later : List ℕ) × (l.out ≡ l.sent ++ later)
 
 -- only the newest turn may have ended the connection
@@ -94,7 +94,7 @@ module _ {D : Type 0} (dialogue : Dialogue D) where
     shuts : (w : World D) → Reached M w → (on : ℕ) → Reached M (on_connection w on at_end)
     turns : (w : World D) → Reached M w → (on : ℕ) (stops : Bool) (t : Turn) (rest : List ℕ) (N : D) → GoOn (turns_of on w.log)
         → TakenOf (w.transcripts on).rest rest ((w.transcripts on).shut ≡ true) (taken_for t.cause) → IsTurn dialogue w.service (is_last stops (turns_of on w.log)) t N
-        → Reached M (turned_on w on stops t rest N)
+        → Reached M (turned_on dialogue.speaks w on stops t rest N)
     sends : (w : World D) → Reached M w → (on : ℕ) (sent later : List ℕ) → (w.transcripts on).out ≡ sent ++ later → Reached M (on_connection w on (with_sent sent))
 
   -- each turn was taken at the service that all older ones left, whichever connection they were on
@@ -106,5 +106,5 @@ module _ {D : Type 0} (dialogue : Dialogue D) where
   -- turns among them leave
   pub record IsOneHistory (M : D) (w : World D) : Type 0 where
     pub service : FollowAll M w.log w.service
-    pub transcripts : (k : ℕ) → IsTranscript (turns_of k w.log) (w.transcripts k)
+    pub transcripts : (k : ℕ) → IsTranscript dialogue.speaks (turns_of k w.log) (w.transcripts k)
     pub once : (k : ℕ) → EndsOnce (turns_of k w.log)

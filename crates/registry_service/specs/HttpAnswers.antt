@@ -1,17 +1,19 @@
 -- What an outcome of the registry is in HTTP.
-use Rattle.std.specs.Prelude.{◌≡◌, ℕ, Bool, List, ◌++◌, length, codes, decimal, Result, Ok, Err}
+use Rattle.std.specs.Prelude.{◌≡◌, ◌==◌, ℕ, Bool, false, List, [], ◌++◌, length, drop, codes, decimal, if◌then◌else◌, Result, Ok, Err}
 use Rattle.registry_names.specs.Faults.{fault_status, fault_text}
 use Rattle.registry_names.specs.Refusals.{refusal_status, refusal_text}
 use Rattle.registry_names.specs.Texts.{Text}
 use Rattle.registry_names.specs.declared.stop.Fault.{Fault}
 use Rattle.registry_rules.specs.declared.reply.Reply.{Reply}
 use Rattle.registry_rules.specs.declared.reply.Reply.TheVariants.{Created, Done, Count, Doc, Bytes, Refused}
-use Rattle.registry_wire.specs.Responses.{head_bytes}
+use Rattle.registry_wire.specs.Responses.{head_bytes, no_labels, not_modified}
+use Rattle.registry_wire.specs.declared.labels.Labels.{Labels}
 use Rattle.registry_wire.specs.declared.response.ContentKind.{ContentKind}
 use Rattle.registry_wire.specs.declared.response.ContentKind.TheVariants as content
 use Rattle.registry_service.specs.declared.answer.Answer.{Answer}
 use Rattle.registry_service.specs.declared.answer.Body.{Body}
 use Rattle.registry_service.specs.declared.answer.Body.TheVariants as body
+use Rattle.registry_service.specs.declared.answer.Fronted.{Fronted}
 
 -- the outcome of a request
 abbrev pub Outcome : Type 0
@@ -49,31 +51,62 @@ body_of (Ok (Bytes bytes)) = bytes
 body_of (Ok (Refused refusal)) = error_text (refusal_text refusal)
 body_of (Err fault) = error_text (fault_text fault)
 
--- the bytes of the response to an outcome, after which the connection ends or not
-abbrev pub response_to : Outcome → Bool → List ℕ
-response_to o closes = head_bytes (status_of o) (kind_of o) (length (body_of o)) closes ++ body_of o
+-- ---- the response
+
+-- only where the status is 200 are there labels: a refusal and a fault have none
+abbrev pub labelled : Outcome → Labels → Labels
+labelled o labels = if status_of o == 200 then labels else no_labels
+
+-- where who asks has the document already, it isn't sent
+abbrev pub sent_status : Bool → Outcome → ℕ
+sent_status known o = if known then not_modified else status_of o
+
+abbrev pub sent_body : Bool → Outcome → List ℕ
+sent_body known o = if known then [] else body_of o
+
+-- the bytes of the response to an outcome, with these labels, to one who has the document or
+-- doesn't, after which the connection ends or not
+abbrev pub response_to : Labels → Bool → Outcome → Bool → List ℕ
+response_to labels known o closes = head_bytes (sent_status known o) (kind_of o) labels (length (sent_body known o)) closes ++ sent_body known o
+
+-- the response that says nothing to those who keep documents
+abbrev pub plain_response : Outcome → Bool → List ℕ
+plain_response o closes = response_to no_labels false o closes
 
 -- the head of the response that is a document of this many bytes, after which the connection ends
 -- or not
 abbrev pub document_head : Bool → ℕ → List ℕ
-document_head closes len = head_bytes 200 content.Json len closes
+document_head closes len = head_bytes 200 content.Json no_labels len closes
 
 -- ---- the answer, which holds its body
+
+-- the front, and the text without the bytes that are skipped
+abbrev pub fronted_text : Fronted → Text
+fronted_text f = f.front ++ drop f.skipped f.text
 
 abbrev pub body_bytes : Body → List ℕ
 body_bytes (body.Short text) = text
 body_bytes (body.Text text) = text
 body_bytes (body.Doc text) = text
+body_bytes (body.Fronted f) = fronted_text f
 body_bytes (body.Bytes bytes) = bytes
 
-abbrev pub answer : ℕ → ContentKind → Body → Answer
-answer status kind body = record { status = status; kind = kind; body = body }
+abbrev pub answer : ℕ → ContentKind → Labels → Body → Answer
+answer status kind labels body = record { status = status; kind = kind; labels = labels; body = body }
+
+abbrev pub short : Text → Body
+short text = body.Short text
 
 abbrev pub answer_bytes : Answer → Bool → List ℕ
-answer_bytes a closes = head_bytes a.status a.kind (length (body_bytes a.body)) closes ++ body_bytes a.body
+answer_bytes a closes = head_bytes a.status a.kind a.labels (length (body_bytes a.body)) closes ++ body_bytes a.body
 
--- the answer is that of the outcome
-pub record AnswersSo (o : Outcome) (a : Answer) : Type 0 where
-  pub status : a.status ≡ status_of o
+-- the answer is that of the outcome, with these labels, to one who has the document or doesn't
+pub record AnswersSo (says : Labels) (known : Bool) (o : Outcome) (a : Answer) : Type 0 where
+  pub status : a.status ≡ sent_status known o
   pub kind : a.kind ≡ kind_of o
-  pub body : body_bytes a.body ≡ body_of o
+  pub labels : a.labels ≡ says
+  pub body : body_bytes a.body ≡ sent_body known o
+
+-- the answer that says nothing to those who keep documents
+abbrev pub AnswersPlainly : Outcome → Answer → Type 0
+AnswersPlainly o a = AnswersSo no_labels false o a

@@ -1,10 +1,15 @@
 -- What holds of every connection: the laws that the functions of `src/laws.rt` ensure.
-use Rattle.std.specs.Prelude.{◌≡◌, ◌++◌, ◌∷◌, [], ℕ, Bool, false, List, Some}
+use Rattle.std.specs.Prelude.{◌≡◌, ◌≢◌, ◌↔◌, ◌++◌, ◌∷◌, [], ℕ, Bool, false, List, Some}
+use Rattle.registry_wire.specs.EntityTags.{NamesTag}
+use Rattle.registry_wire.specs.Responses.{no_labels, not_modified}
 use Rattle.registry_wire.specs.Spelling.{Spells}
 use Rattle.registry_wire.specs.declared.first.Ending.{Ending}
 use Rattle.registry_wire.specs.declared.wanted.Wanted.{Wanted}
 use Rattle.registry_service.specs.Courses.{Course, Side, Took}
-use Rattle.registry_service.specs.Turns.{Answering, AnswersAsBefore, Cause, Dialect, Dialogue, IsTurn, Turn, bad_input, no_memory, request, spoken}
+use Rattle.registry_service.specs.Turns.{Answering, AnswersAsBefore, Cause, Dialect, Dialogue, Exchange, IsTurn, Turn, Turns, bad_input, no_memory, request, spoken}
+use Rattle.registry_service.specs.declared.answer.Answer.{Answer}
+use Rattle.registry_service.specs.declared.turning.Turned.{Turned}
+use Rattle.registry_service.specs.HttpAnswers.{Outcome, body_bytes, body_of, status_of}
 
 abbrev pub wanted_by : Cause → List Wanted
 wanted_by (request w at) = w ∷ []
@@ -31,3 +36,24 @@ TakenOfAll {D} dialogue = (old new : Side D) (ts : List Turn) (left left2 : List
 abbrev pub LookUpsAreUnseen : {D : Type 0} → Dialect → Answering D → Type 0
 LookUpsAreUnseen {D} speaks answers = (M K N : D) (last : Bool) (t : Turn) → AnswersAsBefore answers M K → IsTurn (spoken speaks answers) K last t N
     → (left : D) × IsTurn (spoken speaks answers) M last t left × AnswersAsBefore answers left N
+
+-- Who asks has the document that would be answered: its status would be 200, it has a tag, and the
+-- request names that tag
+abbrev pub KnowsDocument : Dialect → Cause → List Exchange → Outcome → Type 0
+KnowsDocument speaks (request w at) es o = (status_of o ≡ 200) × ((tag : List ℕ) × ((speaks.labels w es o).tag ≡ Some tag) × NamesTag w.if_none_match tag)
+KnowsDocument speaks (bad_input r) es o = ⊥
+KnowsDocument speaks no_memory es o = ⊥
+
+-- An answer is a 304 exactly where who asks has the document, and then nothing is sent of it. Any
+-- other answer is that of the outcome, whole. Where the status would be another than 200, nothing is
+-- said to those who keep documents
+pub record IsHonest (speaks : Dialect) (c : Cause) (es : List Exchange) (o : Outcome) (a : Answer) : Type 0 where
+  pub exactly : (a.status ≡ not_modified) ↔ KnowsDocument speaks c es o
+  pub empty : a.status ≡ not_modified → body_bytes a.body ≡ []
+  pub whole : a.status ≢ not_modified → (a.status ≡ status_of o) × (body_bytes a.body ≡ body_of o)
+  pub plain : status_of o ≢ 200 → a.labels ≡ no_labels
+
+-- so is the answer of every turn
+abbrev pub NotModifiedIsHonest : {D : Type 0} → Dialect → Answering D → Type 0
+NotModifiedIsHonest {D} speaks answers = (M N : D) (c : Cause) (last : Bool) (t : Turned) → (turns : Turns (spoken speaks answers) M c last t N)
+    → IsHonest speaks c turns.exchanges turns.outcome t.answer

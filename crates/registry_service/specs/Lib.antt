@@ -10,5 +10,6 @@ pub mod Requests
 pub mod Responses
 pub mod Sendings
 pub mod Servings
+pub mod Told
 pub mod Turns
 pub mod Dialects

@@ -40,9 +40,9 @@ module _ {D : Type 0} (dialogue : Dialogue D) where
   -- Its response was written whole; or a part of it, before a write failed; or it answers a fault
   -- that came in the middle of a packument, of which a part was written
   abbrev pub Comes : D → Bool → Turn → D → Option (List ℕ) → Option (List ℕ) → Bool → Responded → Type 0
-  Comes M last t N out out2 unknown (Whole ended counts) = Writes out out2 unknown (response_of t) × (ended ≡ t.ended) × (counts ≡ is_request t.cause)
-  Comes M last t N out out2 unknown BrokenOff = WritesPrefix out out2 unknown (response_of t)
-  Comes M last t N out out2 unknown (CutShort fault) = (t.outcome ≡ Err fault) × ((begun : Turn) × MayBegin M last t.cause begun fault N × WritesSome out out2 unknown (response_of begun))
+  Comes M last t N out out2 unknown (Whole ended counts) = Writes out out2 unknown (response_of dialogue.speaks t) × (ended ≡ t.ended) × (counts ≡ is_request t.cause)
+  Comes M last t N out out2 unknown BrokenOff = WritesPrefix out out2 unknown (response_of dialogue.speaks t)
+  Comes M last t N out out2 unknown (CutShort fault) = (t.outcome ≡ Err fault) × ((begun : Turn) × MayBegin M last t.cause begun fault N × WritesSome out out2 unknown (response_of dialogue.speaks begun))
 
   -- a turn was taken for a cause, and this is what happened to its response
   pub record Responds (M : D) (c : Cause) (last : Bool) (N : D) (out out2 : Option (List ℕ)) (unknown : Bool) (responded : Responded) : Type 0 where

@@ -7,9 +7,13 @@ use Rattle.registry_names.specs.declared.stop.Stop.{Stop}
 use Rattle.registry_names.specs.declared.stop.Stop.TheVariants as stop
 use Rattle.registry_rules.specs.declared.reply.Reply.TheVariants.{Refused}
 use Rattle.registry_rules.specs.declared.request.Request.{Request}
+use Rattle.registry_wire.specs.Responses.{no_labels}
+use Rattle.registry_wire.specs.TagReading.{names_some}
+use Rattle.registry_wire.specs.declared.labels.Labels.{Labels}
 use Rattle.registry_wire.specs.declared.wanted.Wanted.{Wanted}
-use Rattle.registry_service.specs.HttpAnswers.{AnswersSo, Outcome, response_to}
+use Rattle.registry_service.specs.HttpAnswers.{AnswersPlainly, AnswersSo, Outcome, labelled, response_to}
 use Rattle.registry_service.specs.Requests.{reads_request}
+use Rattle.registry_service.specs.declared.answer.Answer.{Answer}
 use Rattle.registry_service.specs.declared.turning.End.{End}
 use Rattle.registry_service.specs.declared.turning.End.TheVariants.{Closed, Limit, BadInput, Faulted}
 use Rattle.registry_service.specs.declared.turning.Turned.{Turned}
@@ -47,10 +51,6 @@ pub record Turn : Type 0 where
   pub outcome : Outcome
   pub ended : Option End
 
--- the bytes of its response
-abbrev pub response_of : Turn → List ℕ
-response_of t = response_to t.outcome (is_some t.ended)
-
 abbrev pub is_request : Cause → Bool
 is_request (request w at) = true
 is_request (bad_input r) = false
@@ -70,15 +70,48 @@ end_of (Ok reply) last closes = if last then Some Limit else (if closes then Som
 -- ---- what requests of HTTP ask of a registry
 
 -- A dialect: a turn for this request of HTTP, at this moment, asked these requests of the registry,
--- one after the other, which came to these outcomes; and the turn came to this outcome
-abbrev pub Dialect : Type 1
-Dialect = Wanted → ℕ → List Exchange → Outcome → Type 0
+-- one after the other, which came to these outcomes, and the turn came to this outcome; and what its
+-- response says to those who keep documents, where its status is 200
+pub record Dialect : Type 1 where
+  pub asks : Wanted → ℕ → List Exchange → Outcome → Type 0
+  pub labels : Wanted → List Exchange → Outcome → Labels
 
--- The dialect of the registry's own routes. A request in form asks the registry for what it spells,
--- once, and its outcome is that of the turn; any other asks nothing, and comes to its first refusal
-abbrev pub profile : Dialect
-profile w at es o = ((r : Request) × reads_request w at (Ok r) × (es ≡ exchange r o ∷ []))
+-- By the registry's own routes, a request in form asks the registry for what it spells, once, and its
+-- outcome is that of the turn; any other asks nothing, and comes to its first refusal
+abbrev pub AsksByRoute : Wanted → ℕ → List Exchange → Outcome → Type 0
+AsksByRoute w at es o = ((r : Request) × reads_request w at (Ok r) × (es ≡ exchange r o ∷ []))
     ⊎ ((s : Stop) × reads_request w at (Err s) × (es ≡ []) × (o ≡ stopped s))
+
+-- the dialect of the registry's own routes: nothing is said to those who keep documents
+abbrev pub profile : Dialect
+profile = record { asks = AsksByRoute; labels = λ w es o. no_labels }
+
+-- ---- responses
+
+-- what the response of a turn says to those who keep documents
+abbrev pub labels_of : Dialect → Cause → List Exchange → Outcome → Labels
+labels_of speaks (request w at) es o = labelled o (speaks.labels w es o)
+labels_of speaks (bad_input r) es o = no_labels
+labels_of speaks no_memory es o = no_labels
+
+-- who asks has the document with these labels: the request names its tag
+abbrev pub is_known : Cause → Labels → Bool
+is_known (request w at) labels = names_some w.if_none_match labels.tag
+is_known (bad_input r) labels = false
+is_known no_memory labels = false
+
+-- who asks has what would be answered
+abbrev pub is_known_in : Dialect → Cause → List Exchange → Outcome → Bool
+is_known_in speaks c es o = is_known c (labels_of speaks c es o)
+
+-- the bytes of a turn's response
+abbrev pub response_of : Dialect → Turn → List ℕ
+response_of speaks t =
+    response_to (labels_of speaks t.cause t.exchanges t.outcome) (is_known_in speaks t.cause t.exchanges t.outcome) t.outcome (is_some t.ended)
+
+-- the answer of such a turn
+abbrev pub AnswersFor : Dialect → Cause → List Exchange → Outcome → Answer → Type 0
+AnswersFor speaks c es o a = AnswersSo (labels_of speaks c es o) (is_known_in speaks c es o) o a
 
 -- ---- what a service answers
 
@@ -118,7 +151,7 @@ IsTurnAway no_memory o ended = (o ≡ Err Memory) × (ended ≡ Some (Faulted Me
 module _ {D : Type 0} (dialogue : Dialogue D) where
   -- the service answers what the request asks in its dialect, and is asked nothing else
   abbrev pub IsAnswered : D → Wanted → ℕ → List Exchange → Outcome → D → Type 0
-  IsAnswered M w at es o N = dialogue.speaks w at es o × dialogue.answers M es N
+  IsAnswered M w at es o N = dialogue.speaks.asks w at es o × dialogue.answers M es N
 
   -- the turn of a request, which is the last of its connection or not
   pub record Serves (M : D) (w : Wanted) (at : ℕ) (last : Bool) (es : List Exchange) (o : Outcome) (ended : Option End) (N : D) : Type 0 where
@@ -140,12 +173,12 @@ module _ {D : Type 0} (dialogue : Dialogue D) where
     pub exchanges : List Exchange
     pub outcome : Outcome
     pub is_turn : IsTurnFor c M last exchanges outcome t.end N
-    pub answer : AnswersSo outcome t.answer
+    pub answer : AnswersFor dialogue.speaks c exchanges outcome t.answer
     pub counts : t.is_request ≡ is_request c
 
 -- the turn of input that isn't a request, for which no service is asked
 pub record TurnsAway (c : Cause) (t : Turned) : Type 0 where
   pub outcome : Outcome
   pub is_turn : IsTurnAway c outcome t.end
-  pub answer : AnswersSo outcome t.answer
+  pub answer : AnswersPlainly outcome t.answer
   pub counts : t.is_request ≡ false

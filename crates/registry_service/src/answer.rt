@@ -1,16 +1,46 @@
 //! What an outcome of the registry is in HTTP.
 
-ghost use Rattle.std.specs.Prelude.{◌≡◌, ◌≤◌, length, Ok, Err};
+ghost use Rattle.std.specs.Prelude.{◌≡◌, ◌≤◌, ◌++◌, [], length, drop, Ok, Err};
 ghost use Rattle.http.specs.StatusCode.{IsStatusCode};
-ghost use Rattle.registry_wire.specs.Responses.{response_bytes};
+ghost use Rattle.registry_wire.specs.Responses.{no_labels, response_bytes};
+ghost use Rattle.registry_wire.specs.TagReading.{names_some};
 ghost use Rattle.registry_service.specs.HttpAnswers as spec;
-ghost use Rattle.registry_service.specs.HttpAnswers.{AnswersSo, answer_bytes, body_bytes};
+ghost use Rattle.registry_service.specs.HttpAnswers.{AnswersPlainly, AnswersSo, Outcome, answer_bytes, body_bytes, fronted_text, labelled};
 
+use crate::told::{Told, What};
 use http::StatusCode;
 use registry_cache::{SharedBlob, SharedText};
 use registry_names::{Fault, Refusal, Text};
 use registry_rules::Reply;
-use registry_wire::{ContentKind, Response, ShortText};
+use registry_wire::{ContentKind, EntityTag, FieldValue, Labels, Response, ShortText, names_tag};
+
+/// A text, of which some lies elsewhere: a front of its own, and a shared text without the first of
+/// its bytes.
+#[derive(Drop)]
+pub struct Fronted {
+    pub front: Text,
+    pub text: SharedText,
+    /// How many bytes of the shared text are left out.
+    pub skipped: usize,
+}
+
+impl Fronted {
+    // The front, and what follows it.
+    pub(crate) fn pieces(&self) -> (&[u8], &[u8])
+        ensures { result.0.now ++ result.1.now ≡ fronted_text self.now }
+    {
+        (self.front.as_str().as_bytes(), self.rest())
+    }
+
+    // What is left of the shared text.
+    fn rest(&self) -> &[u8]
+        ensures { result.now ≡ drop self.now.skipped self.now.text }
+    {
+        let text = self.text.as_str().as_bytes();
+        let (_, rest) = text.split_at(self.skipped.min(text.len()));
+        rest
+    }
+}
 
 /// The body of an answer.
 #[derive(Drop)]
@@ -21,21 +51,32 @@ pub enum Body {
     Text(Text),
     /// A document of the registry, which may be shared.
     Doc(SharedText),
+    /// A document of the registry behind a front of its own.
+    Fronted(Fronted),
     /// The bytes of an archive, which may be shared.
     Bytes(SharedBlob),
 }
 
 impl Body {
-    /// The bytes themselves.
-    pub fn as_slice(&self) -> &[u8]
-        ensures { result.now ≡ body_bytes self.now }
+    /// The bytes themselves, in two pieces. Mostly the second is empty.
+    pub fn as_slices(&self) -> (&[u8], &[u8])
+        ensures { result.0.now ++ result.1.now ≡ body_bytes self.now }
     {
         match self {
-            Body::Short(text) => text.as_slice(),
-            Body::Text(text) => text.as_str().as_bytes(),
-            Body::Doc(text) => text.as_str().as_bytes(),
-            Body::Bytes(bytes) => bytes.as_slice(),
+            Body::Short(text) => (text.as_slice(), b""),
+            Body::Text(text) => (text.as_str().as_bytes(), b""),
+            Body::Doc(text) => (text.as_str().as_bytes(), b""),
+            Body::Fronted(fronted) => fronted.pieces(),
+            Body::Bytes(bytes) => (bytes.as_slice(), b""),
         }
+    }
+
+    /// How many bytes it has.
+    pub fn len(&self) -> usize
+        ensures { result ≡ length (body_bytes self.now) }
+    {
+        let (front, rest) = self.as_slices();
+        front.len() + rest.len()
     }
 }
 
@@ -43,6 +84,7 @@ impl Body {
 pub struct Answer {
     pub status: StatusCode,
     pub kind: ContentKind,
+    pub labels: Labels,
     pub body: Body,
 }
 
@@ -52,6 +94,7 @@ impl Drop for Answer {
         let Answer {
             status: _,
             kind: _,
+            labels: _,
             body: _,
         } = self;
     }
@@ -64,9 +107,9 @@ impl Answer {
     /// `Created` is 201 and any other reply 200, except a refusal and a fault, which have their
     /// own status. The body is the document, the bytes of the archive, `{"ok":true}`,
     /// `{"count":2,"ok":true}`, or `{"error":"NotFound"}` with the name of the refusal or the
-    /// fault.
+    /// fault. Nothing is said to those who keep documents.
     pub fn of(outcome: Result<Reply, Fault>) -> Answer
-        ensures { AnswersSo outcome result }
+        ensures { AnswersPlainly outcome result }
     {
         match outcome {
             Ok(Reply::Created) => ok(StatusCode::CREATED),
@@ -79,32 +122,94 @@ impl Answer {
         }
     }
 
+    /// The answer to a document, or to any outcome, as [`Answer::of`] says.
+    pub(crate) fn told(told: Told) -> Answer
+        ensures { AnswersPlainly told result }
+    {
+        match told.what {
+            What::Outcome(outcome) => Answer::of(outcome),
+            What::Fronted(fronted) => whole(ContentKind::Json, Body::Fronted(fronted)),
+        }
+    }
+
+    /// The same answer with these labels, where its status is 200. It is 304 where the field
+    /// `if-none-match` of the request names their tag, and then it has no body.
+    pub(crate) fn labelled(self, labels: Labels, field: &FieldValue) -> Answer
+        ensures { (o : Outcome) → AnswersPlainly o self → AnswersSo (labelled o labels)
+            (names_some field.now (labelled o labels).tag) o result }
+    {
+        if self.status.as_u16() != 200 {
+            return self;
+        }
+        if names_some(field, &labels.tag) {
+            return not_modified(self.kind, labels);
+        }
+        let Answer {
+            status,
+            kind,
+            labels: _,
+            body,
+        } = self;
+        Answer {
+            status,
+            kind,
+            labels,
+            body,
+        }
+    }
+
     /// The response that sends it, which says whether the connection ends after it.
     pub fn response(&self, closes: bool) -> Response<'_>
         ensures { response_bytes result ≡ answer_bytes self.now closes }
     {
+        let (body, rest) = self.body.as_slices();
         Response {
             status: self.status,
             kind: self.kind,
-            body: self.body.as_slice(),
+            labels: &self.labels,
+            body,
+            rest,
             closes,
         }
     }
 }
 
 fn whole(kind: ContentKind, body: Body) -> Answer
-    ensures { result ≡ spec.answer 200 kind body }
+    ensures { result ≡ spec.answer 200 kind no_labels body }
 {
     Answer {
         status: StatusCode::OK,
         kind,
+        labels: Labels::none(),
         body,
+    }
+}
+
+// The answer to one who has the document with these labels.
+fn not_modified(kind: ContentKind, labels: Labels) -> Answer
+    ensures { result ≡ spec.answer 304 kind labels (spec.short []) }
+{
+    Answer {
+        status: StatusCode::NOT_MODIFIED,
+        kind,
+        labels,
+        body: Body::Short(ShortText::new()),
+    }
+}
+
+fn names_some(field: &FieldValue, tag: &Option<EntityTag>) -> bool
+    ensures { result ≡ names_some field.now tag.now }
+{
+    match tag {
+        Some(tag) => names_tag(field, tag),
+        None => false,
     }
 }
 
 fn ok(status: StatusCode) -> Answer
     ensures status { result.status ≡ status }
     ensures kind { result.kind ≡ ContentKind.Json }
+    ensures labels { result.labels ≡ no_labels }
     ensures body { body_bytes result.body ≡ spec.ok_text }
 {
     let mut text = ShortText::new();
@@ -112,12 +217,13 @@ fn ok(status: StatusCode) -> Answer
     Answer {
         status,
         kind: ContentKind::Json,
+        labels: Labels::none(),
         body: Body::Short(text),
     }
 }
 
 fn counted(count: u64) -> Answer
-    ensures { AnswersSo (Ok (Reply.Count count)) result }
+    ensures { AnswersPlainly (Ok (Reply.Count count)) result }
 {
     let mut text = ShortText::new();
     text.push(b"{\"count\":");
@@ -128,14 +234,14 @@ fn counted(count: u64) -> Answer
 
 #[tactic(auto, using(crate::proofs::AnswerFacts::names))]
 fn refused(refusal: Refusal) -> Answer
-    ensures { AnswersSo (Ok (Reply.Refused refusal)) result }
+    ensures { AnswersPlainly (Ok (Reply.Refused refusal)) result }
 {
     error(refusal.status(), refusal.text())
 }
 
 #[tactic(auto, using(crate::proofs::AnswerFacts::names))]
 fn faulted(fault: Fault) -> Answer
-    ensures { AnswersSo (Err fault) result }
+    ensures { AnswersPlainly (Err fault) result }
 {
     error(fault.status(), fault.text())
 }
@@ -156,6 +262,7 @@ fn error(status: u16, name: &str) -> Answer
     requires short { length name.now ≤ 100 }
     ensures status { result.status ≡ status }
     ensures kind { result.kind ≡ ContentKind.Json }
+    ensures labels { result.labels ≡ no_labels }
     ensures body { body_bytes result.body ≡ spec.error_text name.now }
 {
     let mut text = ShortText::new();
@@ -165,6 +272,7 @@ fn error(status: u16, name: &str) -> Answer
     Answer {
         status: code(status),
         kind: ContentKind::Json,
+        labels: Labels::none(),
         body: Body::Short(text),
     }
 }

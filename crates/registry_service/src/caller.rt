@@ -6,19 +6,19 @@ use registry_names::{Refusal, Stop};
 use registry_publish::TokenDigest;
 use registry_routes::bearer_token;
 use registry_rules::Credential;
-use registry_wire::Authorization;
+use registry_wire::FieldValue;
 
 const NO_CALLER: Stop = Stop::Refused(Refusal::NoCaller);
 
 /// What the caller shows of themselves: nothing, or the token that their authorization bears. Any
 /// other authorization is `NoCaller`.
-pub fn credential(authorization: &Authorization) -> Result<Credential, Stop>
+pub fn credential(authorization: &FieldValue) -> Result<Credential, Stop>
     ensures { spec.reads_caller authorization.now result }
 {
     match authorization {
-        Authorization::Absent => Ok(Credential::Anonymous),
-        Authorization::Once(value) => bearer(value.as_slice()),
-        Authorization::Repeated => Err(NO_CALLER),
+        FieldValue::Absent => Ok(Credential::Anonymous),
+        FieldValue::Once(value) => bearer(value.as_slice()),
+        FieldValue::Repeated => Err(NO_CALLER),
     }
 }
 

@@ -1,7 +1,7 @@
 //! Laws of turns. Each is the contract of a function that does nothing.
 
 ghost use Rattle.registry_service.specs.Histories.{IsOneHistory, Reached, World};
-ghost use Rattle.registry_service.specs.Laws.{LookUpsAreUnseen, TakenOfAll, TurnsAreSpelled};
+ghost use Rattle.registry_service.specs.Laws.{LookUpsAreUnseen, NotModifiedIsHonest, TakenOfAll, TurnsAreSpelled};
 ghost use Rattle.registry_service.specs.Turns.{profile, spoken};
 
 use crate::turning::{HttpService, Service};
@@ -32,4 +32,13 @@ pub fn turns_are_taken_of_all<D: Service>()
 /// it might have been taken without it. So turns with look-ups between them are turns without any.
 pub fn look_ups_are_unseen<D: HttpService>()
     ensures { LookUpsAreUnseen D.speaks D.answers }
+{}
+
+/// Whatever a service says to those who keep documents, its answer is a 304 exactly where it would be
+/// a 200 with a tag that the request names by its field `if-none-match` (RFC 9110, 13.1.2). A 304 sends
+/// nothing of the document; any other answer is that of the outcome, whole. So who has no document is
+/// never told that it has it, and who has one that was changed is sent the new one. No refusal and no
+/// fault has a tag, and neither says how long it may be kept.
+pub fn not_modified_is_honest<D: HttpService>()
+    ensures { NotModifiedIsHonest D.speaks D.answers }
 {}

@@ -17,14 +17,16 @@ mod request;
 mod responding;
 mod sending;
 mod serving;
+mod told;
 mod turning;
 
-pub use crate::answer::{Answer, Body};
+pub use crate::answer::{Answer, Body, Fronted};
 pub use crate::caller::credential;
 pub use crate::request::request_of;
 pub use crate::sending::PackumentService;
 pub use crate::serving::{Clock, Served, serve};
+pub use crate::told::Told;
 pub use crate::turning::{
     AnsweredCommand, End, HttpService, REQUESTS_PER_CONNECTION, Service, Turned, turn, turn_away,
-    turn_starved, turn_with,
+    turn_starved, turn_told, turn_with,
 };

@@ -5,15 +5,16 @@ ghost use Rattle.registry_names.specs.declared.stop.Fault.{Fault};
 ghost use Rattle.registry_rules.specs.declared.reply.Reply.{Reply};
 ghost use Rattle.registry_rules.specs.declared.request.Request.{Request};
 ghost use Rattle.registry_service.specs.Dialects.{AsksQueriesByGet};
-ghost use Rattle.registry_service.specs.Servings.{IsTurnWith};
+ghost use Rattle.registry_service.specs.Servings.{IsTurnTold, IsTurnWith};
 ghost use Rattle.registry_service.specs.Turns as spec;
 ghost use Rattle.registry_service.specs.Turns.{AnswersAsBefore, Dialect, Exchange, IsAnswered, Turns, bad_input, no_memory, profile, request, spoken};
 
 use crate::answer::Answer;
 use crate::request::request_of;
+use crate::told::Told;
 use registry_names::{Fault, Moment, Refusal, Stop, Text};
 use registry_rules::{Reply, Request};
-use registry_wire::Wanted;
+use registry_wire::{Labels, Wanted};
 use std::alloc::Global;
 
 /// The most requests of one connection.
@@ -168,7 +169,8 @@ pub(crate) fn stopped(stop: Stop) -> Result<Reply, Fault>
     }
 }
 
-fn end_of(outcome: &Result<Reply, Fault>, is_last: bool, closes: bool) -> Option<End>
+/// How the connection ends after a request with this outcome, if it does.
+pub(crate) fn end_of(outcome: &Result<Reply, Fault>, is_last: bool, closes: bool) -> Option<End>
     ensures { result ≡ spec.end_of outcome.now is_last closes }
 {
     match outcome {
@@ -197,6 +199,19 @@ pub fn turn_with(outcome: Result<Reply, Fault>, is_last: bool, closes: bool) -> 
     let end = end_of(&outcome, is_last, closes);
     Turned {
         answer: Answer::of(outcome),
+        end,
+        is_request: true,
+    }
+}
+
+/// The turn of this request, of which this is told. Where its status is 200 the response has these
+/// labels; it is 304, and has no body, where the request names their tag. It takes no memory.
+pub fn turn_told(told: Told, labels: Labels, wanted: &Wanted, is_last: bool) -> Turned
+    ensures { IsTurnTold told labels wanted.now is_last result }
+{
+    let end = told.end(is_last, wanted.closes);
+    Turned {
+        answer: Answer::told(told).labelled(labels, &wanted.if_none_match),
         end,
         is_request: true,
     }

@@ -4,6 +4,7 @@ ghost use Rattle.std.specs.Prelude.{length};
 ghost use Rattle.registry_server.specs.Sockets.{MovesAtMost};
 
 use crate::outcome::same;
+use crate::parts::first_of;
 use crate::talk::connections::{FixedTags, Steps};
 use registry_server::{
     ConnectionPool, Flow, READ_TOGETHER, REQUEST_TIME_LIMIT, Socket, WAIT_LIMIT,
@@ -111,10 +112,9 @@ impl Socket for Client {
         }
     }
 
-    fn send(&mut self, head: &[u8], body: &[u8]) -> Flow {
+    fn send(&mut self, head: &[u8], body: &[u8], rest: &[u8]) -> Flow {
         self.is_answered = true;
-        let next = if head.is_empty() { body } else { head };
-        Flow::Moved(next.len())
+        Flow::Moved(first_of(head, body, rest).len())
     }
 
     fn shut(&mut self) -> bool {

@@ -4,8 +4,9 @@ mod judging;
 
 use crate::outcome::{is_refused, same};
 use crate::parts::texts;
+use registry_cache::TextDigest;
 use registry_documents::Kind::{self, Maintainers, Other, Package, Publication};
-use registry_documents::{Document, Revision, TextDigest, front};
+use registry_documents::{Document, Revision, front};
 use registry_names::Refusal;
 
 // A packument, the names of its maintainers, and its revision, which `sha256sum` told: the digest of

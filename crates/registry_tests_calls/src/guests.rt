@@ -4,7 +4,7 @@ ghost use Rattle.std.specs.Prelude.{length};
 ghost use Rattle.registry_server.specs.Sockets.{MovesAtMost};
 
 use crate::outcome::same;
-use crate::parts::{as_text, text, texts};
+use crate::parts::{as_text, first_of, text, texts};
 use crate::talk::connections::{FixedTags, Steps};
 use registry_cache::SharedBlob;
 use registry_guests::{
@@ -63,8 +63,8 @@ impl Socket for Memory {
         Flow::Moved(0)
     }
 
-    fn send(&mut self, head: &[u8], body: &[u8]) -> Flow {
-        let bytes = if head.is_empty() { body } else { head };
+    fn send(&mut self, head: &[u8], body: &[u8], rest: &[u8]) -> Flow {
+        let bytes = first_of(head, body, rest);
         let count = bytes.len().min(self.piece_len);
         match self.got.extend_from_slice(&bytes[..count]) {
             Ok(()) => Flow::Moved(count),
@@ -126,8 +126,9 @@ fn a_message_is_read_as_it_was_written(rt: HostRuntime) {
 fn is_printed(rt: &impl Abort, alloc: Global, output: CommandOutput, status: u8, wanted: &str) {
     let mut bytes = Vec::new(alloc);
     let unsent = Unsent::of(output);
-    let (front, rest) = unsent.parts();
+    let (front, text, rest) = unsent.parts();
     bytes.extend_from_slice(front).expect(rt, "memory");
+    bytes.extend_from_slice(text).expect(rt, "memory");
     bytes.extend_from_slice(rest).expect(rt, "memory");
     is_reply(rt, alloc, &bytes, status, wanted);
 }

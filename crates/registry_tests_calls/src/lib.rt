@@ -13,6 +13,8 @@ mod arguments;
 #[cfg(test)]
 mod crowd;
 #[cfg(test)]
+mod digests;
+#[cfg(test)]
 mod documents;
 #[cfg(test)]
 mod ends;
@@ -48,5 +50,7 @@ mod talk;
 mod texts;
 #[cfg(test)]
 mod tokens;
+#[cfg(test)]
+mod told;
 #[cfg(test)]
 mod wire;

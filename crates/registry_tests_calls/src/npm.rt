@@ -4,16 +4,17 @@
 ghost use Rattle.std.specs.Prelude.{false};
 
 mod documents;
+mod labels;
 
 use crate::outcome::same;
-use crate::parts::{as_text, blob};
-use registry_cache::SharedText;
+use crate::parts::{as_text, blob, concat};
+use registry_cache::{SharedBlob, SharedText};
 use registry_names::Method::{Delete, Get, Post, Put};
 use registry_names::{Fault, Method, Moment, Refusal, Rule};
 use registry_npm::npm_turn;
 use registry_rules::{Action, Credential, Reply, Request};
 use registry_service::{Service, Turned};
-use registry_wire::{Authorization, Wanted};
+use registry_wire::{FieldValue, Wanted};
 use std::alloc::{AllocError, Global};
 use std::process::Abort;
 
@@ -52,6 +53,7 @@ fn answer_to(action: &Action, is_known: bool) -> (&'static str, Result<&'static 
         Action::SetAccess { .. } => ("SetAccess", Ok("")),
         Action::TokenRemove { .. } => ("TokenRemove", Ok("")),
         Action::Packument { package } => ("Packument", packument(package.text())),
+        Action::Archive { package, .. } => ("Archive", archive(package.text(), is_known)),
         Action::Deprecate { package, .. } => ("Deprecate", written(package.text())),
         Action::Withdraw { package, .. } => ("Withdraw", version_of(package.text())),
         Action::WithdrawAll { .. } => ("WithdrawAll", Ok("")),
@@ -85,6 +87,15 @@ fn packument(package: &str) -> Result<&'static str, Refusal> {
     }
 }
 
+// Anybody reads `tool`, and users `@lab/kit`.
+fn archive(package: &str, is_known: bool) -> Result<&'static str, Refusal> {
+    match package {
+        "tool" => Ok("archive"),
+        "@lab/kit" if is_known => Ok("archive"),
+        _ => Err(Refusal::NotFound),
+    }
+}
+
 // Bob writes two packages, reads two, and isn't told of others.
 fn written(package: &str) -> Result<&'static str, Refusal> {
     match package {
@@ -112,6 +123,7 @@ fn done(user: &str) -> Result<&'static str, Refusal> {
 fn reply(alloc: Global, answer: Result<&'static str, Refusal>) -> Result<Reply, Fault> {
     match answer {
         Ok("") => Ok(Reply::Done),
+        Ok("archive") => Ok(Reply::Bytes(SharedBlob::from_slice(alloc, b"archive")?)),
         Ok(text) => Ok(Reply::Doc(SharedText::from_str(alloc, text)?)),
         Err(refusal) => Ok(Reply::Refused(refusal)),
     }
@@ -455,9 +467,9 @@ static CASES: [Case; 46] = [
     ),
 ];
 
-fn bearer(rt: &impl Abort, alloc: Global, token: &str) -> Authorization {
+fn bearer(rt: &impl Abort, alloc: Global, token: &str) -> FieldValue {
     let value = format!(in alloc; "Bearer {token}").expect(rt, "memory");
-    Authorization::Once(blob(rt, alloc, value.as_bytes()))
+    FieldValue::Once(blob(rt, alloc, value.as_bytes()))
 }
 
 fn wanted(
@@ -466,12 +478,13 @@ fn wanted(
     method: Method,
     target: &str,
     body: &str,
-    authorization: Authorization,
+    authorization: FieldValue,
 ) -> Wanted {
     Wanted {
         method,
         target: blob(rt, alloc, target.as_bytes()),
         authorization,
+        if_none_match: FieldValue::Absent,
         body: blob(rt, alloc, body.as_bytes()),
         closes: false,
     }
@@ -485,7 +498,9 @@ fn is_answered(rt: &impl Abort, alloc: Global, wanted: &Wanted, case: &Case) {
     let turned = npm_turn(alloc, &mut service, wanted, Moment::clamped(0), false);
     same(rt, *target, service.asked.as_str(), *asked);
     same(rt, *target, &turned.answer.status.as_u16(), status);
-    same(rt, *target, as_text(turned.answer.body.as_slice()), *text);
+    let (front, rest) = turned.answer.body.as_slices();
+    let body = concat(rt, alloc, &[as_text(front), as_text(rest)]);
+    same(rt, *target, body.as_str(), *text);
 }
 
 #[test]
@@ -531,7 +546,7 @@ fn nobody_is_answered(rt: HostRuntime) {
     let alloc = rt.alloc();
     for case in &OF_NOBODY {
         let (method, target, body, ..) = case;
-        let wanted = wanted(&rt, alloc, *method, target, body, Authorization::Absent);
+        let wanted = wanted(&rt, alloc, *method, target, body, FieldValue::Absent);
         is_answered(&rt, alloc, &wanted, case);
     }
 }

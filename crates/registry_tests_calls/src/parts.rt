@@ -42,6 +42,17 @@ pub fn as_text(bytes: &[u8]) -> &str {
     str::from_utf8(bytes).unwrap_or("no UTF-8")
 }
 
+/// The first of three pieces that isn't empty, or the last of them.
+pub fn first_of<'a>(head: &'a [u8], body: &'a [u8], rest: &'a [u8]) -> &'a [u8] {
+    if !head.is_empty() {
+        head
+    } else if !body.is_empty() {
+        body
+    } else {
+        rest
+    }
+}
+
 /// What `Debug` shows of a value.
 pub fn shown<T: Debug>(rt: &impl Abort, alloc: Global, value: &T) -> String {
     format!(in alloc; "{value:?}").expect(rt, "memory")

@@ -5,7 +5,7 @@ ghost use Rattle.registry_service.proofs.DialectFacts.{profile_asks_queries};
 ghost use Rattle.registry_service.specs.Turns.{profile};
 
 use crate::outcome::same;
-use crate::parts::as_text;
+use crate::parts::{as_text, first_of};
 use crate::talk::connections::{CONNECTIONS, CUT_OUT, Case, FixedTags, Steps, TAGS, TAGS_OUT};
 use registry_names::{Fault, FromRead, Moment, ToWrite};
 use registry_rules::{Reply, Request};
@@ -20,13 +20,9 @@ use std::process::Abort;
 // Adds what a connection hasn't sent yet to `out`, a few bytes at a time.
 fn take_all(rt: &impl Abort, state: &mut ConnectionState, out: &mut Vec<u8>) {
     for _ in 0..1_000 {
-        let (head, body) = state.outgoing().parts();
-        let (front, _) = head.split_at(head.len().min(7));
-        let front = if front.is_empty() {
-            body.split_at(body.len().min(7)).0
-        } else {
-            front
-        };
+        let (head, body, rest) = state.outgoing().parts();
+        let next = first_of(head, body, rest);
+        let (front, _) = next.split_at(next.len().min(7));
         let count = front.len();
         if count == 0 {
             break;

@@ -3,11 +3,14 @@
 //! Only one function names a registry over a store of its own, as `Registry::open` gives it, and
 //! hands it to a function over any store: its check takes a quarter of a minute for each call that
 //! takes or gives such a registry.
+//!
+//! Where a function needs both, `rt` gives it the system, and `ends` ends the test.
 
 mod archives;
 mod at_path;
 mod both_ways;
 mod files;
+mod in_files;
 mod lies;
 mod lists;
 mod log;

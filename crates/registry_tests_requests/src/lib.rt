@@ -6,4 +6,4 @@ mod outcomes;
 mod requests;
 
 pub use crate::outcomes::{Outcome, outcome_of, outcomes_of};
-pub use crate::requests::{push_requests, request_of, requests_of};
+pub use crate::requests::{Unasked, push_requests, request_of, requests_of};

@@ -4,21 +4,57 @@ ghost use Rattle.std.specs.Prelude.{◌≡◌, false};
 ghost use Rattle.registry_cli.specs.Lines.{IsWhole, asks_to_serve};
 
 use registry_cli::{Line, Usage, action_of, line};
-use registry_names::{Moment, Text};
+use registry_names::{Moment, Stop, Text};
 use registry_publish::TokenDigest;
 use registry_rules::{Credential, Request};
-use std::alloc::{AllocError, Global};
-use std::test::Fail;
+use std::alloc::{AllocError, AllocFailed, Global};
+
+/// Why a line asks for nothing.
+#[derive(Clone, Copy, Debug)]
+pub enum Unasked {
+    /// No memory is left.
+    Memory,
+    /// The program doesn't take its words.
+    Words,
+    /// It asks to serve.
+    Serves,
+    /// What stands for a token is none.
+    NoToken,
+    /// Its values are refused.
+    Stop(Stop),
+}
+
+impl From<AllocError> for Unasked {
+    fn from(_: AllocError) -> Unasked {
+        Unasked::Memory
+    }
+}
+
+impl<T: Drop> From<AllocFailed<T>> for Unasked {
+    fn from(_: AllocFailed<T>) -> Unasked {
+        Unasked::Memory
+    }
+}
+
+impl From<Stop> for Unasked {
+    fn from(stop: Stop) -> Unasked {
+        Unasked::Stop(stop)
+    }
+}
 
 /// The requests that the lines of a text ask for. Empty lines ask for nothing.
-pub fn requests_of(alloc: Global, text: &str) -> Result<Vec<Request>, Fail> {
+pub fn requests_of(alloc: Global, text: &str) -> Result<Vec<Request>, Unasked> {
     let mut requests = Vec::new(alloc);
     push_requests(alloc, &mut requests, text)?;
     Ok(requests)
 }
 
 /// Adds the requests that the lines of a text ask for, as [`requests_of`] gives them.
-pub fn push_requests(alloc: Global, requests: &mut Vec<Request>, text: &str) -> Result<(), Fail> {
+pub fn push_requests(
+    alloc: Global,
+    requests: &mut Vec<Request>,
+    text: &str,
+) -> Result<(), Unasked> {
     for line in text.lines() {
         if !line.is_empty() {
             requests.push(request_of(alloc, line)?)?;
@@ -35,7 +71,7 @@ pub fn push_requests(alloc: Global, requests: &mut Vec<Request>, text: &str) -> 
 /// - After `publish` come a package and a version, and then, if they differ from these, the archive
 ///   in Base64 (`YWJj`), the tag (`latest`), the dependencies as JSON (`{}`) and the status that is
 ///   asked for as JSON (`null`).
-pub fn request_of(alloc: Global, line: &str) -> Result<Request, Fail> {
+pub fn request_of(alloc: Global, line: &str) -> Result<Request, Unasked> {
     match line.strip_prefix("token ") {
         Some(rest) => {
             let (token, words) = rest.split_once(' ').unwrap_or((rest, ""));
@@ -46,7 +82,7 @@ pub fn request_of(alloc: Global, line: &str) -> Result<Request, Fail> {
 }
 
 // What words ask for. Where a token is given, its holder asks.
-fn asked(alloc: Global, words: &str, token: Option<&str>) -> Result<Request, Fail> {
+fn asked(alloc: Global, words: &str, token: Option<&str>) -> Result<Request, Unasked> {
     match words.split_once(" publish ") {
         Some((front, what)) => {
             let words = format!(in alloc; "{front} publish body.json")?;
@@ -71,17 +107,17 @@ fn body_of(alloc: Global, what: &str) -> Result<String, AllocError> {
 }
 
 // The same, with the body that is published.
-fn said(alloc: Global, words: &str, body: &str, token: Option<&str>) -> Result<Request, Fail> {
+fn said(alloc: Global, words: &str, body: &str, token: Option<&str>) -> Result<Request, Unasked> {
     let texts = texts_of(alloc, words)?;
     match line(alloc, texts.as_slice()) {
         Ok(line) if !line.asks_to_serve() => meant(alloc, &line, body, token),
-        Ok(_) => Err(Fail::new(format_args!("{words} asks to serve"))),
-        Err(Usage::Words(said)) => Err(Fail::new(format_args!("{words}: {said:?}"))),
-        Err(Usage::Memory) => Err(Fail::new(format_args!("no memory is left"))),
+        Ok(_) => Err(Unasked::Serves),
+        Err(Usage::Words(_)) => Err(Unasked::Words),
+        Err(Usage::Memory) => Err(Unasked::Memory),
     }
 }
 
-fn texts_of(alloc: Global, words: &str) -> Result<Vec<Text>, Fail> {
+fn texts_of(alloc: Global, words: &str) -> Result<Vec<Text>, Unasked> {
     let mut texts = Vec::new(alloc);
     for word in words.split(' ') {
         let word = if word == "''" { "" } else { word };
@@ -91,7 +127,7 @@ fn texts_of(alloc: Global, words: &str) -> Result<Vec<Text>, Fail> {
 }
 
 // What a line asks for.
-fn meant(alloc: Global, line: &Line, body: &str, token: Option<&str>) -> Result<Request, Fail>
+fn meant(alloc: Global, line: &Line, body: &str, token: Option<&str>) -> Result<Request, Unasked>
     requires whole { IsWhole line.now.what }
     requires asks { asks_to_serve line.now.what ≡ false }
 {
@@ -104,12 +140,12 @@ fn meant(alloc: Global, line: &Line, body: &str, token: Option<&str>) -> Result<
 }
 
 // The holder of the token, where one is given.
-fn shown(token: Option<&str>, who: Credential) -> Result<Credential, Fail> {
+fn shown(token: Option<&str>, who: Credential) -> Result<Credential, Unasked> {
     let Some(token) = token else {
         return Ok(who);
     };
     match TokenDigest::of(token) {
         Some(digest) => Ok(Credential::Token(digest)),
-        None => Err(Fail::new(format_args!("{token} is no token"))),
+        None => Err(Unasked::NoToken),
     }
 }

@@ -1,21 +1,20 @@
 //! A server with connections over loopback and with commands beside it.
 
 use crate::client::{
-    ANSWER, LAST_ANSWER, client, command, connect, forget, heard, is_answered, is_done, lay, send,
-    send_command, wait,
+    ANSWER, LAST_ANSWER, ask, ask_command, client, connect, end, forget, hears, hears_answers,
+    is_answered, is_done, lay, message, send_last, wait,
 };
+use crate::outcome::same;
 use crate::service::{Counting, one_more};
 use mio::{Token, Waker};
 use registry_guests::{CommandListener, GUEST_COUNT};
 use registry_names::Moment;
 use registry_server::{Ended, FIRST_GUEST, Server};
-use registry_tests_support::same;
 use std::cell::Cell;
 use std::io;
-use std::io::{Read, Write};
+use std::io::Write;
 use std::net::{Shutdown, TcpStream};
 use std::os::unix::net::UnixStream;
-use std::test::Fail;
 use std::time::{Clock, Duration};
 
 /// The time is read once at first, and then twice a round: this is the first reading of the fifth. By
@@ -26,13 +25,12 @@ const FIFTH_ROUND: u32 = 10;
 /// the server.
 const SIXTH_ROUND: u32 = 12;
 
-// A server for two connections that also listens for commands of a file.
-fn server(rt: &HostRuntime, file: &str) -> Result<(Server, CommandListener), Fail> {
+// A listener for commands of a file, beside a server for two connections.
+fn listener(rt: &HostRuntime, server: &Server, file: &str) -> io::Result<CommandListener> {
     lay(rt, file)?;
-    let server = Server::bind(rt, rt.alloc(), 0, 2)?;
     let mut listener = CommandListener::closed(rt.alloc())?;
     listener.open(rt, rt.alloc(), server.registry(), file)?;
-    Ok((server, listener))
+    Ok(listener)
 }
 
 /// A clock that ends a hold in the fifth round.
@@ -77,19 +75,23 @@ impl Clock for Holding<'_> {
 // Two clients ask, and one of them sends a command and asks again. A third sends a command beside the
 // server.
 #[test]
-fn commands_wait_during_a_hold(rt: HostRuntime) -> Result<(), Fail> {
+fn commands_wait_during_a_hold(rt: HostRuntime) {
     let file = "hold.db";
-    let (server, mut listener) = server(&rt, file)?;
-    let mut holder = connect(&rt, file, "control")?;
-    holder.write_all(b"h")?;
-    let user = command(&rt, file)?;
-    let clients = [client(&rt, &server)?, client(&rt, &server)?];
-    send(&clients[0])?;
-    send(&clients[1])?;
-    send_command(&clients[1])?;
-    send(&clients[1])?;
+    let server = Server::bind(&rt, rt.alloc(), 0, 2).expect(&rt, "a server");
+    let mut listener = listener(&rt, &server, file).expect(&rt, "sockets");
+    let holder = connect(&rt, file, "control", b"h").expect(&rt, "a client");
+    let message = message(&rt, rt.alloc());
+    let user = connect(&rt, file, "command", &message).expect(&rt, "a client");
+    let clients = [
+        client(&rt, &server).expect(&rt, "a client"),
+        client(&rt, &server).expect(&rt, "a client"),
+    ];
+    ask(&rt, &clients[0]);
+    ask(&rt, &clients[1]);
+    ask_command(&rt, &clients[1]);
+    ask(&rt, &clients[1]);
     for client in &clients {
-        client.shutdown(Shutdown::Write)?;
+        end(&rt, client);
     }
     wait(&rt);
     let asked = Cell::new(0);
@@ -107,20 +109,20 @@ fn commands_wait_during_a_hold(rt: HostRuntime) -> Result<(), Fail> {
         command: 0,
     };
     let at = Moment::clamped(0);
-    let ended = server.run_beside(&clock, rt.alloc(), at, &mut service, &mut listener)?;
-    same("it ended", ended, Ended::Enough)?;
-    same("asked during the hold", clock.asked_meanwhile.get(), 2)?;
-    same("answered during it", clock.answered_meanwhile.get(), true)?;
-    same("asked in all", asked.get(), 5)?;
-    same("the first client", heard(&rt, &clients[0])?.as_str(), "")?;
-    let both = format!(in rt.alloc(); "{ANSWER}{ANSWER}")?;
+    let ended = server.run_beside(&clock, rt.alloc(), at, &mut service, &mut listener);
+    same(&rt, "it ended", ended.expect(&rt, "an end"), Ended::Enough);
+    same(&rt, "asked during the hold", clock.asked_meanwhile.get(), 2);
     same(
-        "the second client",
-        heard(&rt, &clients[1])?.as_str(),
-        both.as_str(),
-    )?;
-    is_done(&rt, &user)?;
-    forget(&rt, file)
+        &rt,
+        "answered during it",
+        clock.answered_meanwhile.get(),
+        true,
+    );
+    same(&rt, "asked in all", asked.get(), 5);
+    hears(&rt, rt.alloc(), "the first client", &clients[0], "");
+    hears_answers(&rt, rt.alloc(), "the second client", &clients[1], 2);
+    is_done(&rt, rt.alloc(), &user);
+    forget(&rt, file);
 }
 
 /// This many milliseconds pass between two readings, and all of them count while a server is held.
@@ -164,15 +166,18 @@ impl Clock for Lapsing<'_> {
 }
 
 #[test]
-fn a_hold_of_a_server_lapses_after_a_minute(rt: HostRuntime) -> Result<(), Fail> {
+fn a_hold_of_a_server_lapses_after_a_minute(rt: HostRuntime) {
     let file = "lapse.db";
-    let (server, mut listener) = server(&rt, file)?;
-    let mut holder = connect(&rt, file, "control")?;
-    holder.write_all(b"h")?;
-    let clients = [client(&rt, &server)?, client(&rt, &server)?];
+    let server = Server::bind(&rt, rt.alloc(), 0, 2).expect(&rt, "a server");
+    let mut listener = listener(&rt, &server, file).expect(&rt, "sockets");
+    let holder = connect(&rt, file, "control", b"h").expect(&rt, "a client");
+    let clients = [
+        client(&rt, &server).expect(&rt, "a client"),
+        client(&rt, &server).expect(&rt, "a client"),
+    ];
     for client in &clients {
-        send_command(client)?;
-        client.shutdown(Shutdown::Write)?;
+        ask_command(&rt, client);
+        end(&rt, client);
     }
     wait(&rt);
     let asked = Cell::new(0);
@@ -180,7 +185,9 @@ fn a_hold_of_a_server_lapses_after_a_minute(rt: HostRuntime) -> Result<(), Fail>
     // holds the server.
     let clock = Lapsing {
         readings: Cell::new(0),
-        waker: Waker::new(server.registry(), Token(FIRST_GUEST + GUEST_COUNT + 7))?,
+        waker: Waker::new(server.registry(), Token(FIRST_GUEST + GUEST_COUNT + 7)).expect(
+            &rt, "a waker",
+        ),
         holder: &holder,
         asked: &asked,
         asked_in_58: Cell::new(u32::MAX),
@@ -191,26 +198,31 @@ fn a_hold_of_a_server_lapses_after_a_minute(rt: HostRuntime) -> Result<(), Fail>
         command: 0,
     };
     let at = Moment::clamped(0);
-    let ended = server.run_beside(&clock, rt.alloc(), at, &mut service, &mut listener)?;
-    same("it ended", ended, Ended::Enough)?;
-    same("asked in 58 s", clock.asked_in_58.get(), 0)?;
-    same("it lasted for 66 s", clock.lasted_for_66.get(), false)?;
-    same("asked in all", asked.get(), 2)?;
-    forget(&rt, file)
+    let ended = server.run_beside(&clock, rt.alloc(), at, &mut service, &mut listener);
+    same(&rt, "it ended", ended.expect(&rt, "an end"), Ended::Enough);
+    same(&rt, "asked in 58 s", clock.asked_in_58.get(), 0);
+    same(&rt, "it lasted for 66 s", clock.lasted_for_66.get(), false);
+    same(&rt, "asked in all", asked.get(), 2);
+    forget(&rt, file);
 }
 
 // Each client sends three requests, and in each round one of them is answered.
 #[test]
-fn a_command_is_answered_between_requests(rt: HostRuntime) -> Result<(), Fail> {
+fn a_command_is_answered_between_requests(rt: HostRuntime) {
     let file = "between.db";
-    let (server, mut listener) = server(&rt, file)?;
-    let user = command(&rt, file)?;
-    let clients = [client(&rt, &server)?, client(&rt, &server)?];
+    let server = Server::bind(&rt, rt.alloc(), 0, 2).expect(&rt, "a server");
+    let mut listener = listener(&rt, &server, file).expect(&rt, "sockets");
+    let message = message(&rt, rt.alloc());
+    let user = connect(&rt, file, "command", &message).expect(&rt, "a client");
+    let clients = [
+        client(&rt, &server).expect(&rt, "a client"),
+        client(&rt, &server).expect(&rt, "a client"),
+    ];
     for client in &clients {
         for _ in 0..3 {
-            send(client)?;
+            ask(&rt, client);
         }
-        client.shutdown(Shutdown::Write)?;
+        end(&rt, client);
     }
     wait(&rt);
     let asked = Cell::new(0);
@@ -219,18 +231,17 @@ fn a_command_is_answered_between_requests(rt: HostRuntime) -> Result<(), Fail> {
         command: 0,
     };
     let at = Moment::clamped(0);
-    let ended = server.run_beside(&rt, rt.alloc(), at, &mut service, &mut listener)?;
-    same("it ended", ended, Ended::Enough)?;
+    let ended = server.run_beside(&rt, rt.alloc(), at, &mut service, &mut listener);
+    same(&rt, "it ended", ended.expect(&rt, "an end"), Ended::Enough);
     let turn = service.command;
-    same("after the first of both", turn > 2, true)?;
-    same("before the last of both", turn < 6, true)?;
-    same("asked in all", asked.get(), 7)?;
-    let all = format!(in rt.alloc(); "{ANSWER}{ANSWER}{ANSWER}")?;
+    same(&rt, "after the first of both", turn > 2, true);
+    same(&rt, "before the last of both", turn < 6, true);
+    same(&rt, "asked in all", asked.get(), 7);
     for client in &clients {
-        same("a client", heard(&rt, client)?.as_str(), all.as_str())?;
+        hears_answers(&rt, rt.alloc(), "a client", client, 3);
     }
-    is_done(&rt, &user)?;
-    forget(&rt, file)
+    is_done(&rt, rt.alloc(), &user);
+    forget(&rt, file);
 }
 
 /// A clock that stops the server in the fifth round. Two clients ask when the sixth has begun: before
@@ -246,8 +257,7 @@ struct Stopping<'a> {
 impl Stopping<'_> {
     fn ask(&self) -> io::Result<()> {
         for client in self.clients {
-            send(client)?;
-            client.shutdown(Shutdown::Write)?;
+            send_last(client)?;
         }
         wait(self.rt);
         Ok(())
@@ -273,13 +283,17 @@ impl Clock for Stopping<'_> {
 }
 
 #[test]
-fn who_has_asked_is_answered_at_a_stop(rt: HostRuntime) -> Result<(), Fail> {
+fn who_has_asked_is_answered_at_a_stop(rt: HostRuntime) {
     let file = "stop.db";
-    let (server, mut listener) = server(&rt, file)?;
-    let stops = connect(&rt, file, "control")?;
-    let clients = [client(&rt, &server)?, client(&rt, &server)?];
+    let server = Server::bind(&rt, rt.alloc(), 0, 2).expect(&rt, "a server");
+    let mut listener = listener(&rt, &server, file).expect(&rt, "sockets");
+    let stops = connect(&rt, file, "control", b"").expect(&rt, "a client");
+    let clients = [
+        client(&rt, &server).expect(&rt, "a client"),
+        client(&rt, &server).expect(&rt, "a client"),
+    ];
     for client in &clients {
-        send(client)?;
+        ask(&rt, client);
     }
     wait(&rt);
     let clock = Stopping {
@@ -294,11 +308,11 @@ fn who_has_asked_is_answered_at_a_stop(rt: HostRuntime) -> Result<(), Fail> {
         command: 0,
     };
     let at = Moment::clamped(0);
-    let ended = server.run_beside(&clock, rt.alloc(), at, &mut service, &mut listener)?;
-    same("it ended", ended, Ended::Stopped)?;
-    let both = format!(in rt.alloc(); "{ANSWER}{LAST_ANSWER}")?;
+    let ended = server.run_beside(&clock, rt.alloc(), at, &mut service, &mut listener);
+    same(&rt, "it ended", ended.expect(&rt, "an end"), Ended::Stopped);
+    let both = format!(in rt.alloc(); "{ANSWER}{LAST_ANSWER}").expect(&rt, "memory");
     for client in &clients {
-        same("a client", heard(&rt, client)?.as_str(), both.as_str())?;
+        hears(&rt, rt.alloc(), "a client", client, both.as_str());
     }
-    forget(&rt, file)
+    forget(&rt, file);
 }

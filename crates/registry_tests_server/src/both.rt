@@ -4,18 +4,18 @@ ghost use Rattle.std.specs.Prelude.{false};
 ghost use Rattle.registry_service.proofs.DialectFacts.{profile_asks_queries};
 ghost use Rattle.registry_service.specs.Turns.{profile};
 
-use crate::client::{ANSWER, client, heard, send, wait};
+use crate::client::{ANSWER, asking, hears, wait};
+use crate::outcome::same;
 use registry_names::{Fault, Moment};
 use registry_rules::{Action, Reply, Request};
 use registry_server::{Ended, ListenAt, LocalSocket, Server};
 use registry_service::{HttpService, Service, Turned, turn};
-use registry_tests_support::same;
 use registry_wire::Wanted;
 use std::alloc::Global;
+use std::io;
 use std::io::Write;
 use std::net::Shutdown;
 use std::os::unix::net::UnixStream;
-use std::test::Fail;
 
 /// The request of the client at the socket, which is for another package than that of the others.
 const TOOL: &str = "GET /-/package/tool/dist-tags HTTP/1.1\r\n\r\n";
@@ -60,33 +60,34 @@ impl HttpService for Ordering {
 
 // Three clients wait at the port, and one at the socket, when the server lets in the first.
 #[test]
-fn who_waits_at_a_socket_is_let_in_beside_those_at_the_port(rt: HostRuntime) -> Result<(), Fail> {
-    let (socket, file) = LocalSocket::bind(&rt, rt.alloc(), "both.sock")?;
-    let server = Server::bind_at(&rt, rt.alloc(), ListenAt::Both(0, socket), 4)?;
+fn who_waits_at_a_socket_is_let_in_beside_those_at_the_port(rt: HostRuntime) {
+    let (socket, file) = LocalSocket::bind(&rt, rt.alloc(), "both.sock").expect(&rt, "a socket");
+    let server = Server::bind_at(&rt, rt.alloc(), ListenAt::Both(0, socket), 4);
+    let server = server.expect(&rt, "a server");
     let clients = [
-        client(&rt, &server)?,
-        client(&rt, &server)?,
-        client(&rt, &server)?,
+        asking(&rt, &server).expect(&rt, "a client"),
+        asking(&rt, &server).expect(&rt, "a client"),
+        asking(&rt, &server).expect(&rt, "a client"),
     ];
-    for client in &clients {
-        send(client)?;
-        client.shutdown(Shutdown::Write)?;
-    }
-    let mut beside = UnixStream::connect(&rt, "both.sock")?;
-    beside.write_all(TOOL.as_bytes())?;
-    beside.shutdown(Shutdown::Write)?;
+    let beside = asking_for_tool(&rt).expect(&rt, "a client");
     wait(&rt);
     let mut service = Ordering { asked: 0, tool: 0 };
-    let ended = server.run(&rt, rt.alloc(), Moment::clamped(0), &mut service)?;
-    same("it ended", ended, Ended::Enough)?;
-    same("asked", service.asked, 4)?;
-    same(
-        "among the first two",
-        service.tool > 0 && service.tool < 3,
-        true,
-    )?;
+    let ended = server.run(&rt, rt.alloc(), Moment::clamped(0), &mut service);
+    same(&rt, "it ended", ended.expect(&rt, "an end"), Ended::Enough);
+    same(&rt, "asked", service.asked, 4);
+    let is_early = service.tool > 0 && service.tool < 3;
+    same(&rt, "among the first two", is_early, true);
     for client in &clients {
-        same("a client", heard(&rt, client)?.as_str(), ANSWER)?;
+        hears(&rt, rt.alloc(), "a client", client, ANSWER);
     }
-    Ok(file.remove(&rt)?)
+    drop(beside);
+    file.remove(&rt).expect(&rt, "the socket is removed");
+}
+
+// The client at the socket.
+fn asking_for_tool(rt: &HostRuntime) -> io::Result<UnixStream> {
+    let mut client = UnixStream::connect(rt, "both.sock")?;
+    client.write_all(TOOL.as_bytes())?;
+    client.shutdown(Shutdown::Write)?;
+    Ok(client)
 }

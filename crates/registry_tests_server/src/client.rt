@@ -1,13 +1,14 @@
 //! Clients of a server.
 
+use crate::outcome::same;
 use registry_guests::{fits, folder_of, parse_reply, write};
 use registry_names::Text;
 use registry_server::Server;
-use registry_tests_support::same;
+use std::alloc::Global;
 use std::io::{Read, Write};
-use std::net::{Ipv4Addr, Net, SocketAddr, TcpStream};
+use std::net::{Ipv4Addr, Net, Shutdown, SocketAddr, TcpStream};
 use std::os::unix::net::UnixStream;
-use std::test::Fail;
+use std::process::Abort;
 use std::time::Duration;
 use std::{fs, io, thread};
 
@@ -30,9 +31,16 @@ pub const LAST_ANSWER: &str =
 const TRANSIT: u64 = 100;
 
 /// A client over HTTP.
-pub fn client(rt: &HostRuntime, server: &Server) -> Result<TcpStream, Fail> {
-    let address = SocketAddr::from((Ipv4Addr::LOCALHOST, server.port()?));
-    Ok(rt.connect(address)?)
+pub fn client(rt: &HostRuntime, server: &Server) -> io::Result<TcpStream> {
+    let port = server.port()?;
+    rt.connect(SocketAddr::from((Ipv4Addr::LOCALHOST, port)))
+}
+
+/// A client over HTTP that has asked, and sends no more.
+pub fn asking(rt: &HostRuntime, server: &Server) -> io::Result<TcpStream> {
+    let client = client(rt, server)?;
+    send_last(&client)?;
+    Ok(client)
 }
 
 /// Sends a request over HTTP.
@@ -40,9 +48,26 @@ pub fn send(mut client: &TcpStream) -> io::Result<()> {
     client.write_all(REQUEST.as_bytes())
 }
 
-/// Sends a request over HTTP that may change a registry.
-pub fn send_command(mut client: &TcpStream) -> io::Result<()> {
-    client.write_all(COMMAND.as_bytes())
+/// Sends a request over HTTP, and says that no more comes.
+pub fn send_last(client: &TcpStream) -> io::Result<()> {
+    send(client)?;
+    client.shutdown(Shutdown::Write)
+}
+
+/// A client over HTTP asks.
+pub fn ask(rt: &impl Abort, client: &TcpStream) {
+    send(client).expect(rt, "a request is sent");
+}
+
+/// A client over HTTP sends a request that may change a registry.
+pub fn ask_command(rt: &impl Abort, mut client: &TcpStream) {
+    let sent = client.write_all(COMMAND.as_bytes());
+    sent.expect(rt, "a request is sent");
+}
+
+/// A client over HTTP sends no more.
+pub fn end(rt: &impl Abort, client: &TcpStream) {
+    client.shutdown(Shutdown::Write).expect(rt, "an end");
 }
 
 /// Whether a client over HTTP was sent one answer, and nothing more yet.
@@ -59,62 +84,66 @@ pub fn wait(rt: &HostRuntime) {
     thread::sleep(rt, Duration::from_millis(TRANSIT));
 }
 
-/// Everything that a client over HTTP was sent, once its connection has ended.
-pub fn heard(rt: &HostRuntime, mut client: &TcpStream) -> Result<String, Fail> {
-    let mut text = String::new(rt.alloc());
-    client.read_to_string(&mut text)?;
-    Ok(text)
+/// Checks that this is everything that a client over HTTP was sent, once its connection has ended.
+pub fn hears(rt: &impl Abort, alloc: Global, case: &str, mut client: &TcpStream, wanted: &str) {
+    let mut text = String::new(alloc);
+    client.read_to_string(&mut text).expect(rt, "a text comes");
+    same(rt, case, text.as_str(), wanted);
+}
+
+/// Checks that a client over HTTP was answered this often, and sent nothing more.
+pub fn hears_answers(rt: &impl Abort, alloc: Global, case: &str, client: &TcpStream, count: usize) {
+    let wanted = ANSWER.repeat(alloc, count).expect(rt, "memory");
+    hears(rt, alloc, case, client, wanted.as_str());
 }
 
 /// Lays an empty file, with nothing beside it.
-pub fn lay(rt: &HostRuntime, file: &str) -> Result<(), Fail> {
-    forget(rt, file)?;
-    Ok(fs::write(rt, file, "")?)
+pub fn lay(rt: &HostRuntime, file: &str) -> io::Result<()> {
+    forget(rt, file);
+    fs::write(rt, file, "")
 }
 
 /// Removes a file and the folder of its sockets, as far as they are there.
-pub fn forget(rt: &HostRuntime, file: &str) -> Result<(), Fail> {
-    let folder = folder_of(rt, rt.alloc(), file)?;
+pub fn forget(rt: &HostRuntime, file: &str) {
+    if let Ok(folder) = folder_of(rt, rt.alloc(), file) {
+        let _ = fs::remove_dir_all(rt, folder.as_str());
+    }
     let _ = fs::remove_file(rt, file);
-    let _ = fs::remove_dir_all(rt, folder.as_str());
-    Ok(())
 }
 
-/// Connects to a socket of the server of a file.
-pub fn connect(rt: &HostRuntime, file: &str, socket: &str) -> Result<UnixStream, Fail> {
-    let folder = folder_of(rt, rt.alloc(), file)?;
-    let path = format!(in rt.alloc(); "{}/{socket}", folder.as_str())?;
-    Ok(UnixStream::connect(rt, path.as_str())?)
-}
-
-/// A client that has sent the command that adds a user.
-pub fn command(rt: &HostRuntime, file: &str) -> Result<UnixStream, Fail> {
-    let mut stream = connect(rt, file, "command")?;
-    stream.write_all(&message(rt)?)?;
+/// Connects to a socket of the server of a file, and sends this.
+pub fn connect(rt: &HostRuntime, file: &str, socket: &str, bytes: &[u8]) -> io::Result<UnixStream> {
+    let path = path_of(rt, file, socket)?;
+    let mut stream = UnixStream::connect(rt, path.as_str())?;
+    stream.write_all(bytes)?;
     Ok(stream)
 }
 
-// The message of this command.
-fn message(rt: &HostRuntime) -> Result<Vec<u8>, Fail> {
-    let alloc = rt.alloc();
+fn path_of(rt: &HostRuntime, file: &str, socket: &str) -> io::Result<String> {
+    let folder = folder_of(rt, rt.alloc(), file)?;
+    Ok(format!(in rt.alloc(); "{}/{socket}", folder.as_str())?)
+}
+
+/// The message of the command that adds a user.
+pub fn message(rt: &impl Abort, alloc: Global) -> Vec<u8> {
     let mut texts = Vec::new(alloc);
     for argument in ["--operator", "user-add", "ann"] {
-        texts.push(Text::from_str(alloc, argument)?)?;
+        let text = Text::from_str(alloc, argument).expect(rt, "memory");
+        texts.push(text).expect(rt, "memory");
     }
     if !fits(&texts) {
-        return Err(Fail::new(format_args!("the arguments fit into no message")));
+        panic!(rt; "the arguments fit into no message");
     }
-    Ok(write(alloc, &texts, b"")?)
+    write(alloc, &texts, b"").expect(rt, "memory")
 }
 
 /// A server of commands was ready, has answered that the command is done, and has ended the connection.
-pub fn is_done(rt: &HostRuntime, mut stream: &UnixStream) -> Result<(), Fail> {
-    let mut bytes = Vec::new(rt.alloc());
-    stream.read_to_end(&mut bytes)?;
-    same("ready", bytes.first().copied(), Some(b'r'))?;
-    let rest = bytes.get(1..).unwrap_or(&[]);
-    match parse_reply(rt.alloc(), rest) {
-        Ok(reply) => same("the status", reply.status, 0),
-        Err(_) => Err(Fail::new(format_args!("there is no reply"))),
+pub fn is_done(rt: &impl Abort, alloc: Global, mut stream: &UnixStream) {
+    let mut bytes = Vec::new(alloc);
+    stream.read_to_end(&mut bytes).expect(rt, "bytes come");
+    same(rt, "ready", bytes.first().copied(), Some(b'r'));
+    match parse_reply(alloc, bytes.get(1..).unwrap_or(&[])) {
+        Ok(reply) => same(rt, "the status", reply.status, 0),
+        Err(_) => panic!(rt; "there is no reply"),
     }
 }

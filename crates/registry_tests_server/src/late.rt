@@ -1,15 +1,14 @@
 //! A server whose time passes.
 
-use crate::client::{ANSWER, client, heard, send, wait};
+use crate::client::{client, hears_answers, send, send_last, wait};
+use crate::outcome::same;
 use crate::service::{Counting, one_more};
 use mio::{Token, Waker};
 use registry_names::Moment;
 use registry_server::{Ended, FIRST_GUEST, Server};
-use registry_tests_support::same;
 use std::cell::Cell;
 use std::io;
 use std::net::{Shutdown, TcpStream};
-use std::test::Fail;
 use std::time::{Clock, Duration};
 
 /// This many milliseconds pass between two readings. A round reads the time twice, and at most 275
@@ -47,8 +46,7 @@ impl Passing<'_> {
             AFTER_58 => self.after_58.set(self.is_ended()),
             AFTER_62 => {
                 self.after_62.set(self.is_ended());
-                send(self.asks)?;
-                self.asks.shutdown(Shutdown::Write)?;
+                send_last(self.asks)?;
                 self.silent.shutdown(Shutdown::Write)?;
             }
             _ => {}
@@ -77,15 +75,15 @@ impl Clock for Passing<'_> {
 }
 
 #[test]
-fn a_silent_connection_ends_after_a_minute(rt: HostRuntime) -> Result<(), Fail> {
-    let server = Server::bind(&rt, rt.alloc(), 0, 2)?;
-    let silent = client(&rt, &server)?;
-    silent.set_nonblocking(true)?;
-    let asks = client(&rt, &server)?;
+fn a_silent_connection_ends_after_a_minute(rt: HostRuntime) {
+    let server = Server::bind(&rt, rt.alloc(), 0, 2).expect(&rt, "a server");
+    let silent = client(&rt, &server).expect(&rt, "a client");
+    silent.set_nonblocking(true).expect(&rt, "it never waits");
+    let asks = client(&rt, &server).expect(&rt, "a client");
     let clock = Passing {
         rt: &rt,
         readings: Cell::new(0),
-        waker: Waker::new(server.registry(), Token(FIRST_GUEST))?,
+        waker: Waker::new(server.registry(), Token(FIRST_GUEST)).expect(&rt, "a waker"),
         silent: &silent,
         asks: &asks,
         after_58: Cell::new(true),
@@ -96,10 +94,9 @@ fn a_silent_connection_ends_after_a_minute(rt: HostRuntime) -> Result<(), Fail> 
         asked: &asked,
         command: 0,
     };
-    let ended = server.run(&clock, rt.alloc(), Moment::clamped(0), &mut service)?;
-    same("it ended", ended, Ended::Enough)?;
-    same("ended after 58 s", clock.after_58.get(), false)?;
-    same("ended after 62 s", clock.after_62.get(), true)?;
-    let both = format!(in rt.alloc(); "{ANSWER}{ANSWER}")?;
-    same("who has asked", heard(&rt, &asks)?.as_str(), both.as_str())
+    let ended = server.run(&clock, rt.alloc(), Moment::clamped(0), &mut service);
+    same(&rt, "it ended", ended.expect(&rt, "an end"), Ended::Enough);
+    same(&rt, "ended after 58 s", clock.after_58.get(), false);
+    same(&rt, "ended after 62 s", clock.after_62.get(), true);
+    hears_answers(&rt, rt.alloc(), "who has asked", &asks, 2);
 }

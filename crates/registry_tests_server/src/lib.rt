@@ -1,8 +1,9 @@
-//! Tests of a whole server, over loopback and over the sockets of commands. The server and its clients
-//! take turns in one thread: the clients act where the server reads its clock, or asks its service.
+//! Tests of the sockets by which commands reach a server, and of a whole server, over loopback and
+//! over these sockets. The server and its clients take turns in one thread: the clients act where the
+//! server reads its clock, or asks its service.
 //!
-//! No contract says what sockets and clocks of the system give, so these tests see what a server does
-//! with them.
+//! No contract says what folders, sockets and clocks of the system give, so these tests see what is
+//! done with them.
 #![tactic(auto)]
 
 #[cfg(test)]
@@ -14,7 +15,11 @@ mod client;
 #[cfg(test)]
 mod full;
 #[cfg(test)]
+mod guests;
+#[cfg(test)]
 mod late;
+#[cfg(test)]
+mod outcome;
 #[cfg(test)]
 mod rounds;
 #[cfg(test)]

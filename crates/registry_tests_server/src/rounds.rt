@@ -4,18 +4,16 @@ ghost use Rattle.std.specs.Prelude.{false};
 ghost use Rattle.registry_service.proofs.DialectFacts.{profile_asks_queries};
 ghost use Rattle.registry_service.specs.Turns.{profile};
 
-use crate::client::{ANSWER, client, heard, send};
+use crate::client::{ANSWER, asking, hears};
+use crate::outcome::same;
 use crate::service::one_more;
 use registry_names::{Fault, Moment};
 use registry_rules::{Reply, Request};
 use registry_server::{Ended, Server};
 use registry_service::{HttpService, Service, Turned, turn};
-use registry_tests_support::same;
 use registry_wire::Wanted;
 use std::alloc::Global;
 use std::cell::Cell;
-use std::net::Shutdown;
-use std::test::Fail;
 
 /// A service that does whatever it is asked, and counts the rounds that it is told of.
 #[derive(Drop)]
@@ -57,20 +55,18 @@ impl HttpService for Rounds<'_> {
 }
 
 #[test]
-fn a_service_is_told_of_each_round(rt: HostRuntime) -> Result<(), Fail> {
-    let server = Server::bind(&rt, rt.alloc(), 0, 1)?;
-    let asks = client(&rt, &server)?;
-    send(&asks)?;
-    asks.shutdown(Shutdown::Write)?;
+fn a_service_is_told_of_each_round(rt: HostRuntime) {
+    let server = Server::bind(&rt, rt.alloc(), 0, 1).expect(&rt, "a server");
+    let asks = asking(&rt, &server).expect(&rt, "a client");
     let looks = Cell::new(0);
     let rests = Cell::new(0);
     let mut service = Rounds {
         looks: &looks,
         rests: &rests,
     };
-    let ended = server.run(&rt, rt.alloc(), Moment::clamped(0), &mut service)?;
-    same("it ended", ended, Ended::Enough)?;
-    same("rounds were told", rests.get() > 0, true)?;
-    same("with a look each", looks.get(), rests.get())?;
-    same("the client", heard(&rt, &asks)?.as_str(), ANSWER)
+    let ended = server.run(&rt, rt.alloc(), Moment::clamped(0), &mut service);
+    same(&rt, "it ended", ended.expect(&rt, "an end"), Ended::Enough);
+    same(&rt, "rounds were told", rests.get() > 0, true);
+    same(&rt, "with a look each", looks.get(), rests.get());
+    hears(&rt, rt.alloc(), "the client", &asks, ANSWER);
 }

@@ -1,15 +1,19 @@
 //! Files in memory that stop, and what they hold afterwards.
 
-ghost use Rattle.std.specs.Prelude.{IfOk};
+ghost use Rattle.std.specs.Prelude.{IfErr, IfOk, IsTrue};
 ghost use Rattle.sqlite.specs.Files.{file_state};
-ghost use Rattle.registry_desk.specs.Adopted.{CanBeAdopted};
+ghost use Rattle.registry_desk.specs.Adopted.{CanBeAdopted, CanBeAdoptedAgain};
 
-use registry_desk::Registry;
+use crate::outcome::same;
+use crate::work::{Work, worked};
+use registry_desk::{Registry, Unopened};
 use registry_names::Fault;
-use sqlite::{Connection, FileStore, Files, Options};
+use registry_rules::Request;
+use registry_tests_requests::{Outcome, outcome_of};
+use sqlite::{Alter, Connection, FileStore, Files, Options};
 use sqlite_disk::{Crash, Disk, Fuse, Memory};
 use std::alloc::Global;
-use std::test::Fail;
+use std::process::Abort;
 
 /// More calls than a run makes.
 pub(crate) const NEVER: u64 = 1 << 60;
@@ -27,7 +31,7 @@ pub(crate) trait StoppingDisk: Crash + Drop + Sized {
     fn empty(alloc: Global, calls: u64) -> Self;
 
     /// A disk that holds these bytes, also after a crash, and passes this many calls.
-    fn holding(alloc: Global, bytes: &[u8], calls: u64) -> Result<Self, Fail>;
+    fn holding(ends: &impl Abort, alloc: Global, bytes: &[u8], calls: u64) -> Self;
 
     /// Everything that was written.
     fn written(&self) -> &[u8];
@@ -38,17 +42,20 @@ impl StoppingDisk for Fuse<Memory> {
         Fuse::new(Memory::new(alloc), calls)
     }
 
-    fn holding(alloc: Global, bytes: &[u8], calls: u64) -> Result<Fuse<Memory>, Fail> {
+    fn holding(ends: &impl Abort, alloc: Global, bytes: &[u8], calls: u64) -> Fuse<Memory> {
         let mut memory = Memory::new(alloc);
-        memory.write_at(0, bytes)?;
-        memory.sync()?;
-        Ok(Fuse::new(memory, calls))
+        memory.write_at(0, bytes).expect(ends, "bytes");
+        memory.sync().expect(ends, "bytes");
+        Fuse::new(memory, calls)
     }
 
     fn written(&self) -> &[u8] {
         self.inner().bytes()
     }
 }
+
+/// The disk of the tests. A test names it in one call, since each that does takes seconds to check.
+pub(crate) type TestDisk = Fuse<Memory>;
 
 /// Which of the two files stops.
 #[derive(Clone, Copy, Debug)]
@@ -104,41 +111,41 @@ pub(crate) fn empty_files<D: StoppingDisk>(
 
 /// Files that hold the same as these, one or both of which pass this many calls.
 pub(crate) fn copied<D: StoppingDisk>(
+    ends: &impl Abort,
     alloc: Global,
     files: &Files<D>,
     stopping: Stopping,
     calls: u64,
-) -> Result<Files<D>, Fail> {
+) -> Files<D> {
     let (log, db) = stopping.calls(calls);
-    let log = D::holding(alloc, files.log.written(), log)?;
-    beside(alloc, log, files.db.written(), db)
-}
-
-// A log, and a database file that holds these bytes and passes this many calls.
-fn beside<D: StoppingDisk>(
-    alloc: Global,
-    log: D,
-    bytes: &[u8],
-    calls: u64,
-) -> Result<Files<D>, Fail> {
-    let db = D::holding(alloc, bytes, calls)?;
-    Ok(Files { log, db })
+    Files {
+        log: D::holding(ends, alloc, files.log.written(), log),
+        db: D::holding(ends, alloc, files.db.written(), db),
+    }
 }
 
 /// A database of these bytes, with an empty log. No file stops.
-pub(crate) fn files_of<D: StoppingDisk>(alloc: Global, bytes: &[u8]) -> Result<Files<D>, Fail> {
-    beside(alloc, D::empty(alloc, NEVER), bytes, NEVER)
+pub(crate) fn files_of<D: StoppingDisk>(
+    ends: &impl Abort,
+    alloc: Global,
+    bytes: &[u8],
+) -> Files<D> {
+    Files {
+        log: D::empty(alloc, NEVER),
+        db: D::holding(ends, alloc, bytes, NEVER),
+    }
 }
 
 /// The files that a stop leaves of these. They don't stop any more.
 pub(crate) fn left_of<D: StoppingDisk>(
+    ends: &impl Abort,
     alloc: Global,
     files: Files<D>,
     leaves: Leaves,
-) -> Result<Files<D>, Fail> {
+) -> Files<D> {
     match leaves {
-        Leaves::Synced => Ok(synced(files)),
-        Leaves::Written => copied(alloc, &files, Stopping::Both, NEVER),
+        Leaves::Synced => synced(files),
+        Leaves::Written => copied(ends, alloc, &files, Stopping::Both, NEVER),
     }
 }
 
@@ -155,38 +162,49 @@ pub(crate) fn opened<D: Disk + Drop>(
     alloc: Global,
     files: Files<D>,
 ) -> Result<Registry<FileStore<D>>, Files<D>> {
+    if !files.may_be_used() {
+        return Err(files);
+    }
     match open(alloc, files) {
         Ok(registry) => Ok(registry),
-        Err((_, files)) => Err(files),
+        Err((_, left)) => Err(left.into_files()),
     }
 }
 
 /// Whether a registry opens from the files.
 pub(crate) fn opens<D: Disk + Drop>(alloc: Global, files: Files<D>) -> bool {
-    refused(alloc, files).is_none()
+    opened(alloc, files).is_ok()
 }
 
-/// The fault of an open of the files, and what is left of them. `None` where a registry opens.
-pub(crate) fn refused<D: Disk + Drop>(alloc: Global, files: Files<D>) -> Option<(Fault, Files<D>)> {
-    match open(alloc, files) {
-        Ok(_registry) => None,
-        Err(refused) => Some(refused),
-    }
-}
-
-// The registry in the files, or a fault and what is left of them. The contract of `open_files` says
-// far more than a test needs, and every caller is checked with all of it: so this is the only
-// caller.
-fn open<D: Disk + Drop>(
+/// The fault of an open of files that can be used, and what is left of them. `None` where a registry
+/// opens.
+pub(crate) fn refused<D: Disk + Drop>(
+    ends: &impl Abort,
     alloc: Global,
     files: Files<D>,
-) -> Result<Registry<FileStore<D>>, (Fault, Files<D>)> {
+) -> Option<(Fault, Files<D>)> {
     if !files.may_be_used() {
-        return Err((Fault::Database, files));
+        panic!(ends; "the files can't be used");
     }
+    match open(alloc, files) {
+        Ok(_registry) => None,
+        Err((fault, left)) => Some((fault, left.into_files())),
+    }
+}
+
+/// The registry in the files; or a fault, and what is left of them. The contract of `open_files` says
+/// far more than a test needs, and every caller is checked with all of it: so this is the only caller.
+pub(crate) fn open<D: Disk + Drop>(
+    alloc: Global,
+    files: Files<D>,
+) -> Result<Registry<FileStore<D>>, (Fault, Unopened<D>)>
+    requires log { IsTrue (D.Disk.is_usable files.log) }
+    requires db { IsTrue (D.Disk.is_usable files.db) }
+    ensures again { IfErr result (λ e. CanBeAdoptedAgain e.1) }
+{
     match Registry::open_files(alloc, files, options()) {
         Ok(registry) => Ok(registry),
-        Err((fault, left)) => Err((fault, left.into_files())),
+        Err(refused) => Err(refused),
     }
 }
 
@@ -216,6 +234,44 @@ fn options() -> Options {
     }
 }
 
+/// What a registry answers to requests, one after another until one ends in a fault, and the
+/// registry. Only this function asks one in files, since the call takes a quarter of a minute to check.
+pub(crate) fn asked<D: Disk + Drop>(
+    ends: &impl Abort,
+    alloc: Global,
+    registry: Registry<FileStore<D>>,
+    requests: &[Request],
+) -> (Vec<Outcome>, Registry<FileStore<D>>) {
+    asked_of(ends, alloc, registry, requests)
+}
+
+/// The same of any registry.
+pub(crate) fn asked_of<S: Alter + Drop>(
+    ends: &impl Abort,
+    alloc: Global,
+    registry: Registry<S>,
+    requests: &[Request],
+) -> (Vec<Outcome>, Registry<S>) {
+    let mut registry = registry;
+    let mut outcomes = Vec::new(alloc);
+    for request in requests {
+        let outcome = outcome_of(alloc, &mut registry, request);
+        let is_fault = outcome.is_err();
+        outcomes.push(outcome).expect(ends, "memory");
+        if is_fault {
+            break;
+        }
+    }
+    (outcomes, registry)
+}
+
+/// Checks that this many requests were asked, and none ended in a fault.
+pub(crate) fn are_replies(ends: &impl Abort, outcomes: &[Outcome], count: usize) {
+    same(ends, "how many", outcomes.len(), count);
+    let is_fault = outcomes.iter().any(|outcome| outcome.is_err());
+    same(ends, "a fault", is_fault, false);
+}
+
 /// The files of a registry that ends.
 pub(crate) fn ended<D: Disk + Drop>(registry: Registry<FileStore<D>>) -> Closed<D> {
     close(registry.release())
@@ -233,4 +289,16 @@ pub(crate) fn close<D: Disk + Drop>(connection: Connection<FileStore<D>>) -> Clo
             files: store.close(),
         },
     }
+}
+
+/// A connection, after this was done with its database. What that tells comes behind the text. Only
+/// this function works on a database in files.
+pub(crate) fn with_work<D: Disk + Drop>(
+    ends: &impl Abort,
+    alloc: Global,
+    connection: Connection<FileStore<D>>,
+    work: Work<'_>,
+    text: &mut String,
+) -> Connection<FileStore<D>> {
+    worked(ends, alloc, connection, work, text)
 }

@@ -1,6 +1,7 @@
 //! Registries in files in memory and on disks made for tests: a disk that stops at each of its
-//! calls, one after another; a disk that gives back other bytes than it was given; and connections
-//! that are taken over.
+//! calls, one after another; a disk that gives back other bytes than it was given; connections that
+//! are taken over; registries of older schemas, as they were left; and those in which a row is
+//! broken.
 //!
 //! After each stop the files are opened again. No row of the tables breaks a rule of
 //! [`registry_check`]; what was answered is there; the request that was stopped was done whole or
@@ -8,8 +9,9 @@
 //!
 //! A function that asks a registry has its store as a parameter, and one that opens and closes a
 //! registry has its disk. The check of a call from the second kind to the first takes a quarter of
-//! a minute, so there are few; the check of a function over any store takes a second or two. Where
-//! a registry or files are alive, a function has one `?` as a rule.
+//! a minute, so there are few; the check of a function over any store takes a second or two. A test
+//! ends by `ends`, so that no function has a second way out on which registries and files are
+//! dropped.
 #![tactic(auto)]
 
 #[cfg(test)]
@@ -17,6 +19,16 @@ mod checks;
 #[cfg(test)]
 mod disks;
 #[cfg(test)]
+mod lines;
+#[cfg(test)]
+mod outcome;
+#[cfg(test)]
 mod requests;
 #[cfg(test)]
+mod rows;
+#[cfg(test)]
 mod tests;
+#[cfg(test)]
+mod told;
+#[cfg(test)]
+mod work;

@@ -159,10 +159,12 @@ impl Exchange {
 
     // Sends everything that isn't sent yet.
     fn send(&mut self) -> Result<(), AllocError> {
-        let (head, body) = self.state.outgoing().parts();
+        let (head, body, rest) = self.state.outgoing().parts();
         self.bytes.extend_from_slice(head)?;
         self.bytes.extend_from_slice(body)?;
-        let count = head.len().saturating_add(body.len());
+        self.bytes.extend_from_slice(rest)?;
+        let front = head.len().saturating_add(body.len());
+        let count = front.saturating_add(rest.len());
         self.state.sent(count);
         Ok(())
     }

@@ -5,4 +5,6 @@
 #![tactic(auto)]
 
 #[cfg(test)]
+mod outcome;
+#[cfg(test)]
 mod tests;

@@ -7,4 +7,5 @@ pub mod RequestFacts
 pub mod InboxFacts
 pub mod ReadingFacts
 pub mod PhraseFacts
+pub mod TagFacts
 pub mod ResponseFacts

@@ -1,6 +1,6 @@
 -- How one byte more leads from a place of a head that is cut to the next, and that a head is cut at
 -- each of them.
-use Rattle.std.proofs.Common.{◌≡◌, ◌<◌, ◌≤◌, ◌+◌, ℕ, Bool, true, false, List, [], ◌∷◌, ◌++◌, length, get_or, take, drop, refl, sym, ap, subst, ◌∙◌, arith, inl, inr, append_assoc, append-nil, length-append, Option, Some, None, codes}
+use Rattle.std.proofs.Common.{◌≡◌, ◌<◌, ◌≤◌, ◌+◌, ℕ, true, List, [], ◌∷◌, ◌++◌, length, get_or, take, drop, refl, sym, ap, subst, ◌∙◌, arith, inl, inr, append_assoc, append-nil, length-append, Option, Some, None, codes}
 use Rattle.std.specs.Prelude.{IfSome, IsUtf8}
 use Rattle.std.specs.List.{flat_map}
 use Rattle.std.proofs.lemmas.Bool.{false≢true}
@@ -9,7 +9,7 @@ use Rattle.std.proofs.lemmas.Str.{IsUtf8-from_ascii}
 use Rattle.std.proofs.lemmas.Str.Ascii.{IsAscii-cons, IsAscii-nil}
 use Rattle.std.proofs.lemmas.List.Elements.{All-nil, All-cons, All-push, All-drop, All-head}
 use Rattle.std.proofs.Math.Seq.{drop-append_seam}
-use Rattle.httparse.specs.Grammar.{AllPass, Field, HasNoRequest, IsField, IsToken, LineEnd, RequestHead, crlf, lf, is_token_byte, is_uri_byte, is_value_byte, print_blank, print_end, print_field, print_request, print_section, print_version}
+use Rattle.httparse.specs.Grammar.{AllPass, HasNoRequest, IsField, IsToken, LineEnd, RequestHead, crlf, lf, is_token_byte, is_uri_byte, is_value_byte, print_blank, print_end, print_field, print_section, print_version}
 use Rattle.httparse.specs.Pieces.{Begins, NotYet, RequestStart, Section, Word}
 use Rattle.httparse.proofs.GrammarLemmas.{cons-append, print_request-append, request_prefix_free}
 use Rattle.httparse.proofs.PieceLemmas.{NotYet_intro, Refutes_first, Stops_token}
@@ -17,7 +17,7 @@ use Rattle.httparse.proofs.LineLemmas.{request_target}
 use Rattle.httparse.proofs.ReadLemmas.{Target_word}
 use Rattle.httparse.proofs.HeadLemmas.{request_not_yet}
 use Rattle.httparse.proofs.OpenLemmas.{letter_is_token}
-use Rattle.registry_wire.specs.Places.{IsHead, Expects, AreLines, IsLineFeed, IsLineEnd, IsValueRest, IsNameRest, IsVersionRest, AreBlank, AreBlankReturn, EndInMethod, EndInTarget, IsAt, Leads, version_text}
+use Rattle.registry_wire.specs.Places.{IsHead, Expects, AreLines, IsLineFeed, IsLineEnd, IsValueRest, IsNameRest, IsVersionRest, IsAt, Leads, version_text}
 use Rattle.registry_wire.specs.Spelling.{LacksHead, head_limit}
 use Rattle.registry_wire.specs.declared.place.Place.{Place}
 use Rattle.registry_wire.specs.declared.place.Place.TheVariants.{Blank, BlankReturn, Method, Target, Version, Minor, Return, Line, LastReturn, Name, Value}

@@ -1,5 +1,5 @@
 -- A response that goes out in two writes.
-use Rattle.std.proofs.Common.{◌≡◌, ℕ, List, ◌++◌, Option, Bool, true, sym, subst, ap, ◌∙◌, append_assoc, take, drop}
+use Rattle.std.proofs.Common.{◌≡◌, ℕ, List, [], ◌++◌, Option, Bool, true, sym, subst, ap, ◌∙◌, append_assoc, take, drop}
 use Rattle.std.specs.Prelude.{Result, Ok, Err, OnOk, OnErr}
 use Rattle.std.proofs.lemmas.List.{take-append-drop}
 use Rattle.registry_names.specs.ByteStreams.{Writes, WritesPrefix}
@@ -32,8 +32,12 @@ pushed-five a b c d e h0 h1 h2 h3 h4 h5 first second third fourth fifth =
     pushed-three c d e h2 h3 h4 h5 third fourth fifth ∙ ap (λ (l : List ℕ). l ++ (c ++ (d ++ e))) (second ∙ ap (λ (l : List ℕ). l ++ b) first) ∙ append_assoc (h0 ++ a) b (c ++ (d ++ e)) ∙ append_assoc h0 a (b ++ (c ++ (d ++ e)))
 
 -- a body and its halves
-pub split-whole : (k : ℕ) (body prefix rest : List ℕ) → prefix ≡ take k body → rest ≡ drop k body → body ≡ prefix ++ rest
+split-whole : (k : ℕ) (body prefix rest : List ℕ) → prefix ≡ take k body → rest ≡ drop k body → body ≡ prefix ++ rest
 split-whole k body prefix rest e f = sym (ap (λ (l : List ℕ). l ++ rest) e ∙ ap (λ (l : List ℕ). take k body ++ l) f ∙ take-append-drop k body)
+
+-- the same of a content in two pieces, of which the first is split
+pub split-content : (k : ℕ) (body second prefix rest : List ℕ) → prefix ≡ take k body → rest ≡ drop k body → body ++ second ≡ prefix ++ (rest ++ second)
+split-content k body second prefix rest e f = ap (λ (l : List ℕ). l ++ second) (split-whole k body prefix rest e f) ∙ append_assoc prefix rest second
 
 -- what follows from a fact follows where it holds
 pub on-ok : {T E P Q : Type 0} (r : Result T E) → (P → Q) → OnOk r P → OnOk r Q
@@ -43,3 +47,8 @@ on-ok (Err e) f p = tt
 pub on-err : {T E P Q : Type 0} (r : Result T E) → (P → Q) → OnErr r P → OnErr r Q
 on-err (Ok x) f p = tt
 on-err (Err e) f p = f p
+
+-- the lines of a head, pushed one after the other
+pub pushed-lines : (a b c d e f h0 h1 h2 h3 h4 : List ℕ) → h0 ≡ [] → h1 ≡ h0 ++ a → h2 ≡ h1 ++ b → h3 ≡ h2 ++ c → h4 ≡ h3 ++ d ++ e ++ f → h4 ≡ a ++ b ++ c ++ d ++ e ++ f
+pushed-lines a b c d e f h0 h1 h2 h3 h4 none first second third last =
+    last ∙ ap (λ (l : List ℕ). l ++ d ++ e ++ f) (third ∙ ap (λ (l : List ℕ). l ++ c) (second ∙ ap (λ (l : List ℕ). l ++ b) (first ∙ ap (λ (l : List ℕ). l ++ a) none)))

@@ -5,8 +5,8 @@ use Rattle.httparse.specs.Grammar.{RequestHead}
 use Rattle.registry_names.specs.declared.method.Method.{Method}
 use Rattle.registry_names.specs.declared.method.Method.TheVariants.{Get, Put, Post, Delete, Other}
 use Rattle.registry_wire.specs.Fields.{Said, absent, once, repeated, said, fields_of, asks_to_close}
-use Rattle.registry_wire.specs.declared.wanted.Authorization.{Authorization}
-use Rattle.registry_wire.specs.declared.wanted.Authorization.TheVariants as authorization
+use Rattle.registry_wire.specs.declared.wanted.FieldValue.{FieldValue}
+use Rattle.registry_wire.specs.declared.wanted.FieldValue.TheVariants as value
 use Rattle.registry_wire.specs.declared.wanted.Wanted.{Wanted}
 
 abbrev pub method_of : List ℕ → Method
@@ -24,10 +24,10 @@ is_other Post = false
 is_other Delete = false
 is_other Other = true
 
-abbrev pub authorization_of : Said → Authorization
-authorization_of absent = authorization.Absent
-authorization_of (once value) = authorization.Once value
-authorization_of repeated = authorization.Repeated
+abbrev pub value_of : Said → FieldValue
+value_of absent = value.Absent
+value_of (once text) = value.Once text
+value_of repeated = value.Repeated
 
 -- the connection ends after the response: by HTTP/1.0, by a field, or by a method that is never
 -- served
@@ -38,7 +38,8 @@ abbrev pub wanted_of : RequestHead → List ℕ → Wanted
 wanted_of h body = record {
   method = method_of h.method;
   target = h.target;
-  authorization = authorization_of (said (codes "authorization") (fields_of h));
+  authorization = value_of (said (codes "authorization") (fields_of h));
+  if_none_match = value_of (said (codes "if-none-match") (fields_of h));
   body = body;
   closes = closes_of h;
 }

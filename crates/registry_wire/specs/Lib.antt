@@ -7,5 +7,7 @@ pub mod Parts
 pub mod Inboxes
 pub mod Pieces
 pub mod Reading
+pub mod EntityTags
+pub mod TagReading
 pub mod Responses
 pub mod Laws

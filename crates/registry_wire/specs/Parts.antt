@@ -27,6 +27,7 @@ pub record ArePartsOf (h : RequestHead) (p : HeadParts) : Type 0 where
   pub method : p.method ≡ method_of h.method
   pub target : p.target.now ≡ h.target
   pub authorization : said_of p.authorization ≡ said (codes "authorization") (fields_of h)
+  pub if_none_match : said_of p.if_none_match ≡ said (codes "if-none-match") (fields_of h)
   pub body : p.body ≡ body_len (fields_of h)
   pub closes : p.closes ≡ closes_of h
 

@@ -192,7 +192,7 @@ fn trimmed(text: &[u8]) -> &[u8]
     skip_back(skip_front(text))
 }
 
-fn skip_front(mut text: &[u8]) -> &[u8]
+pub(crate) fn skip_front(mut text: &[u8]) -> &[u8]
     ensures { result.now ≡ skip_ows text.now }
 {
     while let [first, rest @ ..] = text
@@ -214,7 +214,7 @@ fn skip_back(mut text: &[u8]) -> &[u8]
     text
 }
 
-fn is_blank(byte: u8) -> bool
+pub(crate) fn is_blank(byte: u8) -> bool
     ensures { result ≡ ((byte == 32) || (byte == 9)) }
 {
     byte == b' ' || byte == b'\t'

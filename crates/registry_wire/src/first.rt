@@ -3,7 +3,7 @@
 ghost use Rattle.std.specs.Prelude.{◌≡◌, ◌<◌, length, Ok, IfOk, IfErr};
 ghost use Rattle.httparse.specs.Grammar.{RequestHead};
 ghost use Rattle.registry_names.specs.declared.stop.Fault.TheVariants.{Memory};
-ghost use Rattle.registry_wire.specs.Asked.{authorization_of, wanted_of};
+ghost use Rattle.registry_wire.specs.Asked.{value_of, wanted_of};
 ghost use Rattle.registry_wire.specs.Knowledge.{IsKnown};
 ghost use Rattle.registry_wire.specs.Parts.{ArePartsOf, said_of};
 ghost use Rattle.registry_wire.specs.Spelling.{EndsWith, IsUnfinished, Says, request_limit};
@@ -12,7 +12,7 @@ ghost use Rattle.registry_wire.specs.declared.first.First.TheVariants.{Unfinishe
 use crate::field::Values;
 use crate::head::{HeadFound, HeadParts, head_in, prefix_of};
 use crate::known::{Known, UNSEEN_HEAD};
-use crate::wanted::{Authorization, Wanted};
+use crate::wanted::{FieldValue, Wanted};
 use registry_names::{Blob, Fault, Refusal};
 use std::alloc::{AllocError, Global};
 
@@ -92,19 +92,20 @@ fn wanted(alloc: Global, parts: &HeadParts<'_>, body: &[u8]) -> Result<Wanted, A
     Ok(Wanted {
         method: parts.method,
         target: Blob::from_slice(alloc, parts.target)?,
-        authorization: authorization(alloc, parts.authorization)?,
+        authorization: value(alloc, parts.authorization)?,
+        if_none_match: value(alloc, parts.if_none_match)?,
         body: Blob::from_slice(alloc, body)?,
         closes: parts.closes,
     })
 }
 
-fn authorization(alloc: Global, values: Values<'_>) -> Result<Authorization, AllocError>
-    ensures { IfOk result (λ a. a ≡ authorization_of (said_of values.entry)) }
+fn value(alloc: Global, values: Values<'_>) -> Result<FieldValue, AllocError>
+    ensures { IfOk result (λ v. v ≡ value_of (said_of values.entry)) }
 {
     match values {
-        Values::Absent => Ok(Authorization::Absent),
-        Values::Once(value) => Ok(Authorization::Once(Blob::from_slice(alloc, value)?)),
-        Values::Repeated => Ok(Authorization::Repeated),
+        Values::Absent => Ok(FieldValue::Absent),
+        Values::Once(value) => Ok(FieldValue::Once(Blob::from_slice(alloc, value)?)),
+        Values::Repeated => Ok(FieldValue::Repeated),
     }
 }
 

@@ -9,15 +9,18 @@
 //! asked for again.
 //!
 //! A [`Response`] is written with no memory taken: its head from a buffer of fixed size, its body
-//! as it is.
+//! as it is. Its [`Labels`] say what those may do who keep the document, and [`names_tag`] whether a
+//! request names the tag of one that it has.
 #![tactic(auto)]
 
+mod entity_tag;
 mod field;
 mod first;
 mod head;
 mod inbox;
 mod incoming;
 mod known;
+mod labels;
 pub mod laws;
 mod method;
 mod place;
@@ -25,9 +28,11 @@ mod response;
 mod short_text;
 mod wanted;
 
+pub use crate::entity_tag::{EntityTag, TAG_LIMIT, names_tag};
 pub use crate::first::{Ending, FIELD_LIMIT, First, HEAD_LIMIT, ending_of, first_in};
 pub use crate::inbox::{INTERRUPTION_LIMIT, Inbox, Taken};
 pub use crate::incoming::Incoming;
+pub use crate::labels::{Caching, Labels};
 pub use crate::response::{ContentKind, Response, write_response};
 pub use crate::short_text::{SHORT_LIMIT, ShortText};
-pub use crate::wanted::{Authorization, Wanted};
+pub use crate::wanted::{FieldValue, Wanted};

@@ -4,8 +4,10 @@ ghost use Rattle.std.specs.Prelude.{◌≡◌, ◌+◌, ◌≤◌, ◌++◌, len
 ghost use Rattle.registry_names.specs.ByteStreams.{Writes, WritesPrefix, failures_after, full_count};
 ghost use Rattle.http.specs.StatusCode.{code_digits};
 ghost use Rattle.registry_wire.specs.Responses as spec;
-ghost use Rattle.registry_wire.specs.Responses.{head_of, response_bytes};
+ghost use Rattle.registry_wire.specs.Responses.{content, head_of, response_bytes};
 
+use crate::entity_tag::EntityTag;
+use crate::labels::{Caching, Labels};
 use crate::short_text::{SHORT_LIMIT, ShortText};
 use arrayvec::ArrayVec;
 use http::StatusCode;
@@ -20,12 +22,16 @@ pub enum ContentKind {
     Bytes,
 }
 
-/// A response, of a body that is elsewhere.
+/// A response, of a body that is elsewhere. A response with the status 304 has no body.
 #[derive(Clone, Copy)]
 pub struct Response<'a> {
     pub status: StatusCode,
     pub kind: ContentKind,
+    pub labels: &'a Labels,
+    /// The body, or what it begins with.
     pub body: &'a [u8],
+    /// What follows in the body. Mostly nothing does.
+    pub rest: &'a [u8],
     /// Whether the connection ends after it. If so, the response says it.
     pub closes: bool,
 }
@@ -34,14 +40,21 @@ impl Response<'_> {
     /// Its status line and its fields, with the blank line that ends them.
     pub fn head(&self) -> ShortText
         ensures bytes { result ≡ head_of self.now }
-        ensures short { length result ≤ 256 }
+        ensures short { length result ≤ 384 }
     {
         let mut head = ShortText::new();
         put_status_line(&mut head, self.status);
-        put_type_line(&mut head, self.kind);
-        put_length_line(&mut head, self.body.len());
+        put_content_lines(&mut head, self.status, self.kind, self.len());
+        put_label_lines(&mut head, self.labels);
         put_last_lines(&mut head, self.status, self.closes);
         head
+    }
+
+    // How many bytes its body has.
+    fn len(&self) -> usize
+        ensures { result ≡ length (content self.now) }
+    {
+        self.body.len() + self.rest.len()
     }
 }
 
@@ -75,6 +88,17 @@ fn phrase(status: StatusCode) -> &'static str
     }
 }
 
+fn put_content_lines(head: &mut ShortText, status: StatusCode, kind: ContentKind, len: usize)
+    requires { length head.old ≤ 56 }
+    ensures bytes { head.new ≡ head.old ++ spec.content_lines status kind len }
+    ensures len { length head.new ≤ length head.old + 98 }
+{
+    if status.as_u16() != 304 {
+        put_type_line(head, kind);
+        put_length_line(head, len);
+    }
+}
+
 fn put_type_line(head: &mut ShortText, kind: ContentKind)
     requires { length head.old ≤ 100 }
     ensures bytes { head.new ≡ head.old ++ spec.type_line kind }
@@ -105,8 +129,44 @@ fn put_length_line(head: &mut ShortText, len: usize)
     head.push(b"\r\n");
 }
 
+fn put_label_lines(head: &mut ShortText, labels: &Labels)
+    requires { length head.old ≤ 154 }
+    ensures bytes { head.new ≡ head.old ++ spec.label_lines labels.now }
+    ensures len { length head.new ≤ length head.old + 127 }
+{
+    put_tag_line(head, &labels.tag);
+    head.push(caching_line(labels.caching));
+}
+
+fn put_tag_line(head: &mut ShortText, tag: &Option<EntityTag>)
+    requires { length head.old ≤ 154 }
+    ensures bytes { head.new ≡ head.old ++ spec.tag_line tag.now }
+    ensures len { length head.new ≤ length head.old + 74 }
+{
+    match tag {
+        Some(tag) => {
+            head.push(b"etag: \"");
+            head.push(tag.as_slice());
+            head.push(b"\"\r\n");
+        }
+        None => {}
+    }
+}
+
+fn caching_line(caching: Caching) -> &'static [u8]
+    ensures text { result.now ≡ spec.caching_line caching }
+    ensures len { length result.now ≤ 53 }
+{
+    match caching {
+        Caching::Unsaid => b"",
+        Caching::Checked => b"cache-control: no-cache\r\n",
+        Caching::Kept => b"cache-control: private, max-age=31536000, immutable\r\n",
+        Caching::Shared => b"cache-control: public, max-age=31536000, immutable\r\n",
+    }
+}
+
 fn put_last_lines(head: &mut ShortText, status: StatusCode, closes: bool)
-    requires { length head.old ≤ 200 }
+    requires { length head.old ≤ 281 }
     ensures bytes { head.new
         ≡ head.old ++ spec.challenge status ++ spec.close_line closes ++ spec.line_end }
     ensures len { length head.new ≤ length head.old + 47 }
@@ -121,7 +181,7 @@ fn put_last_lines(head: &mut ShortText, status: StatusCode, closes: bool)
 }
 
 fn put_if(head: &mut ShortText, applies: bool, text: &[u8])
-    requires { length head.old + length text.now ≤ 256 }
+    requires { length head.old + length text.now ≤ 384 }
     ensures bytes { head.new ≡ head.old ++ spec.only_if applies text.now }
     ensures len { length head.new ≤ length head.old + length text.now }
 {
@@ -134,7 +194,7 @@ fn put_if(head: &mut ShortText, applies: bool, text: &[u8])
 const GATHER_LIMIT: usize = 4096;
 
 /// Writes a response, or a prefix of it up to the first failed write. It takes no memory: the head
-/// and the prefix of the body go out in one write, and the rest of the body as it is.
+/// and the prefix of the body's first piece go out in one write, and what follows as it is.
 pub fn write_response<W: ByteOut>(
     response: &Response<'_>,
     writer: &mut W,
@@ -151,16 +211,30 @@ pub fn write_response<W: ByteOut>(
     ensures unknown { W.is_unknown writer.old ≡ true → W.is_unknown writer.new ≡ true }
 {
     let head = response.head();
-    let (prefix, rest) = response.body.split_at(prefix_len(response.body));
+    let (prefix, later) = response.body.split_at(prefix_len(response.body));
     let first = gathered(head.as_slice(), prefix);
     write_whole(writer, first.as_slice())?;
-    write_whole(writer, rest)
+    write_both(writer, later, response.rest)
+}
+
+// Writes two texts, one after the other, or a prefix of both up to the first failed write.
+fn write_both<W: ByteOut>(writer: &mut W, first: &[u8], second: &[u8]) -> Result<(), WriteFailed>
+    ensures ok { OnOk result (Writes (W.bytes writer.old) (W.bytes writer.new)
+        (W.is_unknown writer.new) (first.now ++ second.now)) }
+    ensures err { OnErr result (WritesPrefix (W.bytes writer.old) (W.bytes writer.new)
+        (W.is_unknown writer.new) (first.now ++ second.now)) }
+    ensures counted { W.failures writer.new ≡ failures_after result (W.failures writer.old) }
+    ensures told { OnOk result (W.is_unknown writer.new ≡ W.is_unknown writer.old) }
+    ensures unknown { W.is_unknown writer.old ≡ true → W.is_unknown writer.new ≡ true }
+{
+    write_whole(writer, first)?;
+    write_whole(writer, second)
 }
 
 // How much of a body goes out with the head.
 fn prefix_len(body: &[u8]) -> usize
     ensures within { result ≤ length body.now }
-    ensures few { result ≤ 3840 }
+    ensures few { result ≤ 3712 }
 {
     body.len().min(GATHER_LIMIT - SHORT_LIMIT)
 }

@@ -7,7 +7,7 @@ use itoa::Buffer;
 use std::marker::Model;
 
 /// The most bytes of a short text.
-pub const SHORT_LIMIT: usize = 256;
+pub const SHORT_LIMIT: usize = 384;
 
 /// A text of at most `SHORT_LIMIT` bytes, which lie in the value itself. Contracts see the bytes.
 #[derive(Drop)]
@@ -36,14 +36,14 @@ impl ShortText {
     /// The bytes themselves.
     pub fn as_slice(&self) -> &[u8]
         ensures bytes { result.now ≡ self.now }
-        ensures short { length result.now ≤ 256 }
+        ensures short { length result.now ≤ 384 }
     {
         self.bytes.as_slice()
     }
 
     /// Adds a text at the end.
     pub fn push(&mut self, text: &[u8])
-        requires { length self.old + length text.now ≤ 256 }
+        requires { length self.old + length text.now ≤ 384 }
         ensures bytes { self.new ≡ self.old ++ text.now }
         ensures len { length self.new ≡ length self.old + length text.now }
     {
@@ -52,7 +52,7 @@ impl ShortText {
 
     /// Adds a number at the end, in decimal digits.
     pub fn push_number(&mut self, number: u64)
-        requires { length self.old + 40 ≤ 256 }
+        requires { length self.old + 40 ≤ 384 }
         ensures bytes { self.new ≡ self.old ++ decimal number }
         ensures len { length self.new ≤ length self.old + 40 }
     {

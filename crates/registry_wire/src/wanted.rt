@@ -8,7 +8,8 @@ pub struct Wanted {
     pub method: Method,
     /// The target as it is in the head, escapes and query included.
     pub target: Blob,
-    pub authorization: Authorization,
+    pub authorization: FieldValue,
+    pub if_none_match: FieldValue,
     pub body: Blob,
     /// Whether the connection ends after the response.
     pub closes: bool,
@@ -21,15 +22,16 @@ impl Drop for Wanted {
             method: _,
             target: _,
             authorization: _,
+            if_none_match: _,
             body: _,
             closes: _,
         } = self;
     }
 }
 
-/// The values of a request's `authorization` fields.
+/// What the fields of one name say.
 #[derive(Debug, Drop, PartialEq, Eq)]
-pub enum Authorization {
+pub enum FieldValue {
     /// There is no such field.
     Absent,
     /// The value of the only one, without the white space around it.

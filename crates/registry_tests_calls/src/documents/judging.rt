@@ -2,7 +2,8 @@
 
 use crate::outcome::same;
 use crate::parts::{concat, string, texts};
-use registry_documents::{Asked, Document, Present, Revision, TextDigest, front, judge};
+use registry_cache::TextDigest;
+use registry_documents::{Asked, Document, Present, Revision, front, judge};
 use registry_names::{Stop, Text};
 use std::alloc::Global;
 use std::process::Abort;

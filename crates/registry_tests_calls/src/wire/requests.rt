@@ -5,7 +5,7 @@ use crate::outcome::same;
 use crate::parts::{as_text, concat, joined, shown, string};
 use registry_names::{ByteIn, FromRead};
 use registry_wire::{
-    Authorization, FIELD_LIMIT, First, Inbox, Incoming, Taken, Wanted, ending_of, first_in,
+    FIELD_LIMIT, FieldValue, First, Inbox, Incoming, Taken, Wanted, ending_of, first_in,
 };
 use std::alloc::Global;
 use std::io::ErrorKind;
@@ -29,9 +29,9 @@ fn asked(rt: &impl Abort, alloc: Global, wanted: &Wanted) -> String {
 
 fn authorization(wanted: &Wanted) -> &str {
     match &wanted.authorization {
-        Authorization::Absent => "",
-        Authorization::Once(value) => as_text(value.as_slice()),
-        Authorization::Repeated => "several",
+        FieldValue::Absent => "",
+        FieldValue::Once(value) => as_text(value.as_slice()),
+        FieldValue::Repeated => "several",
     }
 }
 

@@ -5,7 +5,7 @@ use crate::outcome::same;
 use crate::parts::as_text;
 use http::StatusCode;
 use registry_names::{ToWrite, WriteFailed};
-use registry_wire::{ContentKind, Response, ShortText, write_response};
+use registry_wire::{ContentKind, Labels, Response, ShortText, write_response};
 use std::alloc::Global;
 use std::process::Abort;
 
@@ -47,10 +47,13 @@ fn is_written(
     limit: usize,
     wanted: (Result<(), WriteFailed>, &str),
 ) {
+    let labels = Labels::none();
     let response = Response {
         status: StatusCode::from_u16(case.0).expect(rt, "a status"),
         kind: ContentKind::Json,
+        labels: &labels,
         body: case.1.as_bytes(),
+        rest: b"",
         closes: case.2,
     };
     let mut narrow = Narrow {

@@ -1,14 +1,14 @@
 //! How many archives are stored.
 
+use crate::outcome::same;
 use crate::tests::both_ways::ran;
 use crate::tests::lists::LAB_KIT;
 use registry_desk::Registry;
 use registry_rules::Reply;
 use registry_tests_requests::{Outcome, push_requests, requests_of};
-use registry_tests_support::same;
 use sqlite::{Alter, Error};
 use std::alloc::Global;
-use std::test::Fail;
+use std::process::Abort;
 
 /// What is asked after `@lab/kit` 1.0.0 is published, and how many archives are stored then. The
 /// second version has the same archive.
@@ -31,28 +31,27 @@ static STORED: [(&str, &str, usize); 3] = [
 ];
 
 #[test]
-fn archives_are_stored_once(rt: HostRuntime) -> Result<(), Fail> {
+fn archives_are_stored_once(rt: HostRuntime) {
     for (shows, text, count) in &STORED {
-        same(*shows, archives_after(rt.alloc(), text)?, *count)?;
+        let stored = archives_after(&rt, rt.alloc(), text);
+        same(&rt, *shows, stored, *count);
     }
-    Ok(())
 }
 
-fn archives_after(alloc: Global, text: &str) -> Result<usize, Fail> {
-    let mut requests = requests_of(alloc, LAB_KIT)?;
-    push_requests(alloc, &mut requests, text)?;
-    let (outcomes, count) = ran(alloc, &requests, "SELECT id FROM archives")?;
-    are_done(&outcomes)?;
-    Ok(count)
+fn archives_after(ends: &impl Abort, alloc: Global, text: &str) -> usize {
+    let mut requests = requests_of(alloc, LAB_KIT).expect(ends, "requests");
+    push_requests(alloc, &mut requests, text).expect(ends, text);
+    let (outcomes, count) = ran(ends, alloc, &requests, "SELECT id FROM archives");
+    are_done(ends, &outcomes);
+    count
 }
 
-// Whether each request was done.
-fn are_done(outcomes: &[Outcome]) -> Result<(), Fail> {
+// Checks that each request was done.
+fn are_done(ends: &impl Abort, outcomes: &[Outcome]) {
     for (place, outcome) in outcomes.iter().enumerate() {
         let is_done = matches!(outcome, Ok(Reply::Done | Reply::Created));
-        same(("a request", place), is_done, true)?;
+        same(ends, ("a request", place), is_done, true);
     }
-    Ok(())
 }
 
 /// How many rows a query of a registry's tables gives. The registry ends afterwards.

@@ -1,5 +1,6 @@
 //! Lists of requests that have the same outcomes by `run` and by `apply` one by one.
 
+use crate::outcome::{same, same_as};
 use crate::tests::archives::rows_in;
 use crate::tests::lists::{
     CALLERS, CALLERS_BACKWARDS, LAB, LAB_KIT, ON_PACKAGES, ON_TEAMS, PEOPLE, RIGHTS, VERSIONS,
@@ -8,10 +9,9 @@ use crate::tests::lists::{
 use registry_desk::Registry;
 use registry_names::{Fault, Refusal};
 use registry_rules::{Reply, Request};
-use registry_tests_requests::{Outcome, outcomes_of, push_requests, request_of, requests_of};
-use registry_tests_support::{otherwise, same};
-use std::alloc::{AllocError, Global};
-use std::test::Fail;
+use registry_tests_requests::{Outcome, outcomes_of, push_requests};
+use std::alloc::Global;
+use std::process::Abort;
 
 /// A query that gives a row where the tables have this program's schema number.
 const NUMBER: &str = "SELECT name FROM meta WHERE name = 'schema' AND value = 3";
@@ -31,65 +31,58 @@ token npm_ann_999_000000001 whoami
 token npm_bob_000000001 whoami
 ";
 
-/// Requests, and the outcome of each.
-struct Told<'a> {
-    requests: Vec<Request>,
-    wanted: Vec<&'a str>,
-}
-
-// Written out, so that dropping it is one call, not one for each part.
-impl Drop for Told<'_> {
-    fn drop(self) {
-        let Told {
-            requests: _,
-            wanted: _,
-        } = self;
-    }
+#[test]
+fn no_request_ends_in_a_fault(rt: HostRuntime) {
+    let requests = requests_there_and_back(&rt, rt.alloc());
+    let outcomes = both_ways(&rt, rt.alloc(), "every request", &requests);
+    same(&rt, "how many", outcomes.len(), requests.len());
 }
 
 #[test]
-fn no_request_ends_in_a_fault(rt: HostRuntime) -> Result<(), Fail> {
-    let requests = requests_there_and_back(rt.alloc())?;
-    let outcomes = both_ways(rt.alloc(), "every request", &requests)?;
-    same("how many", outcomes.len(), requests.len())
+fn every_reply_is_given_both_ways(rt: HostRuntime) {
+    let mut wanted = Vec::new(rt.alloc());
+    let requests = every_reply(&rt, rt.alloc(), &mut wanted);
+    let outcomes = both_ways(&rt, rt.alloc(), "every reply", &requests);
+    are_wanted(&rt, &outcomes, &wanted);
 }
 
 #[test]
-fn every_reply_is_given_both_ways(rt: HostRuntime) -> Result<(), Fail> {
-    let told = every_reply(rt.alloc())?;
-    let outcomes = both_ways(rt.alloc(), "every reply", &told.requests)?;
-    are_wanted(&outcomes, &told.wanted)
+fn fifty_rounds_are_the_same_both_ways(rt: HostRuntime) {
+    let requests = fifty_rounds(&rt, rt.alloc());
+    let outcomes = both_ways(&rt, rt.alloc(), "fifty rounds", &requests);
+    same(&rt, "how many", outcomes.len(), requests.len());
+    are_rounds(&rt, outcomes.get(6..).unwrap_or(&[]));
 }
 
 #[test]
-fn fifty_rounds_are_the_same_both_ways(rt: HostRuntime) -> Result<(), Fail> {
-    let requests = fifty_rounds(rt.alloc())?;
-    let outcomes = both_ways(rt.alloc(), "fifty rounds", &requests)?;
-    same("how many", outcomes.len(), requests.len())?;
-    are_rounds(outcomes.get(6..).unwrap_or(&[]))
-}
-
-#[test]
-fn a_thousand_tokens_of_a_user_end_at_once(rt: HostRuntime) -> Result<(), Fail> {
-    let requests = thousand_tokens(rt.alloc())?;
-    let (outcomes, rows) = ran(rt.alloc(), &requests, "SELECT digest FROM tokens")?;
-    same("how many are left", rows, 1)?;
-    same(
-        "they ended",
-        have_ended(outcomes.get(1_003..).unwrap_or(&[])),
-        true,
-    )
+fn a_thousand_tokens_of_a_user_end_at_once(rt: HostRuntime) {
+    let requests = thousand_tokens(&rt, rt.alloc());
+    let (outcomes, rows) = ran(&rt, rt.alloc(), &requests, "SELECT digest FROM tokens");
+    same(&rt, "how many are left", rows, 1);
+    let have_ended = have_ended(outcomes.get(1_003..).unwrap_or(&[]));
+    same(&rt, "they ended", have_ended, true);
 }
 
 // Two users: one has a token, and the other a thousand, which end. Then some are shown.
-fn thousand_tokens(alloc: Global) -> Result<Vec<Request>, Fail> {
-    let mut requests = requests_of(alloc, TWO_USERS)?;
+fn thousand_tokens(ends: &impl Abort, alloc: Global) -> Vec<Request> {
+    let mut requests = Vec::new(alloc);
+    push_all(ends, alloc, &mut requests, TWO_USERS);
     for number in 0..1_000u64 {
-        let line = format!(in alloc; "--operator token-add ann npm_ann_{number}_000000001")?;
-        requests.push(request_of(alloc, &line)?)?;
+        let line = format!(in alloc; "--operator token-add ann npm_ann_{number}_000000001");
+        push_all(
+            ends,
+            alloc,
+            &mut requests,
+            line.expect(ends, "memory").as_str(),
+        );
     }
-    push_requests(alloc, &mut requests, ENDED)?;
-    Ok(requests)
+    push_all(ends, alloc, &mut requests, ENDED);
+    requests
+}
+
+// Adds the requests of a text.
+fn push_all(ends: &impl Abort, alloc: Global, requests: &mut Vec<Request>, text: &str) {
+    push_requests(alloc, requests, text).expect(ends, text);
 }
 
 fn have_ended(outcomes: &[Outcome]) -> bool {
@@ -105,23 +98,24 @@ fn have_ended(outcomes: &[Outcome]) -> bool {
 }
 
 // The outcomes of requests, which are the same all at once and one by one, and without faults.
-fn both_ways(alloc: Global, shows: &str, requests: &[Request]) -> Result<Vec<Outcome>, Fail> {
-    let (outcomes, rows) = ran(alloc, requests, NUMBER)?;
-    same((shows, "the schema's number"), rows, 1)?;
-    let others = one_by_one(alloc, requests)?;
-    are_the_same(shows, &others, &outcomes)?;
-    Ok(outcomes)
+fn both_ways(ends: &impl Abort, alloc: Global, shows: &str, requests: &[Request]) -> Vec<Outcome> {
+    let (outcomes, rows) = ran(ends, alloc, requests, NUMBER);
+    same(ends, (shows, "the schema's number"), rows, 1);
+    let others = one_by_one(alloc, requests).expect(ends, "a registry");
+    are_the_same(ends, shows, &others, &outcomes);
+    outcomes
 }
 
 /// The outcomes of requests that are run on a new registry, and how many rows a query gives then.
 pub(crate) fn ran(
+    ends: &impl Abort,
     alloc: Global,
     requests: &[Request],
     query: &str,
-) -> Result<(Vec<Outcome>, usize), Fail> {
-    let (registry, outcomes) = Registry::run_in_memory(alloc, requests)?;
-    let rows = rows_in(registry, query)?;
-    Ok((outcomes, rows))
+) -> (Vec<Outcome>, usize) {
+    let (registry, outcomes) = Registry::run_in_memory(alloc, requests).expect(ends, "memory");
+    let rows = rows_in(registry, query).expect(ends, query);
+    (outcomes, rows)
 }
 
 fn one_by_one(alloc: Global, requests: &[Request]) -> Result<Vec<Outcome>, Fault> {
@@ -129,86 +123,88 @@ fn one_by_one(alloc: Global, requests: &[Request]) -> Result<Vec<Outcome>, Fault
     Ok(outcomes_of(alloc, &mut registry, requests)?)
 }
 
-// Whether both have the same replies.
-fn are_the_same(shows: &str, others: &[Outcome], outcomes: &[Outcome]) -> Result<(), Fail> {
-    same(shows, others.len(), outcomes.len())?;
+// Checks that both have the same replies.
+fn are_the_same(ends: &impl Abort, shows: &str, others: &[Outcome], outcomes: &[Outcome]) {
+    same(ends, shows, others.len(), outcomes.len());
     for (place, (other, outcome)) in others.iter().zip(outcomes).enumerate() {
-        same((shows, place), other, outcome)?;
-        same((shows, place), outcome.is_err(), false)?;
+        same_as(ends, (shows, place), other, outcome);
+        same(ends, (shows, place), outcome.is_err(), false);
     }
-    Ok(())
 }
 
 // Each caller asks for each action at one moment, after a package was published; and then all of
 // this backwards.
-fn requests_there_and_back(alloc: Global) -> Result<Vec<Request>, Fail> {
+fn requests_there_and_back(ends: &impl Abort, alloc: Global) -> Vec<Request> {
     let mut actions = Vec::new(alloc);
-    push_lines(&mut actions, ON_TEAMS)?;
-    push_lines(&mut actions, ON_PACKAGES)?;
-    let mut requests = requests_of(alloc, LAB_KIT)?;
+    push_lines(ends, &mut actions, ON_TEAMS);
+    push_lines(ends, &mut actions, ON_PACKAGES);
+    let mut requests = Vec::new(alloc);
+    push_all(ends, alloc, &mut requests, LAB_KIT);
     for action in &actions {
-        push_by(alloc, &mut requests, &CALLERS, action)?;
+        push_by(ends, alloc, &mut requests, &CALLERS, action);
     }
     for action in actions.iter().rev() {
-        push_by(alloc, &mut requests, &CALLERS_BACKWARDS, action)?;
+        push_by(ends, alloc, &mut requests, &CALLERS_BACKWARDS, action);
     }
-    Ok(requests)
+    requests
 }
 
-fn push_lines<'a>(lines: &mut Vec<&'a str>, text: &'a str) -> Result<(), AllocError> {
+fn push_lines(ends: &impl Abort, lines: &mut Vec<&'static str>, text: &'static str) {
     for line in text.lines() {
         if !line.is_empty() {
-            lines.push(line)?;
+            lines.push(line).expect(ends, "memory");
         }
     }
-    Ok(())
 }
 
 fn push_by(
+    ends: &impl Abort,
     alloc: Global,
     requests: &mut Vec<Request>,
     callers: &[&str],
     action: &str,
-) -> Result<(), Fail> {
+) {
     for caller in callers {
-        let line = format!(in alloc; "--at 300 {caller}{action}")?;
-        requests.push(request_of(alloc, &line)?)?;
+        let line = format!(in alloc; "--at 300 {caller}{action}").expect(ends, "memory");
+        push_all(ends, alloc, requests, line.as_str());
     }
-    Ok(())
 }
 
-fn every_reply(alloc: Global) -> Result<Told<'static>, Fail> {
-    let mut told = Told {
-        requests: requests_of(alloc, LAB_KIT)?,
-        wanted: Vec::new(alloc),
-    };
+// Requests, and the outcome of each but the first seven.
+fn every_reply(ends: &impl Abort, alloc: Global, wanted: &mut Vec<&'static str>) -> Vec<Request> {
+    let mut requests = Vec::new(alloc);
+    push_all(ends, alloc, &mut requests, LAB_KIT);
     for text in [PEOPLE, RIGHTS, VERSIONS, WITHDRAWALS] {
-        push_told(alloc, &mut told, text)?;
+        push_told(ends, alloc, &mut requests, wanted, text);
     }
-    Ok(told)
+    requests
 }
 
 // Adds the requests of a text, and the outcome of each, which is the line after it.
-fn push_told<'a>(alloc: Global, told: &mut Told<'a>, text: &'a str) -> Result<(), Fail> {
+fn push_told(
+    ends: &impl Abort,
+    alloc: Global,
+    requests: &mut Vec<Request>,
+    wanted: &mut Vec<&'static str>,
+    text: &'static str,
+) {
     for line in text.lines() {
         match line.strip_prefix("= ") {
-            Some(wanted) => told.wanted.push(wanted)?,
-            None => push_requests(alloc, &mut told.requests, line)?,
+            Some(told) => wanted.push(told).expect(ends, "memory"),
+            None => push_all(ends, alloc, requests, line),
         }
     }
-    Ok(())
 }
 
-// Whether the last outcomes are as wanted.
-fn are_wanted(outcomes: &[Outcome], wanted: &[&str]) -> Result<(), Fail> {
+// Checks that the last outcomes are as wanted.
+fn are_wanted(ends: &impl Abort, outcomes: &[Outcome], wanted: &[&str]) {
     let first = outcomes.len().saturating_sub(wanted.len());
-    same("how many come before", first, 7)?;
+    same(ends, "how many come before", first, 7);
     for (place, (outcome, wanted)) in outcomes.iter().skip(first).zip(wanted).enumerate() {
         if !is_wanted(outcome, *wanted) {
-            return Err(otherwise(place, outcome, *wanted));
+            panic!(ends; "{place} comes out as {outcome:?}, and not as {wanted:?}");
         }
     }
-    Ok(())
 }
 
 // Whether an outcome is the one that a line tells.
@@ -225,32 +221,33 @@ fn is_wanted(outcome: &Outcome, wanted: &str) -> bool {
 }
 
 // Rounds over seven packages in turn, each with its next version.
-fn fifty_rounds(alloc: Global) -> Result<Vec<Request>, Fail> {
-    let mut requests = requests_of(alloc, LAB)?;
+fn fifty_rounds(ends: &impl Abort, alloc: Global) -> Vec<Request> {
+    let mut requests = Vec::new(alloc);
+    push_all(ends, alloc, &mut requests, LAB);
     for round in 0..50u64 {
-        push_round(alloc, &mut requests, round)?;
+        push_round(ends, alloc, &mut requests, round);
     }
-    Ok(requests)
+    requests
 }
 
 // A version is published twice; then its package is asked for, and one that is unknown.
-fn push_round(alloc: Global, requests: &mut Vec<Request>, round: u64) -> Result<(), Fail> {
+fn push_round(ends: &impl Abort, alloc: Global, requests: &mut Vec<Request>, round: u64) {
     let (kit, version) = (round % 7, round / 7);
-    let publish = format!(in alloc; "--at {round} --as bob publish kit-{kit} 1.{version}.0")?;
+    let publish = format!(in alloc; "--at {round} --as bob publish kit-{kit} 1.{version}.0");
+    let publish = publish.expect(ends, "memory");
     let asks = format!(in alloc;
         "--at {round} --as bob packument kit-{kit}\n--at {round} --as bob packument kid-{kit}"
-    )?;
-    push_requests(alloc, requests, &publish)?;
-    push_requests(alloc, requests, &publish)?;
-    push_requests(alloc, requests, &asks)
+    );
+    push_all(ends, alloc, requests, publish.as_str());
+    push_all(ends, alloc, requests, publish.as_str());
+    push_all(ends, alloc, requests, asks.expect(ends, "memory").as_str());
 }
 
-// Whether these are the outcomes of rounds.
-fn are_rounds(outcomes: &[Outcome]) -> Result<(), Fail> {
+// Checks that these are the outcomes of rounds.
+fn are_rounds(ends: &impl Abort, outcomes: &[Outcome]) {
     for (place, round) in outcomes.chunks(4).enumerate() {
-        same(("a round", place), is_round(round), true)?;
+        same(ends, ("a round", place), is_round(round), true);
     }
-    Ok(())
 }
 
 fn is_round(outcomes: &[Outcome]) -> bool {

@@ -1,16 +1,17 @@
 //! Registries in the machine's files: which files become one, and from which none opens. Such a
 //! file isn't changed, and the program reports why.
 
+use crate::outcome::{same, same_as};
 use crate::tests::lies::{FOLDER, LOG, Lies, PATH, added, lay};
-use crate::tests::program::{Case, Failing, leaves_it, with_db};
+use crate::tests::program::{Case, Failing, leaves_at};
 use registry_desk::Registry;
 use registry_names::{Fault, Refusal};
 use registry_rules::Reply;
-use registry_tests_support::same;
-use sqlite::Alter;
-use std::fs;
+use sqlite::FileStore;
+use sqlite_disk::Disk;
 use std::os::unix::fs::PermissionsExt;
-use std::test::Fail;
+use std::process::Abort;
+use std::{fs, io};
 
 const FOREIGN: &str =
     "fault: Database\nthe file holds no registry, or was changed by another hand\n";
@@ -164,34 +165,39 @@ static OTHERS: [(&str, Lies, &str); 12] = [
 ];
 
 #[test]
-fn files_become_registries(rt: HostRuntime) -> Result<(), Fail> {
+fn files_become_registries(rt: HostRuntime) {
     for (shows, lies, refusal) in &OPENED {
-        lay(&rt, *lies)?;
-        same(shows, added(&rt)?, Ok(reply_of(*refusal)))?;
+        lay(&rt, &rt, *lies);
+        same_as(&rt, *shows, &added(&rt, &rt), &Ok(reply_of(*refusal)));
     }
-    Ok(fs::remove_dir_all(&rt, FOLDER)?)
+    let _ = fs::remove_dir_all(&rt, FOLDER);
 }
 
 #[test]
-fn damaged_files_are_kept(rt: HostRuntime) -> Result<(), Fail> {
-    all_are_kept(&rt, &DAMAGED)
+fn damaged_files_are_kept(rt: HostRuntime) {
+    all_are_kept(&rt, &rt, &DAMAGED);
 }
 
 #[test]
-fn databases_of_others_are_kept(rt: HostRuntime) -> Result<(), Fail> {
-    all_are_kept(&rt, &OTHERS)
+fn databases_of_others_are_kept(rt: HostRuntime) {
+    all_are_kept(&rt, &rt, &OTHERS);
 }
 
 #[test]
-fn a_registry_is_its_owners_alone_and_held_by_one(rt: HostRuntime) -> Result<(), Fail> {
-    lay(&rt, Lies::Registry)?;
+fn a_registry_is_its_owners_alone_and_held_by_one(rt: HostRuntime) {
+    lay(&rt, &rt, Lies::Registry);
     match Registry::open(&rt, PATH) {
-        Ok(held) => is_held(&rt, held)?,
-        Err(_) => return Err(Fail::new(format_args!("the registry doesn't open"))),
+        Ok(held) => is_held(&rt, &rt, held),
+        Err(_) => panic!(rt; "the registry doesn't open"),
     }
-    let later = added(&rt)?;
-    same("a later one", later, Ok(reply_of(Some(Refusal::Exists))))?;
-    Ok(fs::remove_dir_all(&rt, FOLDER)?)
+    let later = added(&rt, &rt);
+    same_as(
+        &rt,
+        "a later one",
+        &later,
+        &Ok(reply_of(Some(Refusal::Exists))),
+    );
+    let _ = fs::remove_dir_all(&rt, FOLDER);
 }
 
 fn reply_of(refusal: Option<Refusal>) -> Reply {
@@ -202,53 +208,55 @@ fn reply_of(refusal: Option<Refusal>) -> Reply {
 }
 
 // No registry opens from any of these, and none of them is changed.
-fn all_are_kept(rt: &HostRuntime, cases: &[(&str, Lies, &'static str)]) -> Result<(), Fail> {
+fn all_are_kept(rt: &HostRuntime, ends: &impl Abort, cases: &[(&'static str, Lies, &'static str)]) {
     for (shows, lies, errors) in cases {
-        lay(rt, *lies)?;
-        is_kept(rt, shows, errors)?;
+        lay(rt, ends, *lies);
+        is_kept(rt, ends, *shows, *errors);
     }
-    Ok(fs::remove_dir_all(rt, FOLDER)?)
+    let _ = fs::remove_dir_all(rt, FOLDER);
 }
 
 // No registry opens from the file, which isn't changed. Each line prints this, where it is given.
-fn is_kept(rt: &HostRuntime, shows: &str, errors: &'static str) -> Result<(), Fail> {
+fn is_kept(rt: &HostRuntime, ends: &impl Abort, shows: &'static str, errors: &'static str) {
     let before = fs::read(rt, PATH).ok();
-    same(shows, added(rt)?, Err(Fault::Database))?;
+    same_as(ends, shows, &added(rt, ends), &Err(Fault::Database));
     if !errors.is_empty() {
-        all_print(rt, errors)?;
+        all_print(rt, ends, shows, errors);
     }
-    same((shows, "kept"), fs::read(rt, PATH).ok() == before, true)
+    let is_kept = fs::read(rt, PATH).ok() == before;
+    same(ends, (shows, "kept"), is_kept, true);
 }
 
 // Each line ends with the fault, and prints this.
-fn all_print(rt: &HostRuntime, errors: &'static str) -> Result<(), Fail> {
-    for given in &LINES {
+fn all_print(rt: &HostRuntime, ends: &impl Abort, shows: &'static str, errors: &'static str) {
+    for arguments in &LINES {
         let case = Case {
-            shows: "a file that doesn't open",
-            arguments: given,
+            shows,
+            arguments: *arguments,
             text: "",
             failing: Failing::None,
             status: 3,
             output: "",
             errors,
         };
-        let arguments = with_db(rt.alloc(), PATH, given)?;
-        leaves_it(rt, rt.alloc(), &arguments, &case)?;
+        leaves_at(rt, ends, PATH, &case);
     }
-    Ok(())
 }
 
 // While a registry is held, its file and its log are only its owner's, and no other registry opens.
-fn is_held<S: Alter + Drop>(rt: &HostRuntime, held: Registry<S>) -> Result<(), Fail> {
-    let seen = is_seen_held(rt);
+fn is_held<D: Disk + Drop>(rt: &HostRuntime, ends: &impl Abort, held: Registry<FileStore<D>>) {
+    is_seen_held(rt, ends);
     drop(held);
-    seen
 }
 
-fn is_seen_held(rt: &HostRuntime) -> Result<(), Fail> {
+fn is_seen_held(rt: &HostRuntime, ends: &impl Abort) {
     for path in [PATH, LOG] {
-        let mode = fs::metadata(rt, path)?.permissions().mode();
-        same(path, mode & 0o777, 0o600)?;
+        let mode = mode_of(rt, path).expect(ends, "a file");
+        same(ends, path, mode & 0o777, 0o600);
     }
-    is_kept(rt, "a second one", BUSY)
+    is_kept(rt, ends, "a second one", BUSY);
+}
+
+fn mode_of(rt: &HostRuntime, path: &str) -> io::Result<u32> {
+    Ok(fs::metadata(rt, path)?.permissions().mode())
 }

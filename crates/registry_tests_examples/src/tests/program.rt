@@ -8,13 +8,13 @@ mod restores;
 mod serving;
 mod tokens;
 
+use crate::outcome::same;
 use registry_names::{FromRead, Text, ToWrite};
 use registry_program::{Ending, Failure, program, report};
-use registry_tests_support::same;
 use std::alloc::Global;
 use std::io::{ErrorKind, Read, Write};
-use std::test::Fail;
-use std::{env, fs, io, process, str};
+use std::process::Abort;
+use std::{fs, io, str};
 
 const BODY: &str =
     r#"{"name":"kit","versions":{"1.0.0":{"name":"kit","version":"1.0.0"}},"_attachments":{"kit-1.0.0.tgz":{"data":"YWJj"}}}"#;
@@ -84,89 +84,78 @@ static CASES: [Case; 4] = [
 ];
 
 #[test]
-fn ends_that_fail_are_faults(rt: HostRuntime) -> Result<(), Fail> {
-    let db = path(&rt, "-ends.db")?;
+fn ends_that_fail_are_faults(rt: HostRuntime) {
+    let db = "ends.db";
     for case in &CASES {
-        let arguments = if case.arguments.is_empty() {
-            Vec::new(rt.alloc())
+        if case.arguments.is_empty() {
+            leaves(&rt, &rt, &[], case);
         } else {
-            with_db(rt.alloc(), db.as_str(), case.arguments)?
-        };
-        leaves_it(&rt, rt.alloc(), &arguments, case)?;
+            leaves_at(&rt, &rt, db, case);
+        }
     }
-    forget(&rt, db.as_str())
+    forget(&rt, db);
 }
 
 #[test]
-fn a_disk_that_failed_under_a_server_is_reported(rt: HostRuntime) -> Result<(), Fail> {
+fn a_disk_that_failed_under_a_server_is_reported(rt: HostRuntime) {
     let mut errors = Vec::new(rt.alloc());
     let ending = Ending::Fault(Failure::Shut);
     let status = report(&mut ToWrite::new(&mut errors), &ending);
-    same("the status", status, 3)?;
-    same("the errors", str::from_utf8(&errors).unwrap_or("?"), FAILED)
-}
-
-// The path of a file that no other process has.
-fn path(rt: &HostRuntime, end: &str) -> Result<String, Fail> {
-    let folder = env::temp_dir(rt)?;
-    let id = process::id(rt.process());
-    Ok(format!(in rt.alloc(); "{}/registry-{id}{end}", folder.as_str())?)
+    same(&rt, "the status", status, 3);
+    let errors = str::from_utf8(&errors).unwrap_or("?");
+    same(&rt, "the errors", errors, FAILED);
 }
 
 // Removes the registry's file and its log.
-fn forget(rt: &HostRuntime, db: &str) -> Result<(), Fail> {
-    let log = format!(in rt.alloc(); "{db}-wal")?;
-    fs::remove_file(rt, db)?;
-    Ok(fs::remove_file(rt, log.as_str())?)
+fn forget(rt: &HostRuntime, db: &str) {
+    let _ = fs::remove_file(rt, db);
+    if let Ok(log) = format!(in rt.alloc(); "{db}-wal") {
+        let _ = fs::remove_file(rt, log.as_str());
+    }
 }
 
 /// The arguments, after those that name the registry's file.
-pub(crate) fn with_db(alloc: Global, db: &str, given: &[&str]) -> Result<Vec<Text>, Fail> {
+pub(crate) fn with_db(ends: &impl Abort, alloc: Global, db: &str, given: &[&str]) -> Vec<Text> {
     let mut arguments = Vec::new(alloc);
-    for argument in ["--db", db] {
-        arguments.push(Text::from_str(alloc, argument)?)?;
-    }
-    for argument in given {
-        arguments.push(Text::from_str(alloc, argument)?)?;
-    }
-    Ok(arguments)
+    push_texts(ends, alloc, &mut arguments, &["--db", db]);
+    push_texts(ends, alloc, &mut arguments, given);
+    arguments
 }
 
-/// Whether the program, with these arguments, leaves what the case says.
-pub(crate) fn leaves_it(
-    rt: &HostRuntime,
-    alloc: Global,
-    arguments: &[Text],
-    case: &Case,
-) -> Result<(), Fail> {
+/// Adds arguments.
+fn push_texts(ends: &impl Abort, alloc: Global, arguments: &mut Vec<Text>, given: &[&str]) {
+    for argument in given {
+        let text = Text::from_str(alloc, argument).expect(ends, "memory");
+        arguments.push(text).expect(ends, "memory");
+    }
+}
+
+/// Checks that the program, with the arguments of the case and this file, leaves what the case says.
+pub(crate) fn leaves_at(rt: &HostRuntime, ends: &impl Abort, db: &str, case: &Case) {
+    let arguments = with_db(ends, rt.alloc(), db, case.arguments);
+    leaves(rt, ends, &arguments, case);
+}
+
+/// Checks that the program, with these arguments, leaves what the case says.
+pub(crate) fn leaves(rt: &HostRuntime, ends: &impl Abort, arguments: &[Text], case: &Case) {
     let input = Input::new(case.text.as_bytes(), case.failing);
-    let mut output = Output::new(alloc, case.failing);
-    let mut errors = Output::new(alloc, Failing::None);
+    let mut output = Output::new(rt.alloc(), case.failing);
+    let mut errors = Output::new(rt.alloc(), Failing::None);
     let status = program(
         rt,
-        alloc,
+        rt.alloc(),
         arguments,
         &mut FromRead::new(input),
         &mut ToWrite::new(&mut output),
         &mut ToWrite::new(&mut errors),
     );
-    is_left(
-        case,
+    let wanted = (case.status, case.output, case.errors);
+    same(
+        ends,
+        case.shows,
         (status, output.text(), errors.text()),
-        (case.status, case.output, case.errors),
-    )
-}
-
-// What a call leaves: its status, what is printed, and the line on the errors.
-type Left<'a> = (u8, &'a str, &'a str);
-
-// Whether this is left. Otherwise the test fails, and shows both.
-fn is_left(case: &Case, left: Left, wanted: Left) -> Result<(), Fail> {
-    if left == wanted {
-        return Ok(());
-    }
-    let shows = case.shows;
-    Err(Fail::new(format_args!("{shows:?} leaves {left:?}, and not {wanted:?}")))
+        wanted,
+    );
 }
 
 /// A reader of a text. Its first read is interrupted, and it may break where the text ends.

@@ -5,12 +5,12 @@ ghost use Rattle.std.specs.Prelude.{◌≡◌, false, ℕ, List, string_bytes};
 ghost use Rattle.sqlite_value.specs.Order.{column};
 ghost use Rattle.registry_rows.specs.Columns.{text_in, number_in};
 
+use crate::outcome::same;
 use registry_names::Fault;
 use registry_rows::{RowKind, fault_of, read, value_of_first_row, values_of_rows, write};
-use registry_tests_support::same;
 use sqlite::{Alter, Connection, Constraint, Error, ErrorCode, Row, Transaction, params};
 use std::alloc::Global;
-use std::test::Fail;
+use std::process::Abort;
 
 #[derive(Debug, Drop)]
 struct Count {
@@ -86,26 +86,29 @@ static CALLS: [(Call, Result<&str, Fault>); 15] = [
 ];
 
 #[test]
-fn statements_are_run(rt: HostRuntime) -> Result<(), Fail> {
-    let alloc = rt.alloc();
-    let mut conn = Connection::open_in_memory(alloc)?;
-    all_come_out(alloc, &mut conn)
+fn statements_are_run(rt: HostRuntime) {
+    let mut conn = Connection::open_in_memory(rt.alloc()).expect(&rt, "a database");
+    all_come_out(&rt, rt.alloc(), &mut conn);
 }
 
-fn all_come_out<S: Alter>(alloc: Global, conn: &mut Connection<S>) -> Result<(), Fail>
+fn all_come_out<S: Alter>(rt: &impl Abort, alloc: Global, conn: &mut Connection<S>)
     requires idle { conn.old.in_transaction ≡ false }
 {
     let mut tx = conn.transaction();
-    come_out(alloc, &mut tx)
+    come_out(rt, alloc, &mut tx);
 }
 
-fn come_out<S: Alter>(alloc: Global, tx: &mut Transaction<'_, S>) -> Result<(), Fail>
+fn come_out<S: Alter>(rt: &impl Abort, alloc: Global, tx: &mut Transaction<'_, S>)
     ensures same_reference { tx.new.conn.ghost_name ≡ tx.old.conn.ghost_name }
 {
     for (call, wanted) in &CALLS {
-        same(call, told(alloc, tx, *call).as_deref(), wanted.as_deref())?;
+        same(
+            rt,
+            *call,
+            told(alloc, tx, *call).as_deref(),
+            wanted.as_deref(),
+        );
     }
-    Ok(())
 }
 
 fn told<S: Alter>(alloc: Global, tx: &mut Transaction<'_, S>, call: Call) -> Result<String, Fault>
@@ -171,9 +174,8 @@ static FAULTS: [(Error, Fault); 5] = [
 ];
 
 #[test]
-fn errors_are_faults() -> Result<(), Fail> {
+fn errors_are_faults(rt: HostRuntime) {
     for (error, fault) in &FAULTS {
-        same(error, fault_of(*error), *fault)?;
+        same(&rt, *error, fault_of(*error), *fault);
     }
-    Ok(())
 }

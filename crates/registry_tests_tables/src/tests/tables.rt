@@ -1,6 +1,7 @@
 //! Calls on an empty database, with enough memory. No contract says that a call ever succeeds: here
 //! each call does, and shows what the calls before it put.
 
+mod body;
 mod call;
 mod rights;
 mod schema;
@@ -16,7 +17,6 @@ use rights::RightCall::{
     Anonymous, DropGrant, DropOwner, HasGrant, IsMaintainer, NewGrant, NewMaintainer, OtherGrant,
     OtherMaintainer, Packages, Standing,
 };
-use std::test::Fail;
 use teams::TeamCall::{
     Grant, Grants, InScope, Member, Organisation, Team, TeamMember, User, Users,
 };
@@ -25,48 +25,48 @@ use tokens::TokenCall::{DropToken, NewToken, ShortDigest, Tokens, UserOf};
 use walks::{Walk, all_give};
 
 #[test]
-fn versions_come_back(rt: HostRuntime) -> Result<(), Fail> {
-    all_come_out(rt.alloc(), &VERSIONS)
+fn versions_come_back(rt: HostRuntime) {
+    all_come_out(&rt, rt.alloc(), &VERSIONS);
 }
 
 #[test]
-fn statuses_stand_as_they_were_put(rt: HostRuntime) -> Result<(), Fail> {
-    all_come_out(rt.alloc(), &STATUSES)
+fn statuses_stand_as_they_were_put(rt: HostRuntime) {
+    all_come_out(&rt, rt.alloc(), &STATUSES);
 }
 
 #[test]
-fn tags_stand_as_they_were_put(rt: HostRuntime) -> Result<(), Fail> {
-    all_come_out(rt.alloc(), &TAGS)
+fn tags_stand_as_they_were_put(rt: HostRuntime) {
+    all_come_out(&rt, rt.alloc(), &TAGS);
 }
 
 #[test]
-fn teams_tell_their_users_and_grants(rt: HostRuntime) -> Result<(), Fail> {
-    all_come_out(rt.alloc(), &TEAMS)
+fn teams_tell_their_users_and_grants(rt: HostRuntime) {
+    all_come_out(&rt, rt.alloc(), &TEAMS);
 }
 
 #[test]
-fn rights_stand_as_they_were_put(rt: HostRuntime) -> Result<(), Fail> {
-    all_come_out(rt.alloc(), &RIGHTS)
+fn rights_stand_as_they_were_put(rt: HostRuntime) {
+    all_come_out(&rt, rt.alloc(), &RIGHTS);
 }
 
 #[test]
-fn tokens_are_listed_and_dropped(rt: HostRuntime) -> Result<(), Fail> {
-    all_come_out(rt.alloc(), &TOKENS)
+fn tokens_are_listed_and_dropped(rt: HostRuntime) {
+    all_come_out(&rt, rt.alloc(), &TOKENS);
 }
 
 #[test]
-fn numbers_out_of_range_are_found(rt: HostRuntime) -> Result<(), Fail> {
-    all_come_out(rt.alloc(), &NUMBERS)
+fn numbers_out_of_range_are_found(rt: HostRuntime) {
+    all_come_out(&rt, rt.alloc(), &NUMBERS);
 }
 
 #[test]
-fn calls_put_rows_that_fit(rt: HostRuntime) -> Result<(), Fail> {
-    all_come_out(rt.alloc(), &ROWS)
+fn calls_put_rows_that_fit(rt: HostRuntime) {
+    all_come_out(&rt, rt.alloc(), &ROWS);
 }
 
 #[test]
-fn walks_give_the_live_versions(rt: HostRuntime) -> Result<(), Fail> {
-    all_give(rt.alloc(), &WALKS)
+fn walks_give_the_live_versions(rt: HostRuntime) {
+    all_give(&rt, rt.alloc(), &WALKS);
 }
 
 /// The body of `kit` 1.0.0, which names `pad` with the same range in two members, and `kid` with

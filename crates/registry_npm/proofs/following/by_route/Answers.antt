@@ -1,7 +1,7 @@
 use Rattle.registry_npm.proofs.following.by_route.Goals as goal
 
 pub returns-in-OrgSet : goal.returns-in-OrgSet
-returns-in-OrgSet g c = rw c.in-OrgSet.is c.org_set.ensures
+returns-in-OrgSet g c = rw (c.in-OrgSet.is, c.of-in-OrgSet.ensures) c.org_set.ensures
 
 pub returns-in-FileDrop : goal.returns-in-FileDrop
 returns-in-FileDrop g c = rw c.in-FileDrop.is c.other.ensures

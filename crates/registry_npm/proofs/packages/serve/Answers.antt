@@ -5,4 +5,4 @@ pub returns-in-Ok : goal.returns-in-Ok
 returns-in-Ok g c = comes-or g.D.Service.answers _ _ _ _ c.packument.ensures
 
 pub returns-in-Err : goal.returns-in-Err
-returns-in-Err g c = rw c.in-Err.ensures.err (comes-starved g.D.Service.answers _ _)
+returns-in-Err g c = rw (c.faulted.ensures, c.in-Err.ensures.err) (comes-starved g.D.Service.answers _ _)

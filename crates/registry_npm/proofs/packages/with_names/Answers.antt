@@ -6,7 +6,7 @@ pub returns-in-Ok-Some : goal.returns-in-Ok-Some
 returns-in-Ok-Some g c = comes-names g.D.Service.answers _ _ _ _ _ _ (sym (rw c.in-Ok-Some.field-0-is at c.in-Ok-Some.ensures.ok)) (rw c.deref.ensures.value at c.fulfil.ensures)
 
 pub returns-in-Ok-None : goal.returns-in-Ok-None
-returns-in-Ok-None g c = comes-nameless g.D.Service.answers _ _ _ (sym (rw c.in-Ok-None.field-0-is at c.in-Ok-None.ensures.ok))
+returns-in-Ok-None g c = rw c.faulted.ensures (comes-nameless g.D.Service.answers _ _ _ (sym (rw c.in-Ok-None.field-0-is at c.in-Ok-None.ensures.ok)))
 
 pub returns-in-Err : goal.returns-in-Err
-returns-in-Err g c = rw c.in-Err.ensures.err (comes-starved g.D.Service.answers _ _)
+returns-in-Err g c = rw (c.faulted-in-Err.ensures, c.in-Err.ensures.err) (comes-starved g.D.Service.answers _ _)

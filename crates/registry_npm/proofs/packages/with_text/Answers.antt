@@ -9,4 +9,4 @@ pub returns-in-Ok : goal.returns-in-Ok
 returns-in-Ok g c = comes-or_else g.D.Service.answers _ _ _ _ _ _ (sym c.is_scoped.ensures ∙ c.if-is_scoped.false) (comes-or g.D.Service.answers _ _ _ _ c.maintainers.ensures)
 
 pub returns-in-Err : goal.returns-in-Err
-returns-in-Err g c = comes-or_else g.D.Service.answers _ _ _ _ _ _ (sym c.is_scoped.ensures ∙ c.if-is_scoped.false) (rw c.in-Err.ensures.err (comes-starved g.D.Service.answers _ _))
+returns-in-Err g c = comes-or_else g.D.Service.answers _ _ _ _ _ _ (sym c.is_scoped.ensures ∙ c.if-is_scoped.false) (rw (c.faulted.ensures, c.in-Err.ensures.err) (comes-starved g.D.Service.answers _ _))

@@ -6,9 +6,9 @@ use Rattle.registry_npm.proofs.turning.npm_turn.Goals as goal
 pub returns-then-not-is_npms : goal.returns-then-not-is_npms
 returns-then-not-is_npms g c =
     let found = rw (c.in-Some.is, c.as_slice.ensures) at c.npm_route_of.ensures in
-    other-turn g.D.Service.answers _ (npm_route_view (Some c.in-Some.route)) c.args.wanted.now c.args.at c.args.is_last _ _ found (sym (rw c.as_slice-2.ensures at c.is_npms.ensures) ∙ c.if-not-is_npms.true) c.turn-then-not-is_npms.ensures
+    other-turn g.D.Service.answers _ (npm_route_view (Some c.in-Some.route)) c.args.wanted.now c.args.at c.args.is_last _ _ found (sym (rw c.as_slice-2.ensures at c.is_npms.ensures) ∙ c.if-not-is_npms.true) c.other_turn-then-not-is_npms.ensures
 
 pub returns : goal.returns
 returns g c =
     let found = rw (c.in-Some.is, c.as_slice.ensures) at c.npm_route_of.ensures in
-    npms-turn g.D.Service.answers _ _ c.args.wanted.now c.args.at c.args.is_last _ _ _ found (sym (rw c.as_slice-2.ensures at c.is_npms.ensures) ∙ c.if-not-is_npms.false) c.by_route-outcome.ensures c.turn_with.ensures
+    npms-turn g.D.Service.answers _ _ c.args.wanted.now c.args.at c.args.is_last _ _ _ _ found (sym (rw c.as_slice-2.ensures at c.is_npms.ensures) ∙ c.if-not-is_npms.false) c.by_route-told.ensures c.own_labels-labels.ensures c.turn_told.ensures

@@ -7,5 +7,5 @@ pub returns : goal.returns
 returns c =
     let answer = c.args.turned.now.answer in
     c.head.ensures.bytes
-    ∙ ap (λ (b : List ℕ). head_bytes answer.status answer.kind (length b) c.is_some.result) c.as_slice.ensures
-    ∙ ap (λ (b : Bool). head_bytes answer.status answer.kind (length (body_bytes answer.body)) b) c.is_some.ensures
+    ∙ ap (λ (b : List ℕ). head_bytes answer.status answer.kind answer.labels (length b) c.is_some.result) c.as_slices.ensures
+    ∙ ap (λ (b : Bool). head_bytes answer.status answer.kind answer.labels (length (body_bytes answer.body)) b) c.is_some.ensures

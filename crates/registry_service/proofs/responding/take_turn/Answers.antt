@@ -8,5 +8,5 @@ pub returns-in-Err-clause-responds : goal.returns-in-Err-clause-responds
 returns-in-Err-clause-responds g c =
     let dialogue = spoken profile g.D.Service.answers in
     let none = none-asked g.D.Service.answers c.args.service.now c.args.wanted.now c.args.at c.in-Err.stop c.in-Err.ensures in
-    responds-request dialogue _ _ c.args.wanted.now c.args.at c.args.is_last [] _ _ _ _ _ _
+    responds-request g.D.Service.answers _ _ c.args.wanted.now c.args.at c.args.is_last [] _ _ _ _ _ _
     (subst (λ (o : Outcome). IsAnswered dialogue c.args.service.now c.args.wanted.now c.args.at [] o c.args.service.now) (sym c.stopped.ensures) none) c.turn_with.ensures c.respond.ensures.responds

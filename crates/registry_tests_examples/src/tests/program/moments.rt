@@ -1,22 +1,22 @@
 //! The moments of requests over HTTP and of commands, beside those of the clock.
 
 use super::serving::answers_client;
-use super::{BODY, Case, Failing, leaves_it, path, with_db};
-use crate::tests::at_path::number_at;
+use super::{BODY, Case, Failing, forget, leaves, with_db};
+use crate::outcome::same;
+use crate::tests::at_path::asked_number;
 use crate::tests::lists::{LAB, LAB_KIT};
 use registry_desk::Registry;
 use registry_http::RegistryService;
-use registry_names::{FromRead, Moment, ToWrite, read_whole, write_whole};
-use registry_rules::Request;
+use registry_names::Moment;
 use registry_server::Server;
 use registry_service::HttpService;
-use registry_tests_requests::{outcomes_of, requests_of};
-use registry_tests_support::same;
+use registry_tests_requests::{outcome_of, requests_of};
 use sqlite::Alter;
 use std::alloc::{AllocError, Global};
 use std::cell::Cell;
+use std::io::{Read, Write};
 use std::net::{Ipv4Addr, Net, OpenStream, Shutdown, SocketAddr, TcpStream};
-use std::test::Fail;
+use std::process::Abort;
 use std::time::{Clock, Duration};
 use std::{fs, io};
 
@@ -44,41 +44,36 @@ static BEGINNING: [&'static [&'static str]; 2] = [
 ];
 
 #[test]
-fn a_publish_over_http_has_the_systems_moment(rt: HostRuntime) -> Result<(), Fail> {
-    let folder = path(&rt, "-published")?;
-    let db = format!(in rt.alloc(); "{}/registry.db", folder.as_str())?;
-    begin(&rt, folder.as_str(), db.as_str())?;
-    let asks = publish_text(rt.alloc())?;
-    let before = rt.since_1970()?.as_secs();
-    answers_client(&rt, db.as_str(), asks.as_str(), CREATED)?;
-    is_published_since(&rt, db.as_str(), before)?;
-    Ok(fs::remove_dir_all(&rt, folder.as_str())?)
+fn a_publish_over_http_has_the_systems_moment(rt: HostRuntime) {
+    let db = "published.db";
+    begin(&rt, &rt, db);
+    let asks = publish_text(rt.alloc()).expect(&rt, "memory");
+    let before = now(&rt, &rt);
+    answers_client(&rt, &rt, db, asks.as_str(), CREATED);
+    is_published_since(&rt, &rt, db, before);
+    forget(&rt, db);
 }
 
 #[test]
-fn a_command_has_the_systems_moment(rt: HostRuntime) -> Result<(), Fail> {
-    let folder = path(&rt, "-commanded")?;
-    let db = format!(in rt.alloc(); "{}/registry.db", folder.as_str())?;
-    let body = format!(in rt.alloc(); "{}/kit.json", folder.as_str())?;
-    begin(&rt, folder.as_str(), db.as_str())?;
-    fs::write(&rt, body.as_str(), BODY.as_bytes())?;
-    let before = rt.since_1970()?.as_secs();
-    is_done(&rt, db.as_str(), &["--as", "bob", "publish", body.as_str()])?;
-    is_published_since(&rt, db.as_str(), before)?;
-    Ok(fs::remove_dir_all(&rt, folder.as_str())?)
+fn a_command_has_the_systems_moment(rt: HostRuntime) {
+    let (db, body) = ("commanded.db", "kit.json");
+    begin(&rt, &rt, db);
+    fs::write(&rt, body, BODY.as_bytes()).expect(&rt, "a body");
+    let before = now(&rt, &rt);
+    is_done(&rt, &rt, db, &["--as", "bob", "publish", body]);
+    is_published_since(&rt, &rt, db, before);
+    forget(&rt, db);
 }
 
-// A new folder, and in it a registry that knows bob.
-fn begin(rt: &HostRuntime, folder: &str, db: &str) -> Result<(), Fail> {
-    fs::create_dir(rt, folder)?;
+// A registry that knows bob.
+fn begin(rt: &HostRuntime, ends: &impl Abort, db: &str) {
     for given in &BEGINNING {
-        is_done(rt, db, given)?;
+        is_done(rt, ends, db, given);
     }
-    Ok(())
 }
 
-// Whether the command is done.
-fn is_done(rt: &HostRuntime, db: &str, given: &[&str]) -> Result<(), Fail> {
+// Checks that the command is done.
+fn is_done(rt: &HostRuntime, ends: &impl Abort, db: &str, given: &[&str]) {
     let case = Case {
         shows: "a command",
         arguments: &[],
@@ -88,23 +83,20 @@ fn is_done(rt: &HostRuntime, db: &str, given: &[&str]) -> Result<(), Fail> {
         output: "{\"ok\":true}\n",
         errors: "",
     };
-    let arguments = with_db(rt.alloc(), db, given)?;
-    leaves_it(rt, rt.alloc(), &arguments, &case)
+    leaves(rt, ends, &with_db(ends, rt.alloc(), db, given), &case);
 }
 
-// Whether the one version in the file was published from that second on, and not later than now.
-fn is_published_since(rt: &HostRuntime, db: &str, before: u64) -> Result<(), Fail> {
-    let published = published_in(rt, db)?;
-    let after = rt.since_1970()?.as_secs();
-    if before <= published && published <= after {
-        return Ok(());
-    }
-    Err(Fail::new(format_args!("published at {published}, and not from {before} to {after}")))
+// The second of the system's clock.
+fn now(rt: &HostRuntime, ends: &impl Abort) -> u64 {
+    rt.since_1970().expect(ends, "a moment").as_secs()
 }
 
-// When the one version in the file was published.
-fn published_in(rt: &HostRuntime, db: &str) -> Result<u64, Fail> {
-    Ok(number_at(rt, db, "", "SELECT published FROM versions")?)
+// Checks that the one version in the file was published from that second on, and not later than now.
+fn is_published_since(rt: &HostRuntime, ends: &impl Abort, db: &str, before: u64) {
+    let published = asked_number(rt, ends, db, "SELECT published FROM versions");
+    let after = now(rt, ends);
+    let is_since = before <= published && published <= after;
+    same(ends, (before, published, after), is_since, true);
 }
 
 // The publish of `kit` 1.0.0 by bob.
@@ -155,91 +147,92 @@ static JUMPS: [(u64, &str); 2] = [
 ];
 
 #[test]
-fn a_withdrawal_over_http_is_refused_after_72_hours(rt: HostRuntime) -> Result<(), Fail> {
-    let mut asks = publish_text(rt.alloc())?;
-    asks.push_str(withdraw_text(rt.alloc())?.as_str())?;
+fn a_withdrawal_over_http_is_refused_after_72_hours(rt: HostRuntime) {
+    let alloc = rt.alloc();
+    let publish = publish_text(alloc).expect(&rt, "memory");
+    let withdraw = withdraw_text(alloc).expect(&rt, "memory");
+    let asks = joined(&rt, alloc, publish.as_str(), withdraw.as_str());
     for (jump, answer) in &JUMPS {
-        let wanted = format!(in rt.alloc(); "{CREATED}{answer}")?;
-        let answers = answers_to(&rt, *jump, LAB, &[asks.as_str()])?;
-        same(*jump, answers.as_str(), wanted.as_str())?;
+        let wanted = joined(&rt, alloc, CREATED, answer);
+        let answers = answers_to(&rt, &rt, *jump, LAB, &[asks.as_str()]);
+        same(&rt, *jump, answers.as_str(), wanted.as_str());
     }
-    Ok(())
 }
 
 #[test]
-fn a_server_answers_two_clients_at_a_registry(rt: HostRuntime) -> Result<(), Fail> {
-    let wanted = format!(in rt.alloc(); "{TAGS_OUT}{TAGS_OUT}")?;
-    let answers = answers_to(&rt, 0, LAB_KIT, &[TAGS, TAGS])?;
-    same("two clients", answers.as_str(), wanted.as_str())
+fn a_server_answers_two_clients_at_a_registry(rt: HostRuntime) {
+    let wanted = joined(&rt, rt.alloc(), TAGS_OUT, TAGS_OUT);
+    let answers = answers_to(&rt, &rt, 0, LAB_KIT, &[TAGS, TAGS]);
+    same(&rt, "two clients", answers.as_str(), wanted.as_str());
+}
+
+fn joined(ends: &impl Abort, alloc: Global, first: &str, second: &str) -> String {
+    format!(in alloc; "{first}{second}").expect(ends, "memory")
 }
 
 // What a server answers to clients, one after the other, from a registry in memory that was asked
 // the requests of a text. Its clock jumps by this many seconds whenever it is read.
-fn answers_to(rt: &HostRuntime, jump: u64, text: &str, asks: &[&str]) -> Result<String, Fail> {
-    let requests = requests_of(rt.alloc(), text)?;
-    let registry = Registry::in_memory(rt.alloc())?;
-    answers_over(rt, jump, registry, &requests, asks)
+fn answers_to(rt: &HostRuntime, ends: &impl Abort, jump: u64, text: &str, asks: &[&str]) -> String {
+    let registry = Registry::in_memory(rt.alloc()).expect(ends, "a registry");
+    let registry = asked(ends, rt.alloc(), registry, text);
+    answers_of(rt, ends, jump, &mut RegistryService::new(registry), asks)
 }
 
-// The same with any registry, which ends afterwards.
-fn answers_over<S: Alter + Drop>(
-    rt: &HostRuntime,
-    jump: u64,
+// A registry that was asked the requests of a text.
+fn asked<S: Alter + Drop>(
+    ends: &impl Abort,
+    alloc: Global,
     registry: Registry<S>,
-    requests: &[Request],
-    asks: &[&str],
-) -> Result<String, Fail> {
+    text: &str,
+) -> Registry<S> {
     let mut registry = registry;
-    let outcomes = outcomes_of(rt.alloc(), &mut registry, requests)?;
-    same(
-        "a fault",
-        outcomes.iter().any(|outcome| outcome.is_err()),
-        false,
-    )?;
-    let mut service = RegistryService::new(registry);
-    answers_of(rt, jump, &mut service, asks)
+    let requests = requests_of(alloc, text).expect(ends, text);
+    for request in &requests {
+        let is_fault = outcome_of(alloc, &mut registry, request).is_err();
+        same(ends, "a fault", is_fault, false);
+    }
+    registry
 }
 
 fn answers_of<S: HttpService>(
     rt: &HostRuntime,
+    ends: &impl Abort,
     jump: u64,
     service: &mut S,
     asks: &[&str],
-) -> Result<String, Fail> {
+) -> String {
     let count = asks.len() as u64;
-    let server = Server::bind(rt, rt.alloc(), 0, count)?;
-    let clients = clients(rt, server.port()?, asks)?;
+    let server = Server::bind(rt, rt.alloc(), 0, count).expect(ends, "a server");
+    let port = server.port().expect(ends, "a port");
+    let mut clients = Vec::new(rt.alloc());
+    for text in asks {
+        let client = client(rt, port, text).expect(ends, "a client");
+        clients.push(client).expect(ends, "memory");
+    }
     let clock = Jumping {
         rt,
         seconds: Cell::new(BEGINS),
         jump,
     };
-    server.run(&clock, rt.alloc(), Moment::clamped(1_700_000_000), service)?;
-    heard(rt.alloc(), &clients)
+    let ended = server.run(&clock, rt.alloc(), Moment::clamped(1_700_000_000), service);
+    let _ended = ended.expect(ends, "an end");
+    heard(ends, rt.alloc(), &clients)
 }
 
-// Clients that have asked, each with its text, and send no more.
-fn clients(rt: &HostRuntime, port: u16, asks: &[&str]) -> Result<Vec<TcpStream>, Fail> {
-    let mut clients = Vec::new(rt.alloc());
-    for text in asks {
-        clients.push(client(rt, port, text)?)?;
-    }
-    Ok(clients)
-}
-
-fn client(rt: &HostRuntime, port: u16, text: &str) -> Result<TcpStream, Fail> {
-    let stream = rt.connect(SocketAddr::from((Ipv4Addr::LOCALHOST, port)))?;
-    write_whole(&mut ToWrite::new(&stream), text.as_bytes())?;
+// A client that has asked this, and sends no more.
+fn client(rt: &HostRuntime, port: u16, text: &str) -> io::Result<TcpStream> {
+    let mut stream = rt.connect(SocketAddr::from((Ipv4Addr::LOCALHOST, port)))?;
+    stream.write_all(text.as_bytes())?;
     stream.shutdown(Shutdown::Write)?;
     Ok(stream)
 }
 
 // Everything that clients are sent, one after the other.
-fn heard(alloc: Global, clients: &[TcpStream]) -> Result<String, Fail> {
+fn heard(ends: &impl Abort, alloc: Global, clients: &[TcpStream]) -> String {
     let mut all = String::new(alloc);
     for client in clients {
-        let answer = read_whole(alloc, &mut FromRead::new(client), 100_000)?;
-        all.push_str(String::from_utf8_lossy(alloc, &answer)?.as_str())?;
+        let mut client = client;
+        client.read_to_string(&mut all).expect(ends, "an answer");
     }
-    Ok(all)
+    all
 }

@@ -8,21 +8,22 @@ ghost use Rattle.registry_tables.specs.Effects.{InForm};
 use super::rights::{self, RightCall};
 use super::teams::{self, TeamCall};
 use super::text::{
-    Body, archive_text, done, form_of, push_word, status_text, tags_text, times_text, word_text,
+    Body, archive_text, bool_text, form_of, push_word, status_text, tags_text, times_text,
+    word_text,
 };
 use super::tokens::{self, TokenCall};
-use registry_names::{Fault, Message, Moment, Name, Status, Stop, Ver};
+use crate::outcome::same;
+use registry_names::{Fault, Message, Moment, Name, Status, Ver};
 use registry_rows::write;
 use registry_rules::Change;
 use registry_tables::{
     create, has_live, has_tag, has_version, is_spent, load_archive, load_status, load_tags,
     load_times, make, numbers_are_in_range, put_version,
 };
-use registry_tests_support::{otherwise, same};
 use sqlite::{Alter, Connection, Row, Transaction, params};
 use sqlite_value::value::ValueRef;
 use std::alloc::Global;
-use std::test::Fail;
+use std::process::Abort;
 
 /// Gives the name of its table for each row; for a need, the target and the range on which versions
 /// depend. They are in byte order.
@@ -102,158 +103,163 @@ pub enum End {
 }
 
 /// Checks that all cases come out as they say.
-pub fn all_come_out(alloc: Global, cases: &[Case]) -> Result<(), Fail> {
+pub fn all_come_out(rt: &impl Abort, alloc: Global, cases: &[Case]) {
     for case in cases {
-        let mut conn = Connection::open_in_memory(alloc)?;
-        comes_out_on(alloc, &mut conn, case)?;
+        let mut conn = Connection::open_in_memory(alloc).expect(rt, "a database");
+        comes_out_on(rt, alloc, &mut conn, case).expect(rt, "tables");
     }
-    Ok(())
 }
 
-fn comes_out_on<S: Alter>(alloc: Global, conn: &mut Connection<S>, case: &Case) -> Result<(), Fail>
+fn comes_out_on<S: Alter>(
+    rt: &impl Abort,
+    alloc: Global,
+    conn: &mut Connection<S>,
+    case: &Case,
+) -> Result<(), Fault>
     requires empty { IsEmpty (state S.Store conn.old) }
 {
     let mut tx = conn.transaction();
     create(&mut tx)?;
-    comes_out_inside(alloc, &mut tx, case)
+    comes_out_inside(rt, alloc, &mut tx, case);
+    Ok(())
 }
 
 fn comes_out_inside<S: Alter>(
+    rt: &impl Abort,
     alloc: Global,
     tx: &mut Transaction<'_, S>,
     case: &Case,
-) -> Result<(), Fail>
+)
     requires in_form { InForm S.Store tx.old }
     ensures same_reference { tx.new.conn.ghost_name ≡ tx.old.conn.ghost_name }
 {
-    all_tell(alloc, tx, case)?;
-    ends(alloc, tx, case)
+    all_tell(rt, alloc, tx, case);
+    ends(rt, alloc, tx, case);
 }
 
 /// Makes the calls, each of which has to answer what the case says.
-pub fn all_tell<S: Alter>(
-    alloc: Global,
-    tx: &mut Transaction<'_, S>,
-    case: &Case,
-) -> Result<(), Fail>
+pub fn all_tell<S: Alter>(rt: &impl Abort, alloc: Global, tx: &mut Transaction<'_, S>, case: &Case)
     requires in_form { InForm S.Store tx.old }
     ensures same_reference { tx.new.conn.ghost_name ≡ tx.old.conn.ghost_name }
-    ensures in_form { OnOk result (InForm S.Store tx.new) }
+    ensures in_form { InForm S.Store tx.new }
 {
     for (name, call, wanted) in case.calls {
-        loads(alloc, tx, (case.shows, *name, *call), *wanted)?;
+        tells(rt, alloc, tx, (case.shows, *name, *call), *wanted);
     }
-    Ok(())
 }
 
 // What a case shows, the name of a package, and a call on it.
 type Asked = (&'static str, &'static str, Call);
 
-fn loads<S: Alter>(
+fn tells<S: Alter>(
+    rt: &impl Abort,
     alloc: Global,
     tx: &mut Transaction<'_, S>,
     asked: Asked,
     wanted: &'static str,
-) -> Result<(), Fail>
+)
     requires in_form { InForm S.Store tx.old }
     ensures same_reference { tx.new.conn.ghost_name ≡ tx.old.conn.ghost_name }
-    ensures in_form { OnOk result (InForm S.Store tx.new) }
+    ensures in_form { InForm S.Store tx.new }
 {
-    match told(alloc, tx, asked.1, asked.2) {
-        Ok(text) => same(asked, text.as_str(), wanted),
-        Err(stop) => Err(otherwise(asked, stop, wanted)),
+    match told(rt, alloc, tx, asked.1, asked.2) {
+        Ok(text) => same(rt, asked, text.as_str(), wanted),
+        Err(fault) => panic!(rt; "{asked:?} comes out as {fault:?}"),
     }
 }
 
-fn ends<S: Alter>(alloc: Global, tx: &mut Transaction<'_, S>, case: &Case) -> Result<(), Fail>
+fn ends<S: Alter>(rt: &impl Abort, alloc: Global, tx: &mut Transaction<'_, S>, case: &Case)
     requires in_form { InForm S.Store tx.old }
     ensures same_reference { tx.new.conn.ghost_name ≡ tx.old.conn.ghost_name }
 {
     match case.end {
-        End::Nothing => Ok(()),
-        End::Fault(name, call) => is_fault(alloc, tx, (case.shows, name, call)),
+        End::Nothing => {}
+        End::Fault(name, call) => is_fault(rt, alloc, tx, (case.shows, name, call)),
         End::Rows(wanted) => {
-            let rows = tx.query_all(TABLE_OF_EACH_ROW, &[])?;
-            same(case.shows, words_in(alloc, &rows)?.as_str(), wanted)
+            let rows = tx.query_all(TABLE_OF_EACH_ROW, &[]).expect(rt, "rows");
+            same(rt, case.shows, words_in(rt, alloc, &rows).as_str(), wanted);
         }
     }
 }
 
-fn is_fault<S: Alter>(alloc: Global, tx: &mut Transaction<'_, S>, asked: Asked) -> Result<(), Fail>
+fn is_fault<S: Alter>(rt: &impl Abort, alloc: Global, tx: &mut Transaction<'_, S>, asked: Asked)
     requires in_form { InForm S.Store tx.old }
     ensures same_reference { tx.new.conn.ghost_name ≡ tx.old.conn.ghost_name }
 {
-    let told = told(alloc, tx, asked.1, asked.2);
-    same(asked, told, Err(Stop::Fault(Fault::Database)))
+    let fault = told(rt, alloc, tx, asked.1, asked.2).err();
+    same(rt, asked, fault, Some(Fault::Database));
 }
 
 // The words of the rows, one after another.
-fn words_in(alloc: Global, rows: &[Row]) -> Result<String, Fail> {
+fn words_in(rt: &impl Abort, alloc: Global, rows: &[Row]) -> String {
     let mut text = String::new(alloc);
     for row in rows {
-        push_word(&mut text, word_in(row)?)?;
+        push_word(rt, &mut text, word_in(rt, row));
     }
-    Ok(text)
+    text
 }
 
-fn word_in(row: &Row) -> Result<&str, Fail> {
-    match row.get_ref(0)? {
-        ValueRef::Text(word) => Ok(str::from_utf8(word)?),
-        _ => Ok(""),
+fn word_in<'r>(rt: &impl Abort, row: &'r Row) -> &'r str {
+    match row.get_ref(0).expect(rt, "a word") {
+        ValueRef::Text(word) => str::from_utf8(word).expect(rt, "a text"),
+        _ => "",
     }
 }
 
 fn told<S: Alter>(
+    rt: &impl Abort,
     alloc: Global,
     tx: &mut Transaction<'_, S>,
     name: &str,
     call: Call,
-) -> Result<String, Stop>
+) -> Result<String, Fault>
     requires in_form { InForm S.Store tx.old }
     ensures same_reference { tx.new.conn.ghost_name ≡ tx.old.conn.ghost_name }
     ensures in_form { OnOk result (InForm S.Store tx.new) }
 {
-    let name = Name::parse(alloc, name)?;
-    told_of(alloc, tx, &name, call)
+    let name = Name::parse(alloc, name).expect(rt, name);
+    told_of(rt, alloc, tx, &name, call)
 }
 
 fn told_of<S: Alter>(
+    rt: &impl Abort,
     alloc: Global,
     tx: &mut Transaction<'_, S>,
     name: &Name,
     call: Call,
-) -> Result<String, Stop>
+) -> Result<String, Fault>
     requires in_form { InForm S.Store tx.old }
     ensures same_reference { tx.new.conn.ghost_name ≡ tx.old.conn.ghost_name }
     ensures in_form { OnOk result (InForm S.Store tx.new) }
 {
     match call {
-        Call::Status => status_text(alloc, load_status(tx, name)?),
-        Call::HasLive => word_text(alloc, has_live(tx, name)?),
-        Call::Lives(version) => word_text(alloc, has_version(tx, name, version)?),
-        Call::IsSpent(version) => word_text(alloc, is_spent(tx, name, version)?),
-        Call::HasTag(tag) => word_text(alloc, has_tag(tx, name, tag)?),
-        Call::Tags => tags_text(alloc, &load_tags(alloc, tx, name)?),
-        Call::Times => times_text(alloc, &load_times(alloc, tx, name)?),
-        Call::Archive(version) => archive_text(alloc, &load_archive(tx, name, version)?),
-        Call::InRange => word_text(alloc, numbers_are_in_range(alloc, tx)?),
-        Call::Teams(call) => teams::told(alloc, tx, name, call),
-        Call::Rights(call) => rights::told(alloc, tx, name, call),
-        Call::Tokens(call) => tokens::told(alloc, tx, call),
+        Call::Status => Ok(status_text(rt, alloc, load_status(tx, name)?)),
+        Call::HasLive => Ok(bool_text(rt, alloc, has_live(tx, name)?)),
+        Call::Lives(version) => Ok(bool_text(rt, alloc, has_version(tx, name, version)?)),
+        Call::IsSpent(version) => Ok(bool_text(rt, alloc, is_spent(tx, name, version)?)),
+        Call::HasTag(tag) => Ok(bool_text(rt, alloc, has_tag(tx, name, tag)?)),
+        Call::Tags => Ok(tags_text(rt, alloc, &load_tags(alloc, tx, name)?)),
+        Call::Times => Ok(times_text(rt, alloc, &load_times(alloc, tx, name)?)),
+        Call::Archive(version) => Ok(archive_text(rt, alloc, &load_archive(tx, name, version)?)),
+        Call::InRange => Ok(bool_text(rt, alloc, numbers_are_in_range(alloc, tx)?)),
+        Call::Teams(call) => teams::told(rt, alloc, tx, name, call),
+        Call::Rights(call) => rights::told(rt, alloc, tx, name, call),
+        Call::Tokens(call) => tokens::told(rt, alloc, tx, call),
         _ => {
-            put(alloc, tx, name, call)?;
-            done(alloc)
+            put(rt, alloc, tx, name, call)?;
+            Ok(word_text(rt, alloc, "done"))
         }
     }
 }
 
 // Makes a call that only writes.
 fn put<S: Alter>(
+    rt: &impl Abort,
     alloc: Global,
     tx: &mut Transaction<'_, S>,
     package: &Name,
     call: Call,
-) -> Result<(), Stop>
+) -> Result<(), Fault>
     requires in_form { InForm S.Store tx.old }
     ensures same_reference { tx.new.conn.ghost_name ≡ tx.old.conn.ghost_name }
     ensures in_form { OnOk result (InForm S.Store tx.new) }
@@ -261,26 +267,26 @@ fn put<S: Alter>(
     match call {
         Call::NewStatus(status) => put_status(tx, package, status, false),
         Call::OtherStatus(status) => put_status(tx, package, status, true),
-        Call::Number(number) => Ok(put_number(tx, package, number)?),
-        Call::Add(body, at) => add(alloc, tx, package, body, at),
-        Call::Publish(body, at) => publish(alloc, tx, package, body, at),
-        Call::Withdrawn(version) => Ok(withdraw(tx, package, version)?),
-        Call::Retire(version) => retire(alloc, tx, package, version),
-        Call::Deprecate(version, message) => deprecate(alloc, tx, package, (version, message)),
-        Call::NewTag(tag, version) => put_tag(alloc, tx, package, (tag, version), false),
-        Call::MovedTag(tag, version) => put_tag(alloc, tx, package, (tag, version), true),
+        Call::Number(number) => put_number(tx, package, number),
+        Call::Add(body, at) => add(rt, alloc, tx, package, body, at),
+        Call::Publish(body, at) => publish(rt, alloc, tx, package, body, at),
+        Call::Withdrawn(version) => withdraw(tx, package, version),
+        Call::Retire(version) => retire(rt, alloc, tx, package, version),
+        Call::Deprecate(version, message) => deprecate(rt, alloc, tx, package, (version, message)),
+        Call::NewTag(tag, version) => put_tag(rt, alloc, tx, package, (tag, version), false),
+        Call::MovedTag(tag, version) => put_tag(rt, alloc, tx, package, (tag, version), true),
         Call::DropTag(tag) => made(tx, &Change::DropTag { package, tag }),
         _ => Ok(()),
     }
 }
 
 /// Makes a change.
-pub fn made<S: Alter>(tx: &mut Transaction<'_, S>, change: &Change<'_>) -> Result<(), Stop>
+pub fn made<S: Alter>(tx: &mut Transaction<'_, S>, change: &Change<'_>) -> Result<(), Fault>
     requires in_form { InForm S.Store tx.old }
     ensures same_reference { tx.new.conn.ghost_name ≡ tx.old.conn.ghost_name }
     ensures in_form { OnOk result (InForm S.Store tx.new) }
 {
-    Ok(make(tx, change)?)
+    make(tx, change)
 }
 
 fn put_status<S: Alter>(
@@ -288,7 +294,7 @@ fn put_status<S: Alter>(
     package: &Name,
     status: Status,
     stands: bool,
-) -> Result<(), Stop>
+) -> Result<(), Fault>
     requires in_form { InForm S.Store tx.old }
     ensures same_reference { tx.new.conn.ghost_name ≡ tx.old.conn.ghost_name }
     ensures in_form { OnOk result (InForm S.Store tx.new) }
@@ -320,17 +326,18 @@ fn put_number<S: Alter>(
 }
 
 fn add<S: Alter>(
+    rt: &impl Abort,
     alloc: Global,
     tx: &mut Transaction<'_, S>,
     package: &Name,
     body: Body,
     at: i64,
-) -> Result<(), Stop>
+) -> Result<(), Fault>
     requires in_form { InForm S.Store tx.old }
     ensures same_reference { tx.new.conn.ghost_name ≡ tx.old.conn.ghost_name }
     ensures in_form { OnOk result (InForm S.Store tx.new) }
 {
-    let form = form_of(alloc, package.text(), body)?;
+    let form = form_of(rt, alloc, package.text(), body);
     let at = Moment::clamped(at);
     made(
         tx,
@@ -342,18 +349,19 @@ fn add<S: Alter>(
 }
 
 fn publish<S: Alter>(
+    rt: &impl Abort,
     alloc: Global,
     tx: &mut Transaction<'_, S>,
     package: &Name,
     body: Body,
     at: i64,
-) -> Result<(), Stop>
+) -> Result<(), Fault>
     requires in_form { InForm S.Store tx.old }
     ensures same_reference { tx.new.conn.ghost_name ≡ tx.old.conn.ghost_name }
     ensures in_form { OnOk result (InForm S.Store tx.new) }
 {
-    let form = form_of(alloc, package.text(), body)?;
-    Ok(put_version(tx, &form, Moment::clamped(at))?)
+    let form = form_of(rt, alloc, package.text(), body);
+    put_version(tx, &form, Moment::clamped(at))
 }
 
 fn withdraw<S: Alter>(
@@ -373,16 +381,17 @@ fn withdraw<S: Alter>(
 }
 
 fn retire<S: Alter>(
+    rt: &impl Abort,
     alloc: Global,
     tx: &mut Transaction<'_, S>,
     package: &Name,
     version: &str,
-) -> Result<(), Stop>
+) -> Result<(), Fault>
     requires in_form { InForm S.Store tx.old }
     ensures same_reference { tx.new.conn.ghost_name ≡ tx.old.conn.ghost_name }
     ensures in_form { OnOk result (InForm S.Store tx.new) }
 {
-    let version = Ver::parse(alloc, version)?;
+    let version = Ver::parse(alloc, version).expect(rt, version);
     let published = Moment::clamped(1);
     let withdrawn = Moment::clamped(2);
     made(
@@ -397,17 +406,18 @@ fn retire<S: Alter>(
 }
 
 fn deprecate<S: Alter>(
+    rt: &impl Abort,
     alloc: Global,
     tx: &mut Transaction<'_, S>,
     package: &Name,
     told: (&str, &str),
-) -> Result<(), Stop>
+) -> Result<(), Fault>
     requires in_form { InForm S.Store tx.old }
     ensures same_reference { tx.new.conn.ghost_name ≡ tx.old.conn.ghost_name }
     ensures in_form { OnOk result (InForm S.Store tx.new) }
 {
-    let version = Ver::parse(alloc, told.0)?;
-    let message = Message::parse(alloc, told.1)?;
+    let version = Ver::parse(alloc, told.0).expect(rt, told.0);
+    let message = Message::parse(alloc, told.1).expect(rt, told.1);
     made(
         tx,
         &Change::PutDeprecation {
@@ -419,17 +429,18 @@ fn deprecate<S: Alter>(
 }
 
 fn put_tag<S: Alter>(
+    rt: &impl Abort,
     alloc: Global,
     tx: &mut Transaction<'_, S>,
     package: &Name,
     named: (&str, &str),
     stands: bool,
-) -> Result<(), Stop>
+) -> Result<(), Fault>
     requires in_form { InForm S.Store tx.old }
     ensures same_reference { tx.new.conn.ghost_name ≡ tx.old.conn.ghost_name }
     ensures in_form { OnOk result (InForm S.Store tx.new) }
 {
-    let version = Ver::parse(alloc, named.1)?;
+    let version = Ver::parse(alloc, named.1).expect(rt, named.1);
     made(
         tx,
         &Change::PutTag {

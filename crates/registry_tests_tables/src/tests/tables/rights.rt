@@ -4,15 +4,16 @@ ghost use Rattle.std.specs.Prelude.{◌≡◌, OnOk};
 ghost use Rattle.registry_tables.specs.Effects.{InForm};
 
 use super::call::made;
-use super::text::{done, granted_text, standing_text, word_text};
+use super::text::{bool_text, granted_text, standing_text, word_text};
 use registry_access::{Caller, Grant};
-use registry_names::{Ident, Name, Stop};
+use registry_names::{Fault, Ident, Name};
 use registry_rules::Change;
 use registry_tables::{
     has_grant, has_other_maintainer, is_maintainer, load_standing, load_team_packages,
 };
 use sqlite::{Alter, Transaction};
 use std::alloc::Global;
+use std::process::Abort;
 
 /// A call on a package, in which the organisation comes before the team.
 #[derive(Clone, Copy, Debug)]
@@ -43,44 +44,48 @@ pub enum RightCall {
 
 /// What a call answers.
 pub fn told<S: Alter>(
+    rt: &impl Abort,
     alloc: Global,
     tx: &mut Transaction<'_, S>,
     name: &Name,
     call: RightCall,
-) -> Result<String, Stop>
+) -> Result<String, Fault>
     requires in_form { InForm S.Store tx.old }
     ensures same_reference { tx.new.conn.ghost_name ≡ tx.old.conn.ghost_name }
     ensures in_form { OnOk result (InForm S.Store tx.new) }
 {
     match call {
-        RightCall::HasGrant(organisation, team) => word_text(
+        RightCall::HasGrant(organisation, team) => Ok(bool_text(
+            rt,
             alloc,
             has_grant(tx, organisation, team, name)?,
-        ),
-        RightCall::IsMaintainer(user) => word_text(alloc, is_maintainer(tx, name, user)?),
-        RightCall::OtherMaintainer(user) => other_maintainer(alloc, tx, name, user),
-        RightCall::Standing(user) => standing(alloc, tx, name, user),
-        RightCall::Anonymous => standing_of(alloc, tx, name, &Caller::Anonymous),
+        )),
+        RightCall::IsMaintainer(user) => Ok(bool_text(rt, alloc, is_maintainer(tx, name, user)?)),
+        RightCall::OtherMaintainer(user) => other_maintainer(rt, alloc, tx, name, user),
+        RightCall::Standing(user) => standing(rt, alloc, tx, name, user),
+        RightCall::Anonymous => standing_of(rt, alloc, tx, name, &Caller::Anonymous),
         RightCall::Packages(user, organisation, team) => packages(
+            rt,
             alloc,
             tx,
             user,
             (organisation, team),
         ),
         _ => {
-            put(alloc, tx, name, call)?;
-            done(alloc)
+            put(rt, alloc, tx, name, call)?;
+            Ok(word_text(rt, alloc, "done"))
         }
     }
 }
 
 // Makes a call that only writes.
 fn put<S: Alter>(
+    rt: &impl Abort,
     alloc: Global,
     tx: &mut Transaction<'_, S>,
     package: &Name,
     call: RightCall,
-) -> Result<(), Stop>
+) -> Result<(), Fault>
     requires in_form { InForm S.Store tx.old }
     ensures same_reference { tx.new.conn.ghost_name ≡ tx.old.conn.ghost_name }
     ensures in_form { OnOk result (InForm S.Store tx.new) }
@@ -101,8 +106,8 @@ fn put<S: Alter>(
             true,
         ),
         RightCall::DropGrant(organisation, team) => drop_grant(tx, (organisation, team), package),
-        RightCall::NewMaintainer(user) => put_owner(alloc, tx, package, user),
-        RightCall::DropOwner(user) => drop_owner(alloc, tx, package, user),
+        RightCall::NewMaintainer(user) => put_owner(rt, alloc, tx, package, user),
+        RightCall::DropOwner(user) => drop_owner(rt, alloc, tx, package, user),
         _ => Ok(()),
     }
 }
@@ -113,7 +118,7 @@ fn put_grant<S: Alter>(
     package: &Name,
     grant: Grant,
     stands: bool,
-) -> Result<(), Stop>
+) -> Result<(), Fault>
     requires in_form { InForm S.Store tx.old }
     ensures same_reference { tx.new.conn.ghost_name ≡ tx.old.conn.ghost_name }
     ensures in_form { OnOk result (InForm S.Store tx.new) }
@@ -134,7 +139,7 @@ fn drop_grant<S: Alter>(
     tx: &mut Transaction<'_, S>,
     team: (&str, &str),
     package: &Name,
-) -> Result<(), Stop>
+) -> Result<(), Fault>
     requires in_form { InForm S.Store tx.old }
     ensures same_reference { tx.new.conn.ghost_name ≡ tx.old.conn.ghost_name }
     ensures in_form { OnOk result (InForm S.Store tx.new) }
@@ -150,86 +155,92 @@ fn drop_grant<S: Alter>(
 }
 
 fn put_owner<S: Alter>(
+    rt: &impl Abort,
     alloc: Global,
     tx: &mut Transaction<'_, S>,
     package: &Name,
     user: &str,
-) -> Result<(), Stop>
+) -> Result<(), Fault>
     requires in_form { InForm S.Store tx.old }
     ensures same_reference { tx.new.conn.ghost_name ≡ tx.old.conn.ghost_name }
     ensures in_form { OnOk result (InForm S.Store tx.new) }
 {
-    let user = &Ident::parse(alloc, user)?;
+    let user = &Ident::parse(alloc, user).expect(rt, user);
     made(tx, &Change::PutOwner { package, user })
 }
 
 fn drop_owner<S: Alter>(
+    rt: &impl Abort,
     alloc: Global,
     tx: &mut Transaction<'_, S>,
     package: &Name,
     user: &str,
-) -> Result<(), Stop>
+) -> Result<(), Fault>
     requires in_form { InForm S.Store tx.old }
     ensures same_reference { tx.new.conn.ghost_name ≡ tx.old.conn.ghost_name }
     ensures in_form { OnOk result (InForm S.Store tx.new) }
 {
-    let user = &Ident::parse(alloc, user)?;
+    let user = &Ident::parse(alloc, user).expect(rt, user);
     made(tx, &Change::DropOwner { package, user })
 }
 
 fn other_maintainer<S: Alter>(
+    rt: &impl Abort,
     alloc: Global,
     tx: &mut Transaction<'_, S>,
     name: &Name,
     user: &str,
-) -> Result<String, Stop>
+) -> Result<String, Fault>
     requires in_form { InForm S.Store tx.old }
     ensures same_reference { tx.new.conn.ghost_name ≡ tx.old.conn.ghost_name }
     ensures in_form { OnOk result (InForm S.Store tx.new) }
 {
     let has = has_other_maintainer(alloc, tx, name, user)?;
-    word_text(alloc, has)
+    Ok(bool_text(rt, alloc, has))
 }
 
 fn standing<S: Alter>(
+    rt: &impl Abort,
     alloc: Global,
     tx: &mut Transaction<'_, S>,
     name: &Name,
     user: &str,
-) -> Result<String, Stop>
+) -> Result<String, Fault>
     requires in_form { InForm S.Store tx.old }
     ensures same_reference { tx.new.conn.ghost_name ≡ tx.old.conn.ghost_name }
     ensures in_form { OnOk result (InForm S.Store tx.new) }
 {
-    let caller = Caller::User(Ident::parse(alloc, user)?);
-    standing_of(alloc, tx, name, &caller)
+    let caller = Caller::User(Ident::parse(alloc, user).expect(rt, user));
+    standing_of(rt, alloc, tx, name, &caller)
 }
 
 fn standing_of<S: Alter>(
+    rt: &impl Abort,
     alloc: Global,
     tx: &mut Transaction<'_, S>,
     name: &Name,
     caller: &Caller,
-) -> Result<String, Stop>
+) -> Result<String, Fault>
     requires in_form { InForm S.Store tx.old }
     ensures same_reference { tx.new.conn.ghost_name ≡ tx.old.conn.ghost_name }
     ensures in_form { OnOk result (InForm S.Store tx.new) }
 {
     let standing = load_standing(alloc, tx, caller, name)?;
-    standing_text(alloc, &standing)
+    Ok(standing_text(rt, alloc, &standing))
 }
 
 fn packages<S: Alter>(
+    rt: &impl Abort,
     alloc: Global,
     tx: &mut Transaction<'_, S>,
     user: &str,
     team: (&str, &str),
-) -> Result<String, Stop>
+) -> Result<String, Fault>
     requires in_form { InForm S.Store tx.old }
     ensures same_reference { tx.new.conn.ghost_name ≡ tx.old.conn.ghost_name }
     ensures in_form { OnOk result (InForm S.Store tx.new) }
 {
-    let caller = Caller::User(Ident::parse(alloc, user)?);
+    let caller = Caller::User(Ident::parse(alloc, user).expect(rt, user));
     let granted = load_team_packages(alloc, tx, &caller, team.0, team.1)?;
-    granted_text(alloc, &granted)
+    Ok(granted_text(rt, alloc, &granted))
 }

@@ -2,21 +2,18 @@
 
 ghost use Rattle.std.specs.Prelude.{◌≡◌, false};
 
+use crate::outcome::same;
 use registry_names::Fault;
 use registry_tables::{create, opened};
-use registry_tests_support::same;
 use sqlite::{Alter, Connection, Constraint, Error, ErrorCode, Transaction};
-use std::alloc::Global;
-use std::test::Fail;
+use std::process::Abort;
 
 #[test]
-fn tables_are_as_they_are_made(rt: HostRuntime) -> Result<(), Fail> {
-    let alloc = rt.alloc();
+fn tables_are_as_they_are_made(rt: HostRuntime) {
     for (shows, steps) in &CASES {
-        let mut conn = Connection::open_in_memory(alloc)?;
-        comes_out_on(&mut conn, shows, *steps)?;
+        let mut conn = Connection::open_in_memory(rt.alloc()).expect(&rt, "a database");
+        comes_out_on(&rt, &mut conn, shows, *steps);
     }
-    Ok(())
 }
 
 /// What is done, and the result.
@@ -243,34 +240,32 @@ static CASES: [(&str, &[Step]); 20] = [
     ),
 ];
 
-fn comes_out_on<S: Alter>(conn: &mut Connection<S>, shows: &str, steps: &[Step]) -> Result<(), Fail>
+fn comes_out_on<S: Alter>(rt: &impl Abort, conn: &mut Connection<S>, shows: &str, steps: &[Step])
     requires idle { conn.old.in_transaction ≡ false }
 {
     let mut tx = conn.transaction();
-    all_come_out(&mut tx, shows, steps)
+    all_come_out(rt, &mut tx, shows, steps);
 }
 
-fn all_come_out<S: Alter>(
-    tx: &mut Transaction<'_, S>,
-    shows: &str,
-    steps: &[Step],
-) -> Result<(), Fail>
+fn all_come_out<S: Alter>(rt: &impl Abort, tx: &mut Transaction<'_, S>, shows: &str, steps: &[Step])
     ensures same_reference { tx.new.conn.ghost_name ≡ tx.old.conn.ghost_name }
 {
     for step in steps {
-        comes_out(tx, (shows, *step))?;
+        comes_out(rt, tx, (shows, *step));
     }
-    Ok(())
 }
 
-fn comes_out<S: Alter>(tx: &mut Transaction<'_, S>, case: (&str, Step)) -> Result<(), Fail>
+fn comes_out<S: Alter>(rt: &impl Abort, tx: &mut Transaction<'_, S>, case: (&str, Step))
     ensures same_reference { tx.new.conn.ghost_name ≡ tx.old.conn.ghost_name }
 {
     match case.1 {
-        Step::Create(made) => same(case, create(tx), made),
-        Step::Schema(number) => same(case, opened(tx), number),
-        Step::Run(text) => same(case, tx.execute(text, &[]).err(), None),
-        Step::BreakKey(text) => same(case, tx.execute(text, &[]).err(), Some(BROKEN_KEY)),
-        Step::Rows(text, count) => same(case, tx.query_all(text, &[])?.len(), count),
+        Step::Create(made) => same(rt, case, create(tx), made),
+        Step::Schema(number) => same(rt, case, opened(tx), number),
+        Step::Run(text) => same(rt, case, tx.execute(text, &[]).err(), None),
+        Step::BreakKey(text) => same(rt, case, tx.execute(text, &[]).err(), Some(BROKEN_KEY)),
+        Step::Rows(text, count) => {
+            let rows = tx.query_all(text, &[]).expect(rt, text);
+            same(rt, case, rows.len(), count);
+        }
     }
 }

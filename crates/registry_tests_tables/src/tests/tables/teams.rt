@@ -3,12 +3,13 @@
 ghost use Rattle.std.specs.Prelude.{◌≡◌, OnOk};
 ghost use Rattle.registry_tables.specs.Effects.{InForm};
 
-use super::text::{done, grants_text, names_text, word_text};
-use registry_names::{Fault, Name, Stop};
+use super::text::{bool_text, grants_text, names_text, word_text};
+use registry_names::{Fault, Name};
 use registry_rows::write;
 use registry_tables::{are_grants_in_scope, load_grants, load_team_users};
 use sqlite::{Alter, Transaction, params};
 use std::alloc::Global;
+use std::process::Abort;
 
 /// A call over an organisation's teams and users; the organisation comes first.
 #[derive(Clone, Copy, Debug)]
@@ -35,22 +36,23 @@ pub enum TeamCall {
 
 /// What a call answers.
 pub fn told<S: Alter>(
+    rt: &impl Abort,
     alloc: Global,
     tx: &mut Transaction<'_, S>,
     name: &Name,
     call: TeamCall,
-) -> Result<String, Stop>
+) -> Result<String, Fault>
     requires in_form { InForm S.Store tx.old }
     ensures same_reference { tx.new.conn.ghost_name ≡ tx.old.conn.ghost_name }
     ensures in_form { OnOk result (InForm S.Store tx.new) }
 {
     match call {
-        TeamCall::Users(organisation, team) => users(alloc, tx, organisation, team),
-        TeamCall::Grants(organisation, user) => grants(alloc, tx, organisation, user, name),
-        TeamCall::InScope => word_text(alloc, are_grants_in_scope(alloc, tx)?),
+        TeamCall::Users(organisation, team) => users(rt, alloc, tx, organisation, team),
+        TeamCall::Grants(organisation, user) => grants(rt, alloc, tx, organisation, user, name),
+        TeamCall::InScope => Ok(bool_text(rt, alloc, are_grants_in_scope(alloc, tx)?)),
         _ => {
             put(tx, name, call)?;
-            done(alloc)
+            Ok(word_text(rt, alloc, "done"))
         }
     }
 }
@@ -83,32 +85,34 @@ fn put<S: Alter>(tx: &mut Transaction<'_, S>, name: &Name, call: TeamCall) -> Re
 }
 
 fn users<S: Alter>(
+    rt: &impl Abort,
     alloc: Global,
     tx: &mut Transaction<'_, S>,
     organisation: &str,
     team: &str,
-) -> Result<String, Stop>
+) -> Result<String, Fault>
     requires in_form { InForm S.Store tx.old }
     ensures same_reference { tx.new.conn.ghost_name ≡ tx.old.conn.ghost_name }
     ensures in_form { OnOk result (InForm S.Store tx.new) }
 {
     let users = load_team_users(alloc, tx, organisation, team)?;
-    names_text(alloc, &users)
+    Ok(names_text(rt, alloc, &users))
 }
 
 fn grants<S: Alter>(
+    rt: &impl Abort,
     alloc: Global,
     tx: &mut Transaction<'_, S>,
     organisation: &str,
     user: &str,
     name: &Name,
-) -> Result<String, Stop>
+) -> Result<String, Fault>
     requires in_form { InForm S.Store tx.old }
     ensures same_reference { tx.new.conn.ghost_name ≡ tx.old.conn.ghost_name }
     ensures in_form { OnOk result (InForm S.Store tx.new) }
 {
     let grants = load_grants(alloc, tx, organisation, user, name)?;
-    grants_text(alloc, &grants)
+    Ok(grants_text(rt, alloc, &grants))
 }
 
 fn put_user<S: Alter>(tx: &mut Transaction<'_, S>, user: &str) -> Result<(), Fault>

@@ -1,11 +1,12 @@
 //! Bodies of publications, and texts that show what was loaded.
 
+use super::body::{ABC, body_of};
 use registry_access::{Grant, Role, Standing};
-use registry_names::{Blob, DistTag, Ident, Status, Stop, Text};
+use registry_names::{Blob, DistTag, Ident, Status, Text};
 use registry_packument::{Granted, VersionRow, VersionTime};
 use registry_publish::{PublishForm, TokenDigest};
-use registry_tests_support::{ABC, body_of};
 use std::alloc::{AllocError, Global};
+use std::process::Abort;
 
 /// The body of a publication.
 #[derive(Clone, Copy, Debug)]
@@ -20,9 +21,9 @@ pub enum Body {
 }
 
 /// The form of a package's body.
-pub fn form_of(alloc: Global, name: &str, body: Body) -> Result<PublishForm, Stop> {
-    let text = text_of(alloc, name, body)?;
-    PublishForm::read(alloc, text.as_bytes())
+pub fn form_of(rt: &impl Abort, alloc: Global, name: &str, body: Body) -> PublishForm {
+    let text = text_of(alloc, name, body).expect(rt, "memory");
+    PublishForm::read(alloc, text.as_bytes()).expect(rt, "a body in form")
 }
 
 fn text_of(alloc: Global, name: &str, body: Body) -> Result<String, AllocError> {
@@ -43,19 +44,19 @@ fn archive_body(
     body_of(alloc, name, version, &archive)
 }
 
-/// The answer of a call that only writes.
-pub fn done(alloc: Global) -> Result<String, Stop> {
-    Ok(String::from_str(alloc, "done")?)
+/// A word as a text.
+pub fn word_text(rt: &impl Abort, alloc: Global, word: &str) -> String {
+    String::from_str(alloc, word).expect(rt, "memory")
 }
 
 /// `true` or `false`.
-pub fn word_text(alloc: Global, is_so: bool) -> Result<String, Stop> {
-    Ok(format!(in alloc; "{is_so}")?)
+pub fn bool_text(rt: &impl Abort, alloc: Global, is_so: bool) -> String {
+    word_text(rt, alloc, if is_so { "true" } else { "false" })
 }
 
 /// The word of a status, or `none`.
-pub fn status_text(alloc: Global, status: Option<Status>) -> Result<String, Stop> {
-    Ok(String::from_str(alloc, status_word(status))?)
+pub fn status_text(rt: &impl Abort, alloc: Global, status: Option<Status>) -> String {
+    word_text(rt, alloc, status_word(status))
 }
 
 fn status_word(status: Option<Status>) -> &'static str {
@@ -66,100 +67,100 @@ fn status_word(status: Option<Status>) -> &'static str {
     }
 }
 
+// Adds a text.
+fn push(rt: &impl Abort, text: &mut String, more: &str) {
+    text.push_str(more).expect(rt, "memory");
+}
+
+/// Adds a word, after a space.
+pub fn push_word(rt: &impl Abort, text: &mut String, word: &str) {
+    push(rt, text, " ");
+    push(rt, text, word);
+}
+
+fn push_named(rt: &impl Abort, text: &mut String, name: &str, value: &str) {
+    push_word(rt, text, name);
+    push(rt, text, "=");
+    push(rt, text, value);
+}
+
 /// Each tag with its version, after a space.
-pub fn tags_text(alloc: Global, tags: &[DistTag]) -> Result<String, Stop> {
+pub fn tags_text(rt: &impl Abort, alloc: Global, tags: &[DistTag]) -> String {
     let mut text = String::new(alloc);
     for named in tags {
-        push_named(&mut text, named.tag.as_str(), named.version.as_str())?;
+        push_named(rt, &mut text, named.tag.as_str(), named.version.as_str());
     }
-    Ok(text)
-}
-
-fn push_named(text: &mut String, name: &str, value: &str) -> Result<(), AllocError> {
-    push_word(text, name)?;
-    text.push_str("=")?;
-    text.push_str(value)
-}
-
-/// A word, after a space.
-pub fn push_word(text: &mut String, word: &str) -> Result<(), AllocError> {
-    text.push_str(" ")?;
-    text.push_str(word)
+    text
 }
 
 /// Each version with the second in which it was published, after a space.
-pub fn times_text(alloc: Global, times: &[VersionTime]) -> Result<String, Stop> {
+pub fn times_text(rt: &impl Abort, alloc: Global, times: &[VersionTime]) -> String {
     let mut text = String::new(alloc);
-    push_times(alloc, &mut text, times)?;
-    Ok(text)
-}
-
-fn push_times(alloc: Global, text: &mut String, times: &[VersionTime]) -> Result<(), AllocError> {
     for time in times {
         let second = time.published.seconds();
-        push_named(
-            text,
-            time.version.as_str(),
-            format!(in alloc; "{second}")?.as_str(),
-        )?;
+        let second = format!(in alloc; "{second}").expect(rt, "memory");
+        push_named(rt, &mut text, time.version.as_str(), second.as_str());
     }
-    Ok(())
+    text
 }
 
 /// A version with its manifest and its message in brackets, after a space.
 pub fn push_version(text: &mut String, row: &VersionRow) -> Result<(), AllocError> {
-    push_word(text, row.version.as_str())?;
-    push_word(text, row.manifest.as_str())?;
+    text.push_str(" ")?;
+    text.push_str(row.version.as_str())?;
+    text.push_str(" ")?;
+    text.push_str(row.manifest.as_str())?;
     text.push_str(" [")?;
     text.push_str(row.message.as_str())?;
     text.push_str("]")
 }
 
 /// The length of an archive, and the text of its last three bytes; or `none`.
-pub fn archive_text(alloc: Global, archive: &Option<Blob>) -> Result<String, Stop> {
+pub fn archive_text(rt: &impl Abort, alloc: Global, archive: &Option<Blob>) -> String {
     let Some(archive) = archive else {
-        return Ok(String::from_str(alloc, "none")?);
+        return word_text(rt, alloc, "none");
     };
     let bytes = archive.as_slice();
     let length = bytes.len();
     let end = str::from_utf8(&bytes[length.saturating_sub(3)..]).unwrap_or("no text");
-    Ok(format!(in alloc; "{length} {end}")?)
+    format!(in alloc; "{length} {end}").expect(rt, "memory")
 }
 
 /// A user, or `none`.
-pub fn user_text(alloc: Global, user: &Option<Ident>) -> Result<String, Stop> {
+pub fn user_text(rt: &impl Abort, alloc: Global, user: &Option<Ident>) -> String {
     match user {
-        Some(user) => Ok(String::from_str(alloc, user.text())?),
-        None => Ok(String::from_str(alloc, "none")?),
+        Some(user) => word_text(rt, alloc, user.text()),
+        None => word_text(rt, alloc, "none"),
     }
 }
 
 /// The first byte of each digest, after a space.
-pub fn digests_text(alloc: Global, digests: &[TokenDigest]) -> Result<String, Stop> {
+pub fn digests_text(rt: &impl Abort, alloc: Global, digests: &[TokenDigest]) -> String {
     let mut text = String::new(alloc);
     for digest in digests {
         let first = digest.as_slice()[0];
-        push_word(&mut text, format!(in alloc; "{first}")?.as_str())?;
+        let first = format!(in alloc; "{first}").expect(rt, "memory");
+        push_word(rt, &mut text, first.as_str());
     }
-    Ok(text)
+    text
 }
 
 /// Each name, after a space.
-pub fn names_text(alloc: Global, names: &[Text]) -> Result<String, Stop> {
+pub fn names_text(rt: &impl Abort, alloc: Global, names: &[Text]) -> String {
     let mut text = String::new(alloc);
     for name in names {
-        push_word(&mut text, name.as_str())?;
+        push_word(rt, &mut text, name.as_str());
     }
-    Ok(text)
+    text
 }
 
 /// The word of each grant, after a space.
-pub fn grants_text(alloc: Global, grants: &[Grant]) -> Result<String, Stop> {
+pub fn grants_text(rt: &impl Abort, alloc: Global, grants: &[Grant]) -> String {
     let mut text = String::new(alloc);
     for grant in grants {
-        push_word(&mut text, grant_word(*grant))?;
+        push_word(rt, &mut text, grant_word(*grant));
     }
-    Ok(text)
+    text
 }
 
 fn grant_word(grant: Grant) -> &'static str {
@@ -170,24 +171,25 @@ fn grant_word(grant: Grant) -> &'static str {
 }
 
 /// Each package with what is granted on it, after a space.
-pub fn granted_text(alloc: Global, rows: &[Granted]) -> Result<String, Stop> {
+pub fn granted_text(rt: &impl Abort, alloc: Global, rows: &[Granted]) -> String {
     let mut text = String::new(alloc);
     for row in rows {
-        push_named(&mut text, row.name.as_str(), grant_word(row.grant))?;
+        push_named(rt, &mut text, row.name.as_str(), grant_word(row.grant));
     }
-    Ok(text)
+    text
 }
 
 /// Whether the organisation is there, the role in it, the package's status, whether the caller is
 /// a maintainer, and what they are granted.
-pub fn standing_text(alloc: Global, standing: &Standing) -> Result<String, Stop> {
+pub fn standing_text(rt: &impl Abort, alloc: Global, standing: &Standing) -> String {
     let role = role_word(standing.role);
     let status = status_word(standing.status);
-    let grants = grants_text(alloc, &standing.grants)?;
+    let grants = grants_text(rt, alloc, &standing.grants);
     let grants = grants.as_str();
     let organisation = standing.organisation;
     let maintainer = standing.maintainer;
-    Ok(format!(in alloc; "{organisation} {role} {status} {maintainer}{grants}")?)
+    let text = format!(in alloc; "{organisation} {role} {status} {maintainer}{grants}");
+    text.expect(rt, "memory")
 }
 
 fn role_word(role: Option<Role>) -> &'static str {

@@ -10,14 +10,14 @@ ghost use Rattle.registry_tests_tables.specs.Resting.{AwaitsWalk};
 
 use super::call::{Case, all_tell};
 use super::text::push_version;
-use registry_names::{Name, Stop};
+use crate::outcome::same;
+use registry_names::{Fault, Name, Stop};
 use registry_packument::VersionSource;
 use registry_rows::{commit, fault_of};
 use registry_tables::{LiveRows, VersionWalk, create, walk_versions};
-use registry_tests_support::{otherwise, same};
 use sqlite::{Alter, Connection};
 use std::alloc::Global;
-use std::test::Fail;
+use std::process::Abort;
 
 /// Versions that are put into an empty database, and walks over them, one after another.
 pub struct Walk {
@@ -28,56 +28,66 @@ pub struct Walk {
 }
 
 /// Checks that all walks give what they should.
-pub fn all_give(alloc: Global, walks: &[Walk]) -> Result<(), Fail> {
+pub fn all_give(rt: &impl Abort, alloc: Global, walks: &[Walk]) {
     for walk in walks {
-        let mut conn = Connection::open_in_memory(alloc)?;
-        gives_on(alloc, &mut conn, walk)?;
+        let mut conn = Connection::open_in_memory(alloc).expect(rt, "a database");
+        gives_on(rt, alloc, &mut conn, walk).expect(rt, "tables");
     }
+}
+
+fn gives_on<S: Alter>(
+    rt: &impl Abort,
+    alloc: Global,
+    conn: &mut Connection<S>,
+    walk: &Walk,
+) -> Result<(), Fault>
+    requires empty { IsEmpty (state S.Store conn.old) }
+{
+    put(rt, alloc, conn, &walk.put)?;
+    each_gives(rt, alloc, conn, walk);
     Ok(())
 }
 
-fn gives_on<S: Alter>(alloc: Global, conn: &mut Connection<S>, walk: &Walk) -> Result<(), Fail>
-    requires empty { IsEmpty (state S.Store conn.old) }
-{
-    put(alloc, conn, &walk.put)?;
-    each_gives(alloc, conn, walk)
-}
-
 // Makes the tables, makes the calls, and commits.
-fn put<S: Alter>(alloc: Global, conn: &mut Connection<S>, case: &Case) -> Result<(), Fail>
+fn put<S: Alter>(
+    rt: &impl Abort,
+    alloc: Global,
+    conn: &mut Connection<S>,
+    case: &Case,
+) -> Result<(), Fault>
     requires empty { IsEmpty (state S.Store conn.old) }
     ensures awaits { OnOk result (AwaitsWalk (state S.Store conn.new)) }
 {
     let mut tx = conn.transaction();
     create(&mut tx)?;
-    all_tell(alloc, &mut tx, case)?;
+    all_tell(rt, alloc, &mut tx, case);
     match commit(tx) {
         Ok(()) => Ok(()),
-        Err(fault) => Err(Fail::from(fault)),
+        Err(fault) => Err(fault),
     }
 }
 
-fn each_gives<S: Alter>(alloc: Global, conn: &mut Connection<S>, walk: &Walk) -> Result<(), Fail>
+fn each_gives<S: Alter>(rt: &impl Abort, alloc: Global, conn: &mut Connection<S>, walk: &Walk)
     requires awaits { AwaitsWalk (state S.Store conn.old) }
 {
     for (name, wanted) in walk.gives {
-        gives(alloc, conn, (walk.put.shows, *name), *wanted)?;
+        gives(rt, alloc, conn, (walk.put.shows, *name), *wanted);
     }
-    Ok(())
 }
 
 fn gives<S: Alter>(
+    rt: &impl Abort,
     alloc: Global,
     conn: &mut Connection<S>,
     asked: (&'static str, &'static str),
     wanted: &'static str,
-) -> Result<(), Fail>
+)
     requires awaits { AwaitsWalk (state S.Store conn.old) }
-    ensures awaits { OnOk result (AwaitsWalk (state S.Store conn.new)) }
+    ensures awaits { AwaitsWalk (state S.Store conn.new) }
 {
     match given(alloc, conn, asked.1) {
-        Ok(text) => same(asked, text.as_str(), wanted),
-        Err(stop) => Err(otherwise(asked, stop, wanted)),
+        Ok(text) => same(rt, asked, text.as_str(), wanted),
+        Err(stop) => panic!(rt; "{asked:?} comes out as {stop:?}"),
     }
 }
 

@@ -1,4 +1,4 @@
-use Rattle.std.proofs.Common.{◌<◌, arith, length}
+use Rattle.std.proofs.Common.{arith, length}
 use Rattle.std.proofs.lemmas.Bool.{ltb-true}
 use Rattle.registry_wire.proofs.KnownFacts.{lacks-body, lacks-head}
 use Rattle.registry_wire.proofs.known.is_unfinished.Goals as goal

@@ -22,7 +22,7 @@ returns-in-Ok g c = record {
   awaits =
       let mid = state g.S.Store c.all_tell.new.tx.conn.now in
       let new = state g.S.Store c.commit.new.tx.0 in
-      let whole : AwaitsWalk new = committed_awaits mid new c.in_ok-all_tell.ensures.in_form
+      let whole : AwaitsWalk new = committed_awaits mid new c.all_tell.ensures.in_form
       (λ clean. let were : HasCleanDisk mid = omega (arith, c.commit.ensures.survives.clean, clean) in were) (λ clean. c.in-Ok.ensures.ok clean) in
       let same : c.commit.new.tx.0 ≡ c.conn-2-1.given.0 = search rules in
       subst (λ h. AwaitsWalk (state g.S.Store h)) same whole;

@@ -1,0 +1,62 @@
+-- What holds of what is said to those who keep documents: the laws that functions of `src/laws.rt`
+-- ensure.
+use Rattle.std.specs.Prelude.{◌≡◌, ◌∷◌, [], ℕ, true, false, List, Some, Ok}
+use Rattle.registry_names.specs.Texts.{Text}
+use Rattle.registry_names.specs.Versions.{VersionParts}
+use Rattle.registry_routes.specs.NpmRoutes.{NpmRoute, npm_route_of}
+use Rattle.registry_routes.specs.declared.npm_endpoint.NpmEndpoint.TheVariants as by
+use Rattle.registry_rules.specs.declared.reply.Reply.TheVariants.{Bytes, Doc}
+use Rattle.registry_rules.specs.declared.request.Action.TheVariants.{Archive, Packument}
+use Rattle.registry_rules.specs.declared.request.Credential.{Credential}
+use Rattle.registry_rules.specs.declared.request.Credential.TheVariants.{Anonymous}
+use Rattle.registry_service.specs.HttpAnswers.{Outcome}
+use Rattle.registry_service.specs.Turns.{Exchange, exchange}
+use Rattle.registry_wire.specs.EntityTags.{is_tag}
+use Rattle.registry_wire.specs.Responses.{no_labels}
+use Rattle.registry_wire.specs.declared.labels.Caching.TheVariants.{Checked, Shared}
+use Rattle.registry_wire.specs.declared.labels.Labels.{Labels}
+use Rattle.registry_wire.specs.declared.wanted.Wanted.{Wanted}
+use Rattle.registry_npm.specs.Changes.{AreNamed}
+use Rattle.registry_npm.specs.Labels.{archive_caching, archive_tag}
+use Rattle.registry_npm.specs.Laws.{is_npm}
+use Rattle.registry_npm.specs.Leading.{is_stop, request}
+use Rattle.registry_npm.specs.Npm.{npm}
+use Rattle.registry_npm.specs.Packages.{revision, shown_text}
+
+-- a refusal or a fault says nothing to those who keep documents
+abbrev pub RefusalsHaveNoLabels : Type 0
+RefusalsHaveNoLabels = (w : Wanted) (es : List Exchange) (o : Outcome) → is_stop o ≡ true → npm.labels w es o ≡ no_labels
+
+-- What is shown is the packument that the turn read, with the maintainers that it read, and the tag is
+-- their revision
+pub record IsTagged (at : ℕ) (es : List Exchange) (shown : Text) (labels : Labels) : Type 0 where
+  pub who : Credential
+  pub name : Text
+  pub text : Text
+  pub names : List Text
+  pub named : List Exchange
+  pub are_named : AreNamed at who name names named
+  pub asked : es ≡ exchange (request at who (Packument name)) (Ok (Doc text)) ∷ named
+  pub shows : shown ≡ shown_text text names
+  pub tag : labels.tag ≡ Some (revision text names)
+  pub caching : labels.caching ≡ Checked
+
+abbrev pub TagsAreRevisions : Type 0
+TagsAreRevisions = (w : Wanted) (at : ℕ) (es : List Exchange) (shown : Text) (r : NpmRoute)
+    → npm_route_of w.method w.target ≡ Some r → r.endpoint ≡ by.Packument → npm.asks w at es (Ok (Doc shown))
+    → IsTagged at es shown (npm.labels w es (Ok (Doc shown)))
+
+-- an archive has the tag of its name and version, whoever asks for it and whenever
+abbrev pub ArchivesKeepTags : Type 0
+ArchivesKeepTags = (w : Wanted) (at : ℕ) (who : Credential) (p : Text) (v : VersionParts) (bytes : List ℕ) → is_npm w ≡ false
+    → npm.labels w (exchange (request at who (Archive p v)) (Ok (Bytes bytes)) ∷ []) (Ok (Bytes bytes))
+    ≡ record { tag = Some (archive_tag p v); caching = archive_caching who }
+
+-- a tag that is said may be sent
+abbrev pub ArchiveTagsAreTags : Type 0
+ArchiveTagsAreTags = (p : Text) (v : VersionParts) → is_tag (archive_tag p v) ≡ true
+
+-- what all may share is an archive that was answered to nobody in particular
+abbrev pub SharedIsPublic : Type 0
+SharedIsPublic = (w : Wanted) (at : ℕ) (es : List Exchange) (o : Outcome) → npm.asks w at es o → (npm.labels w es o).caching ≡ Shared
+    → (p : Text) × (v : VersionParts) × (es ≡ exchange (request at Anonymous (Archive p v)) o ∷ [])
