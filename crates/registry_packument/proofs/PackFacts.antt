@@ -108,6 +108,18 @@ assembled b0 b1 b2 b3 b4 b5 b6 b7 k1 k2 k3 k4 q t e0 e1 e2 e3 e4 e5 e6 e7 =
     (pieces b0 b1 b2 b3 b4 b5 b6 b7 (123 ∷ []) (k1 ++ 58 ∷ q) (44 ∷ (k2 ++ 58 ∷ [])) t (44 ∷ (k3 ++ 58 ∷ q)) (44 ∷ (k4 ++ 58 ∷ [])) (123 ∷ [])
     e0 e1 e2 e3 e4 e5 e6 e7)
 
+short_pieces : (b0 b1 b2 b3 b4 b5 b6 b7 o i t m n u c : List ℕ) → b0 ≡ [] → b1 ≡ b0 ++ o → b2 ≡ b1 ++ i → b3 ≡ b2 ++ t → b4 ≡ b3 ++ m → b5 ≡ b4 ++ n → b6 ≡ b5 ++ u
+    → b7 ≡ b6 ++ c → b7 ≡ o ++ ((i ++ t) ++ (m ++ (n ++ (u ++ c))))
+short_pieces b0 b1 b2 b3 b4 b5 b6 b7 o i t m n u c e0 e1 e2 e3 e4 e5 e6 e7 = rw (e7, e6, e5, e4, e3, e2, e1, e0) (simp append_assoc)
+
+-- the pieces in turn that come before the first version of an abbreviated packument
+pub short_assembled : (b0 b1 b2 b3 b4 b5 b6 b7 k1 k2 t m n : List ℕ) → b0 ≡ [] → b1 ≡ b0 ++ 123 ∷ [] → b2 ≡ b1 ++ (k1 ++ 58 ∷ []) → b3 ≡ b2 ++ t → b4 ≡ b3 ++ m
+    → b5 ≡ b4 ++ n → b6 ≡ b5 ++ 44 ∷ (k2 ++ 58 ∷ []) → b7 ≡ b6 ++ 123 ∷ []
+    → b7 ≡ 123 ∷ ((k1 ++ 58 ∷ t) ++ (m ++ (n ++ 44 ∷ (k2 ++ 58 ∷ 123 ∷ []))))
+short_assembled b0 b1 b2 b3 b4 b5 b6 b7 k1 k2 t m n e0 e1 e2 e3 e4 e5 e6 e7 =
+    rw (keyed k1 t, keyed k2 (123 ∷ []))
+    (short_pieces b0 b1 b2 b3 b4 b5 b6 b7 (123 ∷ []) (k1 ++ 58 ∷ []) t m n (44 ∷ (k2 ++ 58 ∷ [])) (123 ∷ []) e0 e1 e2 e3 e4 e5 e6 e7)
+
 more_pieces : (b0 b1 b2 b3 b4 b5 a b c u m : List ℕ) → b1 ≡ b0 ++ a → b2 ≡ b1 ++ b → b3 ≡ b2 ++ c → b4 ≡ b3 ++ u → b5 ≡ b4 ++ m
     → b5 ≡ b0 ++ ((a ++ (b ++ c)) ++ (u ++ m))
 more_pieces b0 b1 b2 b3 b4 b5 a b c u m e1 e2 e3 e4 e5 = rw (e5, e4, e3, e2, e1) (simp append_assoc)

@@ -93,7 +93,7 @@ length-versions_prefix form later (row ∷ rows) = length-member_text later _
 
 -- ---- whether each version has a document
 
-is_some-map : {A B : Type 0} (f : A → B) (o : Option A) → is_some (option_map f o) ≡ is_some o
+pub is_some-map : {A B : Type 0} (f : A → B) (o : Option A) → is_some (option_map f o) ≡ is_some o
 is_some-map f None = refl
 is_some-map f (Some x) = refl
 

@@ -3,6 +3,7 @@ pub mod Calendar
 pub mod Counted
 pub mod Dates
 pub mod Documents
+pub mod FormLaws
 pub mod Heads
 pub mod Lists
 pub mod Members

@@ -1,6 +1,7 @@
 //! What an install reads of the documents of versions.
 
-ghost use Rattle.std.specs.Prelude.{◌≡◌, IfErr, IfOk, OnOk, string_bytes};
+ghost use Rattle.std.specs.Prelude.{◌≡◌, IfErr, IfOk, OnOk, bytes_eq, codes, string_bytes};
+ghost use Rattle.std.specs.List.{list_any};
 ghost use Rattle.json.specs.Value.{value_view, members_view};
 ghost use Rattle.registry_packument.specs.Abbreviated as definitions;
 ghost use Rattle.registry_packument.specs.Documents.{manifest_members};
@@ -49,12 +50,20 @@ fn is_install_script(name: &str) -> bool
     matches!(name, "preinstall" | "install" | "postinstall")
 }
 
+// Whether an install runs a script of one of these names.
+fn has_script_in(scripts: &[Member<'_>]) -> bool
+    ensures { result ≡ list_any (λ script. definitions.is_install_script script.0.now)
+        scripts.now }
+{
+    scripts.iter().any(|script| is_install_script(script.0))
+}
+
 // Whether the value is an object with a script that an install runs.
 fn has_install_script(scripts: &Value<'_>) -> bool
     ensures { result ≡ definitions.has_install_script (value_view scripts.now) }
 {
     match scripts {
-        Value::Object(members) => members.iter().any(|member| is_install_script(member.0)),
+        Value::Object(members) => has_script_in(members),
         _other => false,
     }
 }
@@ -66,16 +75,31 @@ fn is_of_scripts(key: &str, value: &Value<'_>) -> bool
     is_same(key, SCRIPTS) && has_install_script(value)
 }
 
-// Whether the document has a script that an install runs, and doesn't say itself whether it has.
-fn has_unsaid_script(members: &[Member<'_>]) -> bool
-    ensures { result ≡ definitions.has_unsaid_script (members_view members.now) }
+// Whether a member has such scripts.
+fn has_scripts(members: &[Member<'_>]) -> bool
+    ensures { result ≡ list_any (λ member.
+        definitions.is_of_scripts member.0.now (value_view member.1)) members.now }
 {
     members
         .iter()
         .any(|member| is_of_scripts(member.0, &member.1))
-        && !members
-            .iter()
-            .any(|member| is_same(member.0, HAS_INSTALL_SCRIPT))
+}
+
+// Whether the document says itself whether it has such scripts.
+fn says_script(members: &[Member<'_>]) -> bool
+    ensures { result ≡ list_any (λ member.
+        bytes_eq member.0.now (codes "hasInstallScript")) members.now }
+{
+    members
+        .iter()
+        .any(|member| is_same(member.0, HAS_INSTALL_SCRIPT))
+}
+
+// Whether the document has a script that an install runs, and doesn't say itself whether it has.
+fn has_unsaid_script(members: &[Member<'_>]) -> bool
+    ensures { result ≡ definitions.has_unsaid_script (members_view members.now) }
+{
+    has_scripts(members) && !says_script(members)
 }
 
 // Adds what the registry finds of the document's scripts.

@@ -7,6 +7,9 @@
 //! so are the documents and the packument ([`laws`]). A call fails where a manifest isn't one, and
 //! when no memory is left.
 //!
+//! A packument has one of two forms, which its head says: it is a full one, or an abbreviated one,
+//! which has of each document what an install reads.
+//!
 //! The versions of a packument come from a source, which gives them one after the other. Its text
 //! is made whole, once, into exact room: for that all its documents are held. Or it is written
 //! version by version, or its bytes are counted: for that one version is held at a time. A fault

@@ -50,7 +50,7 @@ versions-preserved g c =
 
 pub returns-in_err-row-clause-err : goal.returns-in_err-row-clause-err
 returns-in_err-row-clause-err g c known =
-    on_err c.from_residual.result (HasLeft-stopped (c.versions.invariant.prefix (c.in_err-row.ensures.known known)) (length-rows_text c.args.form c.args.form c.versions.later (g.S.VersionSource.rows c.versions.source)))
+    on_err c.from_residual.result (HasLeft-stopped (c.versions.invariant.prefix (c.in_err-row.ensures.known known)) (length-rows_text c.args.form c.versions.later (g.S.VersionSource.rows c.versions.source)))
 
 pub returns-in_err-row-clause-within : goal.returns-in_err-row-clause-within
 returns-in_err-row-clause-within g c =
@@ -98,7 +98,7 @@ returns-in_err-left-clause-behind g c =
 
 pub returns-then-left-gt0-clause-err : goal.returns-then-left-gt0-clause-err
 returns-then-left-gt0-clause-err g c known =
-    HasLeft-stopped (c.versions.invariant.prefix (c.in_ok-row.ensures.known known)) (length-rows_text c.args.form c.args.form c.versions.later (g.S.VersionSource.rows c.versions.source))
+    HasLeft-stopped (c.versions.invariant.prefix (c.in_ok-row.ensures.known known)) (length-rows_text c.args.form c.versions.later (g.S.VersionSource.rows c.versions.source))
 
 -- ---- the end
 

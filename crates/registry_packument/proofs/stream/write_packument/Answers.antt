@@ -15,10 +15,10 @@ returns-clause-ok g c known =
     let rows = g.S.VersionSource.rows c.args.source.now in
     on_ok_both c.write_versions.result
     (λ wrote some. pack_text-written c.args.head.now rows some (Writes-append c.in_ok-write_opening.ensures.ok wrote c.write_versions.ensures.unknown))
-    (rw c.form.ensures at c.write_versions.ensures.ok known) (rw c.form.ensures at c.write_versions.ensures.whole known)
+    (rw c.form.ensures at (c.write_versions.ensures.ok known)) (rw c.form.ensures at (c.write_versions.ensures.whole known))
 
 pub returns-clause-err : goal.returns-clause-err
 returns-clause-err g c known =
     let rows = g.S.VersionSource.rows c.args.source.now in
     on_err_weaker c.write_versions.result
-    (λ prefix. rw (pack_prefix-parts c.args.head.now rows) (WritesPrefix-append c.in_ok-write_opening.ensures.ok prefix c.write_versions.ensures.unknown)) (rw c.form.ensures at c.write_versions.ensures.err known)
+    (λ prefix. rw (pack_prefix-parts c.args.head.now rows) (WritesPrefix-append c.in_ok-write_opening.ensures.ok prefix c.write_versions.ensures.unknown)) (rw c.form.ensures at (c.write_versions.ensures.err known))
