@@ -11,11 +11,12 @@ ghost use Rattle.registry_desk.specs.Caches.{IsAbout, IsAboutNone, IsPut, KeepsA
 
 use registry_cache::{BlobCache, Shared, SharedBlob, SharedCache, TextCache};
 use registry_names::{Name, Ver};
+use registry_packument::PackForm;
 use registry_rules::{Action, Change, Reply};
 use std::alloc::{AllocError, Global};
 
-/// The most bytes that the kept texts of packuments have together, without one text that alone has
-/// more.
+/// The most bytes that the kept texts of packuments of a form have together, without one text that
+/// alone has more.
 pub(crate) const TEXT_LIMIT: usize = 64 << 20;
 
 /// The most bytes that the kept archives have together, without one that alone has more.
@@ -24,8 +25,10 @@ pub(crate) const ARCHIVE_LIMIT: usize = 64 << 20;
 /// What a registry keeps of its answers.
 #[derive(Drop)]
 pub(crate) struct Caches {
-    /// The texts of packuments, by package.
+    /// The texts of full packuments, by package.
     pub(crate) packuments: TextCache,
+    /// The texts of abbreviated packuments, by package.
+    pub(crate) abbreviated: TextCache,
     /// The archives of live versions, by package and version.
     pub(crate) archives: BlobCache,
     /// Whether the text of a packument that is kept from now on keeps its digest.
@@ -39,16 +42,32 @@ impl Caches {
     pub(crate) fn new(alloc: Global) -> Result<Caches, AllocError>
         ensures packuments { IfOk result (λ c. c.packuments
             ≡ spec.cache [] None promises.text_limit) }
+        ensures abbreviated { IfOk result (λ c. c.abbreviated
+            ≡ spec.cache [] None promises.text_limit) }
         ensures archives { IfOk result (λ c. c.archives
             ≡ spec.cache [] None promises.archive_limit) }
     {
         let packuments = TextCache::new(alloc, TEXT_LIMIT)?;
+        let abbreviated = TextCache::new(alloc, TEXT_LIMIT)?;
         let archives = BlobCache::new(alloc, ARCHIVE_LIMIT)?;
         Ok(Caches {
             packuments,
+            abbreviated,
             archives,
             makes_digests: false,
         })
+    }
+}
+
+impl Caches {
+    /// The texts of packuments of this form.
+    pub(crate) fn texts(&self, form: PackForm) -> &TextCache
+        ensures { result.now ≡ promises.texts_of form self.now }
+    {
+        match form {
+            PackForm::Full => &self.packuments,
+            PackForm::Abbreviated => &self.abbreviated,
+        }
     }
 }
 
@@ -62,6 +81,9 @@ pub(crate) fn keep_reply(alloc: Global, caches: &mut Caches, what: &Action, repl
     match (what, reply) {
         (Action::Packument { package }, Reply::Doc(text)) => {
             keep(&mut caches.packuments, package.text(), text);
+        }
+        (Action::AbbreviatedPackument { package }, Reply::Doc(text)) => {
+            keep(&mut caches.abbreviated, package.text(), text);
         }
         (Action::Archive { package, version }, Reply::Bytes(archive)) => {
             keep_archive(alloc, &mut caches.archives, package, version, archive);

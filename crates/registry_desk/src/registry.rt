@@ -361,6 +361,7 @@ fn answer_request<S: Alter>(
     ensures rests { Rests (state S.Store conn.new) }
     ensures right { HasAnswers (state S.Store conn.new) caches.new }
     ensures limit { caches.new.packuments.limit ≡ caches.old.packuments.limit }
+    ensures abbreviated_limit { caches.new.abbreviated.limit ≡ caches.old.abbreviated.limit }
     ensures archive_limit { caches.new.archives.limit ≡ caches.old.archives.limit }
     ensures answer { Answered (state S.Store conn.old) (state S.Store conn.new)
         request.now result }
@@ -374,7 +375,12 @@ fn answer_request<S: Alter>(
     ensures kept { IfOk result (KeepsAnswer request.now.what caches.old caches.new) }
 {
     match &request.what {
-        Action::Packument { package } => queried(alloc, conn, caches, request, package),
+        Action::Packument { package } => {
+            queried(alloc, conn, caches, PackForm::Full, request, package)
+        }
+        Action::AbbreviatedPackument { package } => {
+            queried(alloc, conn, caches, PackForm::Abbreviated, request, package)
+        }
         _ => answer_in_transaction(alloc, conn, caches, request),
     }
 }
@@ -393,6 +399,7 @@ fn answer_in_transaction<S: Alter>(
     ensures rests { Rests (state S.Store conn.new) }
     ensures right { HasAnswers (state S.Store conn.new) caches.new }
     ensures limit { caches.new.packuments.limit ≡ caches.old.packuments.limit }
+    ensures abbreviated_limit { caches.new.abbreviated.limit ≡ caches.old.abbreviated.limit }
     ensures archive_limit { caches.new.archives.limit ≡ caches.old.archives.limit }
     ensures answer { Answered (state S.Store conn.old) (state S.Store conn.new)
         request.now result }

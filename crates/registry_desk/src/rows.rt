@@ -111,7 +111,7 @@ pub(crate) fn rows_for<S: Alter>(
         Action::Deprecate { package, .. } => live_rows(alloc, tx, package),
         Action::WithdrawAll { package } => live_rows(alloc, tx, package),
         // Such a query doesn't come here: `queried` and `sent` answer it.
-        Action::Packument { .. } => unreachable!(),
+        Action::Packument { .. } | Action::AbbreviatedPackument { .. } => unreachable!(),
         Action::VersionDoc { package, version } => document_row(tx, package, version),
         Action::Archive { package, version } => {
             archive_row(alloc, tx, &caches.archives, package, version)
