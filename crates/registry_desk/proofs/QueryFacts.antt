@@ -7,6 +7,8 @@ use Rattle.registry_names.specs.Texts.{Text}
 use Rattle.registry_packument.specs.Counted.{Takes}
 use Rattle.registry_packument.specs.declared.opener.Sent.{Sent}
 use Rattle.registry_packument.specs.declared.opener.Sent.TheVariants.{Whole}
+use Rattle.registry_packument.specs.declared.form.PackForm.{PackForm}
+use Rattle.registry_packument.specs.declared.form.PackForm.TheVariants.{Full, Abbreviated}
 use Rattle.registry_rules.specs.Actions.{is_command}
 use Rattle.registry_rules.specs.State.{State}
 use Rattle.registry_rules.specs.declared.reply.Reply.{Reply}
@@ -19,7 +21,7 @@ use Rattle.registry_laws_history.specs.Answers.{answer}
 use Rattle.registry_laws_history.specs.Runs.{Outcome}
 use Rattle.registry_desk.specs.Caches.{live_packument}
 use Rattle.registry_desk.specs.Promises.{Stepped, SurvivesOne, Unchanged}
-use Rattle.registry_desk.specs.Sending.{IsFrom, IsMadeOf, IsOrigin, IsShownBy, LeavesAll, ShowsAlone}
+use Rattle.registry_desk.specs.Sending.{IsFrom, IsMadeOf, IsOrigin, IsShownBy, LeavesAll, ShowsAlone, asks_packument}
 use Rattle.registry_desk.specs.declared.sending.Origin.{Origin}
 use Rattle.registry_desk.specs.declared.sending.Origin.TheVariants as origin
 use Rattle.registry_desk.proofs.LivingFacts.{live_shown}
@@ -75,10 +77,14 @@ module _ (old new : Shown) (r : Request) (query : is_command r.what ≡ false) (
 
 -- ---- what is kept of the reply
 
-named : (p q : Text) → Packument p ≡ Packument q → p ≡ q
-named p q e = cc
+named : (form asked : PackForm) (p q : Text) → asks_packument form p ≡ asks_packument asked q → (form ≡ asked) × (p ≡ q)
+named Full Full p q e = (refl, cc)
+named Full Abbreviated p q e = absurd (cc)
+named Abbreviated Full p q e = absurd (cc)
+named Abbreviated Abbreviated p q e = (refl, cc)
 
-pub alone_shows : (S T : State) (what : Action) (name : Text) (given : Reply) → T ≡ S → what ≡ Packument name → ShowsAlone S name given
-    → (p text : Text) → what ≡ Packument p → given ≡ Doc text → live_packument T p ≡ Some text
-alone_shows S T what name given same asks shows p text again h =
-    ap (λ (U : State). live_packument U p) same ∙ ap (live_packument S) (sym (named name p (sym asks ∙ again))) ∙ shows text h
+pub alone_shows : (form : PackForm) (S T : State) (what : Action) (name : Text) (given : Reply) → T ≡ S → what ≡ asks_packument form name → ShowsAlone form S name given
+    → (asked : PackForm) (p text : Text) → what ≡ asks_packument asked p → given ≡ Doc text → live_packument asked T p ≡ Some text
+alone_shows form S T what name given same asks shows asked p text again h =
+    let is = named form asked name p (sym asks ∙ again) in
+    ap (λ (U : State). live_packument asked U p) same ∙ ap (λ (f : PackForm). live_packument f S p) (sym is.0) ∙ ap (live_packument form S) (sym is.1) ∙ shows text h

@@ -27,7 +27,7 @@ use crate::cache::{Caches, keep_reply};
 use crate::sending::sent;
 use crate::texts::queried;
 use registry_names::{ByteOut, Fault};
-use registry_packument::{Opener, Sent};
+use registry_packument::{Opener, PackForm, Sent};
 use registry_rows::{commit, fault_of};
 use registry_rules::laws::requests_are_in_form;
 use registry_rules::{Action, Reply, Request};
