@@ -22,7 +22,7 @@ use Rattle.registry_tables.specs.Teams.{AreTeamsSound}
 use Rattle.registry_laws_history.specs.Answers.{archive_in, reply_to}
 use Rattle.registry_laws_history.specs.Apart.{is_about}
 use Rattle.registry_laws_history.specs.Runs.{Outcome}
-use Rattle.registry_desk.specs.Caches.{AreAnswers, AreArchives, AreLeftBy, ArePackuments, HasAnswers, IsSoundFor, KeepNoMore, KeepsReply, LeavesCacheRight, live_packument, moves}
+use Rattle.registry_desk.specs.Caches.{AreAnswers, AreArchives, AreLeftBy, ArePackuments, HasAnswers, IsSoundFor, KeepNoMore, KeepsReply, LeavesCacheRight, live_packument, moves, texts_of}
 use Rattle.registry_desk.specs.Sending.{IsPackument, asks_packument}
 use Rattle.registry_desk.specs.declared.cache.Caches.{Caches}
 use Rattle.registry_desk.proofs.ArchiveFacts.{archive_limit_stays, archives_answered, archives_kept, archives_leave, archives_refused, archives_unchanged}
@@ -154,3 +154,8 @@ right_kept d (Archive p v) (Bytes bytes) was is_now right shows keeps = record {
   archives = archives_kept d p (text_of_version v) bytes was.archives is_now.archives right.archives (shows.archive p v bytes refl refl) keeps.1.1;
 }
 right_kept d _ _ was is_now right shows keeps = subst (AreAnswers d) (sym keeps) right
+
+-- the texts of each form
+pub texts_right : (form : PackForm) {d : Contents} {caches : Caches} → AreAnswers d caches → ArePackuments form d (texts_of form caches)
+texts_right Full are = are.packuments
+texts_right Abbreviated are = are.abbreviated

@@ -42,26 +42,26 @@ taken_whole IsText old new sent (Err fault) whole is empty takes = tt
 
 -- ---- the reply
 
-pub shown_is_from : (from : Origin) (S : State) (p : Text) → IsShownBy from S p → IsFrom from S p
-shown_is_from (origin.Refused why) S p shown = tt
-shown_is_from (origin.Kept text) S p shown = shown
-shown_is_from (origin.Stored head) S p shown = shown
+pub shown_is_from : (form : PackForm) (from : Origin) (S : State) (p : Text) → IsShownBy form from S p → IsFrom form from S p
+shown_is_from form (origin.Refused why) S p shown = tt
+shown_is_from form (origin.Kept text) S p shown = shown
+shown_is_from form (origin.Stored head) S p shown = shown
 
 -- it is the machine's
-pub made_told : (given : Reply) (from : Origin) (S : State) (r : Request) (p : Text) → IsMadeOf given from S p → IsOrigin from S r p → given ≡ answer S r
-made_told given (origin.Refused why) S r p made is = made ∙ sym is
-made_told given (origin.Kept text) S r p made is = made ∙ sym is
-made_told given (origin.Stored head) S r p made is = made.1 ∙ ap Doc (packument_from S p head made.0 is.1 made.2) ∙ sym is.0
+pub made_told : (form : PackForm) (given : Reply) (from : Origin) (S : State) (r : Request) (p : Text) → IsMadeOf given from S p → IsOrigin form from S r p → given ≡ answer S r
+made_told form given (origin.Refused why) S r p made is = made ∙ sym is
+made_told form given (origin.Kept text) S r p made is = made ∙ sym is
+made_told form given (origin.Stored head) S r p made is = made.1 ∙ ap Doc (packument_from form S p head made.0 is.1 made.2) ∙ sym is.0
 
 -- it shows the packument of the package
-pub made_shows : (given : Reply) (from : Origin) (S : State) (p : Text) → IsMadeOf given from S p → IsFrom from S p → ShowsAlone S p given
-made_shows given (origin.Refused why) S p made is text h = cc
-made_shows given (origin.Kept found) S p made is text h =
+pub made_shows : (form : PackForm) (given : Reply) (from : Origin) (S : State) (p : Text) → IsMadeOf given from S p → IsFrom form from S p → ShowsAlone form S p given
+made_shows form given (origin.Refused why) S p made is text h = cc
+made_shows form given (origin.Kept found) S p made is text h =
     let same : found ≡ text = cc in
     is ∙ ap (λ (t : Text). Some t) same
-made_shows given (origin.Stored head) S p made is text h =
+made_shows form given (origin.Stored head) S p made is text h =
     let same : made.0 ≡ text = cc (made.1) in
-    live_shown S p is.0 ∙ ap (λ (t : Text). Some t) (sym (packument_from S p head made.0 is.1 made.2) ∙ same)
+    live_shown form S p is.0 ∙ ap (λ (t : Text). Some t) (sym (packument_from form S p head made.0 is.1 made.2) ∙ same)
 
 -- ---- nothing that is stored is changed
 
