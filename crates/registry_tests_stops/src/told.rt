@@ -27,9 +27,7 @@ pub fn told_by_registry<S: Alter + Drop>(
 ) -> (String, Connection<S>) {
     let mut registry = registry;
     answer_all(ends, alloc, &mut registry, asked);
-    let mut connection = registry.release();
-    let text = told_by(ends, alloc, &mut connection);
-    (text, connection)
+    told_by_connection(ends, alloc, registry.release())
 }
 
 fn answer_all<S: Alter>(ends: &impl Abort, alloc: Global, registry: &mut Registry<S>, asked: &str) {
@@ -66,9 +64,26 @@ fn copy_of(ends: &impl Abort, alloc: Global, text: &str) -> String {
     String::from_str(alloc, text).expect(ends, "memory")
 }
 
-/// What the check says of a registry's tables, even if no registry opens from them: each thing that
-/// breaks a rule, and the rule in words, with `; ` between two of them.
-pub fn told_by<S: Alter>(ends: &impl Abort, alloc: Global, connection: &mut Connection<S>) -> String
+/// What the check says of a registry's tables, even if no registry opens from them, and their
+/// connection.
+pub fn told_by_connection<S: Alter + Drop>(
+    ends: &impl Abort,
+    alloc: Global,
+    connection: Connection<S>,
+) -> (String, Connection<S>)
+    requires rises { CanBeAdopted (state S.Store connection) }
+{
+    let mut connection = connection;
+    if !connection.is_autocommit() {
+        panic!(ends; "a transaction is open");
+    }
+    let text = told_by(ends, alloc, &mut connection);
+    (text, connection)
+}
+
+// What the check says: each thing that breaks a rule, and the rule in words, with `; ` between two of
+// them.
+fn told_by<S: Alter>(ends: &impl Abort, alloc: Global, connection: &mut Connection<S>) -> String
     requires idle { connection.old.in_transaction ≡ false }
     requires rises { CanBeAdopted (state S.Store connection.old) }
 {

@@ -12,7 +12,7 @@ use crate::disks::{
 };
 use crate::outcome::same;
 use crate::requests::{COMMANDS, QUERIES};
-use crate::work::Work;
+use crate::work::{Work, worked};
 use registry_desk::Registry;
 use registry_names::Fault;
 use registry_rules::Request;
@@ -154,26 +154,23 @@ fn is_back_inside<D: StoppingDisk>(ends: &impl Abort, alloc: Global) {
     }
 }
 
-fn is_back_once_begun<D: StoppingDisk>(
+fn is_back_once_begun<S: Alter + Drop>(
     ends: &impl Abort,
     alloc: Global,
-    connection: Connection<FileStore<D>>,
+    connection: Connection<S>,
 ) {
-    let connection = executed(ends, alloc, connection, "BEGIN");
+    let mut nothing = String::new(alloc);
+    let connection = worked(ends, alloc, connection, Work::Run(&["BEGIN"]), &mut nothing);
     if connection.is_autocommit() {
         panic!(ends; "no transaction is open");
     }
     is_back_as_it_was(ends, alloc, connection);
 }
 
-fn is_back_as_it_was<D: StoppingDisk>(
-    ends: &impl Abort,
-    alloc: Global,
-    connection: Connection<FileStore<D>>,
-)
+fn is_back_as_it_was<S: Alter + Drop>(ends: &impl Abort, alloc: Global, connection: Connection<S>)
     requires inside { connection.in_transaction ≡ true }
 {
-    match files_handed_back(alloc, connection) {
+    match handed_back(alloc, connection) {
         None => panic!(ends; "a registry inside a transaction"),
         Some((fault, connection)) => same(
             ends,

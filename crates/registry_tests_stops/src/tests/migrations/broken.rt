@@ -6,16 +6,17 @@
 //! Foreign keys are always on, so no statement breaks one, and a file in which one is broken doesn't
 //! open.
 
-ghost use Rattle.registry_desk.specs.Adopted.{CanBeAdoptedAgain};
+ghost use Rattle.sqlite.specs.Files.{file_state};
+ghost use Rattle.registry_desk.specs.Adopted.{CanBeAdopted, CanBeAdoptedAgain};
 
 use crate::disks::{NEVER, Stopping, StoppingDisk, TestDisk, copied, empty_files, open};
 use crate::lines::parts;
 use crate::outcome::same;
 use crate::tests::migrations::{ran, refusing, tables, told};
-use crate::told::told_by;
+use crate::told::told_by_connection;
 use registry_desk::{Registry, Unopened};
 use registry_names::Fault;
-use sqlite::{FileStore, Files};
+use sqlite::{Connection, FileStore, Files};
 use sqlite_disk::Disk;
 use std::alloc::Global;
 use std::process::Abort;
@@ -198,21 +199,19 @@ fn told_open<D: Disk + Drop>(
 fn told_closed<D: Disk + Drop>(ends: &impl Abort, alloc: Global, left: Unopened<D>) -> String
     requires again { CanBeAdoptedAgain left }
 {
-    let mut left = left;
-    let told = told_inside(ends, alloc, &mut left);
-    format!(in alloc; "closed: {}", told.as_str()).expect(ends, "memory")
-}
-
-fn told_inside<D: Disk + Drop>(ends: &impl Abort, alloc: Global, left: &mut Unopened<D>) -> String
-    requires again { CanBeAdoptedAgain left.old }
-{
     match left {
-        Unopened::Database(conn) => {
-            if !conn.is_autocommit() {
-                panic!(ends; "a transaction is open");
-            }
-            told_by(ends, alloc, conn)
-        }
+        Unopened::Database(connection) => told_inside(ends, alloc, connection),
         Unopened::Files(_) => panic!(ends; "no database opens"),
     }
+}
+
+fn told_inside<D: Disk + Drop>(
+    ends: &impl Abort,
+    alloc: Global,
+    connection: Connection<FileStore<D>>,
+) -> String
+    requires rises { CanBeAdopted (file_state connection) }
+{
+    let (told, _connection) = told_by_connection(ends, alloc, connection);
+    format!(in alloc; "closed: {}", told.as_str()).expect(ends, "memory")
 }
