@@ -9,6 +9,7 @@ use Rattle.registry_packument.specs.Writing.{Adds, IsFaultOf}
 use Rattle.registry_names.specs.declared.stop.Fault.{Fault}
 use Rattle.registry_names.specs.declared.stop.Fault.TheVariants.{Memory, Database}
 use Rattle.registry_packument.specs.Heads.{HeadParts}
+use Rattle.registry_packument.specs.declared.form.PackForm.{PackForm}
 use Rattle.registry_packument.specs.declared.packument.VersionRow.{VersionRow}
 use Rattle.registry_packument.proofs.PackFacts.{pack_pairs-parts}
 
@@ -16,8 +17,8 @@ use Rattle.registry_packument.proofs.PackFacts.{pack_pairs-parts}
 abbrev with_pairs : ℕ → Bool → Option (List Pair) → Option ℕ
 with_pairs count later left = option_map (λ ps. count + length (versions_text later ps)) left
 
-abbrev pub with_left : ℕ → Bool → List VersionRow → Option ℕ
-with_left count later rows = with_pairs count later (version_pairs rows)
+abbrev pub with_left : PackForm → ℕ → Bool → List VersionRow → Option ℕ
+with_left form count later rows = with_pairs count later (version_pairs form rows)
 
 -- how many bytes there are, without a bound
 abbrev pub whole_len : HeadParts → List VersionRow → Option ℕ
@@ -29,8 +30,8 @@ start_at head count None e = refl
 start_at head count (Some ps) e =
     ap Some (rw e (sym (length-append (opening_text head) (versions_text false ps)) ∙ sym (ap length (pack_pairs-parts head ps))))
 
-pub with_left-start : (head : HeadParts) (rows : List VersionRow) (count : ℕ) → count ≡ length (opening_text head) → with_left count false rows ≡ whole_len head rows
-with_left-start head rows count e = start_at head count (version_pairs rows) e
+pub with_left-start : (head : HeadParts) (rows : List VersionRow) (count : ℕ) → count ≡ length (opening_text head) → with_left head.form count false rows ≡ whole_len head rows
+with_left-start head rows count e = start_at head count (version_pairs head.form rows) e
 
 step_at : (count more : ℕ) (later : Bool) (p : Pair) (left : Option (List Pair)) → more ≡ count + length (member_text later p)
     → with_pairs more true left ≡ with_pairs count later (option_map (λ ps. p ∷ ps) left)
@@ -41,11 +42,11 @@ step_at count more later p (Some ps) e =
     ap Some (omega (arith, parts, e))
 
 -- the next row is counted
-pub with_left-step : (whole : Option ℕ) (count more : ℕ) (later : Bool) (row : VersionRow) (old rows : List VersionRow) → old ≡ row ∷ rows
-    → with_left count later old ≡ whole → (p : Pair) × (version_pair row ≡ Some p) × (more ≡ count + length (member_text later p)) → with_left more true rows ≡ whole
-with_left-step whole count more later row old rows gives left (p, is, e) =
-    let before : with_left count later (row ∷ rows) ≡ whole = rw gives at left in
-    step_at count more later p (version_pairs rows) e ∙ (rw is at before)
+pub with_left-step : (form : PackForm) (whole : Option ℕ) (count more : ℕ) (later : Bool) (row : VersionRow) (old rows : List VersionRow) → old ≡ row ∷ rows
+    → with_left form count later old ≡ whole → (p : Pair) × (version_pair form row ≡ Some p) × (more ≡ count + length (member_text later p)) → with_left form more true rows ≡ whole
+with_left-step form whole count more later row old rows gives left (p, is, e) =
+    let before : with_left form count later (row ∷ rows) ≡ whole = rw gives at left in
+    step_at count more later p (version_pairs form rows) e ∙ (rw is at before)
 
 -- ---- no length
 
@@ -65,13 +66,13 @@ too_many_at : (count : ℕ) (later : Bool) (left : Option (List Pair)) (all : Op
 too_many_at count later None all h le = no_text all h
 too_many_at count later (Some ps) all h le = too_long all (count + length (versions_text later ps)) h (omega arith)
 
-row_at : (head : HeadParts) (all : List VersionRow) (row : VersionRow) (rows : List VersionRow) (count : ℕ) (later : Bool) (pair : Option Pair) → version_pair row ≡ pair
-    → with_left count later (row ∷ rows) ≡ whole_len head all → ((p : Pair) → version_pair row ≡ Some p → 2 ^ 64 ≤ count + length (member_text later p)) → pack_len head all ≡ None
+row_at : (head : HeadParts) (all : List VersionRow) (row : VersionRow) (rows : List VersionRow) (count : ℕ) (later : Bool) (pair : Option Pair) → version_pair head.form row ≡ pair
+    → with_left head.form count later (row ∷ rows) ≡ whole_len head all → ((p : Pair) → version_pair head.form row ≡ Some p → 2 ^ 64 ≤ count + length (member_text later p)) → pack_len head all ≡ None
 row_at head all row rows count later None e h much =
     let none : None ≡ whole_len head all = rw e at h in no_text (pack_text head all) none
 row_at head all row rows count later (Some p) e h much =
     let more = count + length (member_text later p) in
-    too_many_at more true (version_pairs rows) (pack_text head all) (with_left-step _ count more later row _ rows refl h (p, e, refl)) (much p e)
+    too_many_at more true (version_pairs head.form rows) (pack_text head all) (with_left-step head.form _ count more later row _ rows refl h (p, e, refl)) (much p e)
 
 is_fault : (fault : Fault) (len : Option ℕ) → len ≡ None → IsFaultOf len fault
 is_fault Memory len none = tt
@@ -79,20 +80,20 @@ is_fault Database len none = none
 
 -- memory ran out, or the next row has no document, or is too much
 pub row_fault : (head : HeadParts) (all : List VersionRow) (row : VersionRow) (old rows : List VersionRow) (count : ℕ) (later : Bool) (fault : Fault) → old ≡ row ∷ rows
-    → with_left count later old ≡ whole_len head all
-    → (fault ≡ Memory) ⊎ ((p : Pair) → version_pair row ≡ Some p → 2 ^ 64 ≤ count + length (member_text later p)) → IsFaultOf (pack_len head all) fault
+    → with_left head.form count later old ≡ whole_len head all
+    → (fault ≡ Memory) ⊎ ((p : Pair) → version_pair head.form row ≡ Some p → 2 ^ 64 ≤ count + length (member_text later p)) → IsFaultOf (pack_len head all) fault
 row_fault head all row old rows count later fault gives left (inl memory) = rw memory tt
 row_fault head all row old rows count later fault gives left (inr much) =
-    is_fault fault _ (row_at head all row rows count later (version_pair row) refl (rw gives at left) much)
+    is_fault fault _ (row_at head all row rows count later (version_pair head.form row) refl (rw gives at left) much)
 
 -- memory ran out, or what comes before the first version is too much
 pub opening_fault : (head : HeadParts) (rows : List VersionRow) (fault : Fault) → (fault ≡ Memory) ⊎ (2 ^ 64 ≤ length (opening_text head)) → IsFaultOf (pack_len head rows) fault
 opening_fault head rows fault (inl memory) = rw memory tt
 opening_fault head rows fault (inr much) =
-    is_fault fault _ (too_many_at (length (opening_text head)) false (version_pairs rows) (pack_text head rows) (with_left-start head rows (length (opening_text head)) refl) much)
+    is_fault fault _ (too_many_at (length (opening_text head)) false (version_pairs head.form rows) (pack_text head rows) (with_left-start head rows (length (opening_text head)) refl) much)
 
 -- memory ran out, or the end is too much
-pub closing_fault : (head : HeadParts) (all rows : List VersionRow) (count : ℕ) (later : Bool) (fault : Fault) → rows ≡ [] → with_left count later rows ≡ whole_len head all
+pub closing_fault : (head : HeadParts) (all rows : List VersionRow) (count : ℕ) (later : Bool) (fault : Fault) → rows ≡ [] → with_left head.form count later rows ≡ whole_len head all
     → (fault ≡ Memory) ⊎ (2 ^ 64 ≤ count + 2) → IsFaultOf (pack_len head all) fault
 closing_fault head all rows count later fault none left (inl memory) = rw memory tt
 closing_fault head all rows count later fault none left (inr much) = is_fault fault _ (too_long (pack_text head all) (count + 2) (rw none at left) much)

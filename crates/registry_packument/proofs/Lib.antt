@@ -1,3 +1,4 @@
+pub mod AbbreviatedFacts
 pub mod CalendarFacts
 pub mod DocumentFacts
 pub mod LenFacts

@@ -3,18 +3,21 @@ use Rattle.std.proofs.Common.{◌≡◌, ℕ, Bool, true, false, List, [], ◌�
 use Rattle.std.specs.Prelude.{OnOk, is_ok}
 use Rattle.std.proofs.lemmas.List.{drop_more}
 use Rattle.json.specs.Print.{quoted}
-use Rattle.serde_json.specs.Data.{string, object, Members, no_members, member}
+use Rattle.serde_json.specs.Data.{object, Members, no_members, member}
 use Rattle.serde_json.specs.Written.{comma_if, compact_text}
 use Rattle.serde_json.specs.Written as written
 use Rattle.registry_names.specs.declared.stop.Fault.{Fault}
 use Rattle.registry_names.specs.declared.stop.Fault.TheVariants.{Memory, Database}
 use Rattle.registry_packument.specs.ObjectTexts.{Pair, member_text, members_text, object_text}
-use Rattle.registry_packument.specs.Packuments.{tag_pair, time_pair, time_text, time_texts, moments_of, version_pair, version_pairs, pack_pairs, before_times, times_text, opening_text, versions_text, pack_text, tag_members, time_members, pack_value, AreDocumentsOf}
+use Rattle.registry_packument.specs.Packuments.{tag_pair, time_pair, time_text, time_texts, moments_of, version_pair, version_pairs, pairs_of_form, pack_pairs, before_times, times_text, opening_of_form, opening_text, versions_text, pack_text, tag_members, time_members, members_of_pack, pack_value, AreDocumentsOf}
 use Rattle.registry_packument.specs.Writing.{Adds, IsFaultOf}
+use Rattle.registry_packument.specs.Calendar.{utc_text}
 use Rattle.registry_packument.specs.Heads.{HeadParts, time_entry}
 use Rattle.registry_packument.specs.TextValues.{text_members}
-use Rattle.registry_packument.proofs.ValueFacts.{document_text-compact}
+use Rattle.registry_packument.proofs.ValueFacts.{document_in-compact}
 use Rattle.registry_names.specs.declared.dist_tag.DistTag.{DistTag}
+use Rattle.registry_packument.specs.declared.form.PackForm.{PackForm}
+use Rattle.registry_packument.specs.declared.form.PackForm.TheVariants.{Full, Abbreviated}
 use Rattle.registry_packument.specs.declared.packument.VersionRow.{VersionRow}
 use Rattle.registry_packument.specs.declared.times.VersionTime.{VersionTime}
 
@@ -51,32 +54,35 @@ moments_text : (es : List (List ℕ × ℕ)) → AreTextsOf (map time_pair es) (
 moments_text [] = tt
 moments_text (e ∷ es) = (refl, (refl, moments_text es))
 
-documents_texts : (rs : List VersionRow) (ms : Members) → AreDocumentsOf rs ms → (ps : List Pair) × ((version_pairs rs ≡ Some ps) × AreTextsOf ps ms)
-documents_texts [] no_members h = ([], (refl, tt))
-documents_texts [] (member k d ms) h = absurd h
-documents_texts (r ∷ rs) no_members h = absurd h
-documents_texts (r ∷ rs) (member k d ms) h =
-    let rest = documents_texts rs ms h.1.1 in
-    let document = document_text-compact r.manifest r.message h.1.0.0 h.1.0.1.0 in
+documents_texts : (form : PackForm) (rs : List VersionRow) (ms : Members) → AreDocumentsOf form rs ms → (ps : List Pair) × ((version_pairs form rs ≡ Some ps) × AreTextsOf ps ms)
+documents_texts form [] no_members h = ([], (refl, tt))
+documents_texts form [] (member k d ms) h = absurd h
+documents_texts form (r ∷ rs) no_members h = absurd h
+documents_texts form (r ∷ rs) (member k d ms) h =
+    let rest = documents_texts form rs ms h.1.1 in
+    let document = document_in-compact form r.manifest r.message h.1.0.0 h.1.0.1.0 in
     ((r.version, compact_text d) ∷ rest.0, (rw (document, rest.1.0, h.1.0.1.1) refl, (h.0, (refl, rest.1.1))))
 
-pack_pairs-members : (head : HeadParts) (ps : List Pair) (documents : Members) → AreTextsOf ps documents
-    → object_text (pack_pairs head ps) ≡ compact_text (pack_value head documents)
-pack_pairs-members head ps documents h =
+pairs_of_form-members : (form : PackForm) (head : HeadParts) (ps : List Pair) (documents : Members) → AreTextsOf ps documents
+    → object_text (pairs_of_form form head ps) ≡ compact_text (object (members_of_pack form head documents))
+pairs_of_form-members Full head ps documents h =
     let tags = object_text-object (map tag_pair head.tags) (tag_members head.tags) (tags_text head.tags) in
     let moments = moments_of head.times head.created head.modified in
     let times = object_text-object (map time_pair moments) (time_members head) (moments_text moments) in
     let versions = object_text-object ps documents h in
-    object_text-object (pack_pairs head ps)
-    (member (codes "_id") (string head.name) (member (codes "dist-tags") (object (tag_members head.tags)) (member (codes "name") (string head.name)
-    (member (codes "time") (object (time_members head)) (member (codes "versions") (object documents) no_members)))))
+    object_text-object (pairs_of_form Full head ps) (members_of_pack Full head documents)
     (refl, (refl, (refl, (tags, (refl, (refl, (refl, (times, (refl, (versions, tt))))))))))
+pairs_of_form-members Abbreviated head ps documents h =
+    let tags = object_text-object (map tag_pair head.tags) (tag_members head.tags) (tags_text head.tags) in
+    let versions = object_text-object ps documents h in
+    object_text-object (pairs_of_form Abbreviated head ps) (members_of_pack Abbreviated head documents)
+    (refl, (tags, (refl, (refl, (refl, (refl, (refl, (versions, tt))))))))
 
-pub pack_text-json : (head : HeadParts) (versions : List VersionRow) (documents : Members) → AreDocumentsOf versions documents
+pub pack_text-json : (head : HeadParts) (versions : List VersionRow) (documents : Members) → AreDocumentsOf head.form versions documents
     → pack_text head versions ≡ Some (compact_text (pack_value head documents))
 pack_text-json head versions documents h =
-    let texts = documents_texts versions documents h in
-    rw (texts.1.0, pack_pairs-members head texts.0 documents texts.1.1) refl
+    let texts = documents_texts head.form versions documents h in
+    rw (texts.1.0, pairs_of_form-members head.form head texts.0 documents texts.1.1) refl
 
 pub some_same : (s t : List ℕ) → Some s ≡ Some t → s ≡ t
 some_same s t h = ap (λ o. unwrap_or o s) h
@@ -102,6 +108,18 @@ assembled b0 b1 b2 b3 b4 b5 b6 b7 k1 k2 k3 k4 q t e0 e1 e2 e3 e4 e5 e6 e7 =
     (pieces b0 b1 b2 b3 b4 b5 b6 b7 (123 ∷ []) (k1 ++ 58 ∷ q) (44 ∷ (k2 ++ 58 ∷ [])) t (44 ∷ (k3 ++ 58 ∷ q)) (44 ∷ (k4 ++ 58 ∷ [])) (123 ∷ [])
     e0 e1 e2 e3 e4 e5 e6 e7)
 
+short_pieces : (b0 b1 b2 b3 b4 b5 b6 b7 o i t m n u c : List ℕ) → b0 ≡ [] → b1 ≡ b0 ++ o → b2 ≡ b1 ++ i → b3 ≡ b2 ++ t → b4 ≡ b3 ++ m → b5 ≡ b4 ++ n → b6 ≡ b5 ++ u
+    → b7 ≡ b6 ++ c → b7 ≡ o ++ ((i ++ t) ++ (m ++ (n ++ (u ++ c))))
+short_pieces b0 b1 b2 b3 b4 b5 b6 b7 o i t m n u c e0 e1 e2 e3 e4 e5 e6 e7 = rw (e7, e6, e5, e4, e3, e2, e1, e0) (simp append_assoc)
+
+-- the pieces in turn that come before the first version of an abbreviated packument
+pub short_assembled : (b0 b1 b2 b3 b4 b5 b6 b7 k1 k2 t m n : List ℕ) → b0 ≡ [] → b1 ≡ b0 ++ 123 ∷ [] → b2 ≡ b1 ++ (k1 ++ 58 ∷ []) → b3 ≡ b2 ++ t → b4 ≡ b3 ++ m
+    → b5 ≡ b4 ++ n → b6 ≡ b5 ++ 44 ∷ (k2 ++ 58 ∷ []) → b7 ≡ b6 ++ 123 ∷ []
+    → b7 ≡ 123 ∷ ((k1 ++ 58 ∷ t) ++ (m ++ (n ++ 44 ∷ (k2 ++ 58 ∷ 123 ∷ []))))
+short_assembled b0 b1 b2 b3 b4 b5 b6 b7 k1 k2 t m n e0 e1 e2 e3 e4 e5 e6 e7 =
+    rw (keyed k1 t, keyed k2 (123 ∷ []))
+    (short_pieces b0 b1 b2 b3 b4 b5 b6 b7 (123 ∷ []) (k1 ++ 58 ∷ []) t m n (44 ∷ (k2 ++ 58 ∷ [])) (123 ∷ []) e0 e1 e2 e3 e4 e5 e6 e7)
+
 more_pieces : (b0 b1 b2 b3 b4 b5 a b c u m : List ℕ) → b1 ≡ b0 ++ a → b2 ≡ b1 ++ b → b3 ≡ b2 ++ c → b4 ≡ b3 ++ u → b5 ≡ b4 ++ m
     → b5 ≡ b0 ++ ((a ++ (b ++ c)) ++ (u ++ m))
 more_pieces b0 b1 b2 b3 b4 b5 a b c u m e1 e2 e3 e4 e5 = rw (e5, e4, e3, e2, e1) (simp append_assoc)
@@ -122,8 +140,8 @@ parted_moments a b c key m e =
     rw d (spread_moments (123 ∷ []) a b c (44 ∷ (key ++ 58 ∷ 123 ∷ [])) m e)
 
 -- what comes before the moments, and these with what follows them
-pub opening_text-parts : (head : HeadParts) → opening_text head ≡ before_times head ++ times_text head false head.times
-opening_text-parts head =
+pub full_opening-parts : (head : HeadParts) → opening_of_form Full head ≡ before_times head ++ times_text head false head.times
+full_opening-parts head =
     parted_moments (member_text false (codes "_id", quoted head.name)) (member_text true (codes "dist-tags", object_text (map tag_pair head.tags)))
     (member_text true (codes "name", quoted head.name)) (quoted (codes "time")) (members_text false (map time_pair (moments_of head.times head.created head.modified)))
     (member_text true (codes "versions", 123 ∷ []))
@@ -165,11 +183,17 @@ parted a b c t key m =
     let d : key ++ 58 ∷ 123 ∷ m ≡ (key ++ 58 ∷ 123 ∷ []) ++ m = sym (append_assoc key (58 ∷ 123 ∷ []) m) in
     rw d (spread (123 ∷ []) a b c t (44 ∷ (key ++ 58 ∷ 123 ∷ [])) m (125 ∷ []))
 
--- what comes before the versions, and these with the end
-pub pack_pairs-parts : (head : HeadParts) (ps : List Pair) → object_text (pack_pairs head ps) ≡ opening_text head ++ versions_text false ps
-pack_pairs-parts head ps =
+pairs_of_form-parts : (form : PackForm) (head : HeadParts) (ps : List Pair) → object_text (pairs_of_form form head ps) ≡ opening_of_form form head ++ versions_text false ps
+pairs_of_form-parts Full head ps =
     parted (member_text false (codes "_id", quoted head.name)) (member_text true (codes "dist-tags", object_text (map tag_pair head.tags)))
     (member_text true (codes "name", quoted head.name)) (member_text true (codes "time", time_text head)) (quoted (codes "versions")) (members_text false ps)
+pairs_of_form-parts Abbreviated head ps =
+    parted_moments (member_text false (codes "dist-tags", object_text (map tag_pair head.tags))) (member_text true (codes "modified", quoted (utc_text head.modified)))
+    (member_text true (codes "name", quoted head.name)) (quoted (codes "versions")) (members_text false ps) (125 ∷ [])
+
+-- what comes before the versions, and these with the end
+pub pack_pairs-parts : (head : HeadParts) (ps : List Pair) → object_text (pack_pairs head ps) ≡ opening_text head ++ versions_text false ps
+pack_pairs-parts head ps = pairs_of_form-parts head.form head ps
 
 -- ---- the loop over the versions
 
@@ -188,24 +212,24 @@ start_at head out None e = refl
 start_at head out (Some ps) e = ap Some (rw e (sym (pack_pairs-parts head ps)))
 
 -- the row that is next is written
-pub row_step : (out more : List ℕ) (later : Bool) (row : VersionRow) (old rows : List VersionRow) (whole : Option (List ℕ)) → old ≡ row ∷ rows
-    → whole_of out later (version_pairs old) ≡ whole → Adds (member_text later) (version_pair row) out more → whole_of more true (version_pairs rows) ≡ whole
-row_step out more later row old rows whole gives h (p, (is, w)) =
-    let left : version_pairs old ≡ option_map (λ ps. p ∷ ps) (version_pairs rows) = rw (gives, is) refl in
-    whole_of-step out more later p (version_pairs rows) w ∙ ap (whole_of out later) (sym left) ∙ h
+pub row_step : (form : PackForm) (out more : List ℕ) (later : Bool) (row : VersionRow) (old rows : List VersionRow) (whole : Option (List ℕ)) → old ≡ row ∷ rows
+    → whole_of out later (version_pairs form old) ≡ whole → Adds (member_text later) (version_pair form row) out more → whole_of more true (version_pairs form rows) ≡ whole
+row_step form out more later row old rows whole gives h (p, (is, w)) =
+    let left : version_pairs form old ≡ option_map (λ ps. p ∷ ps) (version_pairs form rows) = rw (gives, is) refl in
+    whole_of-step out more later p (version_pairs form rows) w ∙ ap (whole_of out later) (sym left) ∙ h
 
 -- the row that is next isn't written
-pub row_stop : (out : List ℕ) (later : Bool) (row : VersionRow) (old rows : List VersionRow) (whole : Option (List ℕ)) (fault : Fault) → old ≡ row ∷ rows
-    → whole_of out later (version_pairs old) ≡ whole → IsFaultOf (version_pair row) fault → IsFaultOf whole fault
-row_stop out later row old rows whole Memory gives h is = tt
-row_stop out later row old rows whole Database gives h is =
-    let left : version_pairs old ≡ None = rw (gives, is) refl in sym h ∙ ap (whole_of out later) left
+pub row_stop : (form : PackForm) (out : List ℕ) (later : Bool) (row : VersionRow) (old rows : List VersionRow) (whole : Option (List ℕ)) (fault : Fault) → old ≡ row ∷ rows
+    → whole_of out later (version_pairs form old) ≡ whole → IsFaultOf (version_pair form row) fault → IsFaultOf whole fault
+row_stop form out later row old rows whole Memory gives h is = tt
+row_stop form out later row old rows whole Database gives h is =
+    let left : version_pairs form old ≡ None = rw (gives, is) refl in sym h ∙ ap (whole_of out later) left
 
 -- every row is written
-pub rows_end : (out done : List ℕ) (later : Bool) (rows : List VersionRow) (whole : Option (List ℕ)) → rows ≡ []
-    → whole_of out later (version_pairs rows) ≡ whole → done ≡ out ++ 125 ∷ 125 ∷ [] → whole ≡ Some done
-rows_end out done later rows whole none h e = sym h ∙ ap (λ rs. whole_of out later (version_pairs rs)) none ∙ ap Some (sym e)
+pub rows_end : (form : PackForm) (out done : List ℕ) (later : Bool) (rows : List VersionRow) (whole : Option (List ℕ)) → rows ≡ []
+    → whole_of out later (version_pairs form rows) ≡ whole → done ≡ out ++ 125 ∷ 125 ∷ [] → whole ≡ Some done
+rows_end form out done later rows whole none h e = sym h ∙ ap (λ rs. whole_of out later (version_pairs form rs)) none ∙ ap Some (sym e)
 
 -- nothing is written of the versions
-pub rows_start : (head : HeadParts) (rows : List VersionRow) (out : List ℕ) → out ≡ opening_text head → whole_of out false (version_pairs rows) ≡ pack_text head rows
-rows_start head rows out e = start_at head out (version_pairs rows) e
+pub rows_start : (head : HeadParts) (rows : List VersionRow) (out : List ℕ) → out ≡ opening_text head → whole_of out false (version_pairs head.form rows) ≡ pack_text head rows
+rows_start head rows out e = start_at head out (version_pairs head.form rows) e

@@ -11,10 +11,11 @@ use Rattle.serde_json.specs.Data.{Members}
 use Rattle.serde_json.specs.Written.{comma_if}
 use Rattle.registry_names.specs.declared.stop.Fault.{Fault}
 use Rattle.registry_names.specs.declared.stop.Fault.TheVariants.{Memory, Database}
-use Rattle.registry_packument.specs.Documents.{documented, manifest_members}
+use Rattle.registry_packument.specs.Abbreviated.{documented_in}
+use Rattle.registry_packument.specs.Documents.{manifest_members}
 use Rattle.registry_packument.specs.Heads.{HeadParts}
 use Rattle.registry_packument.specs.ObjectTexts.{Pair, member_text, members_text, object_text}
-use Rattle.registry_packument.specs.Packuments.{opening_text, pack_len, pack_pairs, pack_text, version_pair, version_pairs, versions_text}
+use Rattle.registry_packument.specs.Packuments.{opening_of_form, opening_text, pack_len, pack_pairs, pack_text, version_pair, version_pairs, versions_text}
 use Rattle.registry_packument.specs.Sendings as sendings
 use Rattle.registry_packument.specs.Sendings.{WritesSome, opened}
 use Rattle.registry_packument.specs.Counted.{IfBroken, IsBreak, IsFaultOfLen, IsUnbroken, IsUnstopped, Takes, WritesWithin, end_of, row_text, rows_text}
@@ -22,6 +23,8 @@ use Rattle.registry_packument.specs.Streams.{failures_after}
 use Rattle.registry_packument.specs.declared.opener.Sent.TheVariants.{Whole, WriteFault}
 use Rattle.registry_packument.specs.declared.stream.PackFault.{PackFault}
 use Rattle.registry_packument.specs.declared.stream.PackFault.TheVariants.{Write, Source}
+use Rattle.registry_packument.specs.declared.form.PackForm.{PackForm}
+use Rattle.registry_packument.specs.declared.form.PackForm.TheVariants.{Full, Abbreviated}
 use Rattle.registry_packument.specs.declared.packument.VersionRow.{VersionRow}
 use Rattle.registry_packument.proofs.PackFacts.{pack_pairs-parts}
 use Rattle.registry_packument.proofs.StreamFacts.{length-member_text}
@@ -99,11 +102,11 @@ rows_at later key document (Some ms) (Some qs) rest ps more h =
     ap (λ xs. member_text later (key, document) ++ xs) (more qs refl)
     ∙ sym (append_assoc (member_text later (key, document)) (members_text true qs) (125 ∷ [])) ∙ ap (λ o. versions_text later (unwrap_or o [])) h
 
-rows_text-pairs : (rows : List VersionRow) (later : Bool) (ps : List Pair) → version_pairs rows ≡ Some ps → rows_text later rows ≡ versions_text later ps
-rows_text-pairs [] later ps h = ap (λ o. versions_text later (unwrap_or o [])) h
-rows_text-pairs (row ∷ rows) later ps h =
-    rows_at later row.version (documented row.manifest row.message) (manifest_members row.manifest) (version_pairs rows) (rows_text true rows) ps
-    (λ qs is. rows_text-pairs rows true qs is) h
+rows_text-pairs : (form : PackForm) (rows : List VersionRow) (later : Bool) (ps : List Pair) → version_pairs form rows ≡ Some ps → rows_text form later rows ≡ versions_text later ps
+rows_text-pairs form [] later ps h = ap (λ o. versions_text later (unwrap_or o [])) h
+rows_text-pairs form (row ∷ rows) later ps h =
+    rows_at later row.version (documented_in form row.manifest row.message) (manifest_members row.manifest) (version_pairs form rows) (rows_text form true rows) ps
+    (λ qs is. rows_text-pairs form rows true qs is) h
 
 text_at : (head : HeadParts) (pairs : Option (List Pair)) (rest text : List ℕ) → ((ps : List Pair) → pairs ≡ Some ps → rest ≡ versions_text false ps)
     → option_map (λ ps. object_text (pack_pairs head ps)) pairs ≡ Some text → text ≡ opening_text head ++ rest
@@ -112,15 +115,15 @@ text_at head (Some ps) rest text is h =
     ap (λ o. unwrap_or o []) (sym h) ∙ pack_pairs-parts head ps ∙ ap (λ xs. opening_text head ++ xs) (sym (is ps refl))
 
 module _ (head : HeadParts) (rows : List VersionRow) (len : ℕ) (counted : pack_len head rows ≡ Some len) where
-  text_is : (text : List ℕ) → pack_text head rows ≡ Some text → text ≡ opening_text head ++ rows_text false rows
-  text_is text is = text_at head (version_pairs rows) (rows_text false rows) text (λ ps e. rows_text-pairs rows false ps e) is
+  text_is : (text : List ℕ) → pack_text head rows ≡ Some text → text ≡ opening_text head ++ rows_text head.form false rows
+  text_is text is = text_at head (version_pairs head.form rows) (rows_text head.form false rows) text (λ ps e. rows_text-pairs head.form rows false ps e) is
 
-  pub counted_text : pack_text head rows ≡ Some (opening_text head ++ rows_text false rows)
+  pub counted_text : pack_text head rows ≡ Some (opening_text head ++ rows_text head.form false rows)
   counted_text =
       let it = counted_at (pack_text head rows) len counted in
       it.1.0 ∙ ap Some (text_is it.0 it.1.0)
 
-  pub counted_long : length (opening_text head ++ rows_text false rows) ≡ len
+  pub counted_long : length (opening_text head ++ rows_text head.form false rows) ≡ len
   counted_long =
       let it = counted_at (pack_text head rows) len counted in
       ap length (sym (text_is it.0 it.1.0)) ∙ it.1.1
@@ -130,8 +133,12 @@ module _ (head : HeadParts) (rows : List VersionRow) (len : ℕ) (counted : pack
 length_two : (before rest : List ℕ) (n len : ℕ) → length before + n ≡ len → length rest ≡ n → length (before ++ rest) ≡ len
 length_two before rest n len all long = omega (arith, length-append before rest, all, long)
 
+length-opening_of_form : (form : PackForm) (head : HeadParts) → 0 < length (opening_of_form form head)
+length-opening_of_form Full head = omega arith
+length-opening_of_form Abbreviated head = omega arith
+
 pub length-opening_text : (head : HeadParts) → 0 < length (opening_text head)
-length-opening_text head = omega arith
+length-opening_text head = length-opening_of_form head.form head
 
 module _ (opens : ℕ → List ℕ) (len n : ℕ) (start before : List ℕ) (is : start ≡ opens len ++ before) (all : length before + n ≡ len) where
   -- the start wasn't written whole
@@ -226,14 +233,14 @@ pub member_is : (start key document : List ℕ) (later : Bool) → start ≡ com
 member_is start key document later e = rw e (simp append_assoc)
 
 -- nothing of it is written
-pub member_unwritten : (later : Bool) (row : VersionRow) (a : Option (List ℕ)) (s : Bool) → WritesPrefix a a s (row_text later row)
-member_unwritten later row a s = record { count = 0; is_less = length-member_text later _; wrote = Writes-nothing a s }
+pub member_unwritten : (form : PackForm) (later : Bool) (row : VersionRow) (a : Option (List ℕ)) (s : Bool) → WritesPrefix a a s (row_text form later row)
+member_unwritten form later row a s = record { count = 0; is_less = length-member_text later _; wrote = Writes-nothing a s }
 
 -- no text is empty that has an end
-pub length-rows_text : (later : Bool) (rows : List VersionRow) → 0 < length (rows_text later rows)
-length-rows_text later [] = lit< tt
-length-rows_text later (row ∷ rows) =
-    omega (arith, length-append (row_text later row) (rows_text true rows), length-member_text later (row.version, documented row.manifest row.message))
+pub length-rows_text : (form : PackForm) (later : Bool) (rows : List VersionRow) → 0 < length (rows_text form later rows)
+length-rows_text form later [] = lit< tt
+length-rows_text form later (row ∷ rows) =
+    omega (arith, length-append (row_text form later row) (rows_text form true rows), length-member_text later (row.version, documented_in form row.manifest row.message))
 
 -- a prefix of what has room
 pub prefix_within : {a b : Option (List ℕ)} {s : Bool} (text : List ℕ) (left room : ℕ) → length text + left ≡ room → WritesPrefix a b s text
@@ -244,30 +251,30 @@ prefix_within text left room fits failed =
 -- ---- what breaks it off
 
 -- the versions that are left have two bytes at least, since these end the packument
-pub two_at_least : (later : Bool) (rows : List VersionRow) → 2 ≤ length (rows_text later rows)
-two_at_least later [] = let two : length (rows_text later []) ≡ 2 = refl in omega (arith, two)
-two_at_least later (row ∷ rows) =
-    omega (arith, length-append (row_text later row) (rows_text true rows), two_at_least true rows)
+pub two_at_least : (form : PackForm) (later : Bool) (rows : List VersionRow) → 2 ≤ length (rows_text form later rows)
+two_at_least form later [] = let two : length (rows_text form later []) ≡ 2 = refl in omega (arith, two)
+two_at_least form later (row ∷ rows) =
+    omega (arith, length-append (row_text form later row) (rows_text form true rows), two_at_least form true rows)
 
 missing_at : (pair : Option Pair) (left : Option (List Pair)) → left ≡ None → option_and_then (λ p. option_map (λ ps. p ∷ ps) left) pair ≡ None
 missing_at None left none = refl
 missing_at (Some p) left none = ap (option_map (λ ps. p ∷ ps)) none
 
 -- where a document is missing behind a row, or the row's own, one of all is missing
-pub missing_behind : (row : VersionRow) (old rows : List VersionRow) → old ≡ row ∷ rows → version_pairs rows ≡ None → version_pairs old ≡ None
-missing_behind row old rows gives none = ap version_pairs gives ∙ missing_at (version_pair row) (version_pairs rows) none
+pub missing_behind : (form : PackForm) (row : VersionRow) (old rows : List VersionRow) → old ≡ row ∷ rows → version_pairs form rows ≡ None → version_pairs form old ≡ None
+missing_behind form row old rows gives none = ap (version_pairs form) gives ∙ missing_at (version_pair form row) (version_pairs form rows) none
 
-pub missing_first : (row : VersionRow) (old rows : List VersionRow) → old ≡ row ∷ rows → version_pair row ≡ None → version_pairs old ≡ None
-missing_first row old rows gives none =
-    ap version_pairs gives ∙ ap (λ pair. option_and_then (λ p. option_map (λ ps. p ∷ ps) (version_pairs rows)) pair) none
+pub missing_first : (form : PackForm) (row : VersionRow) (old rows : List VersionRow) → old ≡ row ∷ rows → version_pair form row ≡ None → version_pairs form old ≡ None
+missing_first form row old rows gives none =
+    ap (version_pairs form) gives ∙ ap (λ pair. option_and_then (λ p. option_map (λ ps. p ∷ ps) (version_pairs form rows)) pair) none
 
 -- a row isn't written: its document is missing, or it has more bytes than are left
-pub broken_at_row : (room left : ℕ) (later : Bool) (row : VersionRow) (all old rows : List VersionRow) → old ≡ row ∷ rows → (version_pairs old ≡ None → version_pairs all ≡ None)
-    → length (rows_text false all) + left ≡ room + length (rows_text later old) → (version_pair row ≡ None) ⊎ (left < length (row_text later row))
-    → (version_pairs all ≡ None) ⊎ (length (rows_text false all) ≢ room + 2)
-broken_at_row room left later row all old rows gives missing long (inl none) = inl (missing (missing_first row old rows gives none))
-broken_at_row room left later row all old rows gives missing long (inr more) =
-    inr (λ e. omega (arith, e, long, more, ap (λ rs. length (rows_text later rs)) gives, length-append (row_text later row) (rows_text true rows), two_at_least true rows))
+pub broken_at_row : (form : PackForm) (room left : ℕ) (later : Bool) (row : VersionRow) (all old rows : List VersionRow) → old ≡ row ∷ rows → (version_pairs form old ≡ None → version_pairs form all ≡ None)
+    → length (rows_text form false all) + left ≡ room + length (rows_text form later old) → (version_pair form row ≡ None) ⊎ (left < length (row_text form later row))
+    → (version_pairs form all ≡ None) ⊎ (length (rows_text form false all) ≢ room + 2)
+broken_at_row form room left later row all old rows gives missing long (inl none) = inl (missing (missing_first form row old rows gives none))
+broken_at_row form room left later row all old rows gives missing long (inr more) =
+    inr (λ e. omega (arith, e, long, more, ap (λ rs. length (rows_text form later rs)) gives, length-append (row_text form later row) (rows_text form true rows), two_at_least form true rows))
 
 differs : (fault : Fault) (counted : ℕ) (has : Option ℕ) → has ≢ Some counted → IsFaultOfLen counted has fault
 differs Memory counted has differ = tt
@@ -279,18 +286,18 @@ pub start_fault : (stopped : Option Fault) (head : HeadParts) (rows : List Versi
 start_fault stopped head rows len fault (inl memory) = inr (rw memory tt)
 start_fault stopped head rows len fault (inr short) =
     inr (differs fault len (pack_len head rows)
-    (λ counted. omega (arith, counted_long head rows len counted, length-append (opening_text head) (rows_text false rows), two_at_least false rows, short)))
+    (λ counted. omega (arith, counted_long head rows len counted, length-append (opening_text head) (rows_text head.form false rows), two_at_least head.form false rows, short)))
 
 rows_fault : (stopped : Option Fault) (head : HeadParts) (rows : List VersionRow) (len room : ℕ) → length (opening_text head) + (room + 2) ≡ len
-    → (stopped ≡ Some Database) ⊎ ((version_pairs rows ≡ None) ⊎ (length (rows_text false rows) ≢ room + 2)) → IsBreak stopped len (pack_len head rows) Database
+    → (stopped ≡ Some Database) ⊎ ((version_pairs head.form rows ≡ None) ⊎ (length (rows_text head.form false rows) ≢ room + 2)) → IsBreak stopped len (pack_len head rows) Database
 rows_fault stopped head rows len room all (inl own) = inl own
 rows_fault stopped head rows len room all (inr (inl none)) =
     inr (λ counted. none-some _ (sym (ap (option_map (λ ps. object_text (pack_pairs head ps))) none) ∙ counted_text head rows len counted))
 rows_fault stopped head rows len room all (inr (inr differ)) =
-    inr (λ counted. differ (omega (arith, counted_long head rows len counted, length-append (opening_text head) (rows_text false rows), all)))
+    inr (λ counted. differ (omega (arith, counted_long head rows len counted, length-append (opening_text head) (rows_text head.form false rows), all)))
 
 pub end_fault : {A : Type 0} (stopped : Option Fault) (head : HeadParts) (rows : List VersionRow) (len room : ℕ) → length (opening_text head) + (room + 2) ≡ len → (result : Result A PackFault)
-    → (result ≡ Err (Source Database) → (stopped ≡ Some Database) ⊎ ((version_pairs rows ≡ None) ⊎ (length (rows_text false rows) ≢ room + 2)))
+    → (result ≡ Err (Source Database) → (stopped ≡ Some Database) ⊎ ((version_pairs head.form rows ≡ None) ⊎ (length (rows_text head.form false rows) ≢ room + 2)))
     → IfBroken (end_of result) (IsBreak stopped len (pack_len head rows))
 end_fault stopped head rows len room all (Ok done) says = tt
 end_fault stopped head rows len room all (Err Write) says = tt

@@ -6,11 +6,12 @@ use Rattle.json.specs.Print.{quoted}
 use Rattle.serde_json.specs.Written.{comma_if}
 use Rattle.registry_names.specs.ByteStreams.{Writes, WritesPrefix}
 use Rattle.registry_names.proofs.ByteStreamFacts.{Writes-nothing, Writes-append, WritesPrefix-append, WritesPrefix-longer, WritesPrefix-stopped}
-use Rattle.registry_packument.specs.Documents.{document_text}
+use Rattle.registry_packument.specs.Abbreviated.{document_in}
 use Rattle.registry_packument.specs.ObjectTexts.{Pair, member_text, members_text, object_text}
 use Rattle.registry_packument.specs.Packuments.{time_pair, moments_of, times_text, version_pair, version_pairs, pack_pairs, opening_text, versions_text, pack_text}
 use Rattle.registry_packument.specs.Streams.{row_prefix, versions_prefix, pack_prefix}
 use Rattle.registry_packument.specs.Heads.{HeadParts}
+use Rattle.registry_packument.specs.declared.form.PackForm.{PackForm}
 use Rattle.registry_packument.specs.declared.packument.VersionRow.{VersionRow}
 use Rattle.registry_packument.specs.declared.times.VersionTime.{VersionTime}
 use Rattle.registry_packument.proofs.PackFacts.{pack_pairs-parts}
@@ -68,12 +69,12 @@ cut_at later key None rest = sym (append-nil (member_text later (key, [])))
 cut_at later key (Some d) rest = member_text-append later key d rest
 
 -- what follows a version: the others, or nothing where its document is missing
-abbrev pub behind : VersionRow → List VersionRow → List ℕ
-behind row rows = unwrap_or (option_map (λ d. versions_prefix true rows) (document_text row.manifest row.message)) []
+abbrev pub behind : PackForm → VersionRow → List VersionRow → List ℕ
+behind form row rows = unwrap_or (option_map (λ d. versions_prefix form true rows) (document_in form row.manifest row.message)) []
 
-pub versions_prefix-cut : (later : Bool) (row : VersionRow) (old rows : List VersionRow) → old ≡ row ∷ rows → versions_prefix later old ≡ row_prefix later row ++ behind row rows
-versions_prefix-cut later row old rows gives =
-    ap (versions_prefix later) gives ∙ cut_at later row.version (document_text row.manifest row.message) (versions_prefix true rows)
+pub versions_prefix-cut : (form : PackForm) (later : Bool) (row : VersionRow) (old rows : List VersionRow) → old ≡ row ∷ rows → versions_prefix form later old ≡ row_prefix form later row ++ behind form row rows
+versions_prefix-cut form later row old rows gives =
+    ap (versions_prefix form later) gives ∙ cut_at later row.version (document_in form row.manifest row.message) (versions_prefix form true rows)
 
 next_at : (later : Bool) (key : List ℕ) (document : Option (List ℕ)) (rest : List ℕ) → is_some {T = Pair} (option_map (λ d. (key, d)) document) ≡ true
     → member_text later (key, unwrap_or (option_map (λ d. d ++ rest) document) []) ≡ member_text later (key, unwrap_or document []) ++ rest
@@ -81,32 +82,32 @@ next_at later key None rest h = absurd (true≢false (sym h))
 next_at later key (Some d) rest h = member_text-append later key d rest
 
 -- a version with a document, and then the others
-pub versions_prefix-next : (later : Bool) (row : VersionRow) (old rows : List VersionRow) → old ≡ row ∷ rows → is_some (version_pair row) ≡ true
-    → versions_prefix later old ≡ row_prefix later row ++ versions_prefix true rows
-versions_prefix-next later row old rows gives h =
-    ap (versions_prefix later) gives ∙ next_at later row.version (document_text row.manifest row.message) (versions_prefix true rows) h
+pub versions_prefix-next : (form : PackForm) (later : Bool) (row : VersionRow) (old rows : List VersionRow) → old ≡ row ∷ rows → is_some (version_pair form row) ≡ true
+    → versions_prefix form later old ≡ row_prefix form later row ++ versions_prefix form true rows
+versions_prefix-next form later row old rows gives h =
+    ap (versions_prefix form later) gives ∙ next_at later row.version (document_in form row.manifest row.message) (versions_prefix form true rows) h
 
-pub length-versions_prefix : (later : Bool) (rows : List VersionRow) → 0 < length (versions_prefix later rows)
-length-versions_prefix later [] = lit< tt
-length-versions_prefix later (row ∷ rows) = length-member_text later _
+pub length-versions_prefix : (form : PackForm) (later : Bool) (rows : List VersionRow) → 0 < length (versions_prefix form later rows)
+length-versions_prefix form later [] = lit< tt
+length-versions_prefix form later (row ∷ rows) = length-member_text later _
 
 -- ---- whether each version has a document
 
-is_some-map : {A B : Type 0} (f : A → B) (o : Option A) → is_some (option_map f o) ≡ is_some o
+pub is_some-map : {A B : Type 0} (f : A → B) (o : Option A) → is_some (option_map f o) ≡ is_some o
 is_some-map f None = refl
 is_some-map f (Some x) = refl
 
-some_at : (row : VersionRow) (rows : List VersionRow) (pair : Option Pair) → version_pair row ≡ pair → is_some pair ≡ true
-    → is_some (version_pairs (row ∷ rows)) ≡ is_some (version_pairs rows)
-some_at row rows None e h = absurd (true≢false (sym h))
-some_at row rows (Some p) e h =
-    let all : version_pairs (row ∷ rows) ≡ option_map (λ ps. p ∷ ps) (version_pairs rows) = rw e refl in
-    ap is_some all ∙ is_some-map (λ ps. p ∷ ps) (version_pairs rows)
+some_at : (form : PackForm) (row : VersionRow) (rows : List VersionRow) (pair : Option Pair) → version_pair form row ≡ pair → is_some pair ≡ true
+    → is_some (version_pairs form (row ∷ rows)) ≡ is_some (version_pairs form rows)
+some_at form row rows None e h = absurd (true≢false (sym h))
+some_at form row rows (Some p) e h =
+    let all : version_pairs form (row ∷ rows) ≡ option_map (λ ps. p ∷ ps) (version_pairs form rows) = rw e refl in
+    ap is_some all ∙ is_some-map (λ ps. p ∷ ps) (version_pairs form rows)
 
 -- where a version has a document, it is up to the others
-pub is_some-next : (row : VersionRow) (old rows : List VersionRow) → old ≡ row ∷ rows → is_some (version_pair row) ≡ true
-    → is_some (version_pairs old) ≡ is_some (version_pairs rows)
-is_some-next row old rows gives h = ap (λ rs. is_some (version_pairs rs)) gives ∙ some_at row rows (version_pair row) refl h
+pub is_some-next : (form : PackForm) (row : VersionRow) (old rows : List VersionRow) → old ≡ row ∷ rows → is_some (version_pair form row) ≡ true
+    → is_some (version_pairs form old) ≡ is_some (version_pairs form rows)
+is_some-next form row old rows gives h = ap (λ rs. is_some (version_pairs form rs)) gives ∙ some_at form row rows (version_pair form row) refl h
 
 -- ---- the whole
 
@@ -120,11 +121,11 @@ end_at later key (Some d) (Some qs) prefix ps more h =
     member_text-append later key d prefix ∙ ap (λ xs. member_text later (key, d) ++ xs) (more qs refl)
     ∙ sym (append_assoc (member_text later (key, d)) (members_text true qs) (125 ∷ [])) ∙ ap (λ o. versions_text later (unwrap_or o [])) h
 
-pub versions_prefix-pairs : (rows : List VersionRow) (later : Bool) (ps : List Pair) → version_pairs rows ≡ Some ps → versions_prefix later rows ≡ versions_text later ps
-versions_prefix-pairs [] later ps h = ap (λ o. versions_text later (unwrap_or o [])) h
-versions_prefix-pairs (row ∷ rows) later ps h =
-    end_at later row.version (document_text row.manifest row.message) (version_pairs rows) (versions_prefix true rows) ps
-    (λ qs is. versions_prefix-pairs rows true qs is) h
+pub versions_prefix-pairs : (form : PackForm) (rows : List VersionRow) (later : Bool) (ps : List Pair) → version_pairs form rows ≡ Some ps → versions_prefix form later rows ≡ versions_text later ps
+versions_prefix-pairs form [] later ps h = ap (λ o. versions_text later (unwrap_or o [])) h
+versions_prefix-pairs form (row ∷ rows) later ps h =
+    end_at later row.version (document_in form row.manifest row.message) (version_pairs form rows) (versions_prefix form true rows) ps
+    (λ qs is. versions_prefix-pairs form rows true qs is) h
 
 parts_at : (head : HeadParts) (pairs : Option (List Pair)) (prefix : List ℕ) → ((ps : List Pair) → pairs ≡ Some ps → prefix ≡ versions_text false ps)
     → unwrap_or (option_map (λ ps. object_text (pack_pairs head ps)) pairs) (opening_text head ++ prefix) ≡ opening_text head ++ prefix
@@ -132,8 +133,8 @@ parts_at head None prefix is = refl
 parts_at head (Some ps) prefix is = pack_pairs-parts head ps ∙ ap (λ xs. opening_text head ++ xs) (sym (is ps refl))
 
 -- what comes before the versions, and these
-pub pack_prefix-parts : (head : HeadParts) (rows : List VersionRow) → pack_prefix head rows ≡ opening_text head ++ versions_prefix false rows
-pack_prefix-parts head rows = parts_at head (version_pairs rows) (versions_prefix false rows) (λ ps is. versions_prefix-pairs rows false ps is)
+pub pack_prefix-parts : (head : HeadParts) (rows : List VersionRow) → pack_prefix head rows ≡ opening_text head ++ versions_prefix head.form false rows
+pack_prefix-parts head rows = parts_at head (version_pairs head.form rows) (versions_prefix head.form false rows) (λ ps is. versions_prefix-pairs head.form rows false ps is)
 
 whole_at : {a b : Option (List ℕ)} {s : Bool} (head : HeadParts) (pairs : Option (List Pair)) (prefix : List ℕ)
     → ((ps : List Pair) → pairs ≡ Some ps → prefix ≡ versions_text false ps) → is_some pairs ≡ true → Writes a b s (opening_text head ++ prefix)
@@ -142,10 +143,10 @@ whole_at head None prefix is some wrote = absurd (true≢false (sym some))
 whole_at head (Some ps) prefix is some wrote = rw (pack_pairs-parts head ps, ← is ps refl) wrote
 
 -- a packument whose versions all have documents is written whole
-pub pack_text-written : {a b : Option (List ℕ)} {s : Bool} (head : HeadParts) (rows : List VersionRow) → is_some (version_pairs rows) ≡ true
-    → Writes a b s (opening_text head ++ versions_prefix false rows) → IsSomeAnd (pack_text head rows) (λ text. Writes a b s text)
+pub pack_text-written : {a b : Option (List ℕ)} {s : Bool} (head : HeadParts) (rows : List VersionRow) → is_some (version_pairs head.form rows) ≡ true
+    → Writes a b s (opening_text head ++ versions_prefix head.form false rows) → IsSomeAnd (pack_text head rows) (λ text. Writes a b s text)
 pack_text-written head rows some wrote =
-    whole_at head (version_pairs rows) (versions_prefix false rows) (λ ps is. versions_prefix-pairs rows false ps is) some wrote
+    whole_at head (version_pairs head.form rows) (versions_prefix head.form false rows) (λ ps is. versions_prefix-pairs head.form rows false ps is) some wrote
 
 -- ---- what results say
 

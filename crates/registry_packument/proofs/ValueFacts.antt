@@ -1,5 +1,5 @@
 -- The document of a manifest in compact JSON is that of a value.
-use Rattle.std.proofs.Common.{◌≡◌, ℕ, ◌^◌, ◌<◌, ◌≤◌, zero, suc, ◌==◌, drop, slice_index, Bool, true, false, ◌&&◌, if◌then◌else◌, nat_lt, nat_le, List, [], ◌∷◌, Option, Some, None, option_map, option_and_then, unwrap_or, refl, ap, ap₂, sym, ◌∙◌, subst, arith, codes, Less, Equal, Greater, is_lt, is_eq, true≢false, max, negsuc, T}
+use Rattle.std.proofs.Common.{◌≡◌, ℕ, ◌^◌, ◌<◌, ◌≤◌, zero, suc, ◌==◌, drop, slice_index, Bool, true, false, not, ◌&&◌, ◌||◌, if◌then◌else◌, nat_lt, nat_le, List, [], ◌∷◌, Option, Some, None, option_map, option_and_then, unwrap_or, refl, ap, ap₂, sym, ◌∙◌, subst, arith, codes, Less, Equal, Greater, is_lt, is_eq, true≢false, max, negsuc, T}
 use Rattle.std.proofs.lemmas.Bool.{or_parts, and_parts, ltb-true, leb-true}
 use Rattle.std.proofs.lemmas.Option.{none-some}
 use Rattle.std.specs.Prelude.{⊤}
@@ -25,7 +25,10 @@ use Rattle.serde_json.proofs.Nesting.{depth-read}
 use Rattle.serde_json.proofs.Texts.{print-outline}
 use Rattle.registry_names.specs.Texts.{Text, text_cmp}
 use Rattle.registry_names.proofs.TextFacts.{text_total, text_exact}
-use Rattle.registry_packument.specs.Documents.{manifest_members, members_in, written_members, members_without, placed, documented, document_text, document_members, IsCompact}
+use Rattle.registry_packument.specs.Abbreviated.{abbreviated, document_in, has_install_script, has_script_value, has_unsaid_script, has_unsaid_value, install_members, install_values, is_install_key, is_install_script, is_of_scripts, members_of_form, some_member, some_value, with_script, with_script_value}
+use Rattle.registry_packument.specs.Documents.{manifest_members, members_in, written_members, members_without, placed, with_message, documented, document_text, document_members, IsCompact}
+use Rattle.registry_packument.specs.declared.form.PackForm.{PackForm}
+use Rattle.registry_packument.specs.declared.form.PackForm.TheVariants.{Full, Abbreviated}
 use Rattle.registry_packument.proofs.ManifestFacts.{document_is, first_is}
 use Rattle.registry_packument.proofs.OrderFacts.{below_all-trans}
 
@@ -247,6 +250,58 @@ placed-put k d (member l e ms) h =
       | Greater ↦ λ c. rw (bytes_eq-is l k Greater c, c) (ap (json.member l (outline e)) (placed-put k d ms parts.1))
     ] refl
 
+-- ---- what an install reads
+
+some_member-outline : (test : List ℕ → json.Json → Bool) (same : List ℕ → Data → Bool) → ((k : List ℕ) (d : Data) → test k (outline d) ≡ same k d) → (ms : Members)
+    → some_member test (members_outline ms) ≡ some_value same ms
+some_member-outline test same is no_members = refl
+some_member-outline test same is (member k d ms) = ap₂ (λ a b. a || b) (is k d) (some_member-outline test same is ms)
+
+has_install_script-outline : (d : Data) → has_install_script (outline d) ≡ has_script_value d
+has_install_script-outline null = refl
+has_install_script-outline (boolean b) = refl
+has_install_script-outline (number n) = refl
+has_install_script-outline (string s) = refl
+has_install_script-outline (array ds) = refl
+has_install_script-outline (object ms) = some_member-outline (λ k _. is_install_script k) (λ k _. is_install_script k) (λ k d. refl) ms
+
+has_unsaid_script-outline : (ms : Members) → has_unsaid_script (members_outline ms) ≡ has_unsaid_value ms
+has_unsaid_script-outline ms =
+    ap₂ (λ a b. a && not b)
+    (some_member-outline is_of_scripts (λ k d. bytes_eq k (codes "scripts") && has_script_value d) (λ k d. ap (λ b. bytes_eq k (codes "scripts") && b) (has_install_script-outline d)) ms)
+    (some_member-outline (λ k _. bytes_eq k (codes "hasInstallScript")) (λ k _. bytes_eq k (codes "hasInstallScript")) (λ k d. refl) ms)
+
+-- no member has the key
+without-none : (k : List ℕ) (ms : Members) → some_value (λ l _. bytes_eq l k) ms ≡ false → members_without k (members_outline ms) ≡ members_outline ms
+without-none k no_members h = refl
+without-none k (member l d ms) h = let p = or_parts (bytes_eq l k) _ h in rw p.0 (ap (json.member l (outline d)) (without-none k ms p.1))
+
+unsaid : (a b : Bool) → (a && not b) ≡ true → b ≡ false
+unsaid true false h = refl
+unsaid true true h = absurd (true≢false (sym h))
+unsaid false b h = absurd (true≢false (sym h))
+
+script_at : (found : Bool) (ms : Members) → (found ≡ true → some_value (λ k _. bytes_eq k (codes "hasInstallScript")) ms ≡ false) → IsSorted ms
+    → (if found then placed (codes "hasInstallScript") (json.boolean true) (members_outline ms) else members_outline ms)
+    ≡ members_outline (if found then put (codes "hasInstallScript") (boolean true) ms else ms)
+script_at false ms none h = refl
+script_at true ms none h =
+    let key = codes "hasInstallScript" in
+    ap (placed key (json.boolean true)) (sym (without-none key ms (none refl))) ∙ placed-put key (boolean true) ms h
+
+with_script-outline : (ms : Members) → IsSorted ms → with_script (members_outline ms) ≡ members_outline (with_script_value ms)
+with_script-outline ms h = rw (has_unsaid_script-outline ms) (script_at (has_unsaid_value ms) ms (unsaid _ _) h)
+
+install_at : (reads : Bool) (k : List ℕ) (d : Data) (js : json.Members) (ms : Members) → js ≡ members_outline ms
+    → (if reads then json.member k (outline d) js else js) ≡ members_outline (if reads then member k d ms else ms)
+install_at true k d js ms e = ap (json.member k (outline d)) e
+install_at false k d js ms e = e
+
+install_members-outline : (ms : Members) → install_members (members_outline ms) ≡ members_outline (install_values ms)
+install_members-outline no_members = refl
+install_members-outline (member k d ms) =
+    install_at (is_install_key k) k d (install_members (members_outline ms)) (install_values ms) (install_members-outline ms)
+
 -- ---- documents
 
 -- the JSON of a manifest in compact JSON
@@ -274,3 +329,30 @@ pub document_text-compact : (manifest message : List ℕ) (ms : Members) → IsC
 document_text-compact manifest message ms h =
     let members : manifest_members manifest ≡ Some ms = ap (option_and_then as_object) h.1.1 in
     ap (option_map (λ _. documented manifest message)) members ∙ ap Some (text_is manifest message ms h)
+
+with_message-outline : (message : List ℕ) (ms : Members) → IsSorted ms → with_message message (members_outline ms) ≡ members_outline (document_members ms message)
+with_message-outline [] ms h = refl
+with_message-outline (c ∷ message) ms h = placed-put (codes "deprecated") (string (c ∷ message)) ms h
+
+document_members-sorted : (message : List ℕ) (ms : Members) → IsSorted ms → IsSorted (document_members ms message)
+document_members-sorted [] ms h = h
+document_members-sorted (c ∷ message) ms h = IsSorted-put (codes "deprecated") (string (c ∷ message)) ms h
+
+abbreviated_is : (manifest message : List ℕ) (ms : Members) → IsCompact ms manifest → abbreviated manifest message ≡ compact_text (object (members_of_form Abbreviated ms message))
+abbreviated_is manifest message ms h =
+    let is = document-compact manifest ms h in
+    let all = document_members ms message in
+    let written : written_members manifest ≡ members_outline ms = ap (λ o. unwrap_or (option_and_then members_in o) json.no_members) is.0 in
+    let members : install_members (with_script (with_message message (written_members manifest))) ≡ members_outline (members_of_form Abbreviated ms message) =
+    ap (λ js. install_members (with_script (with_message message js))) written
+    ∙ ap (λ js. install_members (with_script js)) (with_message-outline message ms is.1)
+    ∙ ap install_members (with_script-outline all (document_members-sorted message ms is.1))
+    ∙ install_members-outline (with_script_value all) in
+    ap (λ js. print (json_tokens (json.object js))) members ∙ print-outline (object (members_of_form Abbreviated ms message))
+
+pub document_in-compact : (form : PackForm) (manifest message : List ℕ) (ms : Members) → IsCompact ms manifest
+    → document_in form manifest message ≡ Some (compact_text (object (members_of_form form ms message)))
+document_in-compact Full manifest message ms h = document_text-compact manifest message ms h
+document_in-compact Abbreviated manifest message ms h =
+    let members : manifest_members manifest ≡ Some ms = ap (option_and_then as_object) h.1.1 in
+    ap (option_map (λ _. abbreviated manifest message)) members ∙ ap Some (abbreviated_is manifest message ms h)

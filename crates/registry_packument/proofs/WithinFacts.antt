@@ -8,6 +8,7 @@ use Rattle.registry_packument.specs.ObjectTexts.{Pair, member_text}
 use Rattle.registry_packument.specs.Packuments.{version_pair, version_pairs, versions_text, pack_text, pack_len}
 use Rattle.registry_packument.specs.Within.{HasGathered, IsWithin, given}
 use Rattle.registry_packument.specs.Writing.{Adds, IsFaultOf}
+use Rattle.registry_packument.specs.declared.form.PackForm.{PackForm}
 use Rattle.registry_packument.specs.declared.packument.VersionRow.{VersionRow}
 use Rattle.registry_packument.specs.declared.within.Gathered.{Gathered}
 use Rattle.registry_packument.specs.declared.within.Gathered.TheVariants.{Bytes, Count}
@@ -40,17 +41,17 @@ document_fault limit later pair key document before with_key fault adds keyed (i
 -- ---- the walk
 
 -- the whole is what is gathered, and then the rows that are left
-abbrev pub HasWalked : ℕ → Gathered → Bool → List VersionRow → Option (List ℕ) → Type 0
-HasWalked limit all later rows whole = (bytes : List ℕ) × (HasGathered limit bytes all × (whole_of bytes later (version_pairs rows) ≡ whole))
+abbrev pub HasWalked : PackForm → ℕ → Gathered → Bool → List VersionRow → Option (List ℕ) → Type 0
+HasWalked form limit all later rows whole = (bytes : List ℕ) × (HasGathered limit bytes all × (whole_of bytes later (version_pairs form rows) ≡ whole))
 
 -- the next row is gathered
-pub walked_more : (limit : ℕ) (before more : Gathered) (later : Bool) (row : VersionRow) (old rows : List VersionRow) (whole : Option (List ℕ)) → old ≡ row ∷ rows
-    → HasWalked limit before later old whole
-    → ((bytes : List ℕ) → HasGathered limit bytes before → (all : List ℕ) × (Adds (member_text later) (version_pair row) bytes all × HasGathered limit all more))
-    → HasWalked limit more true rows whole
-walked_more limit before more later row old rows whole gives (bytes, (has, is)) adds =
+pub walked_more : (form : PackForm) (limit : ℕ) (before more : Gathered) (later : Bool) (row : VersionRow) (old rows : List VersionRow) (whole : Option (List ℕ)) → old ≡ row ∷ rows
+    → HasWalked form limit before later old whole
+    → ((bytes : List ℕ) → HasGathered limit bytes before → (all : List ℕ) × (Adds (member_text later) (version_pair form row) bytes all × HasGathered limit all more))
+    → HasWalked form limit more true rows whole
+walked_more form limit before more later row old rows whole gives (bytes, (has, is)) adds =
     let new = adds bytes has in
-    (new.0, (new.1.1, row_step bytes new.0 later row old rows whole gives is new.1.0))
+    (new.0, (new.1.1, row_step form bytes new.0 later row old rows whole gives is new.1.0))
 
 -- all of a packument is gathered
 within_of : (limit : ℕ) (head : HeadParts) (versions : List VersionRow) (text : List ℕ) (all : Gathered) → pack_text head versions ≡ Some text → HasGathered limit text all
@@ -60,10 +61,10 @@ within_of limit head versions text (Count count) is has =
     let fits : length text < 2 ^ 64 = omega (arith, has.0, has.1.1) in
     (rw (is, lt-ltb (length text) (2 ^ 64) fits) (ap Some (sym has.0)), has.1.0)
 
-pub walked_all : (limit : ℕ) (head : HeadParts) (versions rows : List VersionRow) (before all : Gathered) (later : Bool) → rows ≡ [] → HasWalked limit before later rows (pack_text head versions)
+pub walked_all : (limit : ℕ) (head : HeadParts) (versions rows : List VersionRow) (before all : Gathered) (later : Bool) → rows ≡ [] → HasWalked head.form limit before later rows (pack_text head versions)
     → ((bytes : List ℕ) → HasGathered limit bytes before → HasGathered limit (bytes ++ 125 ∷ 125 ∷ []) all) → IsWithin limit head versions (given all)
 walked_all limit head versions rows before all later none (bytes, (has, is)) ends =
-    within_of limit head versions (bytes ++ 125 ∷ 125 ∷ []) all (rows_end bytes _ later rows (pack_text head versions) none is refl) (ends bytes has)
+    within_of limit head versions (bytes ++ 125 ∷ 125 ∷ []) all (rows_end head.form bytes _ later rows (pack_text head versions) none is refl) (ends bytes has)
 
 -- ---- no packument of that length
 
@@ -74,18 +75,18 @@ counted_at bytes later (Some ps) whole h = ap Some (sym (length-append bytes (ve
 
 -- memory ran out, or the next row has no document, or is too much
 pub walked_row_fault : (limit : ℕ) (head : HeadParts) (all : List VersionRow) (before : Gathered) (row : VersionRow) (old rows : List VersionRow) (later : Bool) (fault : Fault) → old ≡ row ∷ rows
-    → HasWalked limit before later old (pack_text head all)
-    → (fault ≡ Memory) ⊎ ((bytes : List ℕ) → HasGathered limit bytes before → (p : Pair) → version_pair row ≡ Some p → 2 ^ 64 ≤ length bytes + length (member_text later p))
+    → HasWalked head.form limit before later old (pack_text head all)
+    → (fault ≡ Memory) ⊎ ((bytes : List ℕ) → HasGathered limit bytes before → (p : Pair) → version_pair head.form row ≡ Some p → 2 ^ 64 ≤ length bytes + length (member_text later p))
     → IsFaultOf (pack_len head all) fault
 walked_row_fault limit head all before row old rows later fault gives (bytes, (has, is)) (inl memory) =
-    row_fault head all row old rows (length bytes) later fault gives (counted_at bytes later (version_pairs old) (pack_text head all) is) (inl memory)
+    row_fault head all row old rows (length bytes) later fault gives (counted_at bytes later (version_pairs head.form old) (pack_text head all) is) (inl memory)
 walked_row_fault limit head all before row old rows later fault gives (bytes, (has, is)) (inr much) =
-    row_fault head all row old rows (length bytes) later fault gives (counted_at bytes later (version_pairs old) (pack_text head all) is) (inr (much bytes has))
+    row_fault head all row old rows (length bytes) later fault gives (counted_at bytes later (version_pairs head.form old) (pack_text head all) is) (inr (much bytes has))
 
 -- memory ran out, or the end is too much
-pub walked_end_fault : (limit : ℕ) (head : HeadParts) (all rows : List VersionRow) (before : Gathered) (later : Bool) (fault : Fault) → rows ≡ [] → HasWalked limit before later rows (pack_text head all)
+pub walked_end_fault : (limit : ℕ) (head : HeadParts) (all rows : List VersionRow) (before : Gathered) (later : Bool) (fault : Fault) → rows ≡ [] → HasWalked head.form limit before later rows (pack_text head all)
     → (fault ≡ Memory) ⊎ ((bytes : List ℕ) → HasGathered limit bytes before → 2 ^ 64 ≤ length bytes + 2) → IsFaultOf (pack_len head all) fault
 walked_end_fault limit head all rows before later fault none (bytes, (has, is)) (inl memory) =
-    closing_fault head all rows (length bytes) later fault none (counted_at bytes later (version_pairs rows) (pack_text head all) is) (inl memory)
+    closing_fault head all rows (length bytes) later fault none (counted_at bytes later (version_pairs head.form rows) (pack_text head all) is) (inl memory)
 walked_end_fault limit head all rows before later fault none (bytes, (has, is)) (inr much) =
-    closing_fault head all rows (length bytes) later fault none (counted_at bytes later (version_pairs rows) (pack_text head all) is) (inr (much bytes has))
+    closing_fault head all rows (length bytes) later fault none (counted_at bytes later (version_pairs head.form rows) (pack_text head all) is) (inr (much bytes has))

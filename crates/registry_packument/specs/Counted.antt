@@ -4,9 +4,10 @@ use Rattle.std.specs.Prelude.{◌≡◌, ◌≢◌, ◌<◌, ◌⊎◌, ℕ, Boo
 use Rattle.registry_names.specs.ByteStreams.{Writes, WritesPrefix}
 use Rattle.registry_names.specs.declared.stop.Fault.{Fault}
 use Rattle.registry_names.specs.declared.stop.Fault.TheVariants.{Memory, Database}
-use Rattle.registry_packument.specs.Documents.{documented}
+use Rattle.registry_packument.specs.Abbreviated.{documented_in}
 use Rattle.registry_packument.specs.ObjectTexts.{member_text}
 use Rattle.registry_packument.specs.Sendings.{WritesSome, opened}
+use Rattle.registry_packument.specs.declared.form.PackForm.{PackForm}
 use Rattle.registry_packument.specs.declared.opener.Sent.{Sent}
 use Rattle.registry_packument.specs.declared.opener.Sent.TheVariants.{Refused, Whole, WriteFault, Broken}
 use Rattle.registry_packument.specs.declared.packument.VersionRow.{VersionRow}
@@ -68,10 +69,10 @@ WritesWithin len (Err fault) old new unknown = (bytes : List ℕ) × ((length by
 -- ---- versions whose manifests aren't read, since it is known that each is one
 
 -- a version's member
-abbrev pub row_text : Bool → VersionRow → List ℕ
-row_text later r = member_text later (r.version, documented r.manifest r.message)
+abbrev pub row_text : PackForm → Bool → VersionRow → List ℕ
+row_text form later r = member_text later (r.version, documented_in form r.manifest r.message)
 
 -- the versions that are left, and the two braces that end the packument
-abbrev pub rows_text : Bool → List VersionRow → List ℕ
-rows_text later [] = 125 ∷ 125 ∷ []
-rows_text later (r ∷ rs) = row_text later r ++ rows_text true rs
+abbrev pub rows_text : PackForm → Bool → List VersionRow → List ℕ
+rows_text form later [] = 125 ∷ 125 ∷ []
+rows_text form later (r ∷ rs) = row_text form later r ++ rows_text form true rs

@@ -40,13 +40,21 @@ abbrev pub placed : List ℕ → Json → Members → Members
 placed k i no_members = member k i no_members
 placed k i (member l j ms) = if is_lt (text_cmp k l) then member k i (member l j ms) else member l j (placed k i ms)
 
--- the manifest without spaces, with the message under `deprecated`, in its place by key and instead
--- of what was under it
-abbrev pub deprecated_text : List ℕ → List ℕ → List ℕ
-deprecated_text manifest message =
-    let key = codes "deprecated" in print (json_tokens (object (placed key (string message) (members_without key (written_members manifest)))))
+-- the members, with the message under `deprecated`, in its place by key and instead of what was
+-- under it
+abbrev pub deprecated_members : List ℕ → Members → Members
+deprecated_members message ms = let key = codes "deprecated" in placed key (string message) (members_without key ms)
 
--- The text of a manifest and a message. The empty message says that nothing is deprecated.
+-- The members of a manifest and a message. The empty message says that nothing is deprecated.
+abbrev pub with_message : List ℕ → Members → Members
+with_message [] ms = ms
+with_message (c ∷ message) ms = deprecated_members (c ∷ message) ms
+
+-- the manifest without spaces, with the message
+abbrev pub deprecated_text : List ℕ → List ℕ → List ℕ
+deprecated_text manifest message = print (json_tokens (object (deprecated_members message (written_members manifest))))
+
+-- the text of a manifest and a message
 abbrev pub documented : List ℕ → List ℕ → List ℕ
 documented manifest [] = manifest
 documented manifest (c ∷ message) = deprecated_text manifest (c ∷ message)

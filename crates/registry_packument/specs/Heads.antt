@@ -4,9 +4,12 @@ use Rattle.registry_names.specs.Texts.{text_cmp}
 use Rattle.registry_names.specs.Maps.{rises}
 use Rattle.registry_names.specs.declared.dist_tag.DistTag.{DistTag}
 use Rattle.registry_packument.specs.Lists.{tag_texts}
+use Rattle.registry_packument.specs.declared.form.PackForm.{PackForm}
 use Rattle.registry_packument.specs.declared.times.VersionTime.{VersionTime}
 
 pub record HeadParts : Type 0 where
+  -- whether the packument is a full or an abbreviated one
+  pub form : PackForm
   -- the package's name, and its dist-tags
   pub name : List ℕ
   pub tags : List DistTag

@@ -1,7 +1,9 @@
+pub mod Abbreviated
 pub mod Calendar
 pub mod Counted
 pub mod Dates
 pub mod Documents
+pub mod FormLaws
 pub mod Heads
 pub mod Lists
 pub mod Members

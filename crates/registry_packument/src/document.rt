@@ -7,10 +7,13 @@ ghost use Rattle.json.specs.Print.{print};
 ghost use Rattle.json.specs.Tree.{json_tokens, HasNumbers, MembersHaveNumbers};
 ghost use Rattle.json.specs.Value.{value_view, members_view};
 ghost use Rattle.registry_names.specs.Texts.{text_cmp};
-ghost use Rattle.registry_packument.specs.Documents.{manifest_members, members_in, written_members, members_without, placed, deprecated_text, document_text};
+ghost use Rattle.registry_packument.specs.Documents.{manifest_members, members_in, written_members, members_without, placed, with_message, deprecated_text, document_text};
 ghost use Rattle.registry_packument.specs.Documents as documents;
+ghost use Rattle.registry_packument.specs.Abbreviated as forms;
 ghost use Rattle.registry_packument.specs.Writing.{IsFaultOf};
 
+use crate::abbreviated::abbreviated;
+use crate::form::PackForm;
 use crate::manifest::is_manifest;
 use json::{Error, Scratch, Value, to_vec};
 use registry_names::{Fault, Text};
@@ -19,7 +22,7 @@ use std::alloc::{AllocError, Global};
 const DEPRECATED: &str = "deprecated";
 
 /// A member of an object: its key and its value.
-type Member<'a> = (&'a str, Value<'a>);
+pub(crate) type Member<'a> = (&'a str, Value<'a>);
 
 fn parsed<'a>(alloc: Global, text: &'a str, scratch: &'a mut Scratch) -> Result<Value<'a>, Fault>
     ensures ok { IfOk result (λ value. document text.now ≡ Some (value_view value)) }
@@ -42,8 +45,8 @@ fn members_in(value: Value<'_>) -> Option<Vec<Member<'_>>>
     }
 }
 
-// The members of a manifest, as they are written.
-fn members_of<'a>(
+/// The members of a manifest, as they are written.
+pub(crate) fn members_of<'a>(
     alloc: Global,
     manifest: &'a str,
     scratch: &'a mut Scratch,
@@ -58,7 +61,7 @@ fn members_of<'a>(
     members_in(value).ok_or(Fault::Database)
 }
 
-fn is_same(text: &str, other: &str) -> bool
+pub(crate) fn is_same(text: &str, other: &str) -> bool
     ensures { result ≡ bytes_eq text.now other.now }
 {
     text == other
@@ -77,6 +80,20 @@ fn place_before_greater(members: &[Member<'_>], key: &str) -> Option<usize>
     members.iter().position(|member| is_below(key, member.0))
 }
 
+/// Puts a member in its place by key.
+pub(crate) fn place<'a>(
+    members: &mut Vec<Member<'a>>,
+    key: &'a str,
+    value: Value<'a>,
+) -> Result<(), AllocError>
+    ensures { OnOk result (members_view members.new.items
+        ≡ placed key.now (value_view value.entry) (members_view members.old.items)) }
+{
+    let place = place_before_greater(members, key).unwrap_or(members.len());
+    members.insert(place, (key, value))?;
+    Ok(())
+}
+
 // Puts a text in its place by key, instead of what was under it.
 fn put_text<'a>(
     members: &mut Vec<Member<'a>>,
@@ -87,17 +104,29 @@ fn put_text<'a>(
         ≡ placed key.now (string text.now) (members_without key.now (members_view members.old.items))) }
 {
     members.retain(|member| !is_same(member.0, key));
-    let place = place_before_greater(members, key).unwrap_or(members.len());
-    members.insert(place, (key, Value::String(text)))?;
-    Ok(())
+    place(members, key, Value::String(text))
 }
 
-// The compact text of a value.
-fn text_of(alloc: Global, value: &Value<'_>) -> Result<String, AllocError>
+/// The compact text of a value.
+pub(crate) fn text_of(alloc: Global, value: &Value<'_>) -> Result<String, AllocError>
     requires { HasNumbers (value_view value.now) }
     ensures { IfOk result (λ text. string_bytes text ≡ print (json_tokens (value_view value.now))) }
 {
     Ok(String::from_utf8(to_vec(alloc, value)?).unwrap())
+}
+
+/// Puts the message in, where there is one.
+pub(crate) fn put_message<'a>(
+    members: &mut Vec<Member<'a>>,
+    message: &'a str,
+) -> Result<(), AllocError>
+    ensures { OnOk result (members_view members.new.items
+        ≡ with_message message.now (members_view members.old.items)) }
+{
+    if message.is_empty() {
+        return Ok(());
+    }
+    put_text(members, DEPRECATED, message)
 }
 
 // The manifest with the message put in.
@@ -112,9 +141,9 @@ fn deprecated(alloc: Global, manifest: &str, message: &str) -> Result<String, Fa
     Ok(text_of(alloc, &Value::Object(members))?)
 }
 
-/// The document of a version whose manifest is known to be one. Where the message is empty it is
-/// the manifest, which isn't read.
-pub(crate) fn documented(alloc: Global, manifest: Text, message: &str) -> Result<Text, Fault>
+// The document of a version whose manifest is known to be one. Where the message is empty it is the
+// manifest, which isn't read.
+fn documented(alloc: Global, manifest: Text, message: &str) -> Result<Text, Fault>
     ensures ok { IfOk result (λ text. text ≡ documents.documented manifest message.now) }
     ensures err { IfErr result (IsFaultOf (manifest_members manifest)) }
 {
@@ -125,16 +154,41 @@ pub(crate) fn documented(alloc: Global, manifest: Text, message: &str) -> Result
     Ok(Text::from(text))
 }
 
-/// The document of a version, made from its manifest: the manifest itself where the message is
-/// empty.
-pub(crate) fn document_of(alloc: Global, manifest: Text, message: &str) -> Result<Text, Fault>
-    ensures ok { IfOk result (λ text. document_text manifest message.now ≡ Some text) }
-    ensures err { IfErr result (IsFaultOf (document_text manifest message.now)) }
+/// The same in a packument of this form.
+pub(crate) fn documented_in(
+    alloc: Global,
+    form: PackForm,
+    manifest: Text,
+    message: &str,
+) -> Result<Text, Fault>
+    ensures ok { IfOk result (λ text. text ≡ forms.documented_in form manifest message.now) }
+    ensures err { IfErr result (IsFaultOf (manifest_members manifest)) }
+{
+    match form {
+        PackForm::Full => documented(alloc, manifest, message),
+        PackForm::Abbreviated => {
+            let text = abbreviated(alloc, manifest.as_str(), message)?;
+            Ok(Text::from(text))
+        }
+    }
+}
+
+/// The document of a version in a packument of this form, made from its manifest: the manifest
+/// itself where the form is the full one and the message is empty.
+pub(crate) fn document_in(
+    alloc: Global,
+    form: PackForm,
+    manifest: Text,
+    message: &str,
+) -> Result<Text, Fault>
+    ensures ok { IfOk result (λ text.
+        forms.document_in form manifest message.now ≡ Some text) }
+    ensures err { IfErr result (IsFaultOf (forms.document_in form manifest message.now)) }
 {
     if !is_manifest(alloc, manifest.as_str())? {
         return Err(Fault::Database);
     }
-    documented(alloc, manifest, message)
+    documented_in(alloc, form, manifest, message)
 }
 
 /// The document of a version: the manifest itself where the message is empty; otherwise the
@@ -150,5 +204,5 @@ pub fn version_text(alloc: Global, manifest: &str, message: &str) -> Result<Text
     ensures err { IfErr result (IsFaultOf (manifest_members manifest.now)) }
 {
     let manifest = Text::from_str(alloc, manifest)?;
-    document_of(alloc, manifest, message)
+    document_in(alloc, PackForm::Full, manifest, message)
 }

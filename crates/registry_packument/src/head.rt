@@ -4,7 +4,9 @@ ghost use Rattle.std.specs.Prelude.{◌≡◌, ◌↔◌, IsSome, IfSome, IsTrue
 ghost use Rattle.std.specs.Ordering.{is_lt};
 ghost use Rattle.registry_names.specs.Texts.{text_cmp};
 ghost use Rattle.registry_packument.specs.Heads.{AreTagsInOrder, AreTimesInOrder};
+ghost use Rattle.registry_packument.specs.declared.form.PackForm.TheVariants.{Full};
 
+use crate::form::PackForm;
 use crate::times::{PackTimes, VersionTime};
 use registry_names::{DistTag, Moment, Text};
 use std::marker::Model;
@@ -14,6 +16,7 @@ use std::marker::Model;
 /// which it was created and modified.
 #[derive(Drop)]
 pub struct PackHead {
+    form: PackForm,
     name: Text,
     tags: Vec<DistTag>,
     times: PackTimes,
@@ -25,6 +28,7 @@ impl Model for PackHead {
     ghost Value = { HeadParts };
 
     ghost view = { λ head. record {
+      form = head.form;
       name = head.name;
       tags = head.tags.items;
       times = head.times.versions.items;
@@ -37,12 +41,13 @@ impl Model for PackHead {
 }
 
 impl PackHead {
-    /// The head with the package's name, its dist-tags and its moments. `None` is returned exactly
-    /// where the tags or the versions aren't in byte order, each once.
+    /// The head of a full packument, with the package's name, its dist-tags and its moments. `None`
+    /// is returned exactly where the tags or the versions aren't in byte order, each once.
     pub fn new(name: Text, tags: Vec<DistTag>, times: PackTimes) -> Option<PackHead>
         ensures order { IsSome result
             ↔ (AreTagsInOrder tags.items × AreTimesInOrder times.versions.items) }
         ensures parts { IfSome result (λ head. head ≡ record {
+          form = Full;
           name = name;
           tags = tags.items;
           times = times.versions.items;
@@ -51,10 +56,47 @@ impl PackHead {
         }) }
     {
         if are_in_order(&tags) && are_times_in_order(&times.versions) {
-            Some(PackHead { name, tags, times })
+            Some(PackHead {
+                form: PackForm::Full,
+                name,
+                tags,
+                times,
+            })
         } else {
             None
         }
+    }
+
+    /// The head of a packument of this form, which is otherwise the same.
+    pub fn in_form(self, form: PackForm) -> PackHead
+        ensures { result ≡ record {
+          form = form;
+          name = self.name;
+          tags = self.tags;
+          times = self.times;
+          created = self.created;
+          modified = self.modified;
+        } }
+    {
+        let PackHead {
+            form: _,
+            name,
+            tags,
+            times,
+        } = self;
+        PackHead {
+            form,
+            name,
+            tags,
+            times,
+        }
+    }
+
+    /// Whether the packument is a full or an abbreviated one.
+    pub fn form(&self) -> PackForm
+        ensures { result ≡ self.now.form }
+    {
+        self.form
     }
 
     /// The package's name.

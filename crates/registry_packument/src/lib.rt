@@ -7,6 +7,9 @@
 //! so are the documents and the packument ([`laws`]). A call fails where a manifest isn't one, and
 //! when no memory is left.
 //!
+//! A packument has one of two forms, which its head says: it is a full one, or an abbreviated one,
+//! which has of each document what an install reads.
+//!
 //! The versions of a packument come from a source, which gives them one after the other. Its text
 //! is made whole, once, into exact room: for that all its documents are held. Or it is written
 //! version by version, or its bytes are counted: for that one version is held at a time. A fault
@@ -14,7 +17,9 @@
 //! has no more bytes than a limit, and otherwise only counted.
 #![tactic(auto)]
 
+mod abbreviated;
 mod document;
+mod form;
 mod head;
 mod json_text;
 pub mod laws;
@@ -31,6 +36,7 @@ mod times;
 mod within;
 
 pub use crate::document::version_text;
+pub use crate::form::PackForm;
 pub use crate::head::PackHead;
 pub use crate::list::{Granted, List, Member, Overview, PackageLevel, TokenCount, list_text};
 pub use crate::moment::moment_text;

@@ -8,7 +8,8 @@ ghost use Rattle.registry_packument.specs.Sources.{IsFaultFrom};
 ghost use Rattle.registry_packument.specs.Writing.{Adds, IsFaultOf};
 ghost use Rattle.registry_packument.specs.Members.{member_bytes, text_of_members};
 
-use crate::document::{document_of, documented};
+use crate::document::{document_in, documented_in};
+use crate::form::PackForm;
 use crate::head::PackHead;
 use crate::json_text::push_key;
 use crate::opening::opening;
@@ -43,11 +44,17 @@ impl Drop for VersionRow {
 }
 
 impl VersionRow {
-    /// The version's member, with a comma before it where a member came earlier.
-    pub(crate) fn into_member(self, alloc: Global, later: bool) -> Result<VersionMember, Fault>
-        ensures ok { IfOk result (λ member. Adds (member_text later) (version_pair self)
+    /// The version's member in a packument of this form, with a comma before it where a member came
+    /// earlier.
+    pub(crate) fn into_member(
+        self,
+        alloc: Global,
+        form: PackForm,
+        later: bool,
+    ) -> Result<VersionMember, Fault>
+        ensures ok { IfOk result (λ member. Adds (member_text later) (version_pair form self)
             [] (member_bytes member)) }
-        ensures err { IfErr result (IsFaultOf (version_pair self)) }
+        ensures err { IfErr result (IsFaultOf (version_pair form self)) }
     {
         let VersionRow {
             version,
@@ -57,25 +64,30 @@ impl VersionRow {
         let key_len = version.as_str().len().saturating_add(KEY_MARKS);
         let mut key = String::with_capacity(alloc, key_len)?;
         push_key(alloc, &mut key, later, version.as_str())?;
-        let document = document_of(alloc, manifest, message.as_str())?;
+        let document = document_in(alloc, form, manifest, message.as_str())?;
         Ok(VersionMember {
             key: Text::from(key),
             document,
         })
     }
 
-    /// The version's member in one piece, where its manifest is known to be one. Without a message
-    /// the manifest isn't read.
-    pub(crate) fn into_known_member(self, alloc: Global, later: bool) -> Result<String, Fault>
-        ensures ok { IfOk result (λ text. string_bytes text ≡ row_text later self) }
-        ensures err { IfErr result (IsFaultOf (version_pair self)) }
+    /// The same in one piece, where the manifest is known to be one. In a full packument the
+    /// manifest of a version without a message isn't read.
+    pub(crate) fn into_known_member(
+        self,
+        alloc: Global,
+        form: PackForm,
+        later: bool,
+    ) -> Result<String, Fault>
+        ensures ok { IfOk result (λ text. string_bytes text ≡ row_text form later self) }
+        ensures err { IfErr result (IsFaultOf (version_pair form self)) }
     {
         let VersionRow {
             version,
             manifest,
             message,
         } = self;
-        let document = documented(alloc, manifest, message.as_str())?;
+        let document = documented_in(alloc, form, manifest, message.as_str())?;
         let key_len = version.as_str().len().saturating_add(KEY_MARKS);
         let room = key_len.saturating_add(document.as_str().len());
         let mut text = String::with_capacity(alloc, room)?;
@@ -94,16 +106,17 @@ pub(crate) struct VersionMember {
     pub(crate) document: Text,
 }
 
-// The members of the versions that the source gives.
+// The members of the versions that the source gives, in a packument of this form.
 fn version_members<S: VersionSource>(
     alloc: Global,
+    form: PackForm,
     source: &mut S,
 ) -> Result<Vec<VersionMember>, Fault>
     ensures ok { S.is_known source.new → IfOk result (λ members.
-        option_map (versions_text false) (version_pairs (S.rows source.old))
+        option_map (versions_text false) (version_pairs form (S.rows source.old))
         ≡ Some (text_of_members [] members.items)) }
     ensures err { S.is_known source.new → IfErr result (IsFaultFrom (S.stopped source.new)
-        (version_pairs (S.rows source.old))) }
+        (version_pairs form (S.rows source.old))) }
     ensures taken { S.is_known source.new → OnOk result (S.rows source.new ≡ []) }
     ensures known { S.is_known source.new → S.is_known source.old }
     ensures goes_on { OnOk result (S.stopped source.new ≡ None) }
@@ -112,7 +125,7 @@ fn version_members<S: VersionSource>(
     let mut members = Vec::new(alloc);
     let mut later = false;
     'versions: while let Some(row) = source.next(alloc)? {
-        let member = row.into_member(alloc, later)?;
+        let member = row.into_member(alloc, form, later)?;
         members.push(member)?;
         later = true;
     }
@@ -165,9 +178,11 @@ fn text_of(alloc: Global, start: &str, members: &[VersionMember]) -> Result<Stri
     Ok(out)
 }
 
-/// The packument of a package, as npm's registry answers it: an object with `_id` and `name` (the
-/// package's name), `dist-tags` (tag to version), `time` (version to the moment of its publication,
-/// then `created` and `modified`) and `versions` (version to document), in compact JSON.
+/// The packument of a package, as npm's registry answers it, in compact JSON. A full one is an
+/// object with `_id` and `name` (the package's name), `dist-tags` (tag to version), `time` (version
+/// to the moment of its publication, then `created` and `modified`) and `versions` (version to
+/// document). An abbreviated one has `dist-tags`, `modified`, `name` and `versions`, and of each
+/// document what an install reads.
 ///
 /// The versions are the rows that the source gives. They, the tags and the versions under `time`
 /// are in byte order, each once. The moments are those of [`moment_text`](crate::moment_text). A
@@ -194,7 +209,7 @@ pub fn packument_text<S: VersionSource>(
     ensures behind { S.leaves source.old source.new }
 {
     let start = opening(alloc, head)?;
-    let members = version_members(alloc, source)?;
+    let members = version_members(alloc, head.form(), source)?;
     let text = text_of(alloc, start.as_str(), &members)?;
     Ok(Text::from(text))
 }

@@ -13,6 +13,7 @@ ghost use Rattle.registry_packument.specs.Streams.{failures_after};
 ghost use Rattle.registry_packument.specs.declared.opener.Sent.TheVariants.{Broken, Whole, WriteFault};
 ghost use Rattle.registry_packument.specs.declared.stream.PackFault.TheVariants.{Write, Source};
 
+use crate::form::PackForm;
 use crate::head::PackHead;
 use crate::opener::{Opener, Sent};
 use crate::opening::opening;
@@ -118,26 +119,27 @@ fn start_of<O: Opener>(alloc: Global, head: &PackHead, len: u64, opener: &O) -> 
 // of that.
 fn write_within<W: ByteOut>(
     alloc: Global,
+    form: PackForm,
     room: u64,
     later: bool,
     row: VersionRow,
     writer: &mut W,
 ) -> Result<u64, PackFault>
     ensures ok { OnOk result (Writes (W.bytes writer.old) (W.bytes writer.new)
-        (W.is_unknown writer.new) (row_text later row)) }
-    ensures left { IfOk result (λ left. length (row_text later row) + left ≡ room) }
+        (W.is_unknown writer.new) (row_text form later row)) }
+    ensures left { IfOk result (λ left. length (row_text form later row) + left ≡ room) }
     ensures err { OnErr result (WritesPrefix (W.bytes writer.old) (W.bytes writer.new)
-        (W.is_unknown writer.new) (row_text later row)) }
+        (W.is_unknown writer.new) (row_text form later row)) }
     ensures within { OnErr result (WritesWithin (room + 1) result (W.bytes writer.old)
         (W.bytes writer.new) (W.is_unknown writer.new)) }
     ensures fault { result ≡ Err (Source Database)
-        → (version_pair row ≡ None) ⊎ (room < length (row_text later row)) }
+        → (version_pair form row ≡ None) ⊎ (room < length (row_text form later row)) }
 
     ensures counted { W.failures writer.new ≡ failures_after result (W.failures writer.old) }
     ensures told { result ≢ Err Write → W.is_unknown writer.new ≡ W.is_unknown writer.old }
     ensures unknown { W.is_unknown writer.old ≡ true → W.is_unknown writer.new ≡ true }
 {
-    let member = row.into_known_member(alloc, later)?;
+    let member = row.into_known_member(alloc, form, later)?;
     let Some(left) = room.checked_sub(member.len() as u64) else {
         return Err(PackFault::Source(Fault::Database));
     };
@@ -148,6 +150,7 @@ fn write_within<W: ByteOut>(
 // Writes the members of the versions, which have as many bytes as the room, and the packument's end.
 fn write_counted<W: ByteOut, S: VersionSource>(
     alloc: Global,
+    form: PackForm,
     source: &mut S,
     room: u64,
     writer: &mut W,
@@ -156,15 +159,15 @@ fn write_counted<W: ByteOut, S: VersionSource>(
         (W.is_unknown writer.new) }
     ensures ok { S.is_known source.new → OnOk result (Writes (W.bytes writer.old)
         (W.bytes writer.new) (W.is_unknown writer.new)
-        (rows_text false (S.rows source.old))) }
+        (rows_text form false (S.rows source.old))) }
     ensures err { S.is_known source.new → OnErr result (WritesPrefix (W.bytes writer.old)
         (W.bytes writer.new) (W.is_unknown writer.new)
-        (rows_text false (S.rows source.old))) }
+        (rows_text form false (S.rows source.old))) }
     ensures long { S.is_known source.new → OnOk result
-        (length (rows_text false (S.rows source.old)) ≡ room + 2) }
+        (length (rows_text form false (S.rows source.old)) ≡ room + 2) }
     ensures fault { S.is_known source.new → result ≡ Err (Source Database)
-        → (S.stopped source.new ≡ Some Database) ⊎ ((version_pairs (S.rows source.old) ≡ None)
-        ⊎ (length (rows_text false (S.rows source.old)) ≢ room + 2)) }
+        → (S.stopped source.new ≡ Some Database) ⊎ ((version_pairs form (S.rows source.old) ≡ None)
+        ⊎ (length (rows_text form false (S.rows source.old)) ≢ room + 2)) }
     ensures taken { S.is_known source.new → OnOk result (S.rows source.new ≡ []) }
 
     ensures known { S.is_known source.new → S.is_known source.old }
@@ -178,7 +181,7 @@ fn write_counted<W: ByteOut, S: VersionSource>(
     let mut left = room;
     let mut later = false;
     'versions: while let Some(row) = source.next(alloc)? {
-        left = write_within(alloc, left, later, row, writer)?;
+        left = write_within(alloc, form, left, later, row, writer)?;
         later = true;
     }
     if left > 0 {
@@ -210,8 +213,8 @@ fn end_of(written: Result<(), PackFault>) -> Sent
 /// is whole with exactly as many. Where the rows don't have them it is broken off by `Database`.
 /// Otherwise it is broken off by the source's own fault, or where no memory is left.
 ///
-/// The manifests were read when the bytes were counted. Those of versions without a message aren't
-/// read again.
+/// The manifests were read when the bytes were counted. For a full packument those of versions
+/// without a message aren't read again.
 pub fn send_counted<W: ByteOut, S: VersionSource, O: Opener>(
     alloc: Global,
     head: &PackHead,
@@ -225,7 +228,7 @@ pub fn send_counted<W: ByteOut, S: VersionSource, O: Opener>(
     // Where what the source gave is known, it is whole only if its rows have that many bytes; and
     // where they have:
     ensures long { S.is_known source.new → result ≡ Whole
-        → length (opening_text head.now ++ rows_text false (S.rows source.old)) ≡ len }
+        → length (opening_text head.now ++ rows_text head.now.form false (S.rows source.old)) ≡ len }
     ensures takes { S.is_known source.new → pack_len head.now (S.rows source.old) ≡ Some len
         → Takes (O.opens opener.now) (λ text. pack_text head.now (S.rows source.old) ≡ Some text)
         (W.bytes writer.old) (W.bytes writer.new) (W.is_unknown writer.new) result }
@@ -251,7 +254,7 @@ pub fn send_counted<W: ByteOut, S: VersionSource, O: Opener>(
         },
     };
     match write_whole(writer, start.text.as_bytes()) {
-        Ok(()) => end_of(write_counted(alloc, source, start.room, writer)),
+        Ok(()) => end_of(write_counted(alloc, head.form(), source, start.room, writer)),
         Err(_) => Sent::WriteFault,
     }
 }

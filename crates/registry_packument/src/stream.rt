@@ -11,6 +11,7 @@ ghost use Rattle.registry_packument.specs.Writing.{Adds, IsFaultOf};
 ghost use Rattle.registry_names.specs.declared.stop.Fault.TheVariants.{Memory};
 ghost use Rattle.registry_packument.specs.declared.stream.PackFault.TheVariants.{Write, Source};
 
+use crate::form::PackForm;
 use crate::head::PackHead;
 use crate::opening::{opening_len, write_opening};
 use crate::packument::{CLOSING, VersionMember, VersionRow};
@@ -67,12 +68,17 @@ impl From<AllocError> for PackFault {
 }
 
 /// The member of one version, in one piece.
-pub(crate) fn member_string(alloc: Global, later: bool, row: VersionRow) -> Result<String, Fault>
-    ensures ok { IfOk result (λ text. Adds (member_text later) (version_pair row)
+pub(crate) fn member_string(
+    alloc: Global,
+    form: PackForm,
+    later: bool,
+    row: VersionRow,
+) -> Result<String, Fault>
+    ensures ok { IfOk result (λ text. Adds (member_text later) (version_pair form row)
         [] (string_bytes text)) }
-    ensures err { IfErr result (IsFaultOf (version_pair row)) }
+    ensures err { IfErr result (IsFaultOf (version_pair form row)) }
 {
-    let VersionMember { key, document } = row.into_member(alloc, later)?;
+    let VersionMember { key, document } = row.into_member(alloc, form, later)?;
     let mut text = key.into_string();
     text.push_str(document.as_str())?;
     Ok(text)
@@ -89,13 +95,19 @@ pub(crate) fn counted(count: u64, text: &str) -> Result<u64, Fault>
 }
 
 // A count of bytes, and those of the member of one version.
-fn counted_row(alloc: Global, count: u64, later: bool, row: VersionRow) -> Result<u64, Fault>
-    ensures ok { IfOk result (λ sum. (p : Pair) × (version_pair row ≡ Some p)
+fn counted_row(
+    alloc: Global,
+    form: PackForm,
+    count: u64,
+    later: bool,
+    row: VersionRow,
+) -> Result<u64, Fault>
+    ensures ok { IfOk result (λ sum. (p : Pair) × (version_pair form row ≡ Some p)
         × (sum ≡ count + length (member_text later p))) }
     ensures err { IfErr result (λ fault. (fault ≡ Fault.Memory) ⊎ ((p : Pair)
-        → version_pair row ≡ Some p → 2 ^ 64 ≤ count + length (member_text later p))) }
+        → version_pair form row ≡ Some p → 2 ^ 64 ≤ count + length (member_text later p))) }
 {
-    let member = row.into_member(alloc, later)?;
+    let member = row.into_member(alloc, form, later)?;
     let key_end = counted(count, member.key.as_str())?;
     counted(key_end, member.document.as_str())
 }
@@ -121,10 +133,11 @@ pub fn packument_len<S: VersionSource>(
     ensures goes_on { OnOk result (S.stopped source.new ≡ None) }
     ensures behind { S.leaves source.old source.new }
 {
+    let form = head.form();
     let mut count = opening_len(alloc, head)?;
     let mut later = false;
     'versions: while let Some(row) = source.next(alloc)? {
-        count = counted_row(alloc, count, later, row)?;
+        count = counted_row(alloc, form, count, later, row)?;
         later = true;
     }
     counted(count, CLOSING)
@@ -133,41 +146,43 @@ pub fn packument_len<S: VersionSource>(
 // Writes the member of one version.
 fn write_version<W: ByteOut>(
     alloc: Global,
+    form: PackForm,
     later: bool,
     row: VersionRow,
     writer: &mut W,
 ) -> Result<(), PackFault>
     ensures ok { OnOk result (Writes (W.bytes writer.old) (W.bytes writer.new)
-        (W.is_unknown writer.new) (row_prefix later row)) }
-    ensures whole { OnOk result (IsSome (version_pair row)) }
+        (W.is_unknown writer.new) (row_prefix form later row)) }
+    ensures whole { OnOk result (IsSome (version_pair form row)) }
     ensures err { OnErr result (WritesPrefix (W.bytes writer.old) (W.bytes writer.new)
-        (W.is_unknown writer.new) (row_prefix later row)) }
-    ensures fault { IfErr result (IsPackFault None (version_pair row)) }
+        (W.is_unknown writer.new) (row_prefix form later row)) }
+    ensures fault { IfErr result (IsPackFault None (version_pair form row)) }
 
     ensures counted { W.failures writer.new ≡ failures_after result (W.failures writer.old) }
     ensures told { result ≢ Err Write → W.is_unknown writer.new ≡ W.is_unknown writer.old }
     ensures unknown { W.is_unknown writer.old ≡ true → W.is_unknown writer.new ≡ true }
 {
-    write_whole(writer, member_string(alloc, later, row)?.as_bytes())?;
+    write_whole(writer, member_string(alloc, form, later, row)?.as_bytes())?;
     Ok(())
 }
 
 // Writes the members of the versions, and the packument's end.
 fn write_versions<W: ByteOut, S: VersionSource>(
     alloc: Global,
+    form: PackForm,
     source: &mut S,
     writer: &mut W,
 ) -> Result<(), PackFault>
     ensures ok { S.is_known source.new → OnOk result (Writes (W.bytes writer.old)
         (W.bytes writer.new) (W.is_unknown writer.new)
-        (versions_prefix false (S.rows source.old))) }
+        (versions_prefix form false (S.rows source.old))) }
     ensures whole { S.is_known source.new
-        → OnOk result (IsSome (version_pairs (S.rows source.old))) }
+        → OnOk result (IsSome (version_pairs form (S.rows source.old))) }
     ensures err { S.is_known source.new → OnErr result (WritesPrefix (W.bytes writer.old)
         (W.bytes writer.new) (W.is_unknown writer.new)
-        (versions_prefix false (S.rows source.old))) }
+        (versions_prefix form false (S.rows source.old))) }
     ensures fault { S.is_known source.new → IfErr result (IsPackFault (S.stopped source.new)
-        (version_pairs (S.rows source.old))) }
+        (version_pairs form (S.rows source.old))) }
     ensures taken { S.is_known source.new → OnOk result (S.rows source.new ≡ []) }
     ensures known { S.is_known source.new → S.is_known source.old }
     ensures goes_on { OnOk result (S.stopped source.new ≡ None) }
@@ -179,7 +194,7 @@ fn write_versions<W: ByteOut, S: VersionSource>(
 {
     let mut later = false;
     'versions: while let Some(row) = source.next(alloc)? {
-        write_version(alloc, later, row, writer)?;
+        write_version(alloc, form, later, row, writer)?;
         later = true;
     }
     write_whole(writer, CLOSING.as_bytes())?;
@@ -222,5 +237,5 @@ pub fn write_packument<W: ByteOut, S: VersionSource>(
     ensures unknown { W.is_unknown writer.old ≡ true → W.is_unknown writer.new ≡ true }
 {
     write_opening(alloc, head, writer)?;
-    write_versions(alloc, source, writer)
+    write_versions(alloc, head.form(), source, writer)
 }

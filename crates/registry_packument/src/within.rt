@@ -8,6 +8,7 @@ ghost use Rattle.registry_packument.specs.Sources.{IsFaultFrom};
 ghost use Rattle.registry_packument.specs.Within.{HasGathered, IsWithin, given};
 ghost use Rattle.registry_packument.specs.Writing.{Adds};
 
+use crate::form::PackForm;
 use crate::head::PackHead;
 use crate::opening::opening;
 use crate::packument::{CLOSING, VersionRow};
@@ -75,22 +76,23 @@ impl Gathered {
         }
     }
 
-    // This, and the member of a version after it.
+    // This, and the member of a version after it, in a packument of this form.
     fn with_member(
         self,
         alloc: Global,
+        form: PackForm,
         later: bool,
         row: VersionRow,
         limit: u64,
     ) -> Result<Gathered, Fault>
         ensures ok { IfOk result (λ more. (bytes : List ℕ) → HasGathered limit bytes self
-            → (all : List ℕ) × (Adds (member_text later) (version_pair row) bytes all
+            → (all : List ℕ) × (Adds (member_text later) (version_pair form row) bytes all
             × HasGathered limit all more)) }
         ensures err { IfErr result (λ fault. (fault ≡ Fault.Memory) ⊎ ((bytes : List ℕ)
-            → HasGathered limit bytes self → (p : Pair) → version_pair row ≡ Some p
+            → HasGathered limit bytes self → (p : Pair) → version_pair form row ≡ Some p
             → 2 ^ 64 ≤ length bytes + length (member_text later p))) }
     {
-        let member = row.into_member(alloc, later)?;
+        let member = row.into_member(alloc, form, later)?;
         let with_key = self.with(member.key.as_str(), limit)?;
         with_key.with(member.document.as_str(), limit)
     }
@@ -138,9 +140,10 @@ pub fn packument_within<S: VersionSource>(
     ensures behind { S.leaves source.old source.new }
 {
     let mut all = Gathered::of(opening(alloc, head)?, limit);
+    let form = head.form();
     let mut later = false;
     'versions: while let Some(row) = source.next(alloc)? {
-        all = all.with_member(alloc, later, row, limit)?;
+        all = all.with_member(alloc, form, later, row, limit)?;
         later = true;
     }
     Ok(all.with(CLOSING, limit)?.into_given())

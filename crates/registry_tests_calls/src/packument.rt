@@ -1,5 +1,6 @@
 //! Packuments, documents and lists, from the rules as they are written down.
 
+mod abbreviated;
 mod manifests;
 mod moments;
 mod sending;

@@ -22,8 +22,8 @@ const OTHER: &str = "of another length\n";
 
 /// Writes before a packument whether it has as many bytes as the case.
 #[derive(Drop)]
-struct Counted {
-    len: u64,
+pub(super) struct Counted {
+    pub(super) len: u64,
 }
 
 impl Opener for Counted {
@@ -36,7 +36,7 @@ impl Opener for Counted {
     }
 }
 
-fn narrow(alloc: Global, room: usize) -> Narrow {
+pub(super) fn narrow(alloc: Global, room: usize) -> Narrow {
     Narrow {
         taken: Vec::new(alloc),
         room,

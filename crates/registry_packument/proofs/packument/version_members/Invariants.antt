@@ -10,8 +10,8 @@ invariant-versions g l = record {
   known : g.S.VersionSource.is_known l.source → g.S.VersionSource.is_known l.fn.source;
   -- the whole is the members that are made, and then the rows that are left
   made : g.S.VersionSource.is_known l.source
-      → whole_of (flat_map member_bytes l.members.items) l.later (version_pairs (g.S.VersionSource.rows l.source))
-      ≡ option_map (versions_text false) (version_pairs (g.S.VersionSource.rows l.fn.source));
+      → whole_of (flat_map member_bytes l.members.items) l.later (version_pairs l.form (g.S.VersionSource.rows l.source))
+      ≡ option_map (versions_text false) (version_pairs l.form (g.S.VersionSource.rows l.fn.source));
   kept : g.S.VersionSource.leaves l.fn.source l.source;
 }
 

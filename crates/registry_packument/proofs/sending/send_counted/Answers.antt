@@ -13,9 +13,9 @@ pub returns-in-Ok-write_whole-clause-takes : goal.returns-in-Ok-write_whole-clau
 returns-in-Ok-write_whole-clause-takes g c known counted =
     let head = c.args.head.now in
     let rows = g.S.VersionSource.rows c.args.source.now in
-    rw c.end_of.ensures (ends_taking (g.O.Opener.opens c.args.opener.now) c.args.len c.as_bytes.result.now (opening_text head) (rows_text false rows) (c.as_bytes.ensures.value ∙ c.in-Ok.ensures.text)
+    rw c.end_of.ensures (ends_taking (g.O.Opener.opens c.args.opener.now) c.args.len c.as_bytes.result.now (opening_text head) (rows_text c.args.head.now.form false rows) (c.as_bytes.ensures.value ∙ c.in-Ok.ensures.text)
     (counted_long head rows c.args.len counted) (λ (text : List ℕ). pack_text head rows ≡ Some text) (counted_text head rows c.args.len counted) _ _ _ _ _
-    (length-opening_text head) c.in-Ok-write_whole.ensures.ok c.write_counted.ensures.unknown c.write_counted.result (c.write_counted.ensures.ok known) (c.write_counted.ensures.err known))
+    (length-opening_text head) c.in-Ok-write_whole.ensures.ok c.write_counted.ensures.unknown c.write_counted.result (rw c.form.ensures at (c.write_counted.ensures.ok known)) (rw c.form.ensures at (c.write_counted.ensures.err known)))
 
 pub returns-clause-framed : goal.returns-clause-framed
 returns-clause-framed g c =
@@ -26,13 +26,13 @@ pub returns-clause-takes : goal.returns-clause-takes
 returns-clause-takes g c known counted =
     let head = c.args.head.now in
     let rows = g.S.VersionSource.rows c.args.source.now in
-    start_takes (g.O.Opener.opens c.args.opener.now) c.args.len c.as_bytes.result.now (opening_text head) (rows_text false rows) (c.as_bytes.ensures.value ∙ c.in-Ok.ensures.text)
+    start_takes (g.O.Opener.opens c.args.opener.now) c.args.len c.as_bytes.result.now (opening_text head) (rows_text c.args.head.now.form false rows) (c.as_bytes.ensures.value ∙ c.in-Ok.ensures.text)
     (counted_long head rows c.args.len counted) (λ (text : List ℕ). pack_text head rows ≡ Some text) (counted_text head rows c.args.len counted) c.in-Err-write_whole.ensures.err
 
 pub returns-in-Ok-write_whole-clause-long : goal.returns-in-Ok-write_whole-clause-long
 returns-in-Ok-write_whole-clause-long g c known whole =
     let rows = g.S.VersionSource.rows c.args.source.now in
-    omega (arith, length-append (opening_text c.args.head.now) (rows_text false rows), c.in-Ok.ensures.room, whole_long c.write_counted.result (rw c.end_of.ensures at whole) (c.write_counted.ensures.long known))
+    omega (arith, length-append (opening_text c.args.head.now) (rows_text c.args.head.now.form false rows), c.in-Ok.ensures.room, whole_long c.write_counted.result (rw c.end_of.ensures at whole) (rw c.form.ensures at (c.write_counted.ensures.long known)))
 
 -- ---- what breaks it off
 
@@ -41,4 +41,4 @@ returns-in-Err-clause-fault g c known = start_fault _ c.args.head.now (g.S.Versi
 
 pub returns-in-Ok-write_whole-clause-fault : goal.returns-in-Ok-write_whole-clause-fault
 returns-in-Ok-write_whole-clause-fault g c known =
-    rw c.end_of.ensures (end_fault _ c.args.head.now (g.S.VersionSource.rows c.args.source.now) c.args.len c.in-Ok.start.room c.in-Ok.ensures.room c.write_counted.result (c.write_counted.ensures.fault known))
+    rw c.end_of.ensures (end_fault _ c.args.head.now (g.S.VersionSource.rows c.args.source.now) c.args.len c.in-Ok.start.room c.in-Ok.ensures.room c.write_counted.result (rw c.form.ensures at (c.write_counted.ensures.fault known)))

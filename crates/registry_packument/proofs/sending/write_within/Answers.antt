@@ -5,7 +5,7 @@ use Rattle.registry_packument.proofs.SendingFacts.{member_unwritten, prefix_with
 use Rattle.registry_packument.proofs.sending.write_within.Goals as goal
 
 pub returns-in_err-member-clause-err : goal.returns-in_err-member-clause-err
-returns-in_err-member-clause-err g c = on_err c.from_residual.result (member_unwritten c.args.later c.args.row _ _)
+returns-in_err-member-clause-err g c = on_err c.from_residual.result (member_unwritten c.args.form c.args.later c.args.row _ _)
 
 pub returns-in_err-member-clause-within : goal.returns-in_err-member-clause-within
 returns-in_err-member-clause-within g c =
@@ -13,7 +13,7 @@ returns-in_err-member-clause-within g c =
     rw q.1 ([], (omega arith, Writes-nothing _ _))
 
 pub returns-in_default-clause-err : goal.returns-in_default-clause-err
-returns-in_default-clause-err g c = member_unwritten c.args.later c.args.row _ _
+returns-in_default-clause-err g c = member_unwritten c.args.form c.args.later c.args.row _ _
 
 pub returns-in_default-clause-within : goal.returns-in_default-clause-within
 returns-in_default-clause-within g c = ([], (omega arith, Writes-nothing _ _))

@@ -10,5 +10,5 @@ returns-clause-ok c =
     let member = c.in_ok-member.member in
     let key_end : c.in_ok-key_end.key_end ≡ c.args.count + length member.key = rw c.as_str.ensures.text at c.in_ok-key_end.ensures.ok in
     IfOk-weaker c.counted-2.result _ _
-    (λ sum is. row_long c.args.later (version_pair row) member.key member.document c.args.count sum c.in_ok-member.ensures.ok (omega (arith, is, key_end)))
+    (λ sum is. row_long c.args.later (version_pair c.args.form row) member.key member.document c.args.count sum c.in_ok-member.ensures.ok (omega (arith, is, key_end)))
     (rw c.as_str-2.ensures.text at c.counted-2.ensures.ok)

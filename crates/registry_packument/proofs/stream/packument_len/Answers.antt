@@ -19,9 +19,9 @@ pub versions-preserved : goal.versions-preserved
 versions-preserved g c = record {
   known = λ known. c.versions.invariant.known (c.in_ok-row.ensures.known known);
   counted = λ known.
-      with_left-step (whole_len c.args.head.now (g.S.VersionSource.rows c.args.source.now)) c.versions.count _ c.versions.later c.in-Some.row
+      with_left-step c.args.head.now.form (whole_len c.args.head.now (g.S.VersionSource.rows c.args.source.now)) c.versions.count _ c.versions.later c.in-Some.row
       (g.S.VersionSource.rows c.versions.source) (g.S.VersionSource.rows c.next.new.self) (rw c.in-Some.is at (c.in_ok-row.ensures.gives known))
-      (c.versions.invariant.counted (c.in_ok-row.ensures.known known)) c.in_ok-count-2.ensures.ok;
+      (c.versions.invariant.counted (c.in_ok-row.ensures.known known)) (rw c.form-form.ensures at c.in_ok-count-2.ensures.ok);
   kept = g.met.S.VersionSource.leaves_through c.args.source.now c.versions.source c.next.new.self c.versions.invariant.kept c.in_ok-row.ensures.behind;
 }
 
@@ -29,5 +29,5 @@ pub returns-in_err-count-2-clause-err : goal.returns-in_err-count-2-clause-err
 returns-in_err-count-2-clause-err g c known =
     let q = err_from_is_err_and c.from_residual-in_err-count-2.result c.from_residual-in_err-count-2.ensures.1 in
     let fault = row_fault c.args.head.now (g.S.VersionSource.rows c.args.source.now) c.in-Some.row (g.S.VersionSource.rows c.versions.source) (g.S.VersionSource.rows c.next.new.self)
-    c.versions.count c.versions.later _ (rw c.in-Some.is at (c.in_ok-row.ensures.gives known)) (c.versions.invariant.counted (c.in_ok-row.ensures.known known)) c.in_err-count-2.ensures.err in
+    c.versions.count c.versions.later _ (rw c.in-Some.is at (c.in_ok-row.ensures.gives known)) (c.versions.invariant.counted (c.in_ok-row.ensures.known known)) (rw c.form-form.ensures at c.in_err-count-2.ensures.err) in
     rw (q.1, q.2) (inr fault)

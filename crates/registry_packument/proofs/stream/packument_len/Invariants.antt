@@ -7,7 +7,7 @@ invariant-versions g l = record {
   known : g.S.VersionSource.is_known l.source → g.S.VersionSource.is_known l.fn.source;
   -- the whole is what is counted, and then the rows that are left
   counted : g.S.VersionSource.is_known l.source
-      → with_left l.count l.later (g.S.VersionSource.rows l.source) ≡ whole_len l.head (g.S.VersionSource.rows l.fn.source);
+      → with_left l.head.form l.count l.later (g.S.VersionSource.rows l.source) ≡ whole_len l.head (g.S.VersionSource.rows l.fn.source);
   kept : g.S.VersionSource.leaves l.fn.source l.source;
 }
 

@@ -8,17 +8,17 @@ use Rattle.registry_packument.proofs.stream.write_packument.Goals as goal
 pub returns-in_err-write_opening-clause-err : goal.returns-in_err-write_opening-clause-err
 returns-in_err-write_opening-clause-err g c known =
     let rows = g.S.VersionSource.rows c.args.source.now in
-    on_err c.from_residual.result (rw (pack_prefix-parts c.args.head.now rows) (WritesPrefix-longer (versions_prefix false rows) c.in_err-write_opening.ensures.err))
+    on_err c.from_residual.result (rw (pack_prefix-parts c.args.head.now rows) (WritesPrefix-longer (versions_prefix c.args.head.now.form false rows) c.in_err-write_opening.ensures.err))
 
 pub returns-clause-ok : goal.returns-clause-ok
 returns-clause-ok g c known =
     let rows = g.S.VersionSource.rows c.args.source.now in
     on_ok_both c.write_versions.result
     (λ wrote some. pack_text-written c.args.head.now rows some (Writes-append c.in_ok-write_opening.ensures.ok wrote c.write_versions.ensures.unknown))
-    (c.write_versions.ensures.ok known) (c.write_versions.ensures.whole known)
+    (rw c.form.ensures at (c.write_versions.ensures.ok known)) (rw c.form.ensures at (c.write_versions.ensures.whole known))
 
 pub returns-clause-err : goal.returns-clause-err
 returns-clause-err g c known =
     let rows = g.S.VersionSource.rows c.args.source.now in
     on_err_weaker c.write_versions.result
-    (λ prefix. rw (pack_prefix-parts c.args.head.now rows) (WritesPrefix-append c.in_ok-write_opening.ensures.ok prefix c.write_versions.ensures.unknown)) (c.write_versions.ensures.err known)
+    (λ prefix. rw (pack_prefix-parts c.args.head.now rows) (WritesPrefix-append c.in_ok-write_opening.ensures.ok prefix c.write_versions.ensures.unknown)) (rw c.form.ensures at (c.write_versions.ensures.err known))

@@ -8,9 +8,9 @@ abbrev pub invariant-versions : goal.invariant-versions
 invariant-versions g l = record {
   known : g.S.VersionSource.is_known l.source → g.S.VersionSource.is_known l.fn.source;
   prefix : g.S.VersionSource.is_known l.source → HasLeft (g.W.ByteOut.bytes l.fn.writer) (g.W.ByteOut.bytes l.writer) (g.W.ByteOut.is_unknown l.writer)
-      (versions_prefix false (g.S.VersionSource.rows l.fn.source)) (versions_prefix l.later (g.S.VersionSource.rows l.source));
+      (versions_prefix l.form false (g.S.VersionSource.rows l.fn.source)) (versions_prefix l.form l.later (g.S.VersionSource.rows l.source));
   documents : g.S.VersionSource.is_known l.source
-      → is_some (version_pairs (g.S.VersionSource.rows l.fn.source)) ≡ is_some (version_pairs (g.S.VersionSource.rows l.source));
+      → is_some (version_pairs l.form (g.S.VersionSource.rows l.fn.source)) ≡ is_some (version_pairs l.form (g.S.VersionSource.rows l.source));
   failures : g.W.ByteOut.failures l.writer ≡ g.W.ByteOut.failures l.fn.writer;
   still_unknown : g.W.ByteOut.is_unknown l.writer ≡ g.W.ByteOut.is_unknown l.fn.writer;
   kept : g.S.VersionSource.leaves l.fn.source l.source;

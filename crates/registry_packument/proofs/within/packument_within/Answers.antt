@@ -18,9 +18,9 @@ pub versions-preserved : goal.versions-preserved
 versions-preserved g c = record {
   known = λ known. c.versions.invariant.known (c.in_ok-row.ensures.known known);
   walked = λ known.
-      walked_more c.args.limit c.versions.all _ c.versions.later c.in-Some.row (g.S.VersionSource.rows c.versions.source) (g.S.VersionSource.rows c.next.new.self)
+      walked_more c.args.head.now.form c.args.limit c.versions.all _ c.versions.later c.in-Some.row (g.S.VersionSource.rows c.versions.source) (g.S.VersionSource.rows c.next.new.self)
       (pack_text c.args.head.now (g.S.VersionSource.rows c.args.source.now)) (rw c.in-Some.is at (c.in_ok-row.ensures.gives known))
-      (c.versions.invariant.walked (c.in_ok-row.ensures.known known)) c.in_ok-all.ensures.ok;
+      (c.versions.invariant.walked (c.in_ok-row.ensures.known known)) (rw c.form-form.ensures at c.in_ok-all.ensures.ok);
   kept = g.met.S.VersionSource.leaves_through c.args.source.now c.versions.source c.next.new.self c.versions.invariant.kept c.in_ok-row.ensures.behind;
 }
 
@@ -29,7 +29,7 @@ returns-in_err-all-clause-err g c known =
     let q = err_from_is_err_and c.from_residual-in_err-all.result c.from_residual-in_err-all.ensures.1 in
     rw (q.1, q.2) (inr (walked_row_fault c.args.limit c.args.head.now (g.S.VersionSource.rows c.args.source.now) c.versions.all c.in-Some.row
     (g.S.VersionSource.rows c.versions.source) (g.S.VersionSource.rows c.next.new.self) c.versions.later _ (rw c.in-Some.is at (c.in_ok-row.ensures.gives known))
-    (c.versions.invariant.walked (c.in_ok-row.ensures.known known)) c.in_err-all.ensures.err))
+    (c.versions.invariant.walked (c.in_ok-row.ensures.known known)) (rw c.form-form.ensures at c.in_err-all.ensures.err)))
 
 pub returns-in_err-with-clause-err : goal.returns-in_err-with-clause-err
 returns-in_err-with-clause-err g c known =

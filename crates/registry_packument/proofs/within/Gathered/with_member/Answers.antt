@@ -11,7 +11,7 @@ returns-clause-ok c =
     let keyed = rw c.as_str.ensures.text at c.in_ok-with_key.ensures.ok in
     IfOk-weaker c.with-2.result _ _
     (λ more whole bytes has.
-    ((bytes ++ key) ++ document, (member_added c.args.later (version_pair c.args.row) bytes key document c.in_ok-member.ensures.ok, whole (bytes ++ key) (keyed bytes has))))
+    ((bytes ++ key) ++ document, (member_added c.args.later (version_pair c.args.form c.args.row) bytes key document c.in_ok-member.ensures.ok, whole (bytes ++ key) (keyed bytes has))))
     (rw c.as_str-2.ensures.text at c.with-2.ensures.ok)
 
 pub returns-clause-err : goal.returns-clause-err
@@ -20,5 +20,5 @@ returns-clause-err c =
     let document = c.in_ok-member.member.document in
     let keyed = rw c.as_str.ensures.text at c.in_ok-with_key.ensures.ok in
     IfErr-weaker c.with-2.result _ _
-    (λ fault. document_fault c.args.limit c.args.later (version_pair c.args.row) key document c.args.self c.in_ok-with_key.with_key fault c.in_ok-member.ensures.ok keyed)
+    (λ fault. document_fault c.args.limit c.args.later (version_pair c.args.form c.args.row) key document c.args.self c.in_ok-with_key.with_key fault c.in_ok-member.ensures.ok keyed)
     (rw c.as_str-2.ensures.text at c.with-2.ensures.err)

@@ -1,8 +1,0 @@
-use Rattle.std.proofs.Common.{sym, ◌∙◌}
-use Rattle.registry_packument.proofs.PackFacts.{opening_text-parts}
-use Rattle.registry_packument.proofs.opening.opening.Goals as goal
-
-pub returns : goal.returns
-returns c =
-    let times = rw (c.times.ensures.value, c.in_ok-out.ensures) at c.in_ok-push_times.ensures in
-    times ∙ sym (opening_text-parts c.args.head.now)
