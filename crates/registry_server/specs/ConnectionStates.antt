@@ -3,7 +3,7 @@ use Rattle.std.specs.Prelude.{◌≡◌, ◌-◌, ◌==◌, [], ℕ, Bool, true,
 use Rattle.registry_wire.specs.Reading.{TakenOf}
 use Rattle.registry_wire.specs.Responses.{head_bytes}
 use Rattle.registry_wire.specs.Spelling.{IsUnfinished}
-use Rattle.registry_service.specs.HttpAnswers.{body_bytes}
+use Rattle.registry_service.specs.HttpAnswers.{sent_bytes}
 use Rattle.registry_service.specs.Courses.{Gave, count_of, moment_of, taken_for}
 use Rattle.registry_service.specs.Servings.{bytes_of}
 use Rattle.registry_service.specs.Turns.{Cause, Dialogue, Turns, TurnsAway, no_memory, request_limit}
@@ -14,12 +14,12 @@ use Rattle.registry_server.specs.declared.state.Progress.TheVariants.{Answered, 
 
 -- the head of a turn's response
 abbrev pub head_in : Turned → List ℕ
-head_in t = head_bytes t.answer.status t.answer.kind t.answer.labels (length (body_bytes t.answer.body)) (is_some t.end)
+head_in t = head_bytes t.answer.status t.answer.kind t.answer.labels (length (sent_bytes t.answer)) (is_some t.end)
 
--- the body of a turn's answer, where there is one
+-- what is sent of the body of a turn's answer, where there is one
 abbrev pub body_in : Option Turned → List ℕ
 body_in None = []
-body_in (Some turned) = body_bytes turned.answer.body
+body_in (Some turned) = sent_bytes turned.answer
 
 -- the bytes that came and aren't used yet, the bytes of a response that aren't sent yet, how many
 -- requests it may still have, and how it ends once everything is sent, if it does

@@ -109,12 +109,12 @@ fn left_of_piece(piece: &[u8], sent: u128) -> (&[u8], u128)
     (left, sent.saturating_sub(len))
 }
 
-// Both pieces of the body of a turn's answer.
+// Both pieces of what is sent of the body of a turn's answer.
 fn body_in(turned: &Option<Turned>) -> (&[u8], &[u8])
     ensures { result.0.now ++ result.1.now ≡ spec.body_in turned.now }
 {
     match turned {
-        Some(turned) => turned.answer.body.as_slices(),
+        Some(turned) => turned.answer.pieces(),
         None => (&[], &[]),
     }
 }

@@ -10,6 +10,7 @@ use Rattle.registry_wire.specs.Reading.{ReadsWhileUnfinished, TakenOf}
 use Rattle.registry_wire.specs.Spelling.{EndsWith, IsBad}
 use Rattle.registry_wire.specs.declared.first.Ending.TheVariants as ending
 use Rattle.registry_wire.proofs.RequestFacts.{request-more, bad-more}
+use Rattle.registry_wire.specs.Responses.{head_bytes}
 use Rattle.registry_wire.specs.declared.labels.Labels.{Labels}
 use Rattle.registry_service.specs.HttpAnswers.{AnswersSo, Outcome, answer_bytes, response_to}
 use Rattle.registry_service.specs.Courses.{AtEndOf, Course, EndsAs, EndsUnasked, Follow, Gave, GoOn, GoesTo, IsServed, ReadsFor, ReadsOn, Rests, Side, Took, count_of, moments, requests, taken_for, written}
@@ -21,6 +22,7 @@ use Rattle.registry_service.specs.declared.responding.Responded.TheVariants.{Who
 use Rattle.registry_service.specs.declared.serving.Served.{Served}
 use Rattle.registry_service.specs.declared.turning.End.{End}
 use Rattle.registry_service.specs.declared.turning.End.TheVariants.{Closed, Limit, BadInput, ReadFault, WriteFault, Faulted}
+use Rattle.registry_service.proofs.LabelFacts.{sent-so}
 
 -- ---- bytes that come later
 
@@ -132,7 +134,9 @@ ends-unasked s ts e on (inr failed) = subst (λ (e : End). EndsAs s ts e) (sym f
 -- ---- a response
 
 pub bytes-same : (labels : Labels) (known : Bool) (o : Outcome) (a : Answer) (closes : Bool) → AnswersSo labels known o a → answer_bytes a closes ≡ response_to labels known o closes
-bytes-same labels known o a closes is = rw (is.status, is.kind, is.labels, is.body) refl
+bytes-same labels known o a closes is =
+    ap (λ (sent : List ℕ). head_bytes a.status a.kind a.labels (length sent) closes ++ sent) (sent-so labels known o a is)
+    ∙ rw (is.status, is.kind, is.labels) refl
 
 -- ---- one turn more
 

@@ -1,21 +1,23 @@
 -- What responses say to those who keep documents.
-use Rattle.std.proofs.Common.{◌≡◌, ◌≢◌, ◌==◌, ◌∙◌, ℕ, Bool, true, false, cond, List, Option, Some, None, Ok, Err, refl, sym, ap, subst, is_some}
-use Rattle.std.proofs.lemmas.Bool.{eqb-true, false≢true}
+use Rattle.std.proofs.Common.{◌≡◌, ◌≢◌, ◌==◌, ◌∙◌, ℕ, Bool, true, false, cond, not, List, Option, Some, None, Ok, Err, refl, sym, ap, subst, is_some}
+use Rattle.std.proofs.lemmas.Bool.{and_from, and_parts, eqb-true, false≢true}
 use Rattle.registry_names.specs.Faults.{fault_status}
 use Rattle.registry_names.specs.Refusals.{refusal_status}
+use Rattle.registry_names.specs.declared.method.Method.{Method}
+use Rattle.registry_names.specs.declared.method.Method.TheVariants.{Get, Put, Post, Delete, Other}
 use Rattle.registry_names.specs.declared.refusal.Refusal.{Refusal}
 use Rattle.registry_names.specs.declared.refusal.Refusal.TheVariants.{BadName, BadVersion, RangeTag, BadTag, BadBody, BadIntegrity, TooLarge, NoCaller, NotFound, Published, Spent, TooLate, Depended, KeepsLatest, BadSelector, LastOwner, KeepsDevelopers, Exists, OtherScope, AlwaysPublic, Waiting, Stale, NotServed, Denied}
 use Rattle.registry_names.specs.declared.stop.Fault.{Fault}
 use Rattle.registry_names.specs.declared.stop.Fault.TheVariants.{Memory, Database}
 use Rattle.registry_rules.specs.declared.reply.Reply.TheVariants.{Created, Done, Count, Doc, Bytes, Refused}
 use Rattle.registry_wire.specs.EntityTags.{NamesTag}
-use Rattle.registry_wire.specs.Responses.{no_labels, not_modified}
+use Rattle.registry_wire.specs.Responses.{no_labels, not_modified, only_if}
 use Rattle.registry_wire.specs.TagReading.{names_some}
 use Rattle.registry_wire.specs.declared.labels.Labels.{Labels}
 use Rattle.registry_wire.specs.declared.wanted.FieldValue.{FieldValue}
 use Rattle.registry_wire.proofs.TagFacts.{named}
-use Rattle.registry_service.specs.HttpAnswers.{AnswersPlainly, AnswersSo, Outcome, plain_response, response_to, sent_body, sent_status, status_of}
-use Rattle.registry_service.specs.Turns.{AnswersFor, Answering, Cause, Dialect, Exchange, Turn, bad_input, is_known, is_known_in, labels_of, no_memory, profile, request, response_of}
+use Rattle.registry_service.specs.HttpAnswers.{AnswersPlainly, AnswersSo, Outcome, body_bytes, body_of, plain_response, response_to, sent_body, sent_bytes, sent_status, status_of}
+use Rattle.registry_service.specs.Turns.{AnswersFor, Answering, Cause, Dialect, Exchange, Turn, bad_input, is_get, is_known, is_known_in, labels_of, no_memory, profile, request, response_of}
 use Rattle.registry_service.specs.Laws.{IsHonest, KnowsDocument, NotModifiedIsHonest}
 use Rattle.registry_service.specs.declared.answer.Answer.{Answer}
 
@@ -96,6 +98,16 @@ status-known : (known : Bool) (o : Outcome) → sent_status known o ≡ not_modi
 status-known true o e = refl
 status-known false o e = absurd (false≢true (sym (outcome-other o) ∙ ap (λ (n : ℕ). n == 304) e))
 
+-- what is sent of the body that is told
+sent-again : (known : Bool) (o : Outcome) → only_if (not (sent_status known o == not_modified)) (sent_body known o) ≡ sent_body known o
+sent-again true o = refl
+sent-again false o = ap (λ (b : Bool). only_if (not b) (body_of o)) (outcome-other o)
+
+pub sent-so : (labels : Labels) (known : Bool) (o : Outcome) (a : Answer) → AnswersSo labels known o a → sent_bytes a ≡ sent_body known o
+sent-so labels known o a is =
+    ap (λ (n : ℕ). only_if (not (n == not_modified)) (body_bytes a.body)) is.status
+    ∙ ap (λ (body : List ℕ). only_if (not (sent_status known o == not_modified)) body) is.body ∙ sent-again known o
+
 status-unknown : (known : Bool) (o : Outcome) → sent_status known o ≢ not_modified → known ≡ false
 status-unknown true o other = absurd (other refl)
 status-unknown false o other = refl
@@ -104,6 +116,13 @@ status-unknown false o other = refl
 some-means : (f : FieldValue) (tag : Option (List ℕ)) → names_some f tag ≡ true → (text : List ℕ) × (tag ≡ Some text) × NamesTag f text
 some-means f None e = absurd (false≢true e)
 some-means f (Some text) e = (text, refl, (named f text).0 e)
+
+get-means : (m : Method) → is_get m ≡ true → m ≡ Get
+get-means Get e = refl
+get-means Put e = absurd (false≢true e)
+get-means Post e = absurd (false≢true e)
+get-means Delete e = absurd (false≢true e)
+get-means Other e = absurd (false≢true e)
 
 known-means : (f : FieldValue) (b : Bool) (labels : Labels) → names_some f (cond b labels no_labels).tag ≡ true → (b ≡ true) × ((text : List ℕ) × (labels.tag ≡ Some text) × NamesTag f text)
 known-means f true labels e = (refl, some-means f labels.tag e)
@@ -115,13 +134,15 @@ known-from f false labels text ok is n = absurd (false≢true ok)
 
 knows-means : (speaks : Dialect) (c : Cause) (es : List Exchange) (o : Outcome) → is_known_in speaks c es o ≡ true → KnowsDocument speaks c es o
 knows-means speaks (request w at) es o e =
-    let known = known-means w.if_none_match (status_of o == 200) (speaks.labels w es o) e in
-    (eqb-true (status_of o) 200 known.0, known.1)
+    let both = and_parts _ _ e in
+    let known = known-means w.if_none_match (status_of o == 200) (speaks.labels w es o) both.0 in
+    (get-means w.method both.1, eqb-true (status_of o) 200 known.0, known.1)
 knows-means speaks (bad_input r) es o e = absurd (false≢true e)
 knows-means speaks no_memory es o e = absurd (false≢true e)
 
 knows-from : (speaks : Dialect) (c : Cause) (es : List Exchange) (o : Outcome) → KnowsDocument speaks c es o → is_known_in speaks c es o ≡ true
-knows-from speaks (request w at) es o (ok, (text, is, n)) = known-from w.if_none_match (status_of o == 200) (speaks.labels w es o) text (ap (λ (n : ℕ). n == 200) ok) is n
+knows-from speaks (request w at) es o (get, ok, (text, is, n)) =
+    and_from _ _ (known-from w.if_none_match (status_of o == 200) (speaks.labels w es o) text (ap (λ (n : ℕ). n == 200) ok) is n) (ap is_get get)
 knows-from speaks (bad_input r) es o k = absurd k
 knows-from speaks no_memory es o k = absurd k
 

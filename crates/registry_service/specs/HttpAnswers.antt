@@ -1,12 +1,12 @@
 -- What an outcome of the registry is in HTTP.
-use Rattle.std.specs.Prelude.{◌≡◌, ◌==◌, ℕ, Bool, false, List, [], ◌++◌, length, drop, codes, decimal, if◌then◌else◌, Result, Ok, Err}
+use Rattle.std.specs.Prelude.{◌≡◌, ◌==◌, not, ℕ, Bool, false, List, [], ◌++◌, length, drop, codes, decimal, if◌then◌else◌, Result, Ok, Err}
 use Rattle.registry_names.specs.Faults.{fault_status, fault_text}
 use Rattle.registry_names.specs.Refusals.{refusal_status, refusal_text}
 use Rattle.registry_names.specs.Texts.{Text}
 use Rattle.registry_names.specs.declared.stop.Fault.{Fault}
 use Rattle.registry_rules.specs.declared.reply.Reply.{Reply}
 use Rattle.registry_rules.specs.declared.reply.Reply.TheVariants.{Created, Done, Count, Doc, Bytes, Refused}
-use Rattle.registry_wire.specs.Responses.{head_bytes, no_labels, not_modified}
+use Rattle.registry_wire.specs.Responses.{head_bytes, no_labels, not_modified, only_if}
 use Rattle.registry_wire.specs.declared.labels.Labels.{Labels}
 use Rattle.registry_wire.specs.declared.response.ContentKind.{ContentKind}
 use Rattle.registry_wire.specs.declared.response.ContentKind.TheVariants as content
@@ -97,8 +97,12 @@ answer status kind labels body = record { status = status; kind = kind; labels =
 abbrev pub short : Text → Body
 short text = body.Short text
 
+-- the bytes that are sent of its body: none where the status is 304
+abbrev pub sent_bytes : Answer → List ℕ
+sent_bytes a = only_if (not (a.status == not_modified)) (body_bytes a.body)
+
 abbrev pub answer_bytes : Answer → Bool → List ℕ
-answer_bytes a closes = head_bytes a.status a.kind a.labels (length (body_bytes a.body)) closes ++ body_bytes a.body
+answer_bytes a closes = head_bytes a.status a.kind a.labels (length (sent_bytes a)) closes ++ sent_bytes a
 
 -- the answer is that of the outcome, with these labels, to one who has the document or doesn't
 pub record AnswersSo (says : Labels) (known : Bool) (o : Outcome) (a : Answer) : Type 0 where

@@ -1,5 +1,6 @@
 -- What holds of every connection: the laws that the functions of `src/laws.rt` ensure.
 use Rattle.std.specs.Prelude.{◌≡◌, ◌≢◌, ◌↔◌, ◌++◌, ◌∷◌, [], ℕ, Bool, false, List, Some}
+use Rattle.registry_names.specs.declared.method.Method.TheVariants.{Get}
 use Rattle.registry_wire.specs.EntityTags.{NamesTag}
 use Rattle.registry_wire.specs.Responses.{no_labels, not_modified}
 use Rattle.registry_wire.specs.Spelling.{Spells}
@@ -37,10 +38,10 @@ abbrev pub LookUpsAreUnseen : {D : Type 0} → Dialect → Answering D → Type 
 LookUpsAreUnseen {D} speaks answers = (M K N : D) (last : Bool) (t : Turn) → AnswersAsBefore answers M K → IsTurn (spoken speaks answers) K last t N
     → (left : D) × IsTurn (spoken speaks answers) M last t left × AnswersAsBefore answers left N
 
--- Who asks has the document that would be answered: its status would be 200, it has a tag, and the
--- request names that tag
+-- Who asks has the document that would be answered: the request is a GET, the status would be 200, the
+-- document has a tag, and the request names that tag
 abbrev pub KnowsDocument : Dialect → Cause → List Exchange → Outcome → Type 0
-KnowsDocument speaks (request w at) es o = (status_of o ≡ 200) × ((tag : List ℕ) × ((speaks.labels w es o).tag ≡ Some tag) × NamesTag w.if_none_match tag)
+KnowsDocument speaks (request w at) es o = (w.method ≡ Get) × (status_of o ≡ 200) × ((tag : List ℕ) × ((speaks.labels w es o).tag ≡ Some tag) × NamesTag w.if_none_match tag)
 KnowsDocument speaks (bad_input r) es o = ⊥
 KnowsDocument speaks no_memory es o = ⊥
 

@@ -1,11 +1,10 @@
 -- What the private parts of serving a connection say.
 use Rattle.std.specs.Prelude.{◌≡◌, ℕ, Bool, true, List, Option, is_some}
 use Rattle.registry_names.specs.ByteStreams.{Writes, WritesPrefix, raised}
-use Rattle.registry_wire.specs.TagReading.{names_some}
 use Rattle.registry_wire.specs.declared.labels.Labels.{Labels}
 use Rattle.registry_wire.specs.declared.wanted.Wanted.{Wanted}
 use Rattle.registry_service.specs.HttpAnswers.{AnswersPlainly, AnswersSo, Outcome, answer_bytes, labelled}
-use Rattle.registry_service.specs.Turns.{end_of}
+use Rattle.registry_service.specs.Turns.{end_of, names_document}
 use Rattle.registry_service.specs.declared.responding.Responded.{Responded}
 use Rattle.registry_service.specs.declared.responding.Responded.TheVariants as responded
 use Rattle.registry_service.specs.declared.turning.End.{End}
@@ -26,7 +25,7 @@ pub record IsTurnWith (o : Outcome) (last closes : Bool) (t : Turned) : Type 0 w
 -- the same of this request, with these labels where the status is 200
 pub record IsTurnTold (o : Outcome) (labels : Labels) (w : Wanted) (last : Bool) (t : Turned) : Type 0 where
   pub ends : t.end ≡ end_of o last w.closes
-  pub answer : AnswersSo (labelled o labels) (names_some w.if_none_match (labelled o labels).tag) o t.answer
+  pub answer : AnswersSo (labelled o labels) (names_document w (labelled o labels).tag) o t.answer
   pub counts : t.is_request ≡ true
 
 -- the response of a turn was written whole, or a part of it, and then a write failed

@@ -1,6 +1,8 @@
 -- What one turn of a connection is: what it is taken for, what is asked of the registry in it, what is
 -- answered, and whether the connection ends.
-use Rattle.std.specs.Prelude.{◌≡◌, ◌∷◌, ◌⊎◌, [], ℕ, Bool, true, false, List, Option, Some, None, is_some, map, Ok, Err, if◌then◌else◌}
+use Rattle.std.specs.Prelude.{◌≡◌, ◌∷◌, ◌⊎◌, ◌&&◌, [], ℕ, Bool, true, false, List, Option, Some, None, is_some, map, Ok, Err, if◌then◌else◌}
+use Rattle.registry_names.specs.declared.method.Method.{Method}
+use Rattle.registry_names.specs.declared.method.Method.TheVariants.{Get, Put, Post, Delete, Other}
 use Rattle.registry_names.specs.declared.refusal.Refusal.{Refusal}
 use Rattle.registry_names.specs.declared.stop.Fault.TheVariants.{Memory}
 use Rattle.registry_names.specs.declared.stop.Stop.{Stop}
@@ -94,9 +96,20 @@ labels_of speaks (request w at) es o = labelled o (speaks.labels w es o)
 labels_of speaks (bad_input r) es o = no_labels
 labels_of speaks no_memory es o = no_labels
 
--- who asks has the document with these labels: the request names its tag
+abbrev pub is_get : Method → Bool
+is_get Get = true
+is_get Put = false
+is_get Post = false
+is_get Delete = false
+is_get Other = false
+
+-- the request is a GET of a document that who asks has with this tag, if it has one
+abbrev pub names_document : Wanted → Option (List ℕ) → Bool
+names_document w tag = names_some w.if_none_match tag && is_get w.method
+
+-- who asks has the document with these labels: the request is a GET, and names its tag
 abbrev pub is_known : Cause → Labels → Bool
-is_known (request w at) labels = names_some w.if_none_match labels.tag
+is_known (request w at) labels = names_document w labels.tag
 is_known (bad_input r) labels = false
 is_known no_memory labels = false
 

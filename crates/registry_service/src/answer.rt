@@ -5,14 +5,17 @@ ghost use Rattle.http.specs.StatusCode.{IsStatusCode};
 ghost use Rattle.registry_wire.specs.Responses.{no_labels, response_bytes};
 ghost use Rattle.registry_wire.specs.TagReading.{names_some};
 ghost use Rattle.registry_service.specs.HttpAnswers as spec;
-ghost use Rattle.registry_service.specs.HttpAnswers.{AnswersPlainly, AnswersSo, Outcome, answer_bytes, body_bytes, fronted_text, labelled};
+ghost use Rattle.registry_service.specs.HttpAnswers.{AnswersPlainly, AnswersSo, Outcome, answer_bytes, body_bytes, fronted_text, labelled, sent_bytes};
+ghost use Rattle.registry_service.specs.Turns.{is_get, names_document};
 
 use crate::told::{Told, What};
 use http::StatusCode;
 use registry_cache::{SharedBlob, SharedText};
-use registry_names::{Fault, Refusal, Text};
+use registry_names::{Fault, Method, Refusal, Text};
 use registry_rules::Reply;
-use registry_wire::{ContentKind, EntityTag, FieldValue, Labels, Response, ShortText, names_tag};
+use registry_wire::{
+    ContentKind, EntityTag, FieldValue, Labels, Response, ShortText, Wanted, names_tag,
+};
 
 /// A text, of which some lies elsewhere: a front of its own, and a shared text without the first of
 /// its bytes.
@@ -80,7 +83,8 @@ impl Body {
     }
 }
 
-/// An answer in HTTP, which holds its body.
+/// An answer in HTTP, which holds its body. Where its status is 304 nothing of that is sent (RFC 9110,
+/// 15.4.5).
 pub struct Answer {
     pub status: StatusCode,
     pub kind: ContentKind,
@@ -132,16 +136,16 @@ impl Answer {
         }
     }
 
-    /// The same answer with these labels, where its status is 200. It is 304 where the field
-    /// `if-none-match` of the request names their tag, and then it has no body.
-    pub(crate) fn labelled(self, labels: Labels, field: &FieldValue) -> Answer
+    /// The same answer with these labels, where its status is 200. It is 304 where the request is a
+    /// GET and its field `if-none-match` names their tag, and then it has no body.
+    pub(crate) fn labelled(self, labels: Labels, wanted: &Wanted) -> Answer
         ensures { (o : Outcome) → AnswersPlainly o self → AnswersSo (labelled o labels)
-            (names_some field.now (labelled o labels).tag) o result }
+            (names_document wanted.now (labelled o labels).tag) o result }
     {
         if self.status.as_u16() != 200 {
             return self;
         }
-        if names_some(field, &labels.tag) {
+        if names_document(wanted, &labels.tag) {
             return not_modified(self.kind, labels);
         }
         let Answer {
@@ -155,6 +159,17 @@ impl Answer {
             kind,
             labels,
             body,
+        }
+    }
+
+    /// The bytes that are sent of its body, in two pieces. Mostly the second is empty.
+    pub fn pieces(&self) -> (&[u8], &[u8])
+        ensures { result.0.now ++ result.1.now ≡ sent_bytes self.now }
+    {
+        if self.status.as_u16() == 304 {
+            (b"", b"")
+        } else {
+            self.body.as_slices()
         }
     }
 
@@ -195,6 +210,19 @@ fn not_modified(kind: ContentKind, labels: Labels) -> Answer
         labels,
         body: Body::Short(ShortText::new()),
     }
+}
+
+// Whether the request is a GET of a document that who asks has with this tag.
+fn names_document(wanted: &Wanted, tag: &Option<EntityTag>) -> bool
+    ensures { result ≡ names_document wanted.now tag.now }
+{
+    names_some(&wanted.if_none_match, tag) && is_get(wanted.method)
+}
+
+fn is_get(method: Method) -> bool
+    ensures { result ≡ is_get method }
+{
+    matches!(method, Method::Get)
 }
 
 fn names_some(field: &FieldValue, tag: &Option<EntityTag>) -> bool

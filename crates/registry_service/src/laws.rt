@@ -34,11 +34,11 @@ pub fn look_ups_are_unseen<D: HttpService>()
     ensures { LookUpsAreUnseen D.speaks D.answers }
 {}
 
-/// Whatever a service says to those who keep documents, its answer is a 304 exactly where it would be
-/// a 200 with a tag that the request names by its field `if-none-match` (RFC 9110, 13.1.2). A 304 sends
-/// nothing of the document; any other answer is that of the outcome, whole. Both have the labels that
-/// the service's dialect gives the document. No refusal and no fault has a tag, and neither says how
-/// long it may be kept.
+/// Whatever a service says to those who keep documents, its answer is a 304 exactly where the request
+/// is a GET, and it would be a 200 with a tag that the request names by its field `if-none-match` (RFC
+/// 9110, 13.1.2). A 304 sends nothing of the document; any other answer is that of the outcome, whole.
+/// Both have the labels that the service's dialect gives the document. No refusal and no fault has a
+/// tag, and neither says how long it may be kept.
 pub fn not_modified_is_honest<D: HttpService>()
     ensures { NotModifiedIsHonest D.speaks D.answers }
 {}

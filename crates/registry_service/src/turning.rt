@@ -205,13 +205,14 @@ pub fn turn_with(outcome: Result<Reply, Fault>, is_last: bool, closes: bool) -> 
 }
 
 /// The turn of this request, of which this is told. Where its status is 200 the response has these
-/// labels; it is 304, and has no body, where the request names their tag. It takes no memory.
+/// labels; it is 304, and has no body, where the request is a GET and names their tag. It takes no
+/// memory.
 pub fn turn_told(told: Told, labels: Labels, wanted: &Wanted, is_last: bool) -> Turned
     ensures { IsTurnTold told labels wanted.now is_last result }
 {
     let end = told.end(is_last, wanted.closes);
     Turned {
-        answer: Answer::told(told).labelled(labels, &wanted.if_none_match),
+        answer: Answer::told(told).labelled(labels, wanted),
         end,
         is_request: true,
     }

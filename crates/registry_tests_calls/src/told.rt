@@ -2,10 +2,11 @@
 
 use crate::outcome::same;
 use crate::parts::{as_text, blob, concat, shared, text};
+use http::StatusCode;
 use registry_names::{Fault, Method, Refusal, ToWrite};
 use registry_rules::Reply;
 use registry_service::{End, Fronted, Told, Turned, turn_told};
-use registry_wire::{Caching, EntityTag, FieldValue, Labels, Wanted, write_response};
+use registry_wire::{Caching, DocumentForm, EntityTag, FieldValue, Labels, Wanted, write_response};
 use std::alloc::Global;
 use std::process::Abort;
 
@@ -15,6 +16,7 @@ fn asks(rt: &impl Abort, alloc: Global, if_none_match: FieldValue) -> Wanted {
         target: blob(rt, alloc, b"/kit"),
         authorization: FieldValue::Absent,
         if_none_match,
+        accept: FieldValue::Absent,
         body: blob(rt, alloc, b""),
         closes: false,
     }
@@ -29,6 +31,7 @@ fn labels(rt: &impl Abort) -> Labels {
     Labels {
         tag: Some(EntityTag::of(b"r1").expect(rt, "a tag")),
         caching: Caching::Checked,
+        form: DocumentForm::Only,
     }
 }
 
@@ -66,8 +69,48 @@ fn a_known_document_is_not_sent(rt: HostRuntime) {
         let wanted_by = asks(&rt, alloc, naming(&rt, alloc, value));
         let turned = turn_told(document(&rt, alloc), labels(&rt), &wanted_by, false);
         same(&rt, *value, turned.is_request, true);
+        same(&rt, *value, turned.answer.body.len() == 0, *wanted == KNOWN);
         is_sent(&rt, alloc, value, &turned, wanted);
     }
+}
+
+// A GET alone is answered so, and any other method by what it comes to.
+#[test]
+fn only_a_get_is_told_that_a_document_is_known(rt: HostRuntime) {
+    let alloc = rt.alloc();
+    for method in [Method::Put, Method::Post, Method::Delete, Method::Other] {
+        let mut wanted = asks(&rt, alloc, naming(&rt, alloc, "\"r1\""));
+        wanted.method = method;
+        let turned = turn_told(document(&rt, alloc), labels(&rt), &wanted, false);
+        is_sent(&rt, alloc, "no GET", &turned, WHOLE);
+    }
+}
+
+// A document of two forms.
+#[test]
+fn a_known_document_says_that_its_form_was_chosen(rt: HostRuntime) {
+    let alloc = rt.alloc();
+    for form in [DocumentForm::Full, DocumentForm::Abbreviated] {
+        let mut says = labels(&rt);
+        says.form = form;
+        let wanted = asks(&rt, alloc, naming(&rt, alloc, "\"r1\""));
+        let turned = turn_told(document(&rt, alloc), says, &wanted, false);
+        let text =
+            "HTTP/1.1 304 Not Modified\r\netag: \"r1\"\r\ncache-control: no-cache\r\nvary: accept\r\n\r\n";
+        is_sent(&rt, alloc, "chosen", &turned, text);
+    }
+}
+
+// What an answer with the status 304 holds isn't sent.
+#[test]
+fn a_304_sends_nothing_of_its_body(rt: HostRuntime) {
+    let alloc = rt.alloc();
+    let wanted = asks(&rt, alloc, FieldValue::Absent);
+    let mut turned = turn_told(document(&rt, alloc), labels(&rt), &wanted, false);
+    turned.answer.status = StatusCode::NOT_MODIFIED;
+    is_sent(&rt, alloc, "304", &turned, KNOWN);
+    let (front, rest) = turned.answer.pieces();
+    same(&rt, "304", (front.len(), rest.len()), (0, 0));
 }
 
 #[test]

@@ -8,4 +8,5 @@ pub mod InboxFacts
 pub mod ReadingFacts
 pub mod PhraseFacts
 pub mod TagFacts
+pub mod MediaFacts
 pub mod ResponseFacts

@@ -26,6 +26,11 @@ pub pushed-three : (a b c h0 h1 h2 h3 : List ℕ) → h1 ≡ h0 ++ a → h2 ≡ 
 pushed-three a b c h0 h1 h2 h3 first second third =
     third ∙ ap (λ (l : List ℕ). l ++ c) (second ∙ ap (λ (l : List ℕ). l ++ b) first) ∙ append_assoc (h0 ++ a) b c ∙ append_assoc h0 a (b ++ c)
 
+-- the same, where the first two belong together
+pub pushed-left : (a b c h0 h1 h2 h3 : List ℕ) → h1 ≡ h0 ++ a → h2 ≡ h1 ++ b → h3 ≡ h2 ++ c → h3 ≡ h0 ++ ((a ++ b) ++ c)
+pushed-left a b c h0 h1 h2 h3 first second third =
+    pushed-three a b c h0 h1 h2 h3 first second third ∙ ap (λ (l : List ℕ). h0 ++ l) (sym (append_assoc a b c))
+
 -- five
 pub pushed-five : (a b c d e h0 h1 h2 h3 h4 h5 : List ℕ) → h1 ≡ h0 ++ a → h2 ≡ h1 ++ b → h3 ≡ h2 ++ c → h4 ≡ h3 ++ d → h5 ≡ h4 ++ e → h5 ≡ h0 ++ (a ++ (b ++ (c ++ (d ++ e))))
 pushed-five a b c d e h0 h1 h2 h3 h4 h5 first second third fourth fifth =

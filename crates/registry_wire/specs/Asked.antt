@@ -40,6 +40,7 @@ wanted_of h body = record {
   target = h.target;
   authorization = value_of (said (codes "authorization") (fields_of h));
   if_none_match = value_of (said (codes "if-none-match") (fields_of h));
+  accept = value_of (said (codes "accept") (fields_of h));
   body = body;
   closes = closes_of h;
 }

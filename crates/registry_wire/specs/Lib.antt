@@ -9,5 +9,6 @@ pub mod Pieces
 pub mod Reading
 pub mod EntityTags
 pub mod TagReading
+pub mod MediaRanges
 pub mod Responses
 pub mod Laws

@@ -28,6 +28,7 @@ pub record ArePartsOf (h : RequestHead) (p : HeadParts) : Type 0 where
   pub target : p.target.now ≡ h.target
   pub authorization : said_of p.authorization ≡ said (codes "authorization") (fields_of h)
   pub if_none_match : said_of p.if_none_match ≡ said (codes "if-none-match") (fields_of h)
+  pub accept : said_of p.accept ≡ said (codes "accept") (fields_of h)
   pub body : p.body ≡ body_len (fields_of h)
   pub closes : p.closes ≡ closes_of h
 

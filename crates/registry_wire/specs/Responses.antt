@@ -1,8 +1,11 @@
 -- The bytes of a response.
 use Rattle.std.specs.Prelude.{ℕ, ◌==◌, not, List, [], ◌++◌, length, codes, decimal, Bool, Option, Some, None, if◌then◌else◌, unwrap_or}
 use Rattle.http.specs.StatusCode.{code_digits, reason_phrase}
+use Rattle.registry_wire.specs.MediaRanges.{abbreviated_type}
 use Rattle.registry_wire.specs.declared.labels.Caching.{Caching}
 use Rattle.registry_wire.specs.declared.labels.Caching.TheVariants.{Unsaid, Checked, Kept, Shared}
+use Rattle.registry_wire.specs.declared.labels.DocumentForm.{DocumentForm}
+use Rattle.registry_wire.specs.declared.labels.DocumentForm.TheVariants.{Only, Full, Abbreviated}
 use Rattle.registry_wire.specs.declared.labels.Labels.{Labels}
 use Rattle.registry_wire.specs.declared.response.ContentKind.{ContentKind}
 use Rattle.registry_wire.specs.declared.response.ContentKind.TheVariants.{Json, Bytes}
@@ -22,12 +25,17 @@ phrase status = unwrap_or (reason_phrase status) []
 abbrev pub status_line : ℕ → List ℕ
 status_line status = codes "HTTP/1.1 " ++ code_digits status ++ codes " " ++ phrase status ++ line_end
 
-abbrev pub media_type : ContentKind → List ℕ
-media_type Json = codes "application/json"
-media_type Bytes = codes "application/octet-stream"
+abbrev pub json_type : DocumentForm → List ℕ
+json_type Only = codes "application/json"
+json_type Full = codes "application/json"
+json_type Abbreviated = abbreviated_type
 
-abbrev pub type_line : ContentKind → List ℕ
-type_line kind = codes "content-type: " ++ media_type kind ++ line_end
+abbrev pub media_type : ContentKind → DocumentForm → List ℕ
+media_type Json form = json_type form
+media_type Bytes form = codes "application/octet-stream"
+
+abbrev pub type_line : ContentKind → DocumentForm → List ℕ
+type_line kind form = codes "content-type: " ++ media_type kind form ++ line_end
 
 abbrev pub length_line : ℕ → List ℕ
 length_line len = codes "content-length: " ++ decimal len ++ line_end
@@ -37,12 +45,12 @@ abbrev pub not_modified : ℕ
 not_modified = 304
 
 -- what and how long the content is, where there is one
-abbrev pub content_lines : ℕ → ContentKind → ℕ → List ℕ
-content_lines status kind len = only_if (not (status == not_modified)) (type_line kind ++ length_line len)
+abbrev pub content_lines : ℕ → ContentKind → DocumentForm → ℕ → List ℕ
+content_lines status kind form len = only_if (not (status == not_modified)) (type_line kind form ++ length_line len)
 
 -- nothing is said to those who keep a document
 abbrev pub no_labels : Labels
-no_labels = record { tag = None; caching = Unsaid }
+no_labels = record { tag = None; caching = Unsaid; form = Only }
 
 -- entity-tag = opaque-tag (RFC 9110, 8.8.3)
 abbrev pub tag_line : Option (List ℕ) → List ℕ
@@ -55,8 +63,14 @@ caching_line Checked = codes "cache-control: no-cache\r\n"
 caching_line Kept = codes "cache-control: private, max-age=31536000, immutable\r\n"
 caching_line Shared = codes "cache-control: public, max-age=31536000, immutable\r\n"
 
+-- where the field `accept` of a request chooses the form, the response depends on it (12.5.5)
+abbrev pub vary_line : DocumentForm → List ℕ
+vary_line Only = []
+vary_line Full = codes "vary: accept\r\n"
+vary_line Abbreviated = codes "vary: accept\r\n"
+
 abbrev pub label_lines : Labels → List ℕ
-label_lines labels = tag_line labels.tag ++ caching_line labels.caching
+label_lines labels = tag_line labels.tag ++ caching_line labels.caching ++ vary_line labels.form
 
 -- the field of a 401: which kind of credential is asked for
 abbrev pub challenge : ℕ → List ℕ
@@ -67,11 +81,11 @@ close_line closes = only_if closes (codes "connection: close\r\n")
 
 -- the lines of a head, its blank line included
 abbrev pub head_bytes : ℕ → ContentKind → Labels → ℕ → Bool → List ℕ
-head_bytes status kind labels len closes = status_line status ++ content_lines status kind len ++ label_lines labels ++ challenge status ++ close_line closes ++ line_end
+head_bytes status kind labels len closes = status_line status ++ content_lines status kind labels.form len ++ label_lines labels ++ challenge status ++ close_line closes ++ line_end
 
--- the body, of its two pieces
+-- the body, of its two pieces; a response with the status 304 has none, whatever they are
 abbrev pub content : Response → List ℕ
-content r = r.body.now ++ r.rest.now
+content r = only_if (not (r.status == not_modified)) (r.body.now ++ r.rest.now)
 
 abbrev pub head_of : Response → List ℕ
 head_of r = head_bytes r.status r.kind r.labels.now (length (content r)) r.closes

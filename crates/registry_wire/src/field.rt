@@ -179,14 +179,14 @@ fn is_close(item: &[u8]) -> bool
 
 // Whether two texts are the same except for the case of ASCII letters.
 #[tactic(auto, unfolding(crate::specs::Fields::is_same))]
-fn is_same(a: &[u8], b: &[u8]) -> bool
+pub(crate) fn is_same(a: &[u8], b: &[u8]) -> bool
     ensures { result ≡ spec.is_same a.now b.now }
 {
     a.eq_ignore_ascii_case(b)
 }
 
 #[tactic(auto, unfolding(httparse::specs::Grammar::trim_ows))]
-fn trimmed(text: &[u8]) -> &[u8]
+pub(crate) fn trimmed(text: &[u8]) -> &[u8]
     ensures { result.now ≡ trim_ows text.now }
 {
     skip_back(skip_front(text))

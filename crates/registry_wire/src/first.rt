@@ -94,6 +94,7 @@ fn wanted(alloc: Global, parts: &HeadParts<'_>, body: &[u8]) -> Result<Wanted, A
         target: Blob::from_slice(alloc, parts.target)?,
         authorization: value(alloc, parts.authorization)?,
         if_none_match: value(alloc, parts.if_none_match)?,
+        accept: value(alloc, parts.accept)?,
         body: Blob::from_slice(alloc, body)?,
         closes: parts.closes,
     })

@@ -22,6 +22,7 @@ pub struct HeadParts<'a> {
     pub target: &'a [u8],
     pub authorization: Values<'a>,
     pub if_none_match: Values<'a>,
+    pub accept: Values<'a>,
     /// The length of the body, or why the request is refused.
     pub body: Result<usize, Refusal>,
     pub closes: bool,
@@ -72,6 +73,7 @@ fn parts<'a>(bytes: &'a [u8], headers: &[HeaderSpan], spans: RequestSpans) -> He
         target: spans.path.of(bytes),
         authorization: said(bytes, fields, b"authorization"),
         if_none_match: said(bytes, fields, b"if-none-match"),
+        accept: said(bytes, fields, b"accept"),
         body: body_len(bytes, fields),
         closes: spans.version == 0 || is_last(bytes, fields) || is_other(method),
         len: spans.len,

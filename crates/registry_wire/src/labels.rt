@@ -18,6 +18,19 @@ pub enum Caching {
     Shared,
 }
 
+/// Which form of its document a response has, where the field `accept` of the request chooses it
+/// (RFC 9110, 12.5.1).
+#[derive(Clone, Copy, Debug, PartialEq, Eq)]
+pub enum DocumentForm {
+    /// The document has one form, so nothing was chosen.
+    Only,
+    /// The full one was chosen. The response says that it depends on the field: `vary: accept`.
+    Full,
+    /// The abbreviated one was chosen, of the type `application/vnd.npm.install-v1+json`. The
+    /// response says that it depends on the field: `vary: accept`.
+    Abbreviated,
+}
+
 /// What a response says of its document to those who keep it.
 #[derive(Drop)]
 pub struct Labels {
@@ -25,6 +38,7 @@ pub struct Labels {
     /// that one address ever has different tags.
     pub tag: Option<EntityTag>,
     pub caching: Caching,
+    pub form: DocumentForm,
 }
 
 impl Labels {
@@ -35,6 +49,7 @@ impl Labels {
         Labels {
             tag: None,
             caching: Caching::Unsaid,
+            form: DocumentForm::Only,
         }
     }
 }

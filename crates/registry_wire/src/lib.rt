@@ -10,7 +10,8 @@
 //!
 //! A [`Response`] is written with no memory taken: its head from a buffer of fixed size, its body
 //! as it is. Its [`Labels`] say what those may do who keep the document, and [`names_tag`] whether a
-//! request names the tag of one that it has.
+//! request names the tag of one that it has. [`accepts_abbreviated`] says whether a request asks for
+//! the abbreviated form of a document.
 #![tactic(auto)]
 
 mod entity_tag;
@@ -22,6 +23,7 @@ mod incoming;
 mod known;
 mod labels;
 pub mod laws;
+mod media_range;
 mod method;
 mod place;
 mod response;
@@ -32,7 +34,8 @@ pub use crate::entity_tag::{EntityTag, TAG_LIMIT, names_tag};
 pub use crate::first::{Ending, FIELD_LIMIT, First, HEAD_LIMIT, ending_of, first_in};
 pub use crate::inbox::{INTERRUPTION_LIMIT, Inbox, Taken};
 pub use crate::incoming::Incoming;
-pub use crate::labels::{Caching, Labels};
+pub use crate::labels::{Caching, DocumentForm, Labels};
+pub use crate::media_range::accepts_abbreviated;
 pub use crate::response::{ContentKind, Response, write_response};
 pub use crate::short_text::{SHORT_LIMIT, ShortText};
 pub use crate::wanted::{FieldValue, Wanted};

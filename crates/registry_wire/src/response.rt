@@ -7,7 +7,8 @@ ghost use Rattle.registry_wire.specs.Responses as spec;
 ghost use Rattle.registry_wire.specs.Responses.{content, head_of, response_bytes};
 
 use crate::entity_tag::EntityTag;
-use crate::labels::{Caching, Labels};
+use crate::labels::{Caching, DocumentForm, Labels};
+use crate::media_range::abbreviated_type;
 use crate::short_text::{SHORT_LIMIT, ShortText};
 use arrayvec::ArrayVec;
 use http::StatusCode;
@@ -16,13 +17,14 @@ use registry_names::{ByteOut, WriteFailed, write_whole};
 /// What a body is.
 #[derive(Clone, Copy, Debug, PartialEq, Eq)]
 pub enum ContentKind {
-    /// `application/json`.
+    /// `application/json`, or the type of the labels' form.
     Json,
     /// `application/octet-stream`.
     Bytes,
 }
 
-/// A response, of a body that is elsewhere. A response with the status 304 has no body.
+/// A response, of a body that is elsewhere. A response with the status 304 has no body (RFC 9110,
+/// 15.4.5): none is sent, whatever its pieces are.
 #[derive(Clone, Copy)]
 pub struct Response<'a> {
     pub status: StatusCode,
@@ -44,17 +46,35 @@ impl Response<'_> {
     {
         let mut head = ShortText::new();
         put_status_line(&mut head, self.status);
-        put_content_lines(&mut head, self.status, self.kind, self.len());
+        put_content_lines(
+            &mut head,
+            self.status,
+            self.kind,
+            self.labels.form,
+            self.len(),
+        );
         put_label_lines(&mut head, self.labels);
         put_last_lines(&mut head, self.status, self.closes);
         head
     }
 
-    // How many bytes its body has.
+    // The body that is sent, in two pieces.
+    fn pieces(&self) -> (&[u8], &[u8])
+        ensures { result.0.now ++ result.1.now ≡ content self.now }
+    {
+        if self.status.as_u16() == 304 {
+            (b"", b"")
+        } else {
+            (self.body, self.rest)
+        }
+    }
+
+    // How many bytes it has.
     fn len(&self) -> usize
         ensures { result ≡ length (content self.now) }
     {
-        self.body.len() + self.rest.len()
+        let (body, rest) = self.pieces();
+        body.len() + rest.len()
     }
 }
 
@@ -88,39 +108,55 @@ fn phrase(status: StatusCode) -> &'static str
     }
 }
 
-fn put_content_lines(head: &mut ShortText, status: StatusCode, kind: ContentKind, len: usize)
+fn put_content_lines(
+    head: &mut ShortText,
+    status: StatusCode,
+    kind: ContentKind,
+    form: DocumentForm,
+    len: usize,
+)
     requires { length head.old ≤ 56 }
-    ensures bytes { head.new ≡ head.old ++ spec.content_lines status kind len }
-    ensures len { length head.new ≤ length head.old + 98 }
+    ensures bytes { head.new ≡ head.old ++ spec.content_lines status kind form len }
+    ensures len { length head.new ≤ length head.old + 109 }
 {
     if status.as_u16() != 304 {
-        put_type_line(head, kind);
+        put_type_line(head, kind, form);
         put_length_line(head, len);
     }
 }
 
-fn put_type_line(head: &mut ShortText, kind: ContentKind)
+fn put_type_line(head: &mut ShortText, kind: ContentKind, form: DocumentForm)
     requires { length head.old ≤ 100 }
-    ensures bytes { head.new ≡ head.old ++ spec.type_line kind }
-    ensures len { length head.new ≤ length head.old + 40 }
+    ensures bytes { head.new ≡ head.old ++ spec.type_line kind form }
+    ensures len { length head.new ≤ length head.old + 51 }
 {
     head.push(b"content-type: ");
-    head.push(media_type(kind));
+    head.push(media_type(kind, form));
     head.push(b"\r\n");
 }
 
-fn media_type(kind: ContentKind) -> &'static [u8]
-    ensures text { result.now ≡ spec.media_type kind }
-    ensures len { length result.now ≤ 24 }
+fn media_type(kind: ContentKind, form: DocumentForm) -> &'static [u8]
+    ensures text { result.now ≡ spec.media_type kind form }
+    ensures len { length result.now ≤ 35 }
 {
     match kind {
-        ContentKind::Json => b"application/json",
+        ContentKind::Json => json_type(form),
         ContentKind::Bytes => b"application/octet-stream",
     }
 }
 
+fn json_type(form: DocumentForm) -> &'static [u8]
+    ensures text { result.now ≡ spec.json_type form }
+    ensures len { length result.now ≤ 35 }
+{
+    match form {
+        DocumentForm::Only | DocumentForm::Full => b"application/json",
+        DocumentForm::Abbreviated => abbreviated_type(),
+    }
+}
+
 fn put_length_line(head: &mut ShortText, len: usize)
-    requires { length head.old ≤ 100 }
+    requires { length head.old ≤ 107 }
     ensures bytes { head.new ≡ head.old ++ spec.length_line len }
     ensures len { length head.new ≤ length head.old + 58 }
 {
@@ -130,16 +166,17 @@ fn put_length_line(head: &mut ShortText, len: usize)
 }
 
 fn put_label_lines(head: &mut ShortText, labels: &Labels)
-    requires { length head.old ≤ 154 }
+    requires { length head.old ≤ 165 }
     ensures bytes { head.new ≡ head.old ++ spec.label_lines labels.now }
-    ensures len { length head.new ≤ length head.old + 127 }
+    ensures len { length head.new ≤ length head.old + 141 }
 {
     put_tag_line(head, &labels.tag);
     head.push(caching_line(labels.caching));
+    head.push(vary_line(labels.form));
 }
 
 fn put_tag_line(head: &mut ShortText, tag: &Option<EntityTag>)
-    requires { length head.old ≤ 154 }
+    requires { length head.old ≤ 165 }
     ensures bytes { head.new ≡ head.old ++ spec.tag_line tag.now }
     ensures len { length head.new ≤ length head.old + 74 }
 {
@@ -165,8 +202,18 @@ fn caching_line(caching: Caching) -> &'static [u8]
     }
 }
 
+fn vary_line(form: DocumentForm) -> &'static [u8]
+    ensures text { result.now ≡ spec.vary_line form }
+    ensures len { length result.now ≤ 14 }
+{
+    match form {
+        DocumentForm::Only => b"",
+        DocumentForm::Full | DocumentForm::Abbreviated => b"vary: accept\r\n",
+    }
+}
+
 fn put_last_lines(head: &mut ShortText, status: StatusCode, closes: bool)
-    requires { length head.old ≤ 281 }
+    requires { length head.old ≤ 306 }
     ensures bytes { head.new
         ≡ head.old ++ spec.challenge status ++ spec.close_line closes ++ spec.line_end }
     ensures len { length head.new ≤ length head.old + 47 }
@@ -211,10 +258,11 @@ pub fn write_response<W: ByteOut>(
     ensures unknown { W.is_unknown writer.old ≡ true → W.is_unknown writer.new ≡ true }
 {
     let head = response.head();
-    let (prefix, later) = response.body.split_at(prefix_len(response.body));
+    let (body, rest) = response.pieces();
+    let (prefix, later) = body.split_at(prefix_len(body));
     let first = gathered(head.as_slice(), prefix);
     write_whole(writer, first.as_slice())?;
-    write_both(writer, later, response.rest)
+    write_both(writer, later, rest)
 }
 
 // Writes two texts, one after the other, or a prefix of both up to the first failed write.

@@ -10,6 +10,7 @@ pub struct Wanted {
     pub target: Blob,
     pub authorization: FieldValue,
     pub if_none_match: FieldValue,
+    pub accept: FieldValue,
     pub body: Blob,
     /// Whether the connection ends after the response.
     pub closes: bool,
@@ -23,6 +24,7 @@ impl Drop for Wanted {
             target: _,
             authorization: _,
             if_none_match: _,
+            accept: _,
             body: _,
             closes: _,
         } = self;

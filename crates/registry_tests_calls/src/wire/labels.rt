@@ -6,27 +6,31 @@ use crate::outcome::same;
 use crate::parts::{as_text, repeated};
 use http::StatusCode;
 use registry_names::{ToWrite, WriteFailed};
-use registry_wire::{Caching, ContentKind, EntityTag, Labels, Response, write_response};
+use registry_wire::{
+    Caching, ContentKind, DocumentForm, EntityTag, Labels, Response, write_response,
+};
 use std::alloc::Global;
 use std::process::Abort;
 
-// A status, a tag, how long the document may be kept, both pieces of the body, whether the connection
-// ends, and the bytes of the response.
+// A status, a tag, how long the document may be kept, its form, both pieces of the body, whether the
+// connection ends, and the bytes of the response.
 type Case = (
     u16,
     Option<&'static str>,
     Caching,
+    DocumentForm,
     &'static str,
     &'static str,
     bool,
     &'static str,
 );
 
-static CASES: [Case; 6] = [
+static CASES: [Case; 11] = [
     (
         200,
         Some("xyzzy"),
         Caching::Checked,
+        DocumentForm::Only,
         "{\"ok\"",
         ":true}",
         false,
@@ -36,6 +40,7 @@ static CASES: [Case; 6] = [
         200,
         Some("!~"),
         Caching::Kept,
+        DocumentForm::Only,
         "",
         "{}",
         true,
@@ -45,6 +50,7 @@ static CASES: [Case; 6] = [
         200,
         None,
         Caching::Shared,
+        DocumentForm::Only,
         "{}",
         "",
         false,
@@ -54,6 +60,7 @@ static CASES: [Case; 6] = [
         200,
         None,
         Caching::Unsaid,
+        DocumentForm::Only,
         "{",
         "}",
         false,
@@ -63,6 +70,7 @@ static CASES: [Case; 6] = [
         304,
         Some("xyzzy"),
         Caching::Checked,
+        DocumentForm::Only,
         "",
         "",
         false,
@@ -72,21 +80,76 @@ static CASES: [Case; 6] = [
         304,
         Some("xyzzy"),
         Caching::Unsaid,
+        DocumentForm::Only,
         "",
         "",
         true,
         "HTTP/1.1 304 Not Modified\r\netag: \"xyzzy\"\r\nconnection: close\r\n\r\n",
     ),
+    (
+        200,
+        Some("xyzzy"),
+        Caching::Checked,
+        DocumentForm::Full,
+        "{",
+        "}",
+        false,
+        "HTTP/1.1 200 OK\r\ncontent-type: application/json\r\ncontent-length: 2\r\netag: \"xyzzy\"\r\ncache-control: no-cache\r\nvary: accept\r\n\r\n{}",
+    ),
+    (
+        200,
+        Some("xyzzy"),
+        Caching::Checked,
+        DocumentForm::Abbreviated,
+        "{}",
+        "",
+        true,
+        "HTTP/1.1 200 OK\r\ncontent-type: application/vnd.npm.install-v1+json\r\ncontent-length: 2\r\netag: \"xyzzy\"\r\ncache-control: no-cache\r\nvary: accept\r\nconnection: close\r\n\r\n{}",
+    ),
+    (
+        304,
+        Some("xyzzy"),
+        Caching::Checked,
+        DocumentForm::Full,
+        "",
+        "",
+        false,
+        "HTTP/1.1 304 Not Modified\r\netag: \"xyzzy\"\r\ncache-control: no-cache\r\nvary: accept\r\n\r\n",
+    ),
+    (
+        304,
+        Some("xyzzy"),
+        Caching::Unsaid,
+        DocumentForm::Abbreviated,
+        "",
+        "",
+        false,
+        "HTTP/1.1 304 Not Modified\r\netag: \"xyzzy\"\r\nvary: accept\r\n\r\n",
+    ),
+    // Nothing is sent behind the head of a 304.
+    (
+        304,
+        Some("xyzzy"),
+        Caching::Unsaid,
+        DocumentForm::Only,
+        "{",
+        "}",
+        false,
+        "HTTP/1.1 304 Not Modified\r\netag: \"xyzzy\"\r\n\r\n",
+    ),
 ];
 
-fn labels(rt: &impl Abort, tag: &Option<&'static str>, caching: Caching) -> Labels {
-    match tag {
-        Some(text) => Labels {
-            tag: Some(EntityTag::of(text.as_bytes()).expect(rt, "a tag")),
-            caching,
-        },
-        None => Labels { tag: None, caching },
-    }
+fn labels(
+    rt: &impl Abort,
+    tag: &Option<&'static str>,
+    caching: Caching,
+    form: DocumentForm,
+) -> Labels {
+    let tag = match tag {
+        Some(text) => Some(EntityTag::of(text.as_bytes()).expect(rt, "a tag")),
+        None => None,
+    };
+    Labels { tag, caching, form }
 }
 
 // What is written of the case's response where this many bytes are taken, one a call.
@@ -97,8 +160,8 @@ fn is_written(
     limit: usize,
     wanted: (Result<(), WriteFailed>, &str),
 ) {
-    let (status, tag, caching, body, rest, closes, _) = case;
-    let labels = labels(rt, tag, *caching);
+    let (status, tag, caching, form, body, rest, closes, _) = case;
+    let labels = labels(rt, tag, *caching, *form);
     let response = Response {
         status: StatusCode::from_u16(*status).expect(rt, "a status"),
         kind: ContentKind::Json,
@@ -118,15 +181,15 @@ fn is_written(
 #[test]
 fn labels_are_written(rt: HostRuntime) {
     for case in &CASES {
-        is_written(&rt, rt.alloc(), case, usize::MAX, (Ok(()), case.6));
+        is_written(&rt, rt.alloc(), case, usize::MAX, (Ok(()), case.7));
     }
 }
 
 #[test]
 fn a_failed_write_leaves_a_prefix_of_two_pieces(rt: HostRuntime) {
     let [case, ..] = &CASES;
-    for limit in 0..case.6.len() {
-        let front = case.6.get(..limit).unwrap_or(case.6);
+    for limit in 0..case.7.len() {
+        let front = case.7.get(..limit).unwrap_or(case.7);
         is_written(&rt, rt.alloc(), case, limit, (Err(WriteFailed), front));
     }
 }

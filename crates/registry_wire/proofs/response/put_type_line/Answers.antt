@@ -4,5 +4,5 @@ use Rattle.registry_wire.proofs.ResponseFacts.{pushed-three}
 use Rattle.registry_wire.proofs.response.put_type_line.Goals as goal
 
 pub returns-clause-bytes : goal.returns-clause-bytes
-returns-clause-bytes c = pushed-three (codes "content-type: ") (media_type c.args.kind) line_end c.args.head.now c.push.new.self c.push-2.new.self c.push-3.new.self
+returns-clause-bytes c = pushed-three (codes "content-type: ") (media_type c.args.kind c.args.form) line_end c.args.head.now c.push.new.self c.push-2.new.self c.push-3.new.self
     c.push.ensures.bytes (c.push-2.ensures.bytes ∙ ap (λ (l : List ℕ). c.push.new.self ++ l) c.media_type.ensures.text) c.push-3.ensures.bytes
