@@ -1,9 +1,8 @@
--- Digests that are kept with their texts.
+-- Digests that are kept with what is shared.
 use Rattle.std.specs.Prelude.{◌≡◌, ℕ, List, Option, Some, None}
 use Rattle.sha2.specs.Sha256.{sha256}
-use Rattle.registry_names.specs.Texts.{Text}
 
--- a digest that is kept with a text is the text's SHA-256
-abbrev pub IsDigestOf : Text → Option (List ℕ) → Type 0
-IsDigestOf text None = Unit {0}
-IsDigestOf text (Some digest) = digest ≡ sha256 text
+-- a digest that is kept with these bytes is their SHA-256
+abbrev pub IsDigestOf : List ℕ → Option (List ℕ) → Type 0
+IsDigestOf bytes None = Unit {0}
+IsDigestOf bytes (Some digest) = digest ≡ sha256 bytes

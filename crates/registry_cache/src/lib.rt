@@ -9,15 +9,15 @@
 #![tactic(auto)]
 
 mod cache;
+mod content_digest;
 pub mod laws;
 mod named;
 mod shared;
 mod shared_blob;
 mod shared_text;
-mod text_digest;
 
 pub use crate::cache::{BlobCache, ENTRY_COST, SharedCache, TextCache};
+pub use crate::content_digest::ContentDigest;
 pub use crate::shared::Shared;
 pub use crate::shared_blob::SharedBlob;
 pub use crate::shared_text::SharedText;
-pub use crate::text_digest::TextDigest;

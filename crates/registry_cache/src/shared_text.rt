@@ -7,8 +7,8 @@ ghost use Rattle.std.specs.Cmp.Rules.{comparing};
 ghost use Rattle.std.proofs.Common.{rules};
 ghost use Rattle.sha2.specs.Sha256.{sha256};
 
+use crate::content_digest::ContentDigest;
 use crate::shared::Shared;
-use crate::text_digest::TextDigest;
 use registry_names::Text;
 use std::alloc::{AllocError, Global};
 use std::marker::Model;
@@ -19,7 +19,7 @@ use std::rc::RcStr;
 #[derive(Debug, Drop)]
 pub struct SharedText {
     text: RcStr,
-    digest: Option<TextDigest>,
+    digest: Option<ContentDigest>,
 }
 
 impl Model for SharedText {
@@ -76,12 +76,12 @@ impl SharedText {
     }
 
     /// The SHA-256 of the text. It is computed where the text doesn't keep it.
-    pub fn digest(&self) -> TextDigest
+    pub fn digest(&self) -> ContentDigest
         ensures { result ≡ sha256 self.now }
     {
         match self.digest {
             Some(digest) => digest,
-            None => TextDigest::of(self.as_str()),
+            None => ContentDigest::of(self.as_str().as_bytes()),
         }
     }
 }

@@ -12,7 +12,7 @@ use Rattle.registry_rules.specs.declared.request.Credential.TheVariants as crede
 use Rattle.registry_cli.specs.Lines.{argument_at, says_input}
 use Rattle.registry_cli.specs.Readings.{Reading, four, gives, one, read_then, reads_asked, reads_grant, reads_ident, reads_message, reads_name, reads_role, reads_selector, reads_status, reads_tag, reads_token, reads_version, three, two}
 use Rattle.registry_cli.specs.declared.action.Verb.{Verb}
-use Rattle.registry_cli.specs.declared.action.Verb.TheVariants.{UserAdd, TokenAdd, TokenRemove, TokensRemove, OrgCreate, OrgSet, OrgRemove, TeamCreate, TeamDestroy, TeamAdd, TeamRemove, Grant, Revoke, SetAccess, OwnerAdd, OwnerRemove, Publish, TagSet, TagRemove, Deprecate, Withdraw, WithdrawAll, Packument, VersionDoc, Archive, Tags, Maintainers, Members, Teams, TeamMembers, TeamPackages, OrgPackages, WhoAmI, MyPackages, Users, Organisations, Packages}
+use Rattle.registry_cli.specs.declared.action.Verb.TheVariants.{UserAdd, TokenAdd, TokenRemove, TokensRemove, OrgCreate, OrgSet, OrgRemove, TeamCreate, TeamDestroy, TeamAdd, TeamRemove, Grant, Revoke, SetAccess, OwnerAdd, OwnerRemove, Publish, TagSet, TagRemove, Deprecate, Withdraw, WithdrawAll, Packument, AbbreviatedPackument, VersionDoc, Archive, Tags, Maintainers, Members, Teams, TeamMembers, TeamPackages, OrgPackages, WhoAmI, MyPackages, Users, Organisations, Packages}
 use Rattle.registry_cli.specs.declared.meaning.Line.{Line}
 use Rattle.registry_cli.specs.declared.meaning.Who.{Who}
 use Rattle.registry_cli.specs.declared.meaning.Who.TheVariants as who
@@ -67,6 +67,7 @@ package_verb name =
 abbrev pub query_verb : Text → Option Verb
 query_verb name =
     if bytes_eq name (codes "packument") then Some Packument else (
+    if bytes_eq name (codes "abbreviated-packument") then Some AbbreviatedPackument else (
     if bytes_eq name (codes "version-doc") then Some VersionDoc else (
     if bytes_eq name (codes "archive") then Some Archive else (
     if bytes_eq name (codes "tags") then Some Tags else (
@@ -81,7 +82,7 @@ query_verb name =
     if bytes_eq name (codes "users") then Some Users else (
     if bytes_eq name (codes "organisations") then Some Organisations else (
     if bytes_eq name (codes "packages") then Some Packages else (
-    None)))))))))))))))
+    None))))))))))))))))
 
 abbrev pub verb_of : Text → Option Verb
 verb_of name = option_or (organisation_verb name) (option_or (team_verb name) (option_or (package_verb name) (query_verb name)))
@@ -119,6 +120,7 @@ asked Deprecate arguments body = read_then (three reads_name reads_selector read
 asked Withdraw arguments body = read_then (two reads_name reads_version arguments) (λ p. gives (action.Withdraw p.0 p.1))
 asked WithdrawAll arguments body = read_then (one reads_name arguments) (λ p. gives (action.WithdrawAll p))
 asked Packument arguments body = read_then (one reads_name arguments) (λ p. gives (action.Packument p))
+asked AbbreviatedPackument arguments body = read_then (one reads_name arguments) (λ p. gives (action.AbbreviatedPackument p))
 asked VersionDoc arguments body = read_then (two reads_name reads_asked arguments) (λ p. gives (action.VersionDoc p.0 p.1))
 asked Archive arguments body = read_then (two reads_name reads_version arguments) (λ p. gives (action.Archive p.0 p.1))
 asked Tags arguments body = read_then (one reads_name arguments) (λ p. gives (action.Tags p))

@@ -147,6 +147,7 @@ packages =
 abbrev pub queries : List (Text × List Rule)
 queries =
     (codes "packument", name ∷ [])
+    ∷ (codes "abbreviated-packument", name ∷ [])
     ∷ (codes "version-doc", name ∷ version ∷ [])
     ∷ (codes "archive", name ∷ version ∷ [])
     ∷ (codes "tags", name ∷ [])

@@ -41,6 +41,7 @@ pub(crate) enum Verb {
     Withdraw,
     WithdrawAll,
     Packument,
+    AbbreviatedPackument,
     VersionDoc,
     Archive,
     Tags,
@@ -154,6 +155,7 @@ fn query_verb(name: &str) -> Option<Verb>
 {
     match name {
         "packument" => Some(Verb::Packument),
+        "abbreviated-packument" => Some(Verb::AbbreviatedPackument),
         "version-doc" => Some(Verb::VersionDoc),
         "archive" => Some(Verb::Archive),
         "tags" => Some(Verb::Tags),
@@ -199,6 +201,7 @@ fn asked(alloc: Global, verb: Verb, arguments: &[Text], body: &[u8]) -> Result<A
         Verb::Withdraw => withdraw(alloc, arguments),
         Verb::WithdrawAll => withdraw_all(alloc, arguments),
         Verb::Packument => packument(alloc, arguments),
+        Verb::AbbreviatedPackument => abbreviated_packument(alloc, arguments),
         Verb::VersionDoc => version_doc(alloc, arguments),
         Verb::Archive => archive(alloc, arguments),
         Verb::Tags => tags(alloc, arguments),
@@ -439,6 +442,13 @@ fn packument(alloc: Global, arguments: &[Text]) -> Result<Action, Stop>
 {
     let package = one(alloc, arguments)?;
     Ok(Action::Packument { package })
+}
+
+fn abbreviated_packument(alloc: Global, arguments: &[Text]) -> Result<Action, Stop>
+    ensures { spec.asked verbs.AbbreviatedPackument arguments.now [] result }
+{
+    let package = one(alloc, arguments)?;
+    Ok(Action::AbbreviatedPackument { package })
 }
 
 fn version_doc(alloc: Global, arguments: &[Text]) -> Result<Action, Stop>

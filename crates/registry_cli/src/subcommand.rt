@@ -322,12 +322,18 @@ static PACKAGES: [Subcommand; 9] = [
     },
 ];
 
-static QUERIES: [Subcommand; 15] = [
+static QUERIES: [Subcommand; 16] = [
     Subcommand {
         name: "packument",
         parameters: &[PACKAGE],
         about: "Print the packument of a package (who reads it)",
         example: "Example: registry --as bob packument @lab/kit",
+    },
+    Subcommand {
+        name: "abbreviated-packument",
+        parameters: &[PACKAGE],
+        about: "Print what an install reads of a packument (who reads the package)",
+        example: "Example: registry --as bob abbreviated-packument @lab/kit",
     },
     Subcommand {
         name: "version-doc",

@@ -6,6 +6,7 @@ use Rattle.registry_names.specs.Maps.{at, of}
 use Rattle.registry_names.proofs.KeyFacts.{text_key, pair_key}
 use Rattle.registry_names.proofs.MapFacts.{at-revise}
 use Rattle.registry_names.proofs.PartFacts.{part-put, part-erase, same_part}
+use Rattle.registry_packument.specs.declared.form.PackForm.{PackForm}
 use Rattle.registry_rules.specs.Actions.{version_of}
 use Rattle.registry_rules.specs.Changes.{Change, AddUser, AddToken, DropToken, AddOrg, PutMember, DropMember, AddTeam, PutTeamMember, DropTeamMember, DropTeam, PutGrant, DropGrant, PutOwner, DropOwner, PutStatus, AddVersion, RetireVersion, PutDeprecation, PutTag, DropTag, made, all_made, release_of}
 use Rattle.registry_rules.specs.Operations.{with_member, with_role, with_grant, regranted, with_status, restated, with_tag, moved}
@@ -21,11 +22,11 @@ some_if : (b : Bool) (packument text : Text) → (if b then Some packument else 
 some_if true packument text e = (refl, cc)
 some_if false packument text e = (cc, cc)
 
-pub live_so : (S : State) (p text : Text) → live_packument S p ≡ Some text → (has_live S p ≡ true) × (text ≡ packument_in S p)
-live_so S p text e = some_if (has_live S p) (packument_in S p) text e
+pub live_so : (form : PackForm) (S : State) (p text : Text) → live_packument form S p ≡ Some text → (has_live S p ≡ true) × (text ≡ packument_in form S p)
+live_so form S p text e = some_if (has_live S p) (packument_in form S p) text e
 
-pub live_shown : (S : State) (p : Text) → has_live S p ≡ true → live_packument S p ≡ Some (packument_in S p)
-live_shown S p lives = ap (λ (b : Bool). if b then Some (packument_in S p) else None) lives
+pub live_shown : (form : PackForm) (S : State) (p : Text) → has_live S p ≡ true → live_packument form S p ≡ Some (packument_in form S p)
+live_shown form S p lives = ap (λ (b : Bool). if b then Some (packument_in form S p) else None) lives
 
 -- ---- changes of no version and no tag of the package
 
@@ -74,6 +75,6 @@ all_live S (change ∷ changes) p e =
     all_live (made S change) changes p apart.1 ∙ same_live S change p apart.0
 
 -- they change neither its packument nor whether a version lives
-pub live_of_others : (S : State) (changes : List Change) (p : Text) → are_about changes p ≡ false → live_packument (all_made S changes) p ≡ live_packument S p
-live_of_others S changes p e =
-    ap₂ (λ (b : Bool) (text : Text). if b then Some text else None) (ap (λ es. not (is_empty es)) (all_live S changes p e)) (changes_of_others S changes p e)
+pub live_of_others : (form : PackForm) (S : State) (changes : List Change) (p : Text) → are_about changes p ≡ false → live_packument form (all_made S changes) p ≡ live_packument form S p
+live_of_others form S changes p e =
+    ap₂ (λ (b : Bool) (text : Text). if b then Some text else None) (ap (λ es. not (is_empty es)) (all_live S changes p e)) (changes_of_others form S changes p e)

@@ -7,19 +7,21 @@ use Rattle.registry_names.specs.Texts.{Text}
 use Rattle.registry_packument.specs.Counted.{Takes}
 use Rattle.registry_packument.specs.declared.opener.Sent.{Sent}
 use Rattle.registry_packument.specs.declared.opener.Sent.TheVariants.{Whole}
+use Rattle.registry_packument.specs.declared.form.PackForm.{PackForm}
+use Rattle.registry_packument.specs.declared.form.PackForm.TheVariants.{Full, Abbreviated}
 use Rattle.registry_rules.specs.Actions.{is_command}
 use Rattle.registry_rules.specs.State.{State}
 use Rattle.registry_rules.specs.declared.reply.Reply.{Reply}
 use Rattle.registry_rules.specs.declared.reply.Reply.TheVariants.{Doc}
 use Rattle.registry_rules.specs.declared.request.Action.{Action}
-use Rattle.registry_rules.specs.declared.request.Action.TheVariants.{Packument}
+use Rattle.registry_rules.specs.declared.request.Action.TheVariants.{AbbreviatedPackument, Packument}
 use Rattle.registry_rules.specs.declared.request.Request.{Request}
 use Rattle.registry_tables.specs.Effects.{stored}
 use Rattle.registry_laws_history.specs.Answers.{answer}
 use Rattle.registry_laws_history.specs.Runs.{Outcome}
 use Rattle.registry_desk.specs.Caches.{live_packument}
 use Rattle.registry_desk.specs.Promises.{Stepped, SurvivesOne, Unchanged}
-use Rattle.registry_desk.specs.Sending.{IsFrom, IsMadeOf, IsOrigin, IsShownBy, LeavesAll, ShowsAlone}
+use Rattle.registry_desk.specs.Sending.{IsAnyPackument, IsFrom, IsMadeOf, IsOrigin, IsShownBy, LeavesAll, ShowsAlone, asks_packument}
 use Rattle.registry_desk.specs.declared.sending.Origin.{Origin}
 use Rattle.registry_desk.specs.declared.sending.Origin.TheVariants as origin
 use Rattle.registry_desk.proofs.LivingFacts.{live_shown}
@@ -40,26 +42,26 @@ taken_whole IsText old new sent (Err fault) whole is empty takes = tt
 
 -- ---- the reply
 
-pub shown_is_from : (from : Origin) (S : State) (p : Text) → IsShownBy from S p → IsFrom from S p
-shown_is_from (origin.Refused why) S p shown = tt
-shown_is_from (origin.Kept text) S p shown = shown
-shown_is_from (origin.Stored head) S p shown = shown
+pub shown_is_from : (form : PackForm) (from : Origin) (S : State) (p : Text) → IsShownBy form from S p → IsFrom form from S p
+shown_is_from form (origin.Refused why) S p shown = tt
+shown_is_from form (origin.Kept text) S p shown = shown
+shown_is_from form (origin.Stored head) S p shown = shown
 
 -- it is the machine's
-pub made_told : (given : Reply) (from : Origin) (S : State) (r : Request) (p : Text) → IsMadeOf given from S p → IsOrigin from S r p → given ≡ answer S r
-made_told given (origin.Refused why) S r p made is = made ∙ sym is
-made_told given (origin.Kept text) S r p made is = made ∙ sym is
-made_told given (origin.Stored head) S r p made is = made.1 ∙ ap Doc (packument_from S p head made.0 is.1 made.2) ∙ sym is.0
+pub made_told : (form : PackForm) (given : Reply) (from : Origin) (S : State) (r : Request) (p : Text) → IsMadeOf given from S p → IsOrigin form from S r p → given ≡ answer S r
+made_told form given (origin.Refused why) S r p made is = made ∙ sym is
+made_told form given (origin.Kept text) S r p made is = made ∙ sym is
+made_told form given (origin.Stored head) S r p made is = made.1 ∙ ap Doc (packument_from form S p head made.0 is.1 made.2) ∙ sym is.0
 
 -- it shows the packument of the package
-pub made_shows : (given : Reply) (from : Origin) (S : State) (p : Text) → IsMadeOf given from S p → IsFrom from S p → ShowsAlone S p given
-made_shows given (origin.Refused why) S p made is text h = cc
-made_shows given (origin.Kept found) S p made is text h =
+pub made_shows : (form : PackForm) (given : Reply) (from : Origin) (S : State) (p : Text) → IsMadeOf given from S p → IsFrom form from S p → ShowsAlone form S p given
+made_shows form given (origin.Refused why) S p made is text h = cc
+made_shows form given (origin.Kept found) S p made is text h =
     let same : found ≡ text = cc in
     is ∙ ap (λ (t : Text). Some t) same
-made_shows given (origin.Stored head) S p made is text h =
+made_shows form given (origin.Stored head) S p made is text h =
     let same : made.0 ≡ text = cc (made.1) in
-    live_shown S p is.0 ∙ ap (λ (t : Text). Some t) (sym (packument_from S p head made.0 is.1 made.2) ∙ same)
+    live_shown form S p is.0 ∙ ap (λ (t : Text). Some t) (sym (packument_from form S p head made.0 is.1 made.2) ∙ same)
 
 -- ---- nothing that is stored is changed
 
@@ -73,12 +75,25 @@ module _ (old new : Shown) (r : Request) (query : is_command r.what ≡ false) (
   pub query_survives : SurvivesOne old new r
   query_survives = survives_weaker old new _ _ (λ clean db it. query_leaves r query old db it) left.survives
 
+-- ---- what asks for a packument
+
+asks_either : (form : PackForm) (what : Action) (p : Text) → ((q : Text) → what ≡ Packument q → ⊥) → ((q : Text) → what ≡ AbbreviatedPackument q → ⊥) → what ≡ asks_packument form p → ⊥
+asks_either Full what p full short is = full p is
+asks_either Abbreviated what p full short is = short p is
+
+pub asks_none : (what : Action) → ((q : Text) → what ≡ Packument q → ⊥) → ((q : Text) → what ≡ AbbreviatedPackument q → ⊥) → ¬ IsAnyPackument what
+asks_none what full short asks = asks_either asks.0 what asks.1 full short asks.2
+
 -- ---- what is kept of the reply
 
-named : (p q : Text) → Packument p ≡ Packument q → p ≡ q
-named p q e = cc
+named : (form asked : PackForm) (p q : Text) → asks_packument form p ≡ asks_packument asked q → (form ≡ asked) × (p ≡ q)
+named Full Full p q e = (refl, cc)
+named Full Abbreviated p q e = absurd cc
+named Abbreviated Full p q e = absurd cc
+named Abbreviated Abbreviated p q e = (refl, cc)
 
-pub alone_shows : (S T : State) (what : Action) (name : Text) (given : Reply) → T ≡ S → what ≡ Packument name → ShowsAlone S name given
-    → (p text : Text) → what ≡ Packument p → given ≡ Doc text → live_packument T p ≡ Some text
-alone_shows S T what name given same asks shows p text again h =
-    ap (λ (U : State). live_packument U p) same ∙ ap (live_packument S) (sym (named name p (sym asks ∙ again))) ∙ shows text h
+pub alone_shows : (form : PackForm) (S T : State) (what : Action) (name : Text) (given : Reply) → T ≡ S → what ≡ asks_packument form name → ShowsAlone form S name given
+    → (asked : PackForm) (p text : Text) → what ≡ asks_packument asked p → given ≡ Doc text → live_packument asked T p ≡ Some text
+alone_shows form S T what name given same asks shows asked p text again h =
+    let is = named form asked name p (sym asks ∙ again) in
+    ap (λ (U : State). live_packument asked U p) same ∙ ap (λ (f : PackForm). live_packument f S p) (sym is.0) ∙ ap (live_packument form S) (sym is.1) ∙ shows text h

@@ -26,6 +26,8 @@ use Rattle.registry_packument.specs.declared.packument.VersionRow.{VersionRow}
 use Rattle.registry_packument.specs.declared.opener.Sent.TheVariants.{Refused, Whole, WriteFault, Broken}
 use Rattle.registry_rows.specs.Frames.{IsCommitted}
 use Rattle.registry_rows.specs.Ready.{Reads}
+use Rattle.registry_packument.specs.declared.form.PackForm.{PackForm}
+use Rattle.registry_packument.specs.declared.form.PackForm.TheVariants.{Full, Abbreviated}
 use Rattle.registry_rules.specs.Actions.{is_command}
 use Rattle.registry_rules.specs.Callers.{caller_of}
 use Rattle.registry_rules.specs.Effects.{step}
@@ -35,6 +37,7 @@ use Rattle.registry_rules.specs.Refusals.{refusal, refusal_by, refusal_for, stat
 use Rattle.registry_rules.specs.State.{State, has_live}
 use Rattle.registry_rules.specs.declared.reply.Reply.TheVariants as reply
 use Rattle.registry_rules.specs.declared.reply.Reply.TheVariants.{Doc}
+use Rattle.registry_rules.specs.declared.request.Action.{Action}
 use Rattle.registry_rules.specs.declared.request.Action.TheVariants.{Packument}
 use Rattle.registry_rules.specs.declared.request.Request.{Request}
 use Rattle.registry_tables.specs.Archives.{HoldsArchives}
@@ -55,7 +58,7 @@ use Rattle.registry_laws_hidden.specs.Without.{state_without}
 use Rattle.registry_desk.specs.Caches.{HasAnswers, KeepNoMore, KeepsNoMore}
 use Rattle.registry_desk.specs.Promises.{Answered, Applied, HoldsReferences, LeavesOne, Served}
 use Rattle.registry_desk.specs.Resting.{IsAsWritten, IsRegistryOf, Rests, next_stored, settled_by, stepped}
-use Rattle.registry_desk.specs.Sending.{BrokenBeginTheAnswer, IsOrigin, IsShownBy, LeavesAll, MayAnswer, Sends, SentAreAsked, answers_as_apply, head_in, versions_in}
+use Rattle.registry_desk.specs.Sending.{BrokenBeginTheAnswer, IsOrigin, IsShownBy, LeavesAll, MayAnswer, Sends, SentAreAsked, answers_as_apply, head_in, versions_in, asks_packument}
 use Rattle.registry_desk.specs.declared.cache.Caches.{Caches}
 use Rattle.registry_desk.specs.declared.sending.Origin.{Origin}
 use Rattle.registry_desk.specs.declared.sending.Origin.TheVariants as origin
@@ -88,32 +91,46 @@ reads_before a b c reads before = record {
 
 -- ---- what a packument comes from
 
+-- a packument of either form is refused alike, and is no command
+refused_alike : (form : PackForm) (S : State) (now : ℕ) (who : Caller) (p : Text) → refusal_by S now who (asks_packument form p) ≡ refusal_by S now who (Packument p)
+refused_alike Full S now who p = refl
+refused_alike Abbreviated S now who p = refl
+
+reply_of_form : (form : PackForm) (S : State) (who : Caller) (p : Text) → answers.reply S who (asks_packument form p) ≡ Doc (packument_in form S p)
+reply_of_form Full S who p = refl
+reply_of_form Abbreviated S who p = refl
+
+pub no_command : (form : PackForm) (what : Action) (p : Text) → what ≡ asks_packument form p → is_command what ≡ false
+no_command Full what p is = ap is_command is
+no_command Abbreviated what p is = ap is_command is
+
 -- why a query for a packument is refused
-query_refusal : (S : State) (r : Request) (p : Text) (who : Caller) → r.what ≡ Packument p → Some who ≡ caller_of S r.who → refusal S r ≡ refusal_by S r.at who (Packument p)
-query_refusal S r p who asks known = ap (λ (o : Option Caller). refusal_for S r.at o r.what) (sym known) ∙ ap (refusal_by S r.at who) asks
+query_refusal : (form : PackForm) (S : State) (r : Request) (p : Text) (who : Caller) → r.what ≡ asks_packument form p → Some who ≡ caller_of S r.who → refusal S r ≡ refusal_by S r.at who (Packument p)
+query_refusal form S r p who asks known =
+    ap (λ (o : Option Caller). refusal_for S r.at o r.what) (sym known) ∙ ap (refusal_by S r.at who) asks ∙ refused_alike form S r.at who p
 
 -- by the policy, or since no version lives
-module _ (S : State) (r : Request) (p : Text) (who : Caller) (asks : r.what ≡ Packument p) (known : Some who ≡ caller_of S r.who) where
+module _ (form : PackForm) (S : State) (r : Request) (p : Text) (who : Caller) (asks : r.what ≡ asks_packument form p) (known : Some who ≡ caller_of S r.who) where
   pub query_denied : (why : Refusal) → unless_allowed (permission S.access who (Packument p)) ≡ Some why → answer S r ≡ reply.Refused why
-  query_denied why denied = refused S r why (query_refusal S r p who asks known ∙ ap (λ (o : Option Refusal). option_or o (state_refusal S r.at (Packument p))) denied)
+  query_denied why denied = refused S r why (query_refusal form S r p who asks known ∙ ap (λ (o : Option Refusal). option_or o (state_refusal S r.at (Packument p))) denied)
 
   -- the query that the policy allows
   module _ (may : unless_allowed (permission S.access who (Packument p)) ≡ None) where
     allowed_refusal : refusal S r ≡ unless_there (has_live S p)
-    allowed_refusal = query_refusal S r p who asks known ∙ ap (λ (o : Option Refusal). option_or o (state_refusal S r.at (Packument p))) may
+    allowed_refusal = query_refusal form S r p who asks known ∙ ap (λ (o : Option Refusal). option_or o (state_refusal S r.at (Packument p))) may
 
-    live_answer : has_live S p ≡ true → answer S r ≡ Doc (packument_in S p)
+    live_answer : has_live S p ≡ true → answer S r ≡ Doc (packument_in form S p)
     live_answer lives =
-        unrefused S r (allowed_refusal ∙ ap unless_there lives) ∙ ap (λ (o : Option Caller). reply_to S o r.what) (sym known) ∙ ap (answers.reply S who) asks
+        unrefused S r (allowed_refusal ∙ ap unless_there lives) ∙ ap (λ (o : Option Caller). reply_to S o r.what) (sym known) ∙ ap (answers.reply S who) asks ∙ reply_of_form form S who p
 
-    pub origin_is : (from : Origin) → IsShownBy from S p → IsOrigin from S r p
+    pub origin_is : (from : Origin) → IsShownBy form from S p → IsOrigin form from S r p
     origin_is (origin.Refused why) shown = refused S r why (allowed_refusal ∙ ap unless_there shown.1 ∙ ap (λ (w : Refusal). Some w) (sym shown.0))
-    origin_is (origin.Kept text) shown = let lives = live_so S p text shown in live_answer lives.0 ∙ ap Doc (sym lives.1)
+    origin_is (origin.Kept text) shown = let lives = live_so form S p text shown in live_answer lives.0 ∙ ap Doc (sym lives.1)
     origin_is (origin.Stored head) shown = (live_answer shown.0, shown.1)
 
 -- the text that is made of what is stored is the packument
-pub packument_from : (S : State) (p : Text) (head : HeadParts) (text : Text) → head ≡ head_in S p → pack_text head (versions_in S p) ≡ Some text → text ≡ packument_in S p
-packument_from S p head text is written =
+pub packument_from : (form : PackForm) (S : State) (p : Text) (head : HeadParts) (text : Text) → head ≡ head_in form S p → pack_text head (versions_in S p) ≡ Some text → text ≡ packument_in form S p
+packument_from form S p head text is written =
     sym (ap (λ (o : Option Text). unwrap_or o []) (ap (λ (h : HeadParts). pack_text h (versions_in S p)) (sym is) ∙ written))
 
 -- ---- a query enters nothing
@@ -266,13 +283,13 @@ module _ {S : Type 0} (store : Ghosts S) (settled : (h : Held S) (db : Trees) �
         sends_by (answers_as_apply store) opens M mid r a b s (λ bytes. bytes ≡ text) sent (λ _. whole)
         (λ fault. answered_as store (state store M) mid (settled mid) replies r query all (Err fault) (λ _ _. tt) (λ _. tt)) (λ fault bytes is. (mid, whole bytes is, fault_after mid mid (leaves_itself (state store mid) all.rests) fault)) takes
 
-    module _ (head : HeadParts) (told : HasCleanDisk (state store mid) → (answer (registry_in (state store M)) r ≡ Doc (packument_in (registry_in (state store M)) p)) × (head ≡ head_in (registry_in (state store M)) p)) where
+    module _ (head : HeadParts) (told : HasCleanDisk (state store mid) → (answer (registry_in (state store M)) r ≡ Doc (packument_in Full (registry_in (state store M)) p)) × (head ≡ head_in Full (registry_in (state store M)) p)) where
       -- the text that is made of what is stored is the answer
       made : (text : Text) → pack_text head (versions_in (registry_in (state store mid)) p) ≡ Some text → HasCleanDisk (state store mid) → Doc text ≡ answer (registry_in (state store M)) r
       made text written clean =
           let it = told clean in
           let stays : registry_in (state store mid) ≡ registry_in (state store M) = ap registry_of (all.same clean (open_still clean)) in
-          ap Doc (packument_from (registry_in (state store M)) p head text it.1 (subst (λ (T : State). pack_text head (versions_in T p) ≡ Some text) stays written)) ∙ sym it.0
+          ap Doc (packument_from Full (registry_in (state store M)) p head text it.1 (subst (λ (T : State). pack_text head (versions_in T p) ≡ Some text) stays written)) ∙ sym it.0
 
       pub stored_sends : (N : Held S) → IsLeftAlone (state store mid) (state store N) → (a b : Option (List ℕ)) (s : Bool) (sent : Sent)
           → (HasCleanDisk (state store N) → IsUnbroken sent → IsTrue (state store N).is_open)

@@ -7,13 +7,15 @@ use Rattle.registry_names.specs.Names.{IsName}
 use Rattle.registry_names.specs.Texts.{Text, is}
 use Rattle.registry_names.specs.Versions.{VersionParts, text_of_version}
 use Rattle.registry_cache.specs.Caches.{Cache, AreRight, asked, kept, kept_where, with_room, with_text}
+use Rattle.registry_packument.specs.declared.form.PackForm.{PackForm}
+use Rattle.registry_packument.specs.declared.form.PackForm.TheVariants.{Full, Abbreviated}
 use Rattle.registry_rules.specs.Actions.{version_of}
 use Rattle.registry_rules.specs.Changes.{Change, AddUser, AddToken, DropToken, AddOrg, PutMember, DropMember, AddTeam, PutTeamMember, DropTeamMember, DropTeam, PutGrant, DropGrant, PutOwner, DropOwner, PutStatus, AddVersion, RetireVersion, PutDeprecation, PutTag, DropTag}
 use Rattle.registry_rules.specs.State.{State, has_live}
 use Rattle.registry_rules.specs.declared.reply.Reply.{Reply}
 use Rattle.registry_rules.specs.declared.reply.Reply.TheVariants.{Bytes, Doc}
 use Rattle.registry_rules.specs.declared.request.Action.{Action}
-use Rattle.registry_rules.specs.declared.request.Action.TheVariants.{Archive, Packument, TeamPackages, OrgPackages, MyPackages}
+use Rattle.registry_rules.specs.declared.request.Action.TheVariants.{Archive, Packument, AbbreviatedPackument, TeamPackages, OrgPackages, MyPackages}
 use Rattle.registry_tables.specs.Contents.{Contents, registry_of}
 use Rattle.registry_tables.specs.Effects.{stored}
 use Rattle.registry_tables.specs.Teams.{AreTeamsSound}
@@ -24,17 +26,17 @@ use Rattle.registry_desk.specs.declared.cache.Caches.{Caches}
 
 -- ---- what is right
 
--- the packument of a package of which a version lives; of any other package None
-abbrev pub live_packument : State → Text → Option Text
-live_packument S p = if has_live S p then Some (packument_in S p) else None
+-- the packument of this form of a package of which a version lives; of any other package None
+abbrev pub live_packument : PackForm → State → Text → Option Text
+live_packument form S p = if has_live S p then Some (packument_in form S p) else None
 
--- each text is the packument of its name, and a version of that lives
-abbrev pub ArePackuments : Contents → Cache → Type 0
-ArePackuments c cache = AreRight (λ p text. live_packument (registry_of c) p ≡ Some text) cache
+-- each text is the packument of this form of its name, and a version of that lives
+abbrev pub ArePackuments : PackForm → Contents → Cache → Type 0
+ArePackuments form c cache = AreRight (λ p text. live_packument form (registry_of c) p ≡ Some text) cache
 
 -- this holds of an open connection whose disk is clean
-abbrev pub HasPackuments : Shown → Cache → Type 0
-HasPackuments s cache = HasCleanDisk s → IsTrue s.is_open → ArePackuments (stored s) cache
+abbrev pub HasPackuments : PackForm → Shown → Cache → Type 0
+HasPackuments form s cache = HasCleanDisk s → IsTrue s.is_open → ArePackuments form (stored s) cache
 
 -- the name under which the archive of a version is kept: the package, a space, and the version. No
 -- package has a space in its name
@@ -50,18 +52,23 @@ AreArchives c cache = AreRight (IsArchiveUnder c) cache
 
 -- all that is kept is right
 pub record AreAnswers (c : Contents) (caches : Caches) : Type 0 where
-  pub packuments : ArePackuments c caches.packuments
+  pub packuments : ArePackuments Full c caches.packuments
+  pub abbreviated : ArePackuments Abbreviated c caches.abbreviated
   pub archives : AreArchives c caches.archives
 
 -- this holds of an open connection whose disk is clean
 abbrev pub HasAnswers : Shown → Caches → Type 0
 HasAnswers s caches = HasCleanDisk s → IsTrue s.is_open → AreAnswers (stored s) caches
 
--- the most bytes that the kept texts have together, without the one text that alone has more
+-- the most bytes that the kept texts of full packuments have together, without the one text that
+-- alone has more
 abbrev pub text_limit : ℕ
 text_limit = 2 ^ 26
 
--- the most that the archives have, likewise
+-- the most that those of abbreviated ones have, and the archives, likewise
+abbrev pub abbreviated_limit : ℕ
+abbreviated_limit = 2 ^ 24
+
 abbrev pub archive_limit : ℕ
 archive_limit = 2 ^ 26
 
@@ -70,9 +77,15 @@ pub record IsCached (s : Shown) (caches : Caches) : Type 0 where
   pub rests : Rests s
   pub right : HasAnswers s caches
   pub limited : caches.packuments.limit ≡ text_limit
+  pub abbreviated_limited : caches.abbreviated.limit ≡ abbreviated_limit
   pub archives_limited : caches.archives.limit ≡ archive_limit
 
 -- ---- what is forgotten
+
+-- the texts of this form that are kept
+abbrev pub texts_of : PackForm → Caches → Cache
+texts_of Full caches = caches.packuments
+texts_of Abbreviated caches = caches.abbreviated
 
 -- nothing is kept under the names that these changes touch, and all else is as it was
 abbrev pub without_touched : (Change → Text → Bool) → List Change → Cache → Cache
@@ -115,20 +128,17 @@ pub record KeepsNoMore (old new : Cache) : Type 0 where
   pub limit : new.limit ≡ old.limit
   pub before : (p text : Text) → kept new p ≡ Some text → kept old p ≡ Some text
 
--- of neither kind
+-- of no kind
 pub record KeepNoMore (old new : Caches) : Type 0 where
   pub packuments : KeepsNoMore old.packuments new.packuments
+  pub abbreviated : KeepsNoMore old.abbreviated new.abbreviated
   pub archives : KeepsNoMore old.archives new.archives
 
 -- nothing is kept of what these changes touch, and all else is as it was
 pub record AreLeftBy (changes : List Change) (old new : Caches) : Type 0 where
   pub packuments : new.packuments ≡ without_changed changes old.packuments
+  pub abbreviated : new.abbreviated ≡ without_changed changes old.abbreviated
   pub archives : new.archives ≡ without_moved changes old.archives
-
--- the limits are the same
-pub record HaveSameLimits (old new : Caches) : Type 0 where
-  pub packuments : new.packuments.limit ≡ old.packuments.limit
-  pub archives : new.archives.limit ≡ old.archives.limit
 
 -- whether the change is about this package alone, or about none
 module _ (change : Change) where
@@ -166,9 +176,11 @@ KeepsArchive p v bytes old new =
 -- only a reply that is a packument or an archive is kept
 abbrev pub KeepsReply : Action → Reply → Caches → Caches → Type 0
 KeepsReply (Packument name) (Doc text) old new =
-    KeepsLatest name text old.packuments new.packuments × (new.archives ≡ old.archives)
+    KeepsLatest name text old.packuments new.packuments × ((new.abbreviated ≡ old.abbreviated) × (new.archives ≡ old.archives))
+KeepsReply (AbbreviatedPackument name) (Doc text) old new =
+    (new.packuments ≡ old.packuments) × (KeepsLatest name text old.abbreviated new.abbreviated × (new.archives ≡ old.archives))
 KeepsReply (Archive p v) (Bytes bytes) old new =
-    (new.packuments ≡ old.packuments) × KeepsArchive p (text_of_version v) bytes old.archives new.archives
+    (new.packuments ≡ old.packuments) × ((new.abbreviated ≡ old.abbreviated) × KeepsArchive p (text_of_version v) bytes old.archives new.archives)
 KeepsReply _ _ old new = new ≡ old
 
 -- after an answered request, nothing is kept but what was kept before, and then its reply
@@ -192,9 +204,10 @@ ShowsArchive c cache what given = (p : Text) (v : VersionParts) (bytes : List �
     → AreArchives c cache → what ≡ Archive p v → given ≡ Bytes bytes
     → bytes ≡ archive_in (registry_of c) p (text_of_version v)
 
--- what is shown of the package is the same in both: its packument, or that no version of it lives
+-- what is shown of the package is the same in both: its packument of either form, or that no
+-- version of it lives
 abbrev pub IsSameLive : Contents → Contents → Text → Type 0
-IsSameLive c d p = live_packument (registry_of d) p ≡ live_packument (registry_of c) p
+IsSameLive c d p = (form : PackForm) → live_packument form (registry_of d) p ≡ live_packument form (registry_of c) p
 
 -- the archive of the version is the same in both
 abbrev pub IsSameArchive : Contents → Contents → Text → Text → Type 0
@@ -213,8 +226,9 @@ pub record LeavesArchivesRight (c d : Contents) (what : Action) (old new : Cache
   pub shown : ShowsArchive c old what given
   pub asked : (p : Text) (v : VersionParts) → what ≡ Archive p v → IsSameArchive c d p (text_of_version v)
 
--- both
+-- all of them
 pub record LeavesCacheRight (c d : Contents) (what : Action) (old new : Caches) (given : Reply)
     : Type 0 where
   pub packuments : LeavesTextsRight c d new.packuments
+  pub abbreviated : LeavesTextsRight c d new.abbreviated
   pub archives : LeavesArchivesRight c d what old.archives new.archives given

@@ -11,6 +11,8 @@ use Rattle.registry_names.specs.declared.stop.Fault.{Fault}
 use Rattle.registry_packument.specs.Sendings.{WritesSome, opened}
 use Rattle.registry_packument.specs.Heads.{HeadParts}
 use Rattle.registry_packument.specs.Packuments.{pack_text}
+use Rattle.registry_packument.specs.declared.form.PackForm.{PackForm}
+use Rattle.registry_packument.specs.declared.form.PackForm.TheVariants.{Full, Abbreviated}
 use Rattle.registry_packument.specs.declared.opener.Sent.{Sent}
 use Rattle.registry_packument.specs.declared.opener.Sent.TheVariants.{Refused, Whole, WriteFault, Broken}
 use Rattle.registry_packument.specs.declared.packument.VersionRow.{VersionRow}
@@ -19,7 +21,7 @@ use Rattle.registry_rules.specs.declared.reply.Reply.{Reply}
 use Rattle.registry_rules.specs.declared.reply.Reply.TheVariants as reply
 use Rattle.registry_rules.specs.declared.reply.Reply.TheVariants.{Doc}
 use Rattle.registry_rules.specs.declared.request.Action.{Action}
-use Rattle.registry_rules.specs.declared.request.Action.TheVariants.{Packument}
+use Rattle.registry_rules.specs.declared.request.Action.TheVariants.{Packument, AbbreviatedPackument}
 use Rattle.registry_rules.specs.declared.request.Request.{Request}
 use Rattle.registry_tables.specs.Effects.{registry_in, stored}
 use Rattle.registry_laws_history.specs.Answers.{answer, head_of, packument_in, version_row}
@@ -31,9 +33,18 @@ use Rattle.registry_desk.specs.Resting.{IsRegistryOf, Rests}
 use Rattle.registry_desk.specs.declared.sending.Origin.{Origin}
 use Rattle.registry_desk.specs.declared.sending.Origin.TheVariants as origin
 
--- what asks for a packument
+-- the query for the packument of this form
+abbrev pub asks_packument : PackForm → Text → Action
+asks_packument Full name = Packument name
+asks_packument Abbreviated name = AbbreviatedPackument name
+
+-- what asks for a full packument
 abbrev pub IsPackument : Action → Type 0
 IsPackument what = (name : Text) × (what ≡ Packument name)
+
+-- what asks for a packument of either form
+abbrev pub IsAnyPackument : Action → Type 0
+IsAnyPackument what = (form : PackForm) × (name : Text) × (what ≡ asks_packument form name)
 
 -- ---- a packument that is sent is a request that is answered
 
@@ -81,8 +92,8 @@ BrokenBeginTheAnswer {S} store = (opens : ℕ → List ℕ) (M N : Held S) (r : 
 -- ---- what a packument is sent from
 
 -- the head of a package's packument
-abbrev pub head_in : State → Text → HeadParts
-head_in S p = head_of p (of S.tags p) (of S.live p) (of S.spent p)
+abbrev pub head_in : PackForm → State → Text → HeadParts
+head_in form S p = head_of form p (of S.tags p) (of S.live p) (of S.spent p)
 
 -- its versions, as they are shown
 abbrev pub versions_in : State → Text → List VersionRow
@@ -90,23 +101,23 @@ versions_in S p = map version_row (of S.live p)
 
 -- the packument of the package comes from this, where the policy allows the query: it isn't there
 -- where no version lives
-abbrev pub IsShownBy : Origin → State → Text → Type 0
-IsShownBy (origin.Refused why) S p = (why ≡ NotFound) × (has_live S p ≡ false)
-IsShownBy (origin.Kept text) S p = live_packument S p ≡ Some text
-IsShownBy (origin.Stored head) S p = (has_live S p ≡ true) × (head ≡ head_in S p)
+abbrev pub IsShownBy : PackForm → Origin → State → Text → Type 0
+IsShownBy form (origin.Refused why) S p = (why ≡ NotFound) × (has_live S p ≡ false)
+IsShownBy form (origin.Kept text) S p = live_packument form S p ≡ Some text
+IsShownBy form (origin.Stored head) S p = (has_live S p ≡ true) × (head ≡ head_in form S p)
 
 -- the packument of the package comes from this, unless the query is refused
-abbrev pub IsFrom : Origin → State → Text → Type 0
-IsFrom (origin.Refused why) S p = ⊤
-IsFrom (origin.Kept text) S p = live_packument S p ≡ Some text
-IsFrom (origin.Stored head) S p = (has_live S p ≡ true) × (head ≡ head_in S p)
+abbrev pub IsFrom : PackForm → Origin → State → Text → Type 0
+IsFrom form (origin.Refused why) S p = ⊤
+IsFrom form (origin.Kept text) S p = live_packument form S p ≡ Some text
+IsFrom form (origin.Stored head) S p = (has_live S p ≡ true) × (head ≡ head_in form S p)
 
 -- the query for the packument of the package comes to this: why it is refused, or, where it isn't,
 -- what its packument comes from
-abbrev pub IsOrigin : Origin → State → Request → Text → Type 0
-IsOrigin (origin.Refused why) S r p = answer S r ≡ reply.Refused why
-IsOrigin (origin.Kept text) S r p = answer S r ≡ Doc text
-IsOrigin (origin.Stored head) S r p = (answer S r ≡ Doc (packument_in S p)) × (head ≡ head_in S p)
+abbrev pub IsOrigin : PackForm → Origin → State → Request → Text → Type 0
+IsOrigin form (origin.Refused why) S r p = answer S r ≡ reply.Refused why
+IsOrigin form (origin.Kept text) S r p = answer S r ≡ Doc text
+IsOrigin form (origin.Stored head) S r p = (answer S r ≡ Doc (packument_in form S p)) × (head ≡ head_in form S p)
 
 -- the reply is made of what the query comes to
 abbrev pub IsMadeOf : Reply → Origin → State → Text → Type 0
@@ -115,8 +126,8 @@ IsMadeOf given (origin.Kept text) S p = given ≡ Doc text
 IsMadeOf given (origin.Stored head) S p = (text : Text) × (given ≡ Doc text) × (pack_text head (versions_in S p) ≡ Some text)
 
 -- a document that is replied is the packument of the package, and a version of that lives
-abbrev pub ShowsAlone : State → Text → Reply → Type 0
-ShowsAlone S p given = (text : Text) → given ≡ Doc text → live_packument S p ≡ Some text
+abbrev pub ShowsAlone : PackForm → State → Text → Reply → Type 0
+ShowsAlone form S p given = (text : Text) → given ≡ Doc text → live_packument form S p ≡ Some text
 
 -- ---- what a query leaves
 

@@ -11,12 +11,17 @@ ghost use Rattle.registry_desk.specs.Caches.{IsAbout, IsAboutNone, IsPut, KeepsA
 
 use registry_cache::{BlobCache, Shared, SharedBlob, SharedCache, TextCache};
 use registry_names::{Name, Ver};
+use registry_packument::PackForm;
 use registry_rules::{Action, Change, Reply};
 use std::alloc::{AllocError, Global};
 
-/// The most bytes that the kept texts of packuments have together, without one text that alone has
-/// more.
+/// The most bytes that the kept texts of full packuments have together, without one text that alone
+/// has more.
 pub(crate) const TEXT_LIMIT: usize = 64 << 20;
+
+/// The most bytes that the kept texts of abbreviated packuments have together, without one text that
+/// alone has more.
+pub(crate) const ABBREVIATED_LIMIT: usize = 16 << 20;
 
 /// The most bytes that the kept archives have together, without one that alone has more.
 pub(crate) const ARCHIVE_LIMIT: usize = 64 << 20;
@@ -24,11 +29,13 @@ pub(crate) const ARCHIVE_LIMIT: usize = 64 << 20;
 /// What a registry keeps of its answers.
 #[derive(Drop)]
 pub(crate) struct Caches {
-    /// The texts of packuments, by package.
+    /// The texts of full packuments, by package.
     pub(crate) packuments: TextCache,
+    /// The texts of abbreviated packuments, by package.
+    pub(crate) abbreviated: TextCache,
     /// The archives of live versions, by package and version.
     pub(crate) archives: BlobCache,
-    /// Whether the text of a packument that is kept from now on keeps its digest.
+    /// Whether a text of a packument or an archive that is kept from now on keeps its digest.
     pub(crate) makes_digests: bool,
 }
 
@@ -39,16 +46,30 @@ impl Caches {
     pub(crate) fn new(alloc: Global) -> Result<Caches, AllocError>
         ensures packuments { IfOk result (λ c. c.packuments
             ≡ spec.cache [] None promises.text_limit) }
+        ensures abbreviated { IfOk result (λ c. c.abbreviated
+            ≡ spec.cache [] None promises.abbreviated_limit) }
         ensures archives { IfOk result (λ c. c.archives
             ≡ spec.cache [] None promises.archive_limit) }
     {
         let packuments = TextCache::new(alloc, TEXT_LIMIT)?;
+        let abbreviated = TextCache::new(alloc, ABBREVIATED_LIMIT)?;
         let archives = BlobCache::new(alloc, ARCHIVE_LIMIT)?;
         Ok(Caches {
             packuments,
+            abbreviated,
             archives,
             makes_digests: false,
         })
+    }
+
+    /// The texts of packuments of this form.
+    pub(crate) fn texts(&self, form: PackForm) -> &TextCache
+        ensures { result.now ≡ promises.texts_of form self.now }
+    {
+        match form {
+            PackForm::Full => &self.packuments,
+            PackForm::Abbreviated => &self.abbreviated,
+        }
     }
 }
 
@@ -62,6 +83,9 @@ pub(crate) fn keep_reply(alloc: Global, caches: &mut Caches, what: &Action, repl
     match (what, reply) {
         (Action::Packument { package }, Reply::Doc(text)) => {
             keep(&mut caches.packuments, package.text(), text);
+        }
+        (Action::AbbreviatedPackument { package }, Reply::Doc(text)) => {
+            keep(&mut caches.abbreviated, package.text(), text);
         }
         (Action::Archive { package, version }, Reply::Bytes(archive)) => {
             keep_archive(alloc, &mut caches.archives, package, version, archive);

@@ -4,7 +4,7 @@ ghost use Rattle.registry_rows.specs.Frames.{Stays};
 ghost use Rattle.registry_tables.specs.Effects.{InForm, Loads};
 ghost use Rattle.registry_tables.specs.Teams.{AreTeamsSound};
 ghost use Rattle.registry_desk.specs.Early.{IsFound};
-ghost use Rattle.registry_desk.specs.Sending.{IsPackument};
+ghost use Rattle.registry_desk.specs.Sending.{IsAnyPackument};
 
 use crate::grants::{facts_for_grant, facts_for_revoke};
 use crate::maintainers::{facts_for_owner_add, facts_for_owner_remove};
@@ -40,7 +40,7 @@ pub(crate) fn load_facts<S: Alter>(
     request: &Request,
 ) -> Result<Found, Fault>
     requires in_form { InForm S.Store tx.old }
-    requires other { ¬ IsPackument request.now.what }
+    requires other { ¬ IsAnyPackument request.now.what }
     ensures stays { Stays S.Store tx.old tx.new }
     ensures loads { Loads S.Store tx.old tx.new result
         (λ found c. AreTeamsSound c
@@ -121,7 +121,7 @@ pub(crate) fn load_facts<S: Alter>(
         }
         Action::Deprecate { package, .. } => facts_for_deprecate(alloc, tx, caller, package),
         // Such a query doesn't come here: `queried` and `sent` answer it.
-        Action::Packument { .. } => unreachable!(),
+        Action::Packument { .. } | Action::AbbreviatedPackument { .. } => unreachable!(),
         Action::Tags { package } => {
             facts_about_package(alloc, tx, caller, package).map(Found::About)
         }

@@ -8,7 +8,8 @@
 //!
 //! The texts of packuments and the archives that were asked for are kept: a text until a change of
 //! a version or a tag of its package, an archive until its version is withdrawn. Of each kind those
-//! asked for last are kept, of at most 64 MiB together, and beside them one that alone has more.
+//! asked for last are kept: full packuments of at most 64 MiB together, abbreviated ones of 16, and
+//! archives of 64; and beside them one that alone has more.
 #![tactic(auto)]
 
 mod answer;

@@ -1,6 +1,6 @@
 //! A registry over a connection to its tables.
 
-ghost use Rattle.std.specs.Prelude.{◌≡◌, ◌≢◌, false, true, length, IfErr, IfOk, IsTrue, OnErr, OnOk};
+ghost use Rattle.std.specs.Prelude.{◌≡◌, ◌≢◌, false, true, length, IfErr, IfNone, IfOk, IfSome, IsTrue, OnErr, OnOk};
 ghost use Rattle.sqlite.specs.Held.{state};
 ghost use Rattle.sqlite.specs.State.{HasCleanDisk, Survives};
 ghost use Rattle.sqlite.specs.Steps.{over_memory};
@@ -18,7 +18,7 @@ ghost use Rattle.registry_desk.specs.Promises as promises;
 ghost use Rattle.registry_desk.specs.Resting.{HoldsAsWritten, IsRegistryOf, Rests, end_stored};
 ghost use Rattle.registry_desk.specs.Adopted.{CanBeAdopted, IsUndone};
 ghost use Rattle.registry_desk.specs.Caches.{HasAnswers, KeepNoMore, KeepsAnswer};
-ghost use Rattle.registry_desk.specs.Sending.{IsPackument, Sends, answers_as_apply};
+ghost use Rattle.registry_desk.specs.Sending.{IsAnyPackument, IsPackument, Sends, answers_as_apply, asks_packument};
 ghost use Rattle.registry_packument.specs.Sendings.{failures_after};
 ghost use Rattle.registry_packument.specs.declared.opener.Sent.TheVariants.{WriteFault};
 
@@ -26,8 +26,8 @@ use crate::answer::identify_and_answer;
 use crate::cache::{Caches, keep_reply};
 use crate::sending::sent;
 use crate::texts::queried;
-use registry_names::{ByteOut, Fault};
-use registry_packument::{Opener, Sent};
+use registry_names::{ByteOut, Fault, Name};
+use registry_packument::{Opener, PackForm, Sent};
 use registry_rows::{commit, fault_of};
 use registry_rules::laws::requests_are_in_form;
 use registry_rules::{Action, Reply, Request};
@@ -45,9 +45,9 @@ const PROBE: &str = "COMMIT";
 /// its organisation's scope, and all that it sees was committed. A fault of the disk may shut it
 /// for good; then every request is answered by a fault.
 ///
-/// It keeps the texts of the packuments that were asked for last, and the archives. Between requests
-/// each is the packument of its package, of which a version lives, or the archive of its version, by
-/// what is stored.
+/// It keeps the texts of the packuments that were asked for last, of each form its own, and the
+/// archives. Between requests each is the packument of its form of its package, of which a version
+/// lives, or the archive of its version, by what is stored.
 pub struct Registry<S: Alter> {
     pub(crate) conn: Connection<S>,
     pub(crate) caches: Caches,
@@ -158,7 +158,7 @@ impl<S: Alter> Registry<S> {
         answer_request(alloc, &mut self.conn, &mut self.caches, request)
     }
 
-    /// Answers a query for a packument, and writes that to a stream: first what opens it by its
+    /// Answers a query for a full packument, and writes that to a stream: first what opens it by its
     /// length, then its text. Unless the text is kept already, none of the whole is made, and of the
     /// versions' documents one is held at a time. No text is kept that wasn't.
     ///
@@ -258,8 +258,8 @@ impl<S: Alter> Registry<S> {
         Ok(outcomes)
     }
 
-    /// From now on each text of a packument that is kept keeps its digest, and so does each that is
-    /// answered. Nothing else changes.
+    /// From now on each text of a packument and each archive that is kept keeps its digest, and so
+    /// does each that is answered. Nothing else changes.
     pub fn make_digests(&mut self)
         ensures { self.new ≡ self.old }
     {
@@ -361,6 +361,7 @@ fn answer_request<S: Alter>(
     ensures rests { Rests (state S.Store conn.new) }
     ensures right { HasAnswers (state S.Store conn.new) caches.new }
     ensures limit { caches.new.packuments.limit ≡ caches.old.packuments.limit }
+    ensures abbreviated_limit { caches.new.abbreviated.limit ≡ caches.old.abbreviated.limit }
     ensures archive_limit { caches.new.archives.limit ≡ caches.old.archives.limit }
     ensures answer { Answered (state S.Store conn.old) (state S.Store conn.new)
         request.now result }
@@ -373,9 +374,21 @@ fn answer_request<S: Alter>(
     ensures no_more { OnErr result (KeepNoMore caches.old caches.new) }
     ensures kept { IfOk result (KeepsAnswer request.now.what caches.old caches.new) }
 {
-    match &request.what {
-        Action::Packument { package } => queried(alloc, conn, caches, request, package),
-        _ => answer_in_transaction(alloc, conn, caches, request),
+    match asked_packument(&request.what) {
+        Some((form, package)) => queried(alloc, conn, caches, form, request, package),
+        None => answer_in_transaction(alloc, conn, caches, request),
+    }
+}
+
+// The form and the package of the packument that is asked for. `None` where none is.
+fn asked_packument(what: &Action) -> Option<(PackForm, &Name)>
+    ensures some { IfSome result (λ asked. what.now ≡ asks_packument asked.0 asked.1.now) }
+    ensures none { IfNone result (¬ IsAnyPackument what.now) }
+{
+    match what {
+        Action::Packument { package } => Some((PackForm::Full, package)),
+        Action::AbbreviatedPackument { package } => Some((PackForm::Abbreviated, package)),
+        _ => None,
     }
 }
 
@@ -389,10 +402,11 @@ fn answer_in_transaction<S: Alter>(
 ) -> Result<Reply, Fault>
     requires rests { Rests (state S.Store conn.old) }
     requires right { HasAnswers (state S.Store conn.old) caches.old }
-    requires other { ¬ IsPackument request.now.what }
+    requires other { ¬ IsAnyPackument request.now.what }
     ensures rests { Rests (state S.Store conn.new) }
     ensures right { HasAnswers (state S.Store conn.new) caches.new }
     ensures limit { caches.new.packuments.limit ≡ caches.old.packuments.limit }
+    ensures abbreviated_limit { caches.new.abbreviated.limit ≡ caches.old.abbreviated.limit }
     ensures archive_limit { caches.new.archives.limit ≡ caches.old.archives.limit }
     ensures answer { Answered (state S.Store conn.old) (state S.Store conn.new)
         request.now result }

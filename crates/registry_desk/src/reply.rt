@@ -27,8 +27,14 @@ use registry_rules::{Action, Reply};
 use registry_tables::DocumentRow;
 use std::alloc::Global;
 
-/// The reply to a caller's action, of the rows that answer it.
-pub(crate) fn reply_from_rows(alloc: Global, what: &Action, rows: Rows) -> Result<Reply, Fault>
+/// The reply to a caller's action, of the rows that answer it. An archive keeps its digest if it is
+/// to.
+pub(crate) fn reply_from_rows(
+    alloc: Global,
+    what: &Action,
+    rows: Rows,
+    keeps_digest: bool,
+) -> Result<Reply, Fault>
     ensures is { IfOk result (λ told. (S : State) (who : Caller) → AreRowsOf rows S who what.now
         → told ≡ answers.reply S who what.now) }
     ensures accepts { IfOk result (λ told. accepts (Ok told) ≡ true) }
@@ -56,14 +62,14 @@ pub(crate) fn reply_from_rows(alloc: Global, what: &Action, rows: Rows) -> Resul
         Action::TokensRemove { .. }
         | Action::WithdrawAll { .. }
         | Action::Deprecate { .. }
-        | Action::Archive { .. } => reply_of(alloc, what, rows),
+        | Action::Archive { .. } => reply_of(alloc, what, rows, keeps_digest),
         _ => doc(text_of(alloc, what, rows)?),
     }
 }
 
 // The reply to the end of a user's tokens, to the withdrawal of all, to a deprecation, and to a query
 // for an archive.
-fn reply_of(alloc: Global, what: &Action, rows: Rows) -> Result<Reply, Fault>
+fn reply_of(alloc: Global, what: &Action, rows: Rows, keeps_digest: bool) -> Result<Reply, Fault>
     ensures is { IfOk result (λ told. (S : State) (who : Caller) → AreRowsOf rows S who what.now
         → told ≡ answers.reply S who what.now) }
     ensures accepts { IfOk result (λ told. accepts (Ok told) ≡ true) }
@@ -76,7 +82,9 @@ fn reply_of(alloc: Global, what: &Action, rows: Rows) -> Result<Reply, Fault>
             Ok(Reply::Count(count(selector, &live)))
         }
         (Action::WithdrawAll { .. }, Rows::Live(live)) => Ok(Reply::Count(number_of(live))),
-        (Action::Archive { .. }, Rows::Archive(Some(archive))) => bytes(alloc, archive),
+        (Action::Archive { .. }, Rows::Archive(Some(archive))) => {
+            bytes(alloc, archive, keeps_digest)
+        }
         (Action::Archive { .. }, Rows::KnownArchive(archive)) => Ok(Reply::Bytes(archive)),
         _ => Err(Fault::Database),
     }
@@ -90,10 +98,22 @@ fn doc(text: Text) -> Result<Reply, Fault>
 }
 
 // The reply that is this archive, which others may share.
-fn bytes(alloc: Global, archive: Blob) -> Result<Reply, Fault>
+fn bytes(alloc: Global, archive: Blob, keeps_digest: bool) -> Result<Reply, Fault>
     ensures { IfOk result (λ told. told ≡ Reply.Bytes archive) }
 {
-    Ok(Reply::Bytes(SharedBlob::from_blob(alloc, archive)?))
+    let archive = SharedBlob::from_blob(alloc, archive)?;
+    Ok(Reply::Bytes(digested(archive, keeps_digest)))
+}
+
+// The same archive, which keeps its digest if it is to.
+fn digested(archive: SharedBlob, keeps_digest: bool) -> SharedBlob
+    ensures { result ≡ archive }
+{
+    if keeps_digest {
+        archive.with_digest()
+    } else {
+        archive
+    }
 }
 
 // The text that is the reply to another query.

@@ -16,7 +16,7 @@ ghost use Rattle.registry_tables.specs.Teams.{AreTeamsSound};
 ghost use Rattle.registry_cache.specs.Caches.{kept};
 ghost use Rattle.registry_desk.specs.Found.{AreRowsOf, AreTimesOf};
 ghost use Rattle.registry_desk.specs.Caches.{AreArchives, IsSoundFor};
-ghost use Rattle.registry_desk.specs.Sending.{IsPackument};
+ghost use Rattle.registry_desk.specs.Sending.{IsAnyPackument};
 ghost use Rattle.registry_rules.specs.declared.request.Action.TheVariants as asked;
 ghost use Rattle.registry_rules.specs.declared.request.Asked.TheVariants as which;
 
@@ -82,7 +82,7 @@ pub(crate) fn rows_for<S: Alter>(
     what: &Action,
 ) -> Result<Rows, Fault>
     requires in_form { InForm S.Store tx.old }
-    requires other { ¬ IsPackument what.now }
+    requires other { ¬ IsAnyPackument what.now }
     ensures stays { Stays S.Store tx.old tx.new }
     ensures knows { Knows S.Store tx.old tx.new result (λ rows c. IsSoundFor what.now c caches.now
         → AreRowsOf rows (registry_of c) caller.now what.now) }
@@ -111,7 +111,7 @@ pub(crate) fn rows_for<S: Alter>(
         Action::Deprecate { package, .. } => live_rows(alloc, tx, package),
         Action::WithdrawAll { package } => live_rows(alloc, tx, package),
         // Such a query doesn't come here: `queried` and `sent` answer it.
-        Action::Packument { .. } => unreachable!(),
+        Action::Packument { .. } | Action::AbbreviatedPackument { .. } => unreachable!(),
         Action::VersionDoc { package, version } => document_row(tx, package, version),
         Action::Archive { package, version } => {
             archive_row(alloc, tx, &caches.archives, package, version)

@@ -9,6 +9,7 @@ ghost use Rattle.registry_packument.specs.Counted.{IsUnbroken, Takes};
 ghost use Rattle.registry_packument.specs.Packuments.{pack_len, pack_text};
 ghost use Rattle.registry_packument.specs.Sendings.{failures_after};
 ghost use Rattle.registry_packument.specs.Within.{IsWithin};
+ghost use Rattle.registry_packument.specs.declared.form.PackForm.TheVariants.{Full};
 ghost use Rattle.registry_packument.specs.declared.opener.Sent.TheVariants.{WriteFault};
 ghost use Rattle.registry_rows.specs.Frames.{Stays};
 ghost use Rattle.registry_rules.specs.State.{State};
@@ -23,7 +24,7 @@ ghost use Rattle.registry_desk.specs.Caches.{ArePackuments, HasAnswers, HasPacku
 ghost use Rattle.registry_desk.specs.Found.{AreTimesOf};
 ghost use Rattle.registry_desk.specs.Promises.{KeepsStored};
 ghost use Rattle.registry_desk.specs.Resting.{Rests};
-ghost use Rattle.registry_desk.specs.Sending.{IsFrom, IsOrigin, IsShownBy, LeavesAll, Sends, answers_as_apply, head_in, versions_in};
+ghost use Rattle.registry_desk.specs.Sending.{IsFrom, IsOrigin, IsShownBy, LeavesAll, Sends, answers_as_apply, asks_packument, head_in, versions_in};
 
 use crate::cache::{Caches, ask};
 use crate::policy::standing_if_allowed;
@@ -33,7 +34,8 @@ use registry_cache::{SharedText, TextCache};
 use registry_laws_hidden::laws::unread_packages_are_unheard_of;
 use registry_names::{ByteOut, DistTag, Fault, Name, Refusal, Text};
 use registry_packument::{
-    Opener, PackHead, PackTimes, PackumentWithin, Sent, packument_within, send_counted, send_text,
+    Opener, PackForm, PackHead, PackTimes, PackumentWithin, Sent, packument_within, send_counted,
+    send_text,
 };
 use registry_rows::{commit, fault_of};
 use registry_rules::Request;
@@ -68,7 +70,7 @@ fn head_of(
     times: PackTimes,
 ) -> Result<PackHead, Fault>
     ensures { IfOk result (λ head. (S : State) → map tag_entry tags.items ≡ of S.tags name.now
-        → AreTimesOf times S name.now → head ≡ head_in S name.now) }
+        → AreTimesOf times S name.now → head ≡ head_in Full S name.now) }
 {
     let name = Text::from_str(alloc, name.text())?;
     match PackHead::new(name, tags, times) {
@@ -77,36 +79,39 @@ fn head_of(
     }
 }
 
-// The head of a package's packument. Its manifests aren't read.
+// The head of a package's packument of this form. Its manifests aren't read.
 fn loaded_head<S: Alter>(
     alloc: Global,
     tx: &mut Transaction<'_, S>,
+    form: PackForm,
     name: &Name,
 ) -> Result<PackHead, Fault>
     requires in_form { InForm S.Store tx.old }
     ensures stays { Stays S.Store tx.old tx.new }
     ensures loads { Loads S.Store tx.old tx.new result
-        (λ head c. head ≡ head_in (registry_of c) name.now) }
+        (λ head c. head ≡ head_in form (registry_of c) name.now) }
 {
     let tags = load_tags(alloc, tx, name)?;
     let live = load_times(alloc, tx, name)?;
     let times = pack_times(alloc, tx, name, live)?;
-    head_of(alloc, name, tags, times)
+    let head = head_of(alloc, name, tags, times)?;
+    Ok(head.in_form(form))
 }
 
 // What a packument that isn't kept comes from, where the policy allows the query.
 fn stored_from<S: Alter>(
     alloc: Global,
     tx: &mut Transaction<'_, S>,
+    form: PackForm,
     name: &Name,
 ) -> Result<Origin, Fault>
     requires in_form { InForm S.Store tx.old }
     ensures stays { Stays S.Store tx.old tx.new }
     ensures loads { Loads S.Store tx.old tx.new result
-        (λ origin c. IsShownBy origin (registry_of c) name.now) }
+        (λ origin c. IsShownBy form origin (registry_of c) name.now) }
 {
     if has_live(tx, name)? {
-        Ok(Origin::Stored(loaded_head(alloc, tx, name)?))
+        Ok(Origin::Stored(loaded_head(alloc, tx, form, name)?))
     } else {
         Ok(Origin::Refused(Refusal::NotFound))
     }
@@ -118,69 +123,74 @@ fn shown_from<S: Alter>(
     alloc: Global,
     tx: &mut Transaction<'_, S>,
     cache: &TextCache,
+    form: PackForm,
     name: &Name,
 ) -> Result<Origin, Fault>
     requires in_form { InForm S.Store tx.old }
     ensures stays { Stays S.Store tx.old tx.new }
-    ensures knows { Knows S.Store tx.old tx.new result (λ origin c. ArePackuments c cache.now
-        → IsShownBy origin (registry_of c) name.now) }
+    ensures knows { Knows S.Store tx.old tx.new result (λ origin c.
+        ArePackuments form c cache.now → IsShownBy form origin (registry_of c) name.now) }
 {
     match cached_text(cache, name) {
         Some(text) => Ok(Origin::Kept(text)),
-        None => stored_from(alloc, tx, name),
+        None => stored_from(alloc, tx, form, name),
     }
 }
 
-// What a query for the packument of the package comes to. The policy is asked before anything of
-// the packument is looked for.
+// What a query for the packument of this form of the package comes to. The policy is asked before
+// anything of the packument is looked for.
 fn find_origin<S: Alter>(
     alloc: Global,
     tx: &mut Transaction<'_, S>,
     cache: &TextCache,
+    form: PackForm,
     request: &Request,
     name: &Name,
 ) -> Result<Origin, Fault>
     requires in_form { InForm S.Store tx.old }
-    requires asks { request.now.what ≡ asked.Packument name.now }
+    requires asks { request.now.what ≡ asks_packument form name.now }
     ensures stays { Stays S.Store tx.old tx.new }
     ensures loads { Loads S.Store tx.old tx.new result (λ origin c. AreTeamsSound c
-        → ArePackuments c cache.now → IsOrigin origin (registry_of c) request.now name.now) }
+        → ArePackuments form c cache.now
+        → IsOrigin form origin (registry_of c) request.now name.now) }
     ensures shows { HasCleanDisk (shown S.Store tx.new) → IfOk result (λ origin.
-        ArePackuments (stored_in S.Store tx.old) cache.now
-        → IsFrom origin (registry_of (stored_in S.Store tx.old)) name.now) }
+        ArePackuments form (stored_in S.Store tx.old) cache.now
+        → IsFrom form origin (registry_of (stored_in S.Store tx.old)) name.now) }
 {
     let Some(caller) = load_caller(alloc, tx, &request.who)? else {
         return Ok(Origin::Refused(Refusal::NoCaller));
     };
     match standing_if_allowed(alloc, tx, &caller, name, &Ask::Read(name))? {
-        Ok(_standing) => shown_from(alloc, tx, cache, name),
+        Ok(_standing) => shown_from(alloc, tx, cache, form, name),
         Err(refusal) => Ok(Origin::Refused(refusal)),
     }
 }
 
 // ---- in a transaction of its own
 
-/// What a query for the packument of the package comes to.
+/// What a query for the packument of this form of the package comes to.
 pub(crate) fn origin_of<S: Alter>(
     alloc: Global,
     conn: &mut Connection<S>,
     cache: &TextCache,
+    form: PackForm,
     request: &Request,
     name: &Name,
 ) -> Result<Origin, Fault>
     requires rests { Rests (state S.Store conn.old) }
-    requires right { HasPackuments (state S.Store conn.old) cache.now }
-    requires asks { request.now.what ≡ asked.Packument name.now }
+    requires right { HasPackuments form (state S.Store conn.old) cache.now }
+    requires asks { request.now.what ≡ asks_packument form name.now }
     ensures left { LeavesAll (state S.Store conn.old) (state S.Store conn.new) }
     ensures served { HasCleanDisk (state S.Store conn.new)
         → OnOk result (IsTrue (state S.Store conn.new).is_open) }
     ensures origin { HasCleanDisk (state S.Store conn.new) → IfOk result
-        (λ origin. IsOrigin origin (registry_in (state S.Store conn.old)) request.now name.now) }
+        (λ origin. IsOrigin form origin (registry_in (state S.Store conn.old)) request.now
+        name.now) }
     ensures shows { HasCleanDisk (state S.Store conn.new) → IfOk result
-        (λ origin. IsFrom origin (registry_in (state S.Store conn.old)) name.now) }
+        (λ origin. IsFrom form origin (registry_in (state S.Store conn.old)) name.now) }
 {
     let mut tx = conn.transaction();
-    let origin = find_origin(alloc, &mut tx, cache, request, name)?;
+    let origin = find_origin(alloc, &mut tx, cache, form, request, name)?;
     match commit(tx) {
         Ok(()) => Ok(origin),
         Err(fault) => Err(fault),
@@ -389,7 +399,7 @@ fn send_stored<S: Alter, W: ByteOut, O: Opener>(
 
 // ---- all of it
 
-/// Answers a query for the packument of the package, and writes that.
+/// Answers a query for the full packument of the package, and writes that.
 pub(crate) fn sent<S: Alter, W: ByteOut, O: Opener>(
     alloc: Global,
     conn: &mut Connection<S>,
@@ -405,6 +415,7 @@ pub(crate) fn sent<S: Alter, W: ByteOut, O: Opener>(
     ensures rests { Rests (state S.Store conn.new) }
     ensures right { HasAnswers (state S.Store conn.new) caches.new }
     ensures limit { caches.new.packuments.limit ≡ caches.old.packuments.limit }
+    ensures abbreviated_limit { caches.new.abbreviated.limit ≡ caches.old.abbreviated.limit }
     ensures archive_limit { caches.new.archives.limit ≡ caches.old.archives.limit }
     ensures stored { KeepsStored (state S.Store conn.old) (state S.Store conn.new) }
     ensures sends { Sends (answers_as_apply S.Store) (O.opens opener.now) conn.old request.now
@@ -415,7 +426,14 @@ pub(crate) fn sent<S: Alter, W: ByteOut, O: Opener>(
     ensures unknown { W.is_unknown writer.old ≡ true → W.is_unknown writer.new ≡ true }
 {
     unread_packages_are_unheard_of();
-    match origin_of(alloc, conn, &caches.packuments, request, name) {
+    match origin_of(
+        alloc,
+        conn,
+        &caches.packuments,
+        PackForm::Full,
+        request,
+        name,
+    ) {
         Ok(Origin::Refused(refusal)) => Sent::Refused(refusal),
         Ok(Origin::Kept(text)) => {
             let _is_kept = ask(&mut caches.packuments, name.text());

@@ -7,20 +7,19 @@ ghost use Rattle.sqlite.specs.Held.{state};
 ghost use Rattle.sqlite.specs.State.{HasCleanDisk};
 ghost use Rattle.registry_packument.specs.Packuments.{pack_len, pack_text};
 ghost use Rattle.registry_packument.specs.declared.opener.Sent.TheVariants.{Whole};
-ghost use Rattle.registry_rules.specs.declared.request.Action.TheVariants as asked;
 ghost use Rattle.registry_laws_history.specs.Answers.{answer};
 ghost use Rattle.registry_tables.specs.Effects.{registry_in};
 ghost use Rattle.registry_tables.specs.Walks.{IsLeftAlone};
 ghost use Rattle.registry_desk.specs.Caches.{HasAnswers, HasPackuments, KeepNoMore, KeepsAnswer};
 ghost use Rattle.registry_desk.specs.Promises.{Answered, Served};
 ghost use Rattle.registry_desk.specs.Resting.{Rests};
-ghost use Rattle.registry_desk.specs.Sending.{IsMadeOf, LeavesAll, ShowsAlone, versions_in};
+ghost use Rattle.registry_desk.specs.Sending.{IsMadeOf, LeavesAll, ShowsAlone, asks_packument, versions_in};
 
 use crate::cache::{Caches, keep_reply};
 use crate::sending::{Origin, origin_of, send_again, stored_within};
 use registry_cache::{SharedText, TextCache};
 use registry_names::{ByteOut, Fault, Name, Text, WriteFailed};
-use registry_packument::{Opener, PackHead, PackumentWithin, Sent};
+use registry_packument::{Opener, PackForm, PackHead, PackumentWithin, Sent};
 use registry_rules::{Reply, Request};
 use sqlite::{Alter, Connection};
 use std::alloc::{AllocError, Global};
@@ -214,44 +213,48 @@ fn reply_of<S: Alter>(
     }
 }
 
-// The reply to a query for the packument of the package.
+// The reply to a query for the packument of this form of the package.
 fn query_reply<S: Alter>(
     alloc: Global,
     conn: &mut Connection<S>,
     cache: &TextCache,
+    form: PackForm,
     request: &Request,
     name: &Name,
     keeps_digest: bool,
 ) -> Result<Reply, Fault>
     requires rests { Rests (state S.Store conn.old) }
-    requires right { HasPackuments (state S.Store conn.old) cache.now }
-    requires asks { request.now.what ≡ asked.Packument name.now }
+    requires right { HasPackuments form (state S.Store conn.old) cache.now }
+    requires asks { request.now.what ≡ asks_packument form name.now }
     ensures left { LeavesAll (state S.Store conn.old) (state S.Store conn.new) }
     ensures served { HasCleanDisk (state S.Store conn.new)
         → OnOk result (IsTrue (state S.Store conn.new).is_open) }
     ensures told { HasCleanDisk (state S.Store conn.new) → IfOk result
         (λ given. given ≡ answer (registry_in (state S.Store conn.old)) request.now) }
     ensures shows { HasCleanDisk (state S.Store conn.new) → IfOk result
-        (ShowsAlone (registry_in (state S.Store conn.old)) name.now) }
+        (ShowsAlone form (registry_in (state S.Store conn.old)) name.now) }
 {
-    let origin = origin_of(alloc, conn, cache, request, name)?;
+    let origin = origin_of(alloc, conn, cache, form, request, name)?;
     reply_of(alloc, conn, name, origin, keeps_digest)
 }
 
-/// Answers a query for the packument of the package, and keeps its text as the latest asked.
+/// Answers a query for the packument of this form of the package, and keeps its text as the latest
+/// asked.
 pub(crate) fn queried<S: Alter>(
     alloc: Global,
     conn: &mut Connection<S>,
     caches: &mut Caches,
+    form: PackForm,
     request: &Request,
     name: &Name,
 ) -> Result<Reply, Fault>
     requires rests { Rests (state S.Store conn.old) }
     requires right { HasAnswers (state S.Store conn.old) caches.old }
-    requires asks { request.now.what ≡ asked.Packument name.now }
+    requires asks { request.now.what ≡ asks_packument form name.now }
     ensures left { LeavesAll (state S.Store conn.old) (state S.Store conn.new) }
     ensures right { HasAnswers (state S.Store conn.new) caches.new }
     ensures limit { caches.new.packuments.limit ≡ caches.old.packuments.limit }
+    ensures abbreviated_limit { caches.new.abbreviated.limit ≡ caches.old.abbreviated.limit }
     ensures archive_limit { caches.new.archives.limit ≡ caches.old.archives.limit }
     ensures answer { Answered (state S.Store conn.old) (state S.Store conn.new)
         request.now result }
@@ -260,7 +263,15 @@ pub(crate) fn queried<S: Alter>(
     ensures kept { IfOk result (KeepsAnswer request.now.what caches.old caches.new) }
 {
     let keeps_digest = caches.makes_digests;
-    let reply = query_reply(alloc, conn, &caches.packuments, request, name, keeps_digest)?;
+    let reply = query_reply(
+        alloc,
+        conn,
+        caches.texts(form),
+        form,
+        request,
+        name,
+        keeps_digest,
+    )?;
     keep_reply(alloc, caches, &request.what, &reply);
     Ok(reply)
 }

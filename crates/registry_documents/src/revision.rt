@@ -4,7 +4,7 @@ ghost use Rattle.std.specs.Prelude.{◌≡◌, ◌++◌, ◌∷◌, [], string_b
 ghost use Rattle.registry_documents.specs.Revisions as spec;
 ghost use Rattle.registry_documents.specs.Revisions.{revision_of};
 
-use registry_cache::TextDigest;
+use registry_cache::ContentDigest;
 use registry_names::Text;
 use sha2::{Digest, Sha256};
 use std::alloc::{AllocError, Global};
@@ -33,7 +33,7 @@ impl Revision {
     /// An error is returned when no memory is left.
     pub fn of(
         alloc: Global,
-        packument: &TextDigest,
+        packument: &ContentDigest,
         maintainers: &[Text],
     ) -> Result<Revision, AllocError>
         ensures { IfOk result (λ r. r ≡ revision_of packument.now maintainers.now) }
@@ -63,7 +63,7 @@ impl Revision {
 // The digest of the packument in hexadecimal, and each name with a line feed behind it.
 fn revised(
     alloc: Global,
-    packument: &TextDigest,
+    packument: &ContentDigest,
     maintainers: &[Text],
 ) -> Result<String, AllocError>
     ensures { IfOk result (λ text. string_bytes text ≡ spec.revised packument.now maintainers.now) }

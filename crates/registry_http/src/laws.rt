@@ -21,9 +21,9 @@ pub fn turns_are_one_run<S: Alter, D: HttpService>()
     ensures all { LogRuns D.speaks (shown S.Store) }
 {}
 
-/// Whatever a caller asks of a package that they don't read (its packument, a version, an archive
-/// or the tags), the response is, byte for byte, that to a query on a package that was never
-/// published.
+/// Whatever a caller asks of a package that they don't read (its packument in either form, a version,
+/// an archive or the tags), the response is, byte for byte, that to a query on a package that was
+/// never published.
 pub fn hidden_packages_are_unheard_of()
     ensures { HiddenAreUnheardOf }
 {}

@@ -21,12 +21,13 @@ use Rattle.registry_access.specs.declared.grant.Grant.{Grant}
 use Rattle.registry_access.specs.declared.levels.Level.{Level}
 use Rattle.registry_access.specs.declared.levels.Level.TheVariants.{Nothing}
 use Rattle.registry_packument.specs.declared.list.PackageLevel.{PackageLevel}
+use Rattle.registry_packument.specs.declared.form.PackForm.TheVariants.{Full, Abbreviated}
 use Rattle.registry_rules.specs.Refusals.{is_scope}
 use Rattle.registry_rules.specs.State.{State, Release, asked_version, is_own}
 use Rattle.registry_rules.specs.Withdrawals.{selected}
 use Rattle.registry_rules.specs.declared.reply.Reply.TheVariants.{Count, Doc, Bytes}
 use Rattle.registry_rules.specs.declared.request.Action.{Action}
-use Rattle.registry_rules.specs.declared.request.Action.TheVariants.{Deprecate, WithdrawAll, Packument, VersionDoc, Archive, Tags, TeamPackages, Maintainers, OrgPackages, MyPackages, Packages}
+use Rattle.registry_rules.specs.declared.request.Action.TheVariants.{Deprecate, WithdrawAll, Packument, AbbreviatedPackument, VersionDoc, Archive, Tags, TeamPackages, Maintainers, OrgPackages, MyPackages, Packages}
 use Rattle.registry_rules.specs.declared.request.Asked.{Asked}
 use Rattle.registry_laws_history.specs.Answers.{asked_release, dist_tag, levels_in, listed_grant, package_level, packument_of, reply}
 use Rattle.registry_laws_hidden.specs.Without.{state_without}
@@ -153,7 +154,9 @@ reply_other S who (WithdrawAll q) p other one nothing = ap (λ (es : List (Text 
 reply_other S who (OrgPackages o) p other one nothing = ap (λ ls. Doc (levels_text ls)) (levels_alike S who p nothing (λ q. is_scope o (scope_of q)))
 reply_other S who MyPackages p other one nothing = own_alike S who p nothing
 reply_other S who (Packument q) p other one nothing =
-    λ i. Doc (packument_of q (of_other p q other S.tags i) (of_other p q other S.live i) (of_other p q other S.spent i))
+    λ i. Doc (packument_of Full q (of_other p q other S.tags i) (of_other p q other S.live i) (of_other p q other S.spent i))
+reply_other S who (AbbreviatedPackument q) p other one nothing =
+    λ i. Doc (packument_of Abbreviated q (of_other p q other S.tags i) (of_other p q other S.live i) (of_other p q other S.spent i))
 reply_other S who (VersionDoc q asked) p other one nothing =
     ap (λ o. Doc (unwrap_or (option_and_then (λ (r : Release). document_text r.manifest r.message) o) [])) (same_release S p q other asked)
 reply_other S who (Archive q v) p other one nothing = ap (λ o. Bytes (unwrap_or (option_map (λ (r : Release). r.archive) o) [])) (at_other p q other S.live (text_of_version v))

@@ -7,6 +7,7 @@ use Rattle.registry_names.proofs.KeyFacts.{text_key, pair_key}
 use Rattle.registry_names.proofs.MapFacts.{at-revise}
 use Rattle.registry_names.proofs.PartFacts.{part-put, part-erase, same_part}
 use Rattle.registry_access.specs.declared.caller.Caller.{Caller}
+use Rattle.registry_packument.specs.declared.form.PackForm.{PackForm}
 use Rattle.registry_rules.specs.Actions.{names_package, version_of}
 use Rattle.registry_rules.specs.Callers.{caller_of}
 use Rattle.registry_rules.specs.Changes.{Change, AddUser, AddToken, DropToken, AddOrg, PutMember, DropMember, AddTeam, PutTeamMember, DropTeamMember, DropTeam, PutGrant, DropGrant, PutOwner, DropOwner, PutStatus, AddVersion, RetireVersion, PutDeprecation, PutTag, DropTag, made, all_made, release_of}
@@ -24,8 +25,8 @@ record IsSame (S T : State) (p : Text) : Type 0 where
   spent : of T.spent p ≡ of S.spent p
   tags : of T.tags p ≡ of S.tags p
 
-same_packument : (S T : State) (p : Text) → IsSame S T p → packument_in T p ≡ packument_in S p
-same_packument S T p same = λ i. packument_of p (same.tags i) (same.live i) (same.spent i)
+same_packument : (form : PackForm) (S T : State) (p : Text) → IsSame S T p → packument_in form T p ≡ packument_in form S p
+same_packument form S T p same = λ i. packument_of form p (same.tags i) (same.live i) (same.spent i)
 
 unchanged : (S : State) (p : Text) → IsSame S S p
 unchanged S p = record { live = refl; spent = refl; tags = refl }
@@ -80,10 +81,10 @@ neither true b e = absurd (true≢false e)
 neither false b e = (refl, e)
 
 pub changes_of_others : ChangesOfOthers
-changes_of_others S [] p e = refl
-changes_of_others S (change ∷ changes) p e =
+changes_of_others form S [] p e = refl
+changes_of_others form S (change ∷ changes) p e =
     let apart = neither (is_about change p) (are_about changes p) e in
-    changes_of_others (made S change) changes p apart.1 ∙ same_packument S (made S change) p (made_same S change p apart.0)
+    changes_of_others form (made S change) changes p apart.1 ∙ same_packument form S (made S change) p (made_same S change p apart.0)
 
 step_same : (S : State) (now : ℕ) (who : Option Caller) (what : Action) (p : Text) → names_package what p ≡ false → IsSame S (all_made S (effects_for S now who what)) p
 step_same S now None what p e = unchanged S p
@@ -92,4 +93,4 @@ step_same S now (Some who) what p e =
     record { live = same_part text_key _ S.live p apart.live; spent = same_part text_key _ S.spent p apart.spent; tags = same_part text_key _ S.tags p apart.tags }
 
 pub steps_of_others : StepsOfOthers
-steps_of_others S r p e = same_packument S (step S r) p (step_same S r.at (caller_of S r.who) r.what p e)
+steps_of_others form S r p e = same_packument form S (step S r) p (step_same S r.at (caller_of S r.who) r.what p e)

@@ -2,6 +2,7 @@
 use Rattle.std.specs.Prelude.{◌≡◌, Bool, List, false}
 use Rattle.std.specs.List.{list_any}
 use Rattle.registry_names.specs.Texts.{Text, is}
+use Rattle.registry_packument.specs.declared.form.PackForm.{PackForm}
 use Rattle.registry_rules.specs.Actions.{names_package}
 use Rattle.registry_rules.specs.Changes.{Change, AddUser, AddToken, DropToken, AddOrg, PutMember, DropMember, AddTeam, PutTeamMember, DropTeamMember, DropTeam, PutGrant, DropGrant, PutOwner, DropOwner, PutStatus, AddVersion, RetireVersion, PutDeprecation, PutTag, DropTag, all_made}
 use Rattle.registry_rules.specs.Effects.{step}
@@ -38,10 +39,10 @@ are_about changes p = list_any (λ change. is_about change p) changes
 
 -- changes of no version and no tag of the package
 abbrev pub ChangesOfOthers : Type 0
-ChangesOfOthers = (S : State) (changes : List Change) (p : Text)
-    → are_about changes p ≡ false → packument_in (all_made S changes) p ≡ packument_in S p
+ChangesOfOthers = (form : PackForm) (S : State) (changes : List Change) (p : Text)
+    → are_about changes p ≡ false → packument_in form (all_made S changes) p ≡ packument_in form S p
 
 -- a request that isn't a command about the package
 abbrev pub StepsOfOthers : Type 0
-StepsOfOthers = (S : State) (r : Request) (p : Text)
-    → names_package r.what p ≡ false → packument_in (step S r) p ≡ packument_in S p
+StepsOfOthers = (form : PackForm) (S : State) (r : Request) (p : Text)
+    → names_package r.what p ≡ false → packument_in form (step S r) p ≡ packument_in form S p

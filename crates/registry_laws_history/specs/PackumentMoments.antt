@@ -4,6 +4,7 @@ use Rattle.registry_names.specs.Maps.{at, of, rises}
 use Rattle.registry_names.specs.Texts.{Text, text_cmp}
 use Rattle.registry_packument.specs.Heads.{HeadParts}
 use Rattle.registry_packument.specs.Packuments.{moments_of}
+use Rattle.registry_packument.specs.declared.form.PackForm.TheVariants.{Full}
 use Rattle.registry_rules.specs.Kept.{IsKept}
 use Rattle.registry_rules.specs.State.{State, Release, Withdrawal}
 use Rattle.registry_laws_history.specs.Answers.{created_at, modified_at, head_of}
@@ -38,4 +39,4 @@ moments_in head = moments_of head.times head.created head.modified
 -- The keys under `time` rise in byte order, each once: those of the live versions, `created` and
 -- `modified`
 abbrev pub TimeKeysRise : Type 0
-TimeKeysRise = (S : State) (p : Text) → IsKept S → rises text_cmp (moments_in (head_of p (of S.tags p) (of S.live p) (of S.spent p))) ≡ true
+TimeKeysRise = (S : State) (p : Text) → IsKept S → rises text_cmp (moments_in (head_of Full p (of S.tags p) (of S.live p) (of S.spent p))) ≡ true

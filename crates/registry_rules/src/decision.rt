@@ -216,9 +216,10 @@ fn state_refusal(about: &About, action: &Action, now: &Moment) -> Option<Refusal
         }
         (About::Deprecate { .. }, Action::Deprecate { .. }) => None,
         (About::Version { lives, .. }, Action::VersionDoc { .. } | Action::Archive { .. })
-        | (About::Package { lives, .. }, Action::Packument { .. } | Action::Tags { .. }) => {
-            unless_there(*lives)
-        }
+        | (
+            About::Package { lives, .. },
+            Action::Packument { .. } | Action::AbbreviatedPackument { .. } | Action::Tags { .. },
+        ) => { unless_there(*lives) }
         _ => Some(Refusal::NotFound),
     }
 }

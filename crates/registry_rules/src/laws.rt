@@ -254,6 +254,7 @@ fn action_is_in_form(what: &Action)
         }
         Action::SetAccess { package, .. }
         | Action::Packument { package }
+        | Action::AbbreviatedPackument { package }
         | Action::Tags { package }
         | Action::Maintainers { package }
         | Action::WithdrawAll { package } => {

@@ -113,6 +113,9 @@ pub(crate) fn permission(caller: &Caller, about: &About, action: &Action) -> Res
         (About::Package { standing, .. }, Action::Packument { package }) => {
             may_read(standing, caller, package)
         }
+        (About::Package { standing, .. }, Action::AbbreviatedPackument { package }) => {
+            may_read(standing, caller, package)
+        }
         (About::Package { standing, .. }, Action::Tags { package }) => {
             may_read(standing, caller, package)
         }

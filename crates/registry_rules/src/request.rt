@@ -220,6 +220,11 @@ pub enum Action {
         /// The package's name.
         package: Name,
     },
+    /// The query for what an install reads of the packument: the abbreviated one.
+    AbbreviatedPackument {
+        /// The package's name.
+        package: Name,
+    },
     /// The query for the document of a live version: its manifest, with `deprecated` in it if it is
     /// deprecated.
     VersionDoc {
@@ -369,6 +374,7 @@ impl Drop for Action {
                 message: _,
             } => {}
             Action::Packument { package: _ } => {}
+            Action::AbbreviatedPackument { package: _ } => {}
             Action::VersionDoc {
                 package: _,
                 version: _,

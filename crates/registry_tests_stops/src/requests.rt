@@ -38,6 +38,7 @@ token npm_bob_000000001 --at 100 tag-set @lab/kit beta 2.0.0-rc.1
 /// Queries of each kind, by several callers. They ask for the archive of each version.
 pub(crate) const QUERIES: &str = "
 --at 200 --as bob packument @lab/kit
+--at 200 --as bob abbreviated-packument @lab/kit
 token npm_bob_000000001 --at 200 version-doc @lab/kit latest
 --at 200 --as bob version-doc @lab/kit 2.0.0-rc.1
 --at 200 --as bob archive @lab/kit 1.9.0

@@ -110,6 +110,7 @@ deprecate @lab/kit <1.1.0 ''
 deprecate @lab/kit <1.1.0 old
 deprecate @lab/kit 1.x ''
 packument @lab/kit
+abbreviated-packument @lab/kit
 version-doc @lab/kit latest
 tags @lab/kit
 maintainers @lab/kit
@@ -249,10 +250,14 @@ pub(crate) const RIGHTS: &str = r#"
 = done
 --at 200 --as eve packument @lab/kit
 = refused NotFound
+--at 200 --as eve abbreviated-packument @lab/kit
+= refused NotFound
 --at 200 --as bob access @lab/kit public
 = done
 --at 200 --as eve packument @lab/kit
 = {"_id":"@lab/kit","dist-tags":{"latest":"1.0.0"},"name":"@lab/kit","time":{"1.0.0":"1970-01-01T00:01:40.000Z","created":"1970-01-01T00:01:40.000Z","modified":"1970-01-01T00:01:40.000Z"},"versions":{"1.0.0":{"dependencies":{},"name":"@lab/kit","version":"1.0.0"}}}
+--at 200 --as eve abbreviated-packument @lab/kit
+= {"dist-tags":{"latest":"1.0.0"},"modified":"1970-01-01T00:01:40.000Z","name":"@lab/kit","versions":{"1.0.0":{"dependencies":{},"name":"@lab/kit","version":"1.0.0"}}}
 --at 200 --as eve tag-set @lab/kit next 1.0.0
 = refused Denied A6
 --at 200 --as bob publish @lab/kit 1.1.0 YWJj next

@@ -10,10 +10,17 @@ returns-in-Packument-Doc c =
     let it = c.in-Packument-Doc in
     let old = c.args.caches.now in
     let keeps = subst (λ (name : Text). KeepsLatest name it.text old.packuments c.keep.new.cache) c.text.ensures.text c.keep.ensures in
-    subst₂ (λ (what : Action) (given : Reply). KeepsReply what given old (record old { packuments = c.keep.new.cache })) (sym it.is-0) (sym it.is-1) (keeps, refl)
+    subst₂ (λ (what : Action) (given : Reply). KeepsReply what given old (record old { packuments = c.keep.new.cache })) (sym it.is-0) (sym it.is-1) (keeps, (refl, refl))
+
+pub returns-in-AbbreviatedPackument-Doc : goal.returns-in-AbbreviatedPackument-Doc
+returns-in-AbbreviatedPackument-Doc c =
+    let it = c.in-AbbreviatedPackument-Doc in
+    let old = c.args.caches.now in
+    let keeps = subst (λ (name : Text). KeepsLatest name it.text old.abbreviated c.keep-in-AbbreviatedPackument-Doc.new.cache) c.text-in-AbbreviatedPackument-Doc.ensures.text c.keep-in-AbbreviatedPackument-Doc.ensures in
+    subst₂ (λ (what : Action) (given : Reply). KeepsReply what given old (record old { abbreviated = c.keep-in-AbbreviatedPackument-Doc.new.cache })) (sym it.is-0) (sym it.is-1) (refl, (keeps, refl))
 
 pub returns-in-Archive-Bytes : goal.returns-in-Archive-Bytes
 returns-in-Archive-Bytes c =
     let it = c.in-Archive-Bytes in
     let old = c.args.caches.now in
-    subst₂ (λ (what : Action) (given : Reply). KeepsReply what given old (record old { archives = c.keep_archive.new.cache })) (sym it.is-0) (sym it.is-1) (refl, c.keep_archive.ensures)
+    subst₂ (λ (what : Action) (given : Reply). KeepsReply what given old (record old { archives = c.keep_archive.new.cache })) (sym it.is-0) (sym it.is-1) (refl, (refl, c.keep_archive.ensures))

@@ -1,8 +1,8 @@
 use Rattle.std.proofs.Common.{◌∙◌, arith, ap, subst, sym, map}
-use Rattle.std.proofs.lemmas.Result.{IfOk-weaker}
 use Rattle.sqlite.specs.Effect.{Database}
 use Rattle.sqlite.specs.State.{HasCleanDisk}
 use Rattle.registry_names.specs.Maps.{of, seen}
+use Rattle.registry_packument.specs.FormLaws.{in_form}
 use Rattle.registry_rows.proofs.QuietFacts.{stays_then, reads_then}
 use Rattle.registry_tables.specs.Contents.{contents, live_of, registry_of}
 use Rattle.registry_tables.specs.Effects.{shown}
@@ -25,6 +25,10 @@ pub returns-in_err-times-clause-stays : goal.returns-in_err-times-clause-stays
 returns-in_err-times-clause-stays g c =
     three_stay g.S.Store c.args.tx.now c.load_tags.new.tx c.load_times.new.tx c.pack_times.new.tx c.load_tags.ensures.stays c.load_times.ensures.stays c.pack_times.ensures.stays
 
+pub returns-in_err-head-clause-stays : goal.returns-in_err-head-clause-stays
+returns-in_err-head-clause-stays g c =
+    three_stay g.S.Store c.args.tx.now c.load_tags.new.tx c.load_times.new.tx c.pack_times.new.tx c.load_tags.ensures.stays c.load_times.ensures.stays c.pack_times.ensures.stays
+
 pub returns-clause-stays : goal.returns-clause-stays
 returns-clause-stays g c =
     three_stay g.S.Store c.args.tx.now c.load_tags.new.tx c.load_times.new.tx c.pack_times.new.tx c.load_tags.ensures.stays c.load_times.ensures.stays c.pack_times.ensures.stays
@@ -43,6 +47,4 @@ returns-clause-loads g c clean =
     let S = registry_of (contents was.now.trees) in
     let timed = subst (λ (d : Database). AreTimesOf c.in_ok-times.times (registry_of (contents d.trees)) c.args.name.now) to_two.same
     (times.1 (live.1 ∙ ap (λ (d : Database). map (seen published) (of (live_of (contents d.trees)) c.args.name.now)) (tags.0.same ∙ sym to_two.same))) in
-    IfOk-weaker c.head_of.result _ _
-    (λ head is. (reads_then schema was two (shown g.S.Store c.pack_times.new.tx) to_two times.0, is S tags.1 timed))
-    c.head_of.ensures
+    (reads_then schema was two (shown g.S.Store c.pack_times.new.tx) to_two times.0, c.in_form.ensures ∙ ap (in_form c.args.form) (c.in_ok-head.ensures S tags.1 timed))

@@ -23,6 +23,7 @@ returns-in-Ok-Kept-clause-right g c =
     right_left (state g.S.Store c.args.conn.now) (state g.S.Store c.origin_of.new.conn) was _ c.origin_of.ensures.left
     (record {
       packuments = subst (KeepsNoMore was.packuments) (sym c.ask-is_kept.ensures.asked) (asked_no_more was.packuments c.text.result.now);
+      abbreviated = same_no_more was.abbreviated;
       archives = same_no_more was.archives;
     })
     c.requires.right

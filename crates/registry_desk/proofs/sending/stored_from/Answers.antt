@@ -25,7 +25,7 @@ returns-in_ok-loaded_head-clause-loads g c clean =
     let lives = c.in_ok-has_live.ensures.loads clean_one in
     let head = c.in_ok-loaded_head.ensures.loads clean in (
       reads_then schema was one (shown g.S.Store c.loaded_head.new.tx) lives.0 head.0,
-      (sym lives.1 ∙ c.if-branch.true, head.1 ∙ ap (λ (d : Database). head_in (registry_of (contents d.trees)) c.args.name.now) lives.0.same),
+      (sym lives.1 ∙ c.if-branch.true, head.1 ∙ ap (λ (d : Database). head_in c.args.form (registry_of (contents d.trees)) c.args.name.now) lives.0.same),
     )
 
 pub returns-else-branch-clause-loads : goal.returns-else-branch-clause-loads

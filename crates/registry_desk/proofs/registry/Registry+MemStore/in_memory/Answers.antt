@@ -21,9 +21,11 @@ invariant_of-result c = record {
   rests = c.in_ok-create_tables.ensures.rests;
   right = λ clean on. record {
     packuments = subst (AreRight _) (sym c.in_ok-caches.ensures.packuments) (new_right _ _);
+    abbreviated = subst (AreRight _) (sym c.in_ok-caches.ensures.abbreviated) (new_right _ _);
     archives = subst (AreRight _) (sym c.in_ok-caches.ensures.archives) (new_right _ _);
   };
   limited = ap (λ (s : Cache). s.limit) c.in_ok-caches.ensures.packuments;
+  abbreviated_limited = ap (λ (s : Cache). s.limit) c.in_ok-caches.ensures.abbreviated;
   archives_limited = ap (λ (s : Cache). s.limit) c.in_ok-caches.ensures.archives;
 }
 

@@ -1,9 +1,25 @@
-use Rattle.std.proofs.Common.{◌≡◌, arith, false, refl, rules}
+use Rattle.std.proofs.Common.{◌≡◌, ap, arith, false, refl, rules, subst, sym}
 use Rattle.sqlite.specs.Held.{state}
 use Rattle.sqlite.specs.State.{HasCleanDisk}
+use Rattle.registry_cache.specs.Caches.{AreRight, Cache}
+use Rattle.registry_cache.proofs.RightFacts.{new_right}
 use Rattle.registry_desk.specs.Adopted.{IsSettled}
 use Rattle.registry_desk.proofs.CommitFacts.{committed_left, handed_back, rests_sure, rises_again}
 use Rattle.registry_desk.proofs.registry.Registry.adopt.Goals as goal
+
+-- nothing is kept yet
+pub invariant_of-result : goal.invariant_of-result
+invariant_of-result g c = record {
+  rests = c.in-Ok-settle.ensures.rests;
+  right = λ clean on. record {
+    packuments = subst (AreRight _) (sym c.in-Ok.ensures.packuments) (new_right _ _);
+    abbreviated = subst (AreRight _) (sym c.in-Ok.ensures.abbreviated) (new_right _ _);
+    archives = subst (AreRight _) (sym c.in-Ok.ensures.archives) (new_right _ _);
+  };
+  limited = ap (λ (s : Cache). s.limit) c.in-Ok.ensures.packuments;
+  abbreviated_limited = ap (λ (s : Cache). s.limit) c.in-Ok.ensures.abbreviated;
+  archives_limited = ap (λ (s : Cache). s.limit) c.in-Ok.ensures.archives;
+}
 
 pub returns-in-Ok-settle-clause-written : goal.returns-in-Ok-settle-clause-written
 returns-in-Ok-settle-clause-written g c = c.in-Ok-settle.ensures.rests.written
@@ -12,6 +28,14 @@ pub returns-in-Ok-settle-clause-durable : goal.returns-in-Ok-settle-clause-durab
 returns-in-Ok-settle-clause-durable g c clean =
     let on = c.in-Ok-settle.ensures.served clean in
     rests_sure g.S.Store c.settle.new.conn (λ db. g.met.S.Store.settled c.settle.new.conn.store db on) c.in-Ok-settle.ensures.rests clean on
+
+pub returns-in-Err-settle-clause-back : goal.returns-in-Err-settle-clause-back
+returns-in-Err-settle-clause-back g c =
+    let old = state g.S.Store c.args.conn in
+    let new = state g.S.Store c.settle.new.conn in
+    let was : c.args.conn.in_transaction ≡ false = search rules in
+    let settled : IsSettled old = search rules in
+    handed_back old new was c.settle.ensures.idle settled c.in-Err-settle.ensures.undone
 
 pub returns-in-Err-settle-clause-again : goal.returns-in-Err-settle-clause-again
 returns-in-Err-settle-clause-again g c idle =

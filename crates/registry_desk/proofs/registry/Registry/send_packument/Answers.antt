@@ -19,5 +19,6 @@ invariant_of-self g c = record {
   rests = c.sent.ensures.rests;
   right = c.sent.ensures.right;
   limited = c.sent.ensures.limit ∙ c.self.invariant.limited;
+  abbreviated_limited = c.sent.ensures.abbreviated_limit ∙ c.self.invariant.abbreviated_limited;
   archives_limited = c.sent.ensures.archive_limit ∙ c.self.invariant.archives_limited;
 }

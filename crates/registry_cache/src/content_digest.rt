@@ -1,4 +1,4 @@
-//! Digests of texts.
+//! Digests of what is shared.
 
 ghost use Rattle.std.specs.Prelude.{◌≡◌};
 ghost use Rattle.sha2.specs.Sha256.{sha256};
@@ -6,13 +6,13 @@ ghost use Rattle.sha2.specs.Sha256.{sha256};
 use sha2::{Digest, Sha256};
 use std::marker::Model;
 
-/// The SHA-256 (FIPS 180-4) of a text. Contracts see its 32 bytes.
+/// The SHA-256 (FIPS 180-4) of a text, or of other bytes. Contracts see its 32 bytes.
 #[derive(Clone, Copy, Debug)]
-pub struct TextDigest {
+pub struct ContentDigest {
     bytes: [u8; 32],
 }
 
-impl Model for TextDigest {
+impl Model for ContentDigest {
     ghost use Rattle.std.specs.Prelude.{List, ℕ};
 
     ghost Value = { List ℕ };
@@ -22,13 +22,13 @@ impl Model for TextDigest {
     ghost inverse = { λ bytes. record { bytes = bytes } };
 }
 
-impl TextDigest {
-    /// The digest of a text. It takes no memory.
-    pub fn of(text: &str) -> TextDigest
-        ensures { result ≡ sha256 text.now }
+impl ContentDigest {
+    /// The digest of these bytes. It takes no memory.
+    pub fn of(bytes: &[u8]) -> ContentDigest
+        ensures { result ≡ sha256 bytes.now }
     {
-        TextDigest {
-            bytes: Sha256::digest(text.as_bytes()),
+        ContentDigest {
+            bytes: Sha256::digest(bytes),
         }
     }
 
