@@ -1,5 +1,6 @@
 -- Why a turn asks on behalf of its caller or of nobody.
-use Rattle.std.proofs.Common.{◌≡◌, ◌∷◌, ◌⊎◌, [], ℕ, Bool, true, false, List, Option, Some, None, Ok, Err, is_some, refl, sym, subst, inl, inr}
+use Rattle.std.proofs.Common.{◌≡◌, ◌∷◌, ◌⊎◌, [], ℕ, Bool, true, false, List, Option, Some, None, Ok, Err, is_some, length, refl, sym, subst, inl, inr}
+use Rattle.registry_access.specs.Levels as levels
 use Rattle.registry_names.specs.Names.{scope_of}
 use Rattle.registry_names.specs.Texts.{Text}
 use Rattle.registry_names.specs.declared.refusal.Refusal.{Refusal}
@@ -7,13 +8,15 @@ use Rattle.registry_names.specs.declared.refusal.Refusal.TheVariants.{BadBody, B
 use Rattle.registry_names.specs.declared.stop.Fault.TheVariants.{Database}
 use Rattle.registry_names.specs.declared.stop.Stop.{Stop}
 use Rattle.registry_names.specs.declared.stop.Stop.TheVariants.{Refused as Refuses, Fault as Faulted}
+use Rattle.registry_packument.specs.declared.list.Member.{Member}
+use Rattle.registry_packument.specs.declared.list.PackageLevel.{PackageLevel}
 use Rattle.registry_routes.specs.NpmRoutes.{NpmRoute, npm_route_of}
 use Rattle.registry_routes.specs.Routes.{Route, Values, route_of}
 use Rattle.registry_routes.specs.declared.npm_endpoint.NpmEndpoint.{NpmEndpoint}
 use Rattle.registry_routes.specs.declared.npm_endpoint.NpmEndpoint.TheVariants as by
 use Rattle.registry_rules.specs.declared.reply.Reply.TheVariants.{Refused}
 use Rattle.registry_rules.specs.declared.request.Action.{Action}
-use Rattle.registry_rules.specs.declared.request.Action.TheVariants.{OrgSet, Maintainers, Members, MyPackages, OwnerAdd, Packument, Tags, Teams, WhoAmI}
+use Rattle.registry_rules.specs.declared.request.Action.TheVariants.{AbbreviatedPackument, OrgSet, Maintainers, Members, MyPackages, OwnerAdd, Packument, Tags, TeamMembers, TeamPackages, Teams, WhoAmI}
 use Rattle.registry_rules.specs.declared.request.Credential.{Credential}
 use Rattle.registry_rules.specs.declared.request.Credential.TheVariants.{Anonymous}
 use Rattle.registry_rules.specs.declared.request.Request.{Request}
@@ -22,14 +25,16 @@ use Rattle.registry_service.specs.HttpAnswers.{Outcome}
 use Rattle.registry_service.specs.Readings.{Reading, one, reads_ident, reads_name}
 use Rattle.registry_service.specs.Requests.{reads_request, reads_routed}
 use Rattle.registry_service.specs.Turns.{AsksByRoute, Exchange}
+use Rattle.registry_wire.specs.MediaRanges.{accepts_abbreviated}
 use Rattle.registry_wire.specs.declared.wanted.Wanted.{Wanted}
 use Rattle.registry_npm.specs.Asked.{reads_first, reads_member, reads_user}
+use Rattle.registry_npm.specs.Collaborators.{asks_all, asks_scope, asks_teams, for_form, for_left, left_after, level_said, levels_in, members_in, most_bytes, taking, teams_in}
 use Rattle.registry_npm.specs.Forms.{empty_text, grants_form, membership_form, names_in, profile_form, teams_form, user_text, writers_form}
 use Rattle.registry_npm.specs.Laws.{AreAskedFor, AsksForCaller}
 use Rattle.registry_documents.specs.declared.asked.Asked.{Asked}
 use Rattle.registry_documents.specs.declared.asked.Asked.TheVariants.{AlreadySo, Deprecation as Deprecates, Withdrawal, OwnerAdd as AddsOwner, OwnerRemove as RemovesOwner}
 use Rattle.serde_json.specs.Data.{Data}
-use Rattle.registry_npm.specs.Packages.{Purpose, asks_as, asks_for, asks_late, asks_names, does, for_document, for_names, fulfils, is_gone, judged, judges, late, leads_claim, leads_document, leads_stopped, named_by, no_version, other_of, reads_claim, reads_document, reads_owner, reads_revision, reads_versions, reads_withdrawn, serves, serves_user, shown, stale, tries, tries_right, unless_nobody, with_names, withdrawn}
+use Rattle.registry_npm.specs.Packages.{Purpose, asks_as, asks_for, asks_late, asks_names, does, for_document, for_names, fulfils, is_gone, judged, judges, late, leads_claim, leads_document, leads_stopped, named_by, no_version, other_of, reads_claim, reads_document, reads_owner, reads_revision, reads_versions, reads_withdrawn, serves, serves_user, shown, shows_packument, stale, tries, tries_right, unless_nobody, with_names, withdrawn}
 use Rattle.registry_npm.specs.Leading.{Leads, asks, by_caller, document_of, either, ends, in_form, is_stop, or_memory, reading, request, shown_as, shows, unless_stopped}
 use Rattle.registry_npm.specs.Npm.{asks_caller, asks_first, asks_role, asks_size, follows, is_npms, is_user, leads, not_served, npm, shows_public, asks_by}
 
@@ -86,10 +91,6 @@ by-caller w at p who (Ok told) is = by-asks w at (request at who (Tags p)) _ (re
 
 by-not_served : (w : Wanted) (at : ℕ) (c : Outcome) → By w at (not_served c)
 by-not_served w at c = by-unless w at (ends (Ok (Refused NotServed))) c (by-ends w at (Ok (Refused NotServed)))
-
-by-writers : (w : Wanted) (at : ℕ) (b : Bool) (c : Outcome) → By w at (either b not_served (shown_as writers_form) c)
-by-writers w at true c = by-not_served w at c
-by-writers w at false c = by-shown w at writers_form c
 
 -- a request of the caller
 by-caller_asks : (w : Wanted) (at : ℕ) (what : Credential → Action) (next : Credential → Outcome → Leads) → ((who : Credential) → reads_caller w.authorization (Ok who) → (c : Outcome) → By w at (next who c))
@@ -218,10 +219,43 @@ by-document : (w : Wanted) (at : ℕ) (v : Values) → By w at (leads_document v
 by-document w at v es o (inl (r, is, h)) = by-asks w at r ends (request-for (route_of w.method w.target) w at r is) (by-ends w at) es o h
 by-document w at v es o (inr (s, is, h)) = by-stopped w at v s es o h
 
+-- ---- collaborators
+
+by-form : {A : Type 0} (w : Wanted) (at : ℕ) (next : A → Leads) (a : Option A) → ((x : A) → By w at (next x)) → By w at (for_form next a)
+by-form w at next None f = by-ends w at (Err Database)
+by-form w at next (Some x) f = f x
+
+by-left : (w : Wanted) (at : ℕ) (next : ℕ → Leads) (rest : Option ℕ) → ((n : ℕ) → By w at (next n)) → By w at (for_left next rest)
+by-left w at next None f = by-ends w at (Ok (Refused NotServed))
+by-left w at next (Some n) f = f n
+
+by-taking : {A : Type 0} (w : Wanted) (at left : ℕ) (form : Text → Option A) (next : A → ℕ → Leads) (c : Outcome) → ((x : A) (n : ℕ) → By w at (next x n)) → By w at (taking left form next c)
+unfolding taking
+by-taking w at left form next c f = by-for_document w at _ (ends c) (document_of c) (λ text. by-left w at _ (left_after left (length text)) (λ n. by-or_memory w at _ (by-form w at _ (form text) (λ x. f x n)))) (by-ends w at c)
+
+module _ (w : Wanted) (at : ℕ) (p o : Text) (who : Credential) (is : reads_caller w.authorization (Ok who)) where
+  by-each : (members : List Member) (ts : List Text) (left : ℕ) (granted : List PackageLevel) → By w at (asks_teams p o at who members ts left granted)
+  by-each members [] left granted = by-shows w at _
+  by-each members (t ∷ ts) left granted = by-tries w at (request at who (TeamPackages o t)) _ (refl, inl is) (λ c. by-taking w at left levels_in _ c (λ rows rest.
+      by-either w at (levels.reads (level_said p rows)) _ _
+      (by-tries w at (request at who (TeamMembers o t)) _ (refl, inl is) (λ d. by-taking w at rest names_in _ d (λ users least. by-each members ts least _)))
+      (by-each members ts rest granted)))
+
+  by-all : By w at (asks_all p at who o)
+  by-all = by-tries w at (request at who (Members o)) _ (refl, inl is) (λ c. by-taking w at most_bytes members_in _ c (λ members left.
+      by-tries w at (request at who (Teams o)) _ (refl, inl is) (λ d. by-taking w at left teams_in _ d (λ teams rest. by-each members teams rest []))))
+
+by-scope : (w : Wanted) (at : ℕ) (p : Text) (who : Credential) (o : Option Text) (c : Outcome) → reads_caller w.authorization (Ok who) → By w at (asks_scope p at who o c)
+by-scope w at p who None c is = by-shown w at writers_form c
+by-scope w at p who (Some o) c is = by-unless w at (asks_all p at who o) c (by-all w at p o who is)
+
 -- ---- all routes
 
+by-packument : (w : Wanted) (at : ℕ) (p : Text) → By w at (shows_packument p w at)
+by-packument w at p = by-either w at (accepts_abbreviated w.accept) _ _ (by-caller_asks w at (λ who. AbbreviatedPackument p) (λ who. ends) (λ who is c. by-ends w at c)) (by-asks_for w at shown p)
+
 by-leads : (w : Wanted) (at : ℕ) (e : NpmEndpoint) (v : Values) → By w at (leads e v w at)
-by-leads w at by.Packument v = by-reading w at (one reads_name v) _ (λ p _. by-asks_for w at shown p)
+by-leads w at by.Packument v = by-reading w at (one reads_name v) _ (λ p _. by-packument w at p)
 by-leads w at by.Document v = by-document w at v
 by-leads w at by.Revised v = by-reading w at (one reads_name v) _ (λ p _. by-reading w at (reads_revision v.second) _ (λ named _. by-reading w at (reads_document w.body) _ (λ d _. by-asks_for w at (judged (Some named) d) p)))
 by-leads w at by.Unpublish v = by-reading w at (one reads_name v) _ (λ p _. by-reading w at (reads_revision v.second) _ (λ named _. by-asks_for w at (withdrawn named) p))
@@ -229,7 +263,7 @@ by-leads w at by.FileDrop v = by-first w at by.FileDrop v
 by-leads w at by.ScopedFileDrop v = by-first w at by.ScopedFileDrop v
 by-leads w at by.Visibility v = by-reading w at (one reads_name v) _ (λ p _. by-reading w at (reads_caller w.authorization) _ (λ who is. by-asks w at (request at Anonymous (Tags p)) _ (refl, inr refl) (λ c. by-caller w at p who c is)))
 by-leads w at by.SetAccess v = by-first w at by.SetAccess v
-by-leads w at by.Collaborators v = by-reading w at (one reads_name v) _ (λ p _. by-caller_asks w at (λ who. Maintainers p) _ (λ who is. by-writers w at (is_some (scope_of p))))
+by-leads w at by.Collaborators v = by-reading w at (one reads_name v) _ (λ p _. by-caller_asks w at (λ who. Maintainers p) _ (λ who is c. by-scope w at p who (scope_of p) c is))
 by-leads w at by.OrgPackages v = by-first w at by.OrgPackages v
 by-leads w at by.UserPackages v = by-reading w at (one reads_ident v) _ (λ u _. by-caller_asks w at (λ who. WhoAmI) _ (λ who is c. by-unless w at _ c (by-or_memory w at _ (by-either w at (is_user u c) _ _ (by-asks w at (request at who MyPackages) ends (refl, inl is) (by-ends w at)) (by-ends w at (Ok (Refused NotFound)))))))
 by-leads w at by.Members v = by-first w at by.Members v

@@ -1,9 +1,10 @@
 -- Why what is answered is determined by what was asked and what that came to.
-use Rattle.std.proofs.Common.{◌≡◌, ◌≢◌, ◌∷◌, ◌∙◌, [], ℕ, Bool, true, false, List, Option, Some, None, Result, Ok, Err, is_some, refl, sym, ap, subst, inl, inr}
+use Rattle.std.proofs.Common.{◌≡◌, ◌≢◌, ◌∷◌, ◌∙◌, [], ℕ, Bool, true, false, List, Option, Some, None, Result, Ok, Err, is_some, length, refl, sym, ap, subst, inl, inr}
 use Rattle.std.specs.Prelude.{bytes_eq}
 use Rattle.std.proofs.lemmas.Bool.{false≢true}
 use Rattle.serde_json.specs.Data.{Data}
 use Rattle.serde_json.specs.Read.{read}
+use Rattle.registry_access.specs.Levels as levels
 use Rattle.registry_access.specs.declared.role.Role.{Role}
 use Rattle.registry_documents.specs.Judging.{IsJudged, judged as judgement}
 use Rattle.registry_documents.specs.declared.asked.Asked.{Asked}
@@ -18,6 +19,8 @@ use Rattle.registry_names.specs.declared.stop.Fault.TheVariants.{Database, Memor
 use Rattle.registry_names.specs.declared.stop.Stop.{Stop}
 use Rattle.registry_names.specs.declared.stop.Stop.TheVariants.{Refused as Refuses, Fault as Faulted}
 use Rattle.registry_names.proofs.PrecedenceFacts.{version_reads}
+use Rattle.registry_packument.specs.declared.list.Member.{Member}
+use Rattle.registry_packument.specs.declared.list.PackageLevel.{PackageLevel}
 use Rattle.registry_ranges.specs.Selectors.{Condition, HasConditions, conditions_of}
 use Rattle.registry_ranges.proofs.ReadingFacts.{unambiguous}
 use Rattle.registry_routes.specs.NpmRoutes.{NpmRoute, npm_route_of}
@@ -30,7 +33,7 @@ use Rattle.registry_routes.specs.declared.npm_endpoint.NpmEndpoint.TheVariants a
 use Rattle.registry_rules.specs.declared.reply.Reply.{Reply}
 use Rattle.registry_rules.specs.declared.reply.Reply.TheVariants.{Refused}
 use Rattle.registry_rules.specs.declared.request.Action.{Action}
-use Rattle.registry_rules.specs.declared.request.Action.TheVariants.{OrgSet, OwnerAdd, Maintainers, Members, MyPackages, Packument, Tags, Teams, WhoAmI, WithdrawAll}
+use Rattle.registry_rules.specs.declared.request.Action.TheVariants.{AbbreviatedPackument, OrgSet, OwnerAdd, Maintainers, Members, MyPackages, Packument, Tags, TeamMembers, TeamPackages, Teams, WhoAmI, WithdrawAll}
 use Rattle.registry_rules.specs.declared.request.Credential.{Credential}
 use Rattle.registry_rules.specs.declared.request.Credential.TheVariants.{Anonymous}
 use Rattle.registry_rules.specs.declared.request.Request.{Request}
@@ -42,12 +45,14 @@ use Rattle.registry_service.specs.Readings.{Reading, one, reads_ident, reads_nam
 use Rattle.registry_service.specs.Requests.{reads_request, reads_routed}
 use Rattle.registry_service.specs.Turns.{AsksByRoute, Exchange}
 use Rattle.registry_service.proofs.DialectFacts.{profile_is_determined}
+use Rattle.registry_wire.specs.MediaRanges.{accepts_abbreviated}
 use Rattle.registry_wire.specs.declared.wanted.Wanted.{Wanted}
 use Rattle.registry_npm.specs.Asked.{reads_first, reads_member, reads_user}
+use Rattle.registry_npm.specs.Collaborators.{asks_all, asks_scope, asks_teams, for_form, for_left, left_after, level_said, levels_in, members_in, most_bytes, taking, teams_in}
 use Rattle.registry_npm.specs.Forms.{grants_form, membership_form, names_in, profile_form, teams_form, user_text, writers_form}
 use Rattle.registry_npm.specs.Leading.{Leads, asks, by_caller, document_of, either, ends, in_form, is_stop, or_memory, reading, request, shown_as, shows, unless_stopped}
 use Rattle.registry_npm.specs.Npm.{asks_caller, asks_first, asks_own, asks_role, asks_size, follows, is_npms, is_user, leads, not_served, npm, sets_member, shows_public, shows_visibility, asks_by}
-use Rattle.registry_npm.specs.Packages.{Purpose, asks_as, asks_for, asks_late, asks_names, does, for_document, for_names, fulfils, is_gone, judged, judges, late, leads_claim, leads_claimed, leads_document, leads_stopped, named_by, no_version, other_of, reads_claim, reads_document, reads_owner, reads_revision, reads_versions, reads_withdrawn, revision, serves, shown, stale, tries_right, unless_nobody, with_names, withdrawn}
+use Rattle.registry_npm.specs.Packages.{Purpose, asks_as, asks_for, asks_late, asks_names, does, for_document, for_names, fulfils, is_gone, judged, judges, late, leads_claim, leads_claimed, leads_document, leads_stopped, named_by, no_version, other_of, reads_claim, reads_document, reads_owner, reads_revision, reads_versions, reads_withdrawn, revision, serves, shown, shows_packument, stale, tries, tries_right, unless_nobody, with_names, withdrawn}
 use Rattle.registry_npm.proofs.UserFacts.{cancel}
 
 -- ---- one reply
@@ -465,9 +470,40 @@ asked-visibility p w at e es a b h k =
     let y = asked-value (reads_caller w.authorization) (λ who. asks (request at Anonymous (Tags p)) (asks_caller p at who)) e es (Ok b) k in
     one-callers p at x.0 y.0 e.outcome es a b (then-asked _ _ e es (Ok a) x.2) (then-asked _ _ e es (Ok b) y.2)
 
-one-writers : (t : Bool) (c : Outcome) → One (either t not_served (shown_as writers_form) c)
-one-writers true c = one-not_served c
-one-writers false c = one-shown writers_form c
+one-form : {A : Type 0} (next : A → Leads) (a : Option A) → ((x : A) → One (next x)) → One (for_form next a)
+one-form next None f = one-ends (Err Database)
+one-form next (Some x) f = f x
+
+one-left : (next : ℕ → Leads) (rest : Option ℕ) → ((n : ℕ) → One (next n)) → One (for_left next rest)
+one-left next None f = one-ends (Ok (Refused NotServed))
+one-left next (Some n) f = f n
+
+one-text : (next : Text → Leads) (other : Leads) (t : Option Text) → ((text : Text) → One (next text)) → One other → One (for_document next other t)
+one-text next other None f g = g
+one-text next other (Some text) f g = f text
+
+one-taking : {A : Type 0} (left : ℕ) (form : Text → Option A) (next : A → ℕ → Leads) (c : Outcome) → ((x : A) (n : ℕ) → One (next x n)) → One (taking left form next c)
+unfolding taking
+one-taking left form next c f = one-text _ (ends c) (document_of c) (λ text. one-left _ (left_after left (length text)) (λ n. one-or_memory _ (one-form _ (form text) (λ x. f x n)))) (one-ends c)
+
+one-tries : (r : Request) (next : Outcome → Leads) → ((c : Outcome) → One (next c)) → One (tries r next)
+one-tries r next f = one-or_memory (asks r next) (one-asks r next f)
+
+module _ (p o : Text) (at : ℕ) (who : Credential) where
+  one-each : (members : List Member) (ts : List Text) (left : ℕ) (granted : List PackageLevel) → One (asks_teams p o at who members ts left granted)
+  one-each members [] left granted = one-shows _
+  one-each members (t ∷ ts) left granted = one-tries (request at who (TeamPackages o t)) _ (λ c. one-taking left levels_in _ c (λ rows rest.
+      one-either (levels.reads (level_said p rows)) _ _
+      (one-tries (request at who (TeamMembers o t)) _ (λ d. one-taking rest names_in _ d (λ users least. one-each members ts least _)))
+      (one-each members ts rest granted)))
+
+  one-all : One (asks_all p at who o)
+  one-all = one-tries (request at who (Members o)) _ (λ c. one-taking most_bytes members_in _ c (λ members left.
+      one-tries (request at who (Teams o)) _ (λ d. one-taking left teams_in _ d (λ teams rest. one-each members teams rest []))))
+
+one-scope : (p : Text) (at : ℕ) (who : Credential) (o : Option Text) (c : Outcome) → One (asks_scope p at who o c)
+one-scope p at who None c = one-shown writers_form c
+one-scope p at who (Some o) c = one-unless (asks_all p at who o) c (one-all p o at who)
 
 one-asks_own : (u : Text) (at : ℕ) (who : Credential) (c : Outcome) → One (asks_own u at who c)
 one-asks_own u at who c = one-unless _ c (one-or_memory _ (one-either (is_user u c) _ _ (one-asks (request at who MyPackages) ends one-ends) (one-ends (Ok (Refused NotFound)))))
@@ -497,8 +533,15 @@ asked-role v w at e es a b h k =
     let there : unless_stopped (asks_size x.0.0 x.0.1 x.0.2 x.1 at) e.outcome es (Ok b) = rw (parts.0, parts.1, parts.2, who) y.3 in
     one-size x.0.0 x.0.1 x.0.2 x.1 at e.outcome es a b x.3 there
 
+asked-either : (t : Bool) (fst snd : Leads) → OneAsked fst → OneAsked snd → OneAsked (either t fst snd)
+asked-either true fst snd y n = y
+asked-either false fst snd y n = n
+
+asked-packument : (p : Text) (w : Wanted) (at : ℕ) → OneAsked (shows_packument p w at)
+asked-packument p w at = asked-either (accepts_abbreviated w.accept) _ _ (asked-caller w at (λ who. AbbreviatedPackument p) (λ who. ends) (λ who. one-ends)) (asked-shown p w at)
+
 asked-leads : (e : NpmEndpoint) (v : Values) (w : Wanted) (at : ℕ) → OneAsked (leads e v w at)
-asked-leads by.Packument v w at = asked-reading (one reads_name v) _ (same-name v) (λ p. asked-shown p w at)
+asked-leads by.Packument v w at = asked-reading (one reads_name v) _ (same-name v) (λ p. asked-packument p w at)
 asked-leads by.Document v w at = asked-document v w at
 asked-leads by.Revised v w at = asked-reading (one reads_name v) _ (same-name v) (λ p. asked-reading (reads_revision v.second) _ (same-revision v.second) (λ named. asked-reading (reads_document w.body) _ (same-document w.body) (λ d. asked-judged (Some named) d p w at)))
 asked-leads by.Unpublish v w at = asked-reading (one reads_name v) _ (same-name v) (λ p. asked-reading (reads_revision v.second) _ (same-revision v.second) (λ named. asked-withdrawn named p w at))
@@ -506,7 +549,7 @@ asked-leads by.FileDrop v w at = asked-first by.FileDrop v w at
 asked-leads by.ScopedFileDrop v w at = asked-first by.ScopedFileDrop v w at
 asked-leads by.Visibility v w at = asked-reading (one reads_name v) _ (same-name v) (λ p. asked-visibility p w at)
 asked-leads by.SetAccess v w at = asked-first by.SetAccess v w at
-asked-leads by.Collaborators v w at = asked-reading (one reads_name v) _ (same-name v) (λ p. asked-caller w at (λ who. Maintainers p) _ (λ who. one-writers (is_some (scope_of p))))
+asked-leads by.Collaborators v w at = asked-reading (one reads_name v) _ (same-name v) (λ p. asked-caller w at (λ who. Maintainers p) _ (λ who. one-scope p at who (scope_of p)))
 asked-leads by.OrgPackages v w at = asked-first by.OrgPackages v w at
 asked-leads by.UserPackages v w at = asked-reading (one reads_ident v) _ (same-ident v) (λ u. asked-caller w at (λ who. WhoAmI) _ (λ who. one-asks_own u at who))
 asked-leads by.Members v w at = asked-first by.Members v w at
@@ -526,10 +569,6 @@ asked-leads by.User v w at = asked-reading (one reads_user v) _ (same-user v) (�
 asked-leads by.Logout v w at = asked-first by.Logout v w at
 asked-leads by.Ping v w at = λ e es a b h k. absurd (nothing-asked e es h.0)
 asked-leads by.NotServed v w at = λ e es a b h k. absurd (nothing-asked e es h.0)
-
-asked-either : (t : Bool) (fst snd : Leads) → OneAsked fst → OneAsked snd → OneAsked (either t fst snd)
-asked-either true fst snd y n = y
-asked-either false fst snd y n = n
 
 asked-by : (r : Option NpmRoute) (w : Wanted) (at : ℕ) → OneAsked (asks_by r w at)
 asked-by None w at = profile_is_determined w at

@@ -15,12 +15,12 @@ Text = List ℕ
 
 -- ---- texts of an array
 
-shift : {A : Type 0} (done : List A) (x : A) (o : Option (List A))
+pub shift : {A : Type 0} (done : List A) (x : A) (o : Option (List A))
     → option_map (λ (xs : List A). done ++ xs) (option_map (λ (xs : List A). x ∷ xs) o) ≡ option_map (λ (xs : List A). (done ++ x ∷ []) ++ xs) o
 shift done x None = refl
 shift {A} done x (Some xs) = ap (λ (ys : List A). Some ys) (sym (append_assoc done (x ∷ []) xs))
 
-none-before : {A : Type 0} (o : Option (List A)) → o ≡ option_map (λ (xs : List A). [] ++ xs) o
+pub none-before : {A : Type 0} (o : Option (List A)) → o ≡ option_map (λ (xs : List A). [] ++ xs) o
 none-before None = refl
 none-before (Some xs) = refl
 

@@ -1,5 +1,5 @@
 -- What is said to those who keep documents.
-use Rattle.std.proofs.Common.{◌≡◌, ◌≢◌, ◌∷◌, ◌∙◌, [], ℕ, Bool, true, false, List, Option, Some, None, Ok, Err, is_some, refl, ap, inl, inr, if◌then◌else◌}
+use Rattle.std.proofs.Common.{◌≡◌, ◌≢◌, ◌⊎◌, ◌∷◌, ◌∙◌, [], ℕ, Bool, true, false, List, Option, Some, None, Ok, Err, is_some, refl, sym, ap, inl, inr, if◌then◌else◌}
 use Rattle.std.proofs.lemmas.Bool.{cases_Bool, false≢true}
 use Rattle.registry_names.specs.Names.{scope_of}
 use Rattle.registry_names.specs.Texts.{Text}
@@ -14,21 +14,23 @@ use Rattle.registry_routes.specs.declared.npm_endpoint.NpmEndpoint.TheVariants a
 use Rattle.registry_rules.specs.declared.reply.Reply.TheVariants.{Bytes, Count, Created, Doc, Done, Refused}
 use Rattle.registry_rules.specs.declared.request.Action.{Action}
 use Rattle.registry_rules.specs.declared.request.Action.TheVariants as action
-use Rattle.registry_rules.specs.declared.request.Action.TheVariants.{Archive, Maintainers, Packument}
+use Rattle.registry_rules.specs.declared.request.Action.TheVariants.{AbbreviatedPackument, Archive, Maintainers, Packument}
 use Rattle.registry_rules.specs.declared.request.Credential.{Credential}
 use Rattle.registry_rules.specs.declared.request.Credential.TheVariants.{Anonymous, Operator, Token, User}
 use Rattle.registry_rules.specs.declared.request.Request.{Request}
 use Rattle.registry_service.specs.HttpAnswers.{Outcome}
 use Rattle.registry_service.specs.Readings.{Reading}
 use Rattle.registry_service.specs.Turns.{AsksByRoute, Exchange, exchange, stopped}
+use Rattle.registry_wire.specs.MediaRanges.{accepts_abbreviated}
 use Rattle.registry_wire.specs.Responses.{no_labels}
 use Rattle.registry_wire.specs.declared.labels.Caching.TheVariants.{Shared}
 use Rattle.registry_wire.specs.declared.labels.Labels.{Labels}
+use Rattle.registry_wire.specs.declared.wanted.FieldValue.{FieldValue}
 use Rattle.registry_wire.specs.declared.wanted.Wanted.{Wanted}
-use Rattle.registry_npm.specs.LabelLaws.{ArchiveTagsAreTags, ArchivesKeepTags, IsTagged, RefusalsHaveNoLabels, SharedIsPublic, TagsAreRevisions}
+use Rattle.registry_npm.specs.LabelLaws.{AbbreviatedAreShown, ArchivesKeepTags, AsksArchive, ContentTagsAreTags, IsAbbreviated, IsTagged, OnlyReadsAreLabelled, RefusalsHaveNoLabels, SharedIsPublic, TagsAreRevisions}
 use Rattle.registry_npm.specs.Changes.{AreNamed}
 use Rattle.registry_npm.specs.Forms.{names_in}
-use Rattle.registry_npm.specs.Labels.{archive_caching, archive_labels, asked_labels, is_packument, other_labels, own_labels, packument_labels, tag_in}
+use Rattle.registry_npm.specs.Labels.{abbreviated_labels, archive_caching, archive_labels, asked_labels, full_labels, is_packument, of_document, other_labels, own_labels, packument_labels, tag_in}
 use Rattle.registry_npm.specs.Laws.{is_npms_by}
 use Rattle.registry_npm.specs.Leading.{Leads, asks, document_of, ends, is_stop, or_memory, reading, request}
 use Rattle.registry_npm.specs.Npm.{asks_by, is_npms, labels_by, leads}
@@ -38,14 +40,26 @@ use Rattle.registry_npm.proofs.TagFacts.{hex-is_tag, shown-tag}
 
 -- ---- refusals
 
-own-stopped : (e : NpmEndpoint) (o : Outcome) → is_stop o ≡ true → own_labels e o ≡ no_labels
-own-stopped e (Err fault) h = refl
-own-stopped e (Ok (Refused r)) h = refl
-own-stopped e (Ok Created) h = absurd (false≢true h)
-own-stopped e (Ok Done) h = absurd (false≢true h)
-own-stopped e (Ok (Count n)) h = absurd (false≢true h)
-own-stopped e (Ok (Doc text)) h = absurd (false≢true h)
-own-stopped e (Ok (Bytes bytes)) h = absurd (false≢true h)
+document-stopped : (says : Text → Labels) (o : Outcome) → is_stop o ≡ true → of_document says o ≡ no_labels
+document-stopped says (Err fault) h = refl
+document-stopped says (Ok (Refused r)) h = refl
+document-stopped says (Ok Created) h = absurd (false≢true h)
+document-stopped says (Ok Done) h = absurd (false≢true h)
+document-stopped says (Ok (Count n)) h = absurd (false≢true h)
+document-stopped says (Ok (Doc text)) h = absurd (false≢true h)
+document-stopped says (Ok (Bytes bytes)) h = absurd (false≢true h)
+
+either-one : (b : Bool) (x y z : Labels) → x ≡ z → y ≡ z → (if b then x else y) ≡ z
+either-one true x y z is too = is
+either-one false x y z is too = too
+
+own-stopped : (e : NpmEndpoint) (accept : FieldValue) (o : Outcome) → is_stop o ≡ true → own_labels e accept o ≡ no_labels
+own-stopped e accept o h = either-one (is_packument e) _ _ _ (either-one (accepts_abbreviated accept) _ _ _ (document-stopped abbreviated_labels o h) (document-stopped full_labels o h)) refl
+
+-- what isn't in form is a refusal or a fault
+pub form-stopped : (accept : FieldValue) (s : Stop) → no_labels ≡ packument_labels accept (stopped s)
+form-stopped accept (Refuses r) = sym (either-one (accepts_abbreviated accept) _ _ _ refl refl)
+form-stopped accept (Faulted fault) = sym (either-one (accepts_abbreviated accept) _ _ _ refl refl)
 
 other-stopped : (es : List Exchange) (o : Outcome) → is_stop o ≡ true → other_labels es o ≡ no_labels
 other-stopped es (Err fault) h = refl
@@ -56,16 +70,12 @@ other-stopped es (Ok (Count n)) h = absurd (false≢true h)
 other-stopped es (Ok (Doc text)) h = absurd (false≢true h)
 other-stopped es (Ok (Bytes bytes)) h = absurd (false≢true h)
 
-either-one : (b : Bool) (x y z : Labels) → x ≡ z → y ≡ z → (if b then x else y) ≡ z
-either-one true x y z is too = is
-either-one false x y z is too = too
-
-stopped-by : (r : Option NpmRoute) (body : Text) (es : List Exchange) (o : Outcome) → is_stop o ≡ true → labels_by r body es o ≡ no_labels
-stopped-by None body es o h = other-stopped es o h
-stopped-by (Some r) body es o h = either-one (is_npms r.endpoint body) _ _ _ (own-stopped r.endpoint o h) (other-stopped es o h)
+stopped-by : (r : Option NpmRoute) (w : Wanted) (es : List Exchange) (o : Outcome) → is_stop o ≡ true → labels_by r w es o ≡ no_labels
+stopped-by None w es o h = other-stopped es o h
+stopped-by (Some r) w es o h = either-one (is_npms r.endpoint w.body) _ _ _ (own-stopped r.endpoint w.accept o h) (other-stopped es o h)
 
 pub refusals_have_no_labels : RefusalsHaveNoLabels
-refusals_have_no_labels w es o h = stopped-by (npm_route_of w.method w.target) w.body es o h
+refusals_have_no_labels w es o h = stopped-by (npm_route_of w.method w.target) w es o h
 
 -- ---- packuments
 
@@ -162,7 +172,7 @@ read-reading reads next es doc f (inl (a, r, h)) = f a h
 read-reading reads next es doc f (inr (s, r, h)) = absurd (stopped-no s doc h.1)
 
 abbrev Tagged : ℕ → List Exchange → Text → Type 0
-Tagged at es doc = IsTagged at es doc (own_labels by.Packument (Ok (Doc doc)))
+Tagged at es doc = IsTagged at es doc (full_labels doc)
 
 tagged : (p : Text) (at : ℕ) (who : Credential) (doc : Text) (es : List Exchange) → IsRead p at who doc es → Tagged at es doc
 tagged p at who doc es is = record {
@@ -176,41 +186,70 @@ tagged p at who doc es is = record {
   shows = is.shows;
   tag = ap tag_in is.shows ∙ shown-tag is.text is.names;
   caching = refl;
+  form = refl;
 }
 
-packument-tagged : (v : Values) (w : Wanted) (at : ℕ) (es : List Exchange) (doc : Text) → leads by.Packument v w at es (Ok (Doc doc)) → Tagged at es doc
-packument-tagged v w at es doc h =
-    read-reading _ _ es doc (λ p k. read-reading _ _ es doc (λ who l. tagged p at who doc es (serves-read p at who doc es l)) k) h
+-- what holds of a packument that is read and its labels
+record IsShown (w : Wanted) (at : ℕ) (es : List Exchange) (doc : Text) (labels : Labels) : Type 0 where
+  full : accepts_abbreviated w.accept ≡ false → IsTagged at es doc labels
+  abbreviated : accepts_abbreviated w.accept ≡ true → IsAbbreviated at es doc labels
 
-tagged-by : (e : NpmEndpoint) (v : Values) (w : Wanted) (at : ℕ) (es : List Exchange) (doc : Text) → e ≡ by.Packument → asks_by (Some (record { endpoint = e; values = v })) w at es (Ok (Doc doc))
-    → IsTagged at es doc (labels_by (Some (record { endpoint = e; values = v })) w.body es (Ok (Doc doc)))
-tagged-by e v w at es doc is h = rw is (packument-tagged v w at es doc (rw is at h))
+abbreviated-read : (p : Text) (at : ℕ) (who : Credential) (es : List Exchange) (doc : Text) → asks (request at who (AbbreviatedPackument p)) ends es (Ok (Doc doc)) → IsAbbreviated at es doc (abbreviated_labels doc)
+unfolding asks
+abbreviated-read p at who [] doc h = absurd h
+abbreviated-read p at who (e ∷ es) doc h = record {
+  who = who;
+  name = p;
+  asked = rw (h.1.0, exchange-is e (request at who (AbbreviatedPackument p)) (Ok (Doc doc)) h.0 (sym h.1.1)) refl;
+  labels_of_text = refl;
+}
 
-tagged-found : (x : Option NpmRoute) (r : NpmRoute) (w : Wanted) (at : ℕ) (es : List Exchange) (doc : Text) → x ≡ Some r → r.endpoint ≡ by.Packument → asks_by x w at es (Ok (Doc doc))
-    → IsTagged at es doc (labels_by x w.body es (Ok (Doc doc)))
-tagged-found None r w at es doc e is h = absurd (cc)
-tagged-found (Some x) r w at es doc e is h =
+full-shown : (v : Values) (w : Wanted) (at : ℕ) (es : List Exchange) (doc : Text) → accepts_abbreviated w.accept ≡ false → leads by.Packument v w at es (Ok (Doc doc)) → Tagged at es doc
+full-shown v w at es doc full h =
+    read-reading _ _ es doc (λ p k. read-reading _ _ es doc (λ who l. tagged p at who doc es (serves-read p at who doc es l)) (rw full at k)) h
+
+abbreviated-shown : (v : Values) (w : Wanted) (at : ℕ) (es : List Exchange) (doc : Text) → accepts_abbreviated w.accept ≡ true → leads by.Packument v w at es (Ok (Doc doc)) → IsAbbreviated at es doc (abbreviated_labels doc)
+abbreviated-shown v w at es doc accepts h =
+    read-reading _ _ es doc (λ p k. read-reading _ _ es doc (λ who l. abbreviated-read p at who es doc l) (rw accepts at k)) h
+
+packument-shown : (v : Values) (w : Wanted) (at : ℕ) (es : List Exchange) (doc : Text) → leads by.Packument v w at es (Ok (Doc doc)) → IsShown w at es doc (packument_labels w.accept (Ok (Doc doc)))
+packument-shown v w at es doc h = record {
+  full = λ is. rw is (full-shown v w at es doc is h);
+  abbreviated = λ is. rw is (abbreviated-shown v w at es doc is h);
+}
+
+shown-by : (e : NpmEndpoint) (v : Values) (w : Wanted) (at : ℕ) (es : List Exchange) (doc : Text) → e ≡ by.Packument → asks_by (Some (record { endpoint = e; values = v })) w at es (Ok (Doc doc))
+    → IsShown w at es doc (labels_by (Some (record { endpoint = e; values = v })) w es (Ok (Doc doc)))
+shown-by e v w at es doc is h = rw is (packument-shown v w at es doc (rw is at h))
+
+shown-found : (x : Option NpmRoute) (r : NpmRoute) (w : Wanted) (at : ℕ) (es : List Exchange) (doc : Text) → x ≡ Some r → r.endpoint ≡ by.Packument → asks_by x w at es (Ok (Doc doc))
+    → IsShown w at es doc (labels_by x w es (Ok (Doc doc)))
+shown-found None r w at es doc e is h = absurd (cc)
+shown-found (Some x) r w at es doc e is h =
     let same : x ≡ r = cc in
-    tagged-by x.endpoint x.values w at es doc (ap (λ (y : NpmRoute). y.endpoint) same ∙ is) h
+    shown-by x.endpoint x.values w at es doc (ap (λ (y : NpmRoute). y.endpoint) same ∙ is) h
 
 pub tags_are_revisions : TagsAreRevisions
-tags_are_revisions w at es doc r found is h = tagged-found (npm_route_of w.method w.target) r w at es doc found is h
+tags_are_revisions w at es doc r found is full h = (shown-found (npm_route_of w.method w.target) r w at es doc found is h).full full
+
+pub abbreviated_are_shown : AbbreviatedAreShown
+abbreviated_are_shown w at es doc r found is accepts h = (shown-found (npm_route_of w.method w.target) r w at es doc found is h).abbreviated accepts
 
 -- ---- archives
 
-pub kept-by : (r : Option NpmRoute) (body : Text) (es : List Exchange) (o : Outcome) → is_npms_by r body ≡ false → labels_by r body es o ≡ other_labels es o
-kept-by None body es o h = refl
-kept-by (Some r) body es o h = ap (λ b. if b then own_labels r.endpoint o else other_labels es o) h
+pub kept-by : (r : Option NpmRoute) (w : Wanted) (es : List Exchange) (o : Outcome) → is_npms_by r w.body ≡ false → labels_by r w es o ≡ other_labels es o
+kept-by None w es o h = refl
+kept-by (Some r) w es o h = ap (λ b. if b then own_labels r.endpoint w.accept o else other_labels es o) h
 
-pub own-by : (r : NpmRoute) (body : Text) (es : List Exchange) (o : Outcome) → is_npms r.endpoint body ≡ true → labels_by (Some r) body es o ≡ own_labels r.endpoint o
-own-by r body es o h = ap (λ b. if b then own_labels r.endpoint o else other_labels es o) h
+pub own-by : (r : NpmRoute) (w : Wanted) (es : List Exchange) (o : Outcome) → is_npms r.endpoint w.body ≡ true → labels_by (Some r) w es o ≡ own_labels r.endpoint w.accept o
+own-by r w es o h = ap (λ b. if b then own_labels r.endpoint w.accept o else other_labels es o) h
 
 pub archives_keep_tags : ArchivesKeepTags
 archives_keep_tags w at who p v bytes h =
-    kept-by (npm_route_of w.method w.target) w.body (exchange (request at who (Archive p v)) (Ok (Bytes bytes)) ∷ []) (Ok (Bytes bytes)) h
+    kept-by (npm_route_of w.method w.target) w (exchange (request at who (Archive p v)) (Ok (Bytes bytes)) ∷ []) (Ok (Bytes bytes)) h
 
-pub archive_tags_are_tags : ArchiveTagsAreTags
-archive_tags_are_tags p v = hex-is_tag _
+pub content_tags_are_tags : ContentTagsAreTags
+content_tags_are_tags bytes = hex-is_tag bytes
 
 -- ---- what is shared
 
@@ -224,69 +263,77 @@ shared-who (Token digest) h = absurd (cc)
 abbrev IsPublic : Credential → Action → Type 0
 IsPublic who what = (p : Text) × (v : VersionParts) × (who ≡ Anonymous) × (what ≡ action.Archive p v)
 
-shared-archive : (who : Credential) (what : Action) → (archive_labels who what).caching ≡ Shared → IsPublic who what
-shared-archive who (action.UserAdd a) h = absurd (cc)
-shared-archive who (action.TokenAdd a b) h = absurd (cc)
-shared-archive who (action.TokenRemove a) h = absurd (cc)
-shared-archive who (action.TokensRemove a) h = absurd (cc)
-shared-archive who (action.OrgCreate a b) h = absurd (cc)
-shared-archive who (action.OrgSet a b c) h = absurd (cc)
-shared-archive who (action.OrgRemove a b) h = absurd (cc)
-shared-archive who (action.TeamCreate a b) h = absurd (cc)
-shared-archive who (action.TeamDestroy a b) h = absurd (cc)
-shared-archive who (action.TeamAdd a b c) h = absurd (cc)
-shared-archive who (action.TeamRemove a b c) h = absurd (cc)
-shared-archive who (action.Grant a b c d) h = absurd (cc)
-shared-archive who (action.Revoke a b c) h = absurd (cc)
-shared-archive who (action.SetAccess a b) h = absurd (cc)
-shared-archive who (action.OwnerAdd a b) h = absurd (cc)
-shared-archive who (action.OwnerRemove a b) h = absurd (cc)
-shared-archive who (action.Publish a) h = absurd (cc)
-shared-archive who (action.TagSet a b c) h = absurd (cc)
-shared-archive who (action.TagRemove a b) h = absurd (cc)
-shared-archive who (action.Withdraw a b) h = absurd (cc)
-shared-archive who (action.WithdrawAll a) h = absurd (cc)
-shared-archive who (action.Deprecate a b c) h = absurd (cc)
-shared-archive who (action.Packument a) h = absurd (cc)
-shared-archive who (action.VersionDoc a b) h = absurd (cc)
-shared-archive who (action.Archive p v) h = (p, v, shared-who who h, refl)
-shared-archive who (action.Tags a) h = absurd (cc)
-shared-archive who (action.Members a) h = absurd (cc)
-shared-archive who (action.Teams a) h = absurd (cc)
-shared-archive who (action.TeamMembers a b) h = absurd (cc)
-shared-archive who (action.TeamPackages a b) h = absurd (cc)
-shared-archive who action.WhoAmI h = absurd (cc)
-shared-archive who (action.Maintainers a) h = absurd (cc)
-shared-archive who (action.OrgPackages a) h = absurd (cc)
-shared-archive who action.MyPackages h = absurd (cc)
-shared-archive who action.Users h = absurd (cc)
-shared-archive who action.Organisations h = absurd (cc)
-shared-archive who action.Packages h = absurd (cc)
+shared-archive : (who : Credential) (what : Action) (bytes : List ℕ) → (archive_labels who what bytes).caching ≡ Shared → IsPublic who what
+shared-archive who (action.UserAdd a) bytes h = absurd (cc)
+shared-archive who (action.TokenAdd a b) bytes h = absurd (cc)
+shared-archive who (action.TokenRemove a) bytes h = absurd (cc)
+shared-archive who (action.TokensRemove a) bytes h = absurd (cc)
+shared-archive who (action.OrgCreate a b) bytes h = absurd (cc)
+shared-archive who (action.OrgSet a b c) bytes h = absurd (cc)
+shared-archive who (action.OrgRemove a b) bytes h = absurd (cc)
+shared-archive who (action.TeamCreate a b) bytes h = absurd (cc)
+shared-archive who (action.TeamDestroy a b) bytes h = absurd (cc)
+shared-archive who (action.TeamAdd a b c) bytes h = absurd (cc)
+shared-archive who (action.TeamRemove a b c) bytes h = absurd (cc)
+shared-archive who (action.Grant a b c d) bytes h = absurd (cc)
+shared-archive who (action.Revoke a b c) bytes h = absurd (cc)
+shared-archive who (action.SetAccess a b) bytes h = absurd (cc)
+shared-archive who (action.OwnerAdd a b) bytes h = absurd (cc)
+shared-archive who (action.OwnerRemove a b) bytes h = absurd (cc)
+shared-archive who (action.Publish a) bytes h = absurd (cc)
+shared-archive who (action.TagSet a b c) bytes h = absurd (cc)
+shared-archive who (action.TagRemove a b) bytes h = absurd (cc)
+shared-archive who (action.Withdraw a b) bytes h = absurd (cc)
+shared-archive who (action.WithdrawAll a) bytes h = absurd (cc)
+shared-archive who (action.Deprecate a b c) bytes h = absurd (cc)
+shared-archive who (action.Packument a) bytes h = absurd (cc)
+shared-archive who (action.AbbreviatedPackument a) bytes h = absurd (cc)
+shared-archive who (action.VersionDoc a b) bytes h = absurd (cc)
+shared-archive who (action.Archive p v) bytes h = (p, v, shared-who who h, refl)
+shared-archive who (action.Tags a) bytes h = absurd (cc)
+shared-archive who (action.Members a) bytes h = absurd (cc)
+shared-archive who (action.Teams a) bytes h = absurd (cc)
+shared-archive who (action.TeamMembers a b) bytes h = absurd (cc)
+shared-archive who (action.TeamPackages a b) bytes h = absurd (cc)
+shared-archive who action.WhoAmI bytes h = absurd (cc)
+shared-archive who (action.Maintainers a) bytes h = absurd (cc)
+shared-archive who (action.OrgPackages a) bytes h = absurd (cc)
+shared-archive who action.MyPackages bytes h = absurd (cc)
+shared-archive who action.Users bytes h = absurd (cc)
+shared-archive who action.Organisations bytes h = absurd (cc)
+shared-archive who action.Packages bytes h = absurd (cc)
 
-own-unshared : (b : Bool) (text : Text) → (if b then packument_labels text else no_labels).caching ≡ Shared → ⊥
-own-unshared true text h = cc
-own-unshared false text h = cc
+either-unshared : (b : Bool) (x y : Labels) → (x.caching ≡ Shared → ⊥) → (y.caching ≡ Shared → ⊥) → (if b then x else y).caching ≡ Shared → ⊥
+either-unshared true x y is too = is
+either-unshared false x y is too = too
 
-own-shared : (e : NpmEndpoint) (o : Outcome) → (own_labels e o).caching ≡ Shared → ⊥
-own-shared e (Ok (Doc text)) h = own-unshared (is_packument e) text h
-own-shared e (Err fault) h = cc
-own-shared e (Ok (Refused r)) h = cc
-own-shared e (Ok Created) h = cc
-own-shared e (Ok Done) h = cc
-own-shared e (Ok (Count n)) h = cc
-own-shared e (Ok (Bytes bytes)) h = cc
+none-unshared : no_labels.caching ≡ Shared → ⊥
+none-unshared h = cc
+
+document-unshared : (says : Text → Labels) (o : Outcome) → ((text : Text) → (says text).caching ≡ Shared → ⊥) → (of_document says o).caching ≡ Shared → ⊥
+document-unshared says (Ok (Doc text)) f h = f text h
+document-unshared says (Err fault) f h = cc
+document-unshared says (Ok (Refused r)) f h = cc
+document-unshared says (Ok Created) f h = cc
+document-unshared says (Ok Done) f h = cc
+document-unshared says (Ok (Count n)) f h = cc
+document-unshared says (Ok (Bytes bytes)) f h = cc
+
+own-shared : (e : NpmEndpoint) (accept : FieldValue) (o : Outcome) → (own_labels e accept o).caching ≡ Shared → ⊥
+own-shared e accept o = either-unshared (is_packument e) _ _
+    (either-unshared (accepts_abbreviated accept) _ _ (document-unshared abbreviated_labels o (λ text h. cc)) (document-unshared full_labels o (λ text h. cc))) none-unshared
 
 -- an exchange that was for an archive, by nobody in particular
 abbrev AsksPublicly : List Exchange → Type 0
 AsksPublicly [] = ⊥
 AsksPublicly (e ∷ es) = IsPublic e.asked.who e.asked.what
 
-asked-shared : (es : List Exchange) → (asked_labels es).caching ≡ Shared → AsksPublicly es
-asked-shared [] h = cc
-asked-shared (e ∷ es) h = shared-archive e.asked.who e.asked.what h
+asked-shared : (es : List Exchange) (bytes : List ℕ) → (asked_labels es bytes).caching ≡ Shared → AsksPublicly es
+asked-shared [] bytes h = cc
+asked-shared (e ∷ es) bytes h = shared-archive e.asked.who e.asked.what bytes h
 
 other-shared : (es : List Exchange) (o : Outcome) → (other_labels es o).caching ≡ Shared → AsksPublicly es
-other-shared es (Ok (Bytes bytes)) h = asked-shared es h
+other-shared es (Ok (Bytes bytes)) h = asked-shared es bytes h
 other-shared es (Ok (Doc text)) h = absurd (cc)
 other-shared es (Err fault) h = absurd (cc)
 other-shared es (Ok (Refused r)) h = absurd (cc)
@@ -309,10 +356,10 @@ shared-routed w at es o (inl (r, is, same)) h =
     rw same (shared-asked at r o (routed-at w at r is) here)
 shared-routed w at es o (inr (s, is, none, same)) h = absurd (let there : AsksPublicly [] = rw none at h in there)
 
-shared-by : (r : Option NpmRoute) (w : Wanted) (at : ℕ) (es : List Exchange) (o : Outcome) → asks_by r w at es o → (labels_by r w.body es o).caching ≡ Shared → Publicly at es o
+shared-by : (r : Option NpmRoute) (w : Wanted) (at : ℕ) (es : List Exchange) (o : Outcome) → asks_by r w at es o → (labels_by r w es o).caching ≡ Shared → Publicly at es o
 shared-by None w at es o h is = shared-routed w at es o h (other-shared es o is)
 shared-by (Some r) w at es o h is = elim (cases_Bool (is_npms r.endpoint w.body)) [
-  | inl own ↦ let there : (own_labels r.endpoint o).caching ≡ Shared = rw own at is in absurd (own-shared r.endpoint o there)
+  | inl own ↦ let there : (own_labels r.endpoint w.accept o).caching ≡ Shared = rw own at is in absurd (own-shared r.endpoint w.accept o there)
   | inr other ↦
       let there : (other_labels es o).caching ≡ Shared = rw other at is in
       let asked : AsksByRoute w at es o = rw other at h in
@@ -321,3 +368,139 @@ shared-by (Some r) w at es o h is = elim (cases_Bool (is_npms r.endpoint w.body)
 
 pub shared_is_public : SharedIsPublic
 shared_is_public w at es o h is = shared-by (npm_route_of w.method w.target) w at es o h is
+
+-- ---- what is labelled
+
+-- an archive is asked for, by whomever
+abbrev IsArchive : Action → Type 0
+IsArchive what = (p : Text) × (v : VersionParts) × (what ≡ action.Archive p v)
+
+labelled-archive : (who : Credential) (what : Action) (bytes : List ℕ) → (archive_labels who what bytes ≡ no_labels) ⊎ IsArchive what
+labelled-archive who (action.UserAdd a) bytes = inl refl
+labelled-archive who (action.TokenAdd a b) bytes = inl refl
+labelled-archive who (action.TokenRemove a) bytes = inl refl
+labelled-archive who (action.TokensRemove a) bytes = inl refl
+labelled-archive who (action.OrgCreate a b) bytes = inl refl
+labelled-archive who (action.OrgSet a b c) bytes = inl refl
+labelled-archive who (action.OrgRemove a b) bytes = inl refl
+labelled-archive who (action.TeamCreate a b) bytes = inl refl
+labelled-archive who (action.TeamDestroy a b) bytes = inl refl
+labelled-archive who (action.TeamAdd a b c) bytes = inl refl
+labelled-archive who (action.TeamRemove a b c) bytes = inl refl
+labelled-archive who (action.Grant a b c d) bytes = inl refl
+labelled-archive who (action.Revoke a b c) bytes = inl refl
+labelled-archive who (action.SetAccess a b) bytes = inl refl
+labelled-archive who (action.OwnerAdd a b) bytes = inl refl
+labelled-archive who (action.OwnerRemove a b) bytes = inl refl
+labelled-archive who (action.Publish a) bytes = inl refl
+labelled-archive who (action.TagSet a b c) bytes = inl refl
+labelled-archive who (action.TagRemove a b) bytes = inl refl
+labelled-archive who (action.Withdraw a b) bytes = inl refl
+labelled-archive who (action.WithdrawAll a) bytes = inl refl
+labelled-archive who (action.Deprecate a b c) bytes = inl refl
+labelled-archive who (action.Packument a) bytes = inl refl
+labelled-archive who (action.AbbreviatedPackument a) bytes = inl refl
+labelled-archive who (action.VersionDoc a b) bytes = inl refl
+labelled-archive who (action.Archive p v) bytes = inr (p, v, refl)
+labelled-archive who (action.Tags a) bytes = inl refl
+labelled-archive who (action.Members a) bytes = inl refl
+labelled-archive who (action.Teams a) bytes = inl refl
+labelled-archive who (action.TeamMembers a b) bytes = inl refl
+labelled-archive who (action.TeamPackages a b) bytes = inl refl
+labelled-archive who action.WhoAmI bytes = inl refl
+labelled-archive who (action.Maintainers a) bytes = inl refl
+labelled-archive who (action.OrgPackages a) bytes = inl refl
+labelled-archive who action.MyPackages bytes = inl refl
+labelled-archive who action.Users bytes = inl refl
+labelled-archive who action.Organisations bytes = inl refl
+labelled-archive who action.Packages bytes = inl refl
+
+-- the first that was asked for is an archive
+abbrev AsksFirst : List Exchange → Type 0
+AsksFirst [] = ⊥
+AsksFirst (e ∷ es) = IsArchive e.asked.what
+
+asked-labelled : (es : List Exchange) (bytes : List ℕ) → (asked_labels es bytes ≡ no_labels) ⊎ AsksFirst es
+asked-labelled [] bytes = inl refl
+asked-labelled (e ∷ es) bytes = labelled-archive e.asked.who e.asked.what bytes
+
+other-labelled : (es : List Exchange) (o : Outcome) → (other_labels es o ≡ no_labels) ⊎ AsksFirst es
+other-labelled es (Ok (Bytes bytes)) = asked-labelled es bytes
+other-labelled es (Ok (Doc text)) = inl refl
+other-labelled es (Err fault) = inl refl
+other-labelled es (Ok (Refused r)) = inl refl
+other-labelled es (Ok Created) = inl refl
+other-labelled es (Ok Done) = inl refl
+other-labelled es (Ok (Count n)) = inl refl
+
+archive-is : (at : ℕ) (r : Request) (p : Text) (v : VersionParts) → r.at ≡ at → r.what ≡ action.Archive p v → r ≡ request at r.who (action.Archive p v)
+archive-is at r p v when what = rw (← when, ← what) refl
+
+archive-asked : (w : Wanted) (at : ℕ) (es : List Exchange) (o : Outcome) → AsksByRoute w at es o → AsksFirst es → AsksArchive at es o
+archive-asked w at es o (inl (r, is, same)) h =
+    let here : IsArchive r.what = rw same at h in
+    (r.who, here.0, here.1, same ∙ ap (λ (q : Request). exchange q o ∷ []) (archive-is at r here.0 here.1 (routed-at w at r is) here.2))
+archive-asked w at es o (inr (s, is, none, same)) h = absurd (let there : AsksFirst [] = rw none at h in there)
+
+abbrev Labelled : Wanted → ℕ → List Exchange → Outcome → Option NpmRoute → Type 0
+Labelled w at es o x = (labels_by x w es o ≡ no_labels) ⊎ ((r : NpmRoute) × (x ≡ Some r) × (r.endpoint ≡ by.Packument)) ⊎ AsksArchive at es o
+
+other-reads : (w : Wanted) (at : ℕ) (es : List Exchange) (o : Outcome) (labels : Labels) → AsksByRoute w at es o → labels ≡ other_labels es o → (labels ≡ no_labels) ⊎ AsksArchive at es o
+other-reads w at es o labels h same = elim (other-labelled es o) [
+  | inl none ↦ inl (same ∙ none)
+  | inr first ↦ inr (archive-asked w at es o h first)
+]
+
+the-packument : (e : NpmEndpoint) → is_packument e ≡ true → e ≡ by.Packument
+the-packument by.Packument h = refl
+the-packument by.Document h = absurd (false≢true h)
+the-packument by.Revised h = absurd (false≢true h)
+the-packument by.Unpublish h = absurd (false≢true h)
+the-packument by.FileDrop h = absurd (false≢true h)
+the-packument by.ScopedFileDrop h = absurd (false≢true h)
+the-packument by.Visibility h = absurd (false≢true h)
+the-packument by.SetAccess h = absurd (false≢true h)
+the-packument by.Collaborators h = absurd (false≢true h)
+the-packument by.OrgPackages h = absurd (false≢true h)
+the-packument by.UserPackages h = absurd (false≢true h)
+the-packument by.Members h = absurd (false≢true h)
+the-packument by.OrgSet h = absurd (false≢true h)
+the-packument by.OrgRemove h = absurd (false≢true h)
+the-packument by.Teams h = absurd (false≢true h)
+the-packument by.TeamCreate h = absurd (false≢true h)
+the-packument by.TeamMembers h = absurd (false≢true h)
+the-packument by.TeamAdd h = absurd (false≢true h)
+the-packument by.TeamRemove h = absurd (false≢true h)
+the-packument by.TeamPackages h = absurd (false≢true h)
+the-packument by.Grant h = absurd (false≢true h)
+the-packument by.Revoke h = absurd (false≢true h)
+the-packument by.WhoAmI h = absurd (false≢true h)
+the-packument by.Profile h = absurd (false≢true h)
+the-packument by.User h = absurd (false≢true h)
+the-packument by.Logout h = absurd (false≢true h)
+the-packument by.Ping h = absurd (false≢true h)
+the-packument by.NotServed h = absurd (false≢true h)
+
+labelled-own : (r : NpmRoute) (w : Wanted) (at : ℕ) (es : List Exchange) (o : Outcome) → is_npms r.endpoint w.body ≡ true → Labelled w at es o (Some r)
+labelled-own r w at es o own = elim (cases_Bool (is_packument r.endpoint)) [
+  | inl is ↦ inr (inl (r, refl, the-packument r.endpoint is))
+  | inr other ↦ inl (own-by r w es o own ∙ ap (λ b. if b then packument_labels w.accept o else no_labels) other)
+]
+
+labelled-by : (x : Option NpmRoute) (w : Wanted) (at : ℕ) (es : List Exchange) (o : Outcome) → asks_by x w at es o → Labelled w at es o x
+labelled-by None w at es o h = elim (other-reads w at es o (labels_by None w es o) h refl) [
+  | inl none ↦ inl none
+  | inr archive ↦ inr (inr archive)
+]
+labelled-by (Some r) w at es o h = elim (cases_Bool (is_npms r.endpoint w.body)) [
+  | inl own ↦ labelled-own r w at es o own
+  | inr other ↦
+      let asked : AsksByRoute w at es o = rw other at h in
+      elim (other-reads w at es o (labels_by (Some r) w es o) asked (kept-by (Some r) w es o other)) [
+        | inl none ↦ inl none
+        | inr archive ↦ inr (inr archive)
+      ]
+]
+
+pub only_reads_are_labelled : OnlyReadsAreLabelled
+only_reads_are_labelled w at es o h = labelled-by (npm_route_of w.method w.target) w at es o h

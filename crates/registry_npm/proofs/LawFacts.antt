@@ -1,7 +1,8 @@
 -- Why the laws of npm's dialect hold.
-use Rattle.std.proofs.Common.{◌≡◌, ◌≤◌, ◌+◌, ◌∷◌, ◌⊎◌, [], ℕ, Bool, true, false, List, Option, Some, None, Ok, Err, option_map, is_some, refl, sym, ap, subst, ◌≢◌, ◌∙◌, inl, inr, arith}
+use Rattle.std.proofs.Common.{◌≡◌, ◌≤◌, ◌+◌, ◌∷◌, ◌⊎◌, [], ℕ, Bool, true, false, List, Option, Some, None, Ok, Err, length, option_map, is_some, refl, sym, ap, subst, ◌≢◌, ◌∙◌, inl, inr, arith}
 use Rattle.std.specs.Prelude.{if◌then◌else◌}
 use Rattle.std.proofs.lemmas.Bool.{cases_Bool}
+use Rattle.registry_access.specs.Levels as levels
 use Rattle.registry_access.specs.declared.role.Role.{Role}
 use Rattle.registry_names.specs.Names.{scope_of}
 use Rattle.registry_names.specs.Texts.{Text}
@@ -13,6 +14,8 @@ use Rattle.registry_names.specs.declared.stop.Fault.{Fault}
 use Rattle.registry_names.specs.declared.stop.Fault.TheVariants.{Database, Memory}
 use Rattle.registry_names.specs.declared.stop.Stop.{Stop}
 use Rattle.registry_names.specs.declared.stop.Stop.TheVariants.{Refused as Refuses, Fault as Faulted}
+use Rattle.registry_packument.specs.declared.list.Member.{Member}
+use Rattle.registry_packument.specs.declared.list.PackageLevel.{PackageLevel}
 use Rattle.registry_routes.specs.NpmLaws.{TablesMeet, endpoint_of, met}
 use Rattle.registry_routes.specs.NpmRoutes.{NpmRoute, npm_route_of}
 use Rattle.registry_routes.specs.Routes.{Route, Values, route_of}
@@ -21,7 +24,7 @@ use Rattle.registry_routes.specs.declared.npm_endpoint.NpmEndpoint.TheVariants a
 use Rattle.registry_rules.specs.Actions.{is_command}
 use Rattle.registry_rules.specs.declared.reply.Reply.TheVariants.{Refused}
 use Rattle.registry_rules.specs.declared.request.Action.{Action}
-use Rattle.registry_rules.specs.declared.request.Action.TheVariants.{OrgSet, Maintainers, Members, MyPackages, OwnerAdd, Packument, Tags, Teams, VersionDoc, WhoAmI}
+use Rattle.registry_rules.specs.declared.request.Action.TheVariants.{AbbreviatedPackument, OrgSet, Maintainers, Members, MyPackages, OwnerAdd, Packument, Tags, TeamMembers, TeamPackages, Teams, VersionDoc, WhoAmI}
 use Rattle.registry_rules.specs.declared.request.Asked.TheVariants.{Exact}
 use Rattle.registry_rules.specs.declared.request.Credential.{Credential}
 use Rattle.registry_rules.specs.declared.request.Credential.TheVariants.{Anonymous}
@@ -32,19 +35,21 @@ use Rattle.registry_service.specs.Bodies.{reads_file}
 use Rattle.registry_service.specs.Readings.{Reading, gives, one, reads_ident, reads_name, then}
 use Rattle.registry_service.specs.Turns.{AsksByRoute, Exchange, exchange, stopped}
 use Rattle.registry_routes.specs.Written.{StopsDecoding}
+use Rattle.registry_wire.specs.MediaRanges.{accepts_abbreviated}
 use Rattle.registry_wire.specs.declared.wanted.FieldValue.{FieldValue}
 use Rattle.registry_wire.specs.declared.wanted.FieldValue.TheVariants.{Absent, Once, Repeated}
 use Rattle.registry_wire.specs.declared.wanted.Wanted.{Wanted}
 use Rattle.registry_npm.specs.Asked.{reads_first, reads_member, reads_user}
 use Rattle.registry_npm.specs.Bodies.{begins_object}
+use Rattle.registry_npm.specs.Collaborators.{asks_all, asks_scope, asks_teams, for_form, for_left, left_after, level_said, levels_in, members_in, most_bytes, shows_writers, taking, teams_in}
 use Rattle.registry_npm.specs.Forms.{empty_text, grants_form, membership_form, names_in, profile_form, teams_form, user_text, writers_form}
 use Rattle.registry_npm.specs.Laws.{FaultsEnd, FilesAreGone, IsGone, NamesFile, NpmIsApart, OneCommand, OthersStay, StopAtFaults, StopsAtFault, command_count, commands, is_file_drop, is_npms_by, is_of_package, is_package}
 use Rattle.registry_documents.specs.declared.asked.Asked.{Asked}
 use Rattle.registry_documents.specs.declared.asked.Asked.TheVariants.{AlreadySo, Deprecation as Deprecates, Withdrawal, OwnerAdd as AddsOwner, OwnerRemove as RemovesOwner}
 use Rattle.serde_json.specs.Data.{Data}
-use Rattle.registry_npm.specs.Packages.{Purpose, asks_as, asks_for, asks_late, asks_names, does, for_document, for_names, fulfils, is_gone, judged, judges, late, leads_claim, leads_document, leads_stopped, named_by, no_version, other_of, reads_claim, reads_document, reads_owner, reads_revision, reads_versions, reads_withdrawn, serves, serves_user, shown, stale, tries, tries_right, unless_nobody, with_names, withdrawn}
+use Rattle.registry_npm.specs.Packages.{Purpose, asks_as, asks_for, asks_late, asks_names, does, for_document, for_names, fulfils, is_gone, judged, judges, late, leads_claim, leads_document, leads_stopped, named_by, no_version, other_of, reads_claim, reads_document, reads_owner, reads_revision, reads_versions, reads_withdrawn, serves, serves_user, shown, shows_packument, stale, tries, tries_right, unless_nobody, with_names, withdrawn}
 use Rattle.registry_npm.specs.Leading.{Leads, asks, by_caller, document_of, either, ends, in_form, is_stop, or_memory, reading, request, shown_as, shows, unless_stopped}
-use Rattle.registry_npm.specs.Npm.{asks_caller, asks_first, asks_own, asks_role, asks_size, follows, is_npms, is_user, leads, not_served, npm, sets_member, shows_own, shows_public, shows_teams, shows_user, shows_visibility, shows_writers, asks_by}
+use Rattle.registry_npm.specs.Npm.{asks_caller, asks_first, asks_own, asks_role, asks_size, follows, is_npms, is_user, leads, not_served, npm, sets_member, shows_own, shows_public, shows_teams, shows_user, shows_visibility, asks_by}
 
 -- ---- of either
 
@@ -124,15 +129,46 @@ few-caller p at who (Ok told) = few-asks 1 0 (request at who (Tags p)) _ (omega 
 few-not_served : (c : Outcome) → Few 0 (not_served c)
 few-not_served c = few-unless 0 (ends (Ok (Refused NotServed))) c (few-ends 0 (Ok (Refused NotServed)))
 
-few-either : (b : Bool) (c : Outcome) → Few 0 (either b not_served (shown_as writers_form) c)
-few-either true c = few-not_served c
-few-either false c = few-shown writers_form c
-
 few-visibility : (p : Text) (w : Wanted) (at : ℕ) → Few 1 (shows_visibility p w at)
 few-visibility p w at = few-reading 1 (reads_caller w.authorization) _ (λ who _. few-asks 0 1 (request at Anonymous (Tags p)) _ (omega arith) (few-caller p at who))
 
+few-tries : (n : ℕ) (r : Request) (next : Outcome → Leads) → cost r.what ≤ 0 → ((c : Outcome) → Few n (next c)) → Few n (tries r next)
+few-tries n r next low f = few-or_memory n (asks r next) (λ es o h. let le = few-asks 0 n r next low f es o h in omega (arith, le))
+
+few-form : {A : Type 0} (next : A → Leads) (a : Option A) → ((x : A) → Few 0 (next x)) → Few 0 (for_form next a)
+few-form next None f = few-ends 0 (Err Database)
+few-form next (Some x) f = f x
+
+few-left : (next : ℕ → Leads) (rest : Option ℕ) → ((n : ℕ) → Few 0 (next n)) → Few 0 (for_left next rest)
+few-left next None f = few-ends 0 (Ok (Refused NotServed))
+few-left next (Some n) f = f n
+
+few-text : (next : Text → Leads) (other : Leads) (t : Option Text) → ((text : Text) → Few 0 (next text)) → Few 0 other → Few 0 (for_document next other t)
+few-text next other None f g = g
+few-text next other (Some text) f g = f text
+
+few-taking : {A : Type 0} (left : ℕ) (form : Text → Option A) (next : A → ℕ → Leads) (c : Outcome) → ((x : A) (n : ℕ) → Few 0 (next x n)) → Few 0 (taking left form next c)
+unfolding taking
+few-taking left form next c f = few-text _ (ends c) (document_of c) (λ text. few-left _ (left_after left (length text)) (λ n. few-or_memory 0 _ (few-form _ (form text) (λ x. f x n)))) (few-ends 0 c)
+
+module _ (p o : Text) (at : ℕ) (who : Credential) (members : List Member) where
+  few-each : (ts : List Text) (left : ℕ) (granted : List PackageLevel) → Few 0 (asks_teams p o at who members ts left granted)
+  few-each [] left granted = few-shows 0 _
+  few-each (t ∷ ts) left granted = few-tries 0 (request at who (TeamPackages o t)) _ (omega arith) (λ c. few-taking left levels_in _ c (λ rows rest.
+      either-of (Few 0) (levels.reads (level_said p rows)) _ _
+      (few-tries 0 (request at who (TeamMembers o t)) _ (omega arith) (λ d. few-taking rest names_in _ d (λ users least. few-each ts least _)))
+      (few-each ts rest granted)))
+
+few-all : (p : Text) (at : ℕ) (who : Credential) (o : Text) → Few 0 (asks_all p at who o)
+few-all p at who o = few-tries 0 (request at who (Members o)) _ (omega arith) (λ c. few-taking most_bytes members_in _ c (λ members left.
+    few-tries 0 (request at who (Teams o)) _ (omega arith) (λ d. few-taking left teams_in _ d (λ teams rest. few-each p o at who members teams rest []))))
+
+few-scope : (p : Text) (at : ℕ) (who : Credential) (o : Option Text) (c : Outcome) → Few 0 (asks_scope p at who o c)
+few-scope p at who None c = few-shown writers_form c
+few-scope p at who (Some o) c = few-unless 0 (asks_all p at who o) c (few-all p at who o)
+
 few-writers : (p : Text) (w : Wanted) (at : ℕ) → Few 1 (shows_writers p w at)
-few-writers p w at = few-reading 1 (reads_caller w.authorization) _ (λ who _. few-asks 1 0 (request at who (Maintainers p)) _ (omega arith) (few-either (is_some (scope_of p))))
+few-writers p w at = few-reading 1 (reads_caller w.authorization) _ (λ who _. few-asks 1 0 (request at who (Maintainers p)) _ (omega arith) (few-scope p at who (scope_of p)))
 
 few-teams : (o : Text) (w : Wanted) (at : ℕ) → Few 1 (shows_teams o w at)
 few-teams o w at = few-reading 1 (reads_caller w.authorization) _ (λ who _. few-asks 1 0 (request at who (Teams o)) _ (omega arith) (few-shown (teams_form o)))
@@ -182,9 +218,6 @@ few-follows by.NotServed c = few-ends 0 c
 
 few-first : (e : NpmEndpoint) (v : Values) (w : Wanted) (at : ℕ) → Few 1 (asks_first e v w at)
 few-first e v w at = few-reading 1 (reads_first e v w.body) _ (λ what _. few-reading 1 (reads_caller w.authorization) _ (λ who _. few-asks 1 0 (request at who what) (follows e) (cost-one what) (few-follows e)))
-
-few-tries : (n : ℕ) (r : Request) (next : Outcome → Leads) → cost r.what ≤ 0 → ((c : Outcome) → Few n (next c)) → Few n (tries r next)
-few-tries n r next low f = few-or_memory n (asks r next) (λ es o h. let le = few-asks 0 n r next low f es o h in omega (arith, le))
 
 few-stale : (n : ℕ) (c : Outcome) → Few n (stale c)
 few-stale n c = either-of (Few n) (is_gone c) _ _ (few-ends n (Ok (Refused Stale))) (few-ends n c)
@@ -260,8 +293,11 @@ few-document : (v : Values) (w : Wanted) (at : ℕ) → Few 1 (leads_document v 
 few-document v w at es o (inl (r, is, h)) = few-asks 1 0 r ends (cost-one r.what) (few-ends 0) es o h
 few-document v w at es o (inr (s, is, h)) = few-stopped v w at s es o h
 
+few-packument : (p : Text) (w : Wanted) (at : ℕ) → Few 1 (shows_packument p w at)
+few-packument p w at = either-of (Few 1) (accepts_abbreviated w.accept) _ _ (few-reading 1 (reads_caller w.authorization) _ (λ who _. few-asks 0 1 (request at who (AbbreviatedPackument p)) ends (omega arith) (few-ends 1))) (few-asks_for shown p w at)
+
 few-leads : (e : NpmEndpoint) (v : Values) (w : Wanted) (at : ℕ) → Few 1 (leads e v w at)
-few-leads by.Packument v w at = few-reading 1 (one reads_name v) _ (λ p _. few-asks_for shown p w at)
+few-leads by.Packument v w at = few-reading 1 (one reads_name v) _ (λ p _. few-packument p w at)
 few-leads by.Document v w at = few-document v w at
 few-leads by.Revised v w at = few-reading 1 (one reads_name v) _ (λ p _. few-reading 1 (reads_revision v.second) _ (λ named _. few-reading 1 (reads_document w.body) _ (λ d _. few-asks_for (judged (Some named) d) p w at)))
 few-leads by.Unpublish v w at = few-reading 1 (one reads_name v) _ (λ p _. few-reading 1 (reads_revision v.second) _ (λ named _. few-asks_for (withdrawn named) p w at))
@@ -365,12 +401,46 @@ stops-not_served = stops-unless (ends (Ok (Refused NotServed))) (stops-ended (Ok
 stops-visibility : (p : Text) (w : Wanted) (at : ℕ) → Stops (shows_visibility p w at)
 stops-visibility p w at = stops-reading (reads_caller w.authorization) _ (λ who _. stops-asks (request at Anonymous (Tags p)) _ (stops-caller p at who))
 
-stops-either : (b : Bool) → Stops-after (either b not_served (shown_as writers_form))
-stops-either true = stops-not_served
-stops-either false = stops-shown writers_form
+stops-form : {A : Type 0} (next : A → Leads) (a : Option A) → ((x : A) → Stops (next x)) → Stops (for_form next a)
+stops-form next None f = stops-ended (Err Database)
+stops-form next (Some x) f = f x
+
+stops-left : (next : ℕ → Leads) (rest : Option ℕ) → ((n : ℕ) → Stops (next n)) → Stops (for_left next rest)
+stops-left next None f = stops-ended (Ok (Refused NotServed))
+stops-left next (Some n) f = f n
+
+stops-text : (next : Text → Leads) (other : Leads) (t : Option Text) → ((text : Text) → Stops (next text)) → Stops other → Stops (for_document next other t)
+stops-text next other None f g = g
+stops-text next other (Some text) f g = f text
+
+stops-taking : {A : Type 0} (left : ℕ) (form : Text → Option A) (next : A → ℕ → Leads) → ((x : A) (n : ℕ) → Stops (next x n)) → Stops-after (taking left form next)
+unfolding taking
+stops-taking left form next f = record {
+  later = λ c. stops-text _ (ends c) (document_of c) (λ text. stops-left _ (left_after left (length text)) (λ n. stops-or_memory _ (stops-form _ (form text) (λ x. f x n)))) (stops-ended c);
+  at_fault = λ f es o h. h;
+}
+
+stops-tries : (r : Request) (next : Outcome → Leads) → Stops-after next → Stops (tries r next)
+stops-tries r next s = stops-or_memory (asks r next) (stops-asks r next s)
+
+module _ (p o : Text) (at : ℕ) (who : Credential) (members : List Member) where
+  stops-each : (ts : List Text) (left : ℕ) (granted : List PackageLevel) → Stops (asks_teams p o at who members ts left granted)
+  stops-each [] left granted = stops-shows _
+  stops-each (t ∷ ts) left granted = stops-tries (request at who (TeamPackages o t)) _ (stops-taking left levels_in _ (λ rows rest.
+      either-of Stops (levels.reads (level_said p rows)) _ _
+      (stops-tries (request at who (TeamMembers o t)) _ (stops-taking rest names_in _ (λ users least. stops-each ts least _)))
+      (stops-each ts rest granted)))
+
+stops-all : (p : Text) (at : ℕ) (who : Credential) (o : Text) → Stops (asks_all p at who o)
+stops-all p at who o = stops-tries (request at who (Members o)) _ (stops-taking most_bytes members_in _ (λ members left.
+    stops-tries (request at who (Teams o)) _ (stops-taking left teams_in _ (λ teams rest. stops-each p o at who members teams rest []))))
+
+stops-scope : (p : Text) (at : ℕ) (who : Credential) (o : Option Text) → Stops-after (asks_scope p at who o)
+stops-scope p at who None = record { later = λ c. (stops-shown writers_form).later c; at_fault = λ f es o h. h }
+stops-scope p at who (Some o) = record { later = λ c. (stops-unless (asks_all p at who o) (stops-all p at who o)).later c; at_fault = λ f es o h. h }
 
 stops-writers : (p : Text) (w : Wanted) (at : ℕ) → Stops (shows_writers p w at)
-stops-writers p w at = stops-reading (reads_caller w.authorization) _ (λ who _. stops-asks (request at who (Maintainers p)) _ (stops-either (is_some (scope_of p))))
+stops-writers p w at = stops-reading (reads_caller w.authorization) _ (λ who _. stops-asks (request at who (Maintainers p)) _ (stops-scope p at who (scope_of p)))
 
 stops-teams : (o : Text) (w : Wanted) (at : ℕ) → Stops (shows_teams o w at)
 stops-teams o w at = stops-reading (reads_caller w.authorization) _ (λ who _. stops-asks (request at who (Teams o)) _ (stops-shown (teams_form o)))
@@ -424,9 +494,6 @@ stops-follows by.NotServed = stops-ends
 
 stops-first : (e : NpmEndpoint) (v : Values) (w : Wanted) (at : ℕ) → Stops (asks_first e v w at)
 stops-first e v w at = stops-reading (reads_first e v w.body) _ (λ what _. stops-reading (reads_caller w.authorization) _ (λ who _. stops-asks (request at who what) (follows e) (stops-follows e)))
-
-stops-tries : (r : Request) (next : Outcome → Leads) → Stops-after next → Stops (tries r next)
-stops-tries r next s = stops-or_memory (asks r next) (stops-asks r next s)
 
 stops-stale : Stops-after stale
 stops-stale = record { later = λ c. either-of Stops (is_gone c) _ _ (stops-ended (Ok (Refused Stale))) (stops-ended c); at_fault = λ f es o h. h }
@@ -510,8 +577,11 @@ stops-document : (v : Values) (w : Wanted) (at : ℕ) → Stops (leads_document 
 stops-document v w at es o (inl (r, is, h)) = stops-asks r ends stops-ends es o h
 stops-document v w at es o (inr (s, is, h)) = stops-stopped v w at s es o h
 
+stops-packument : (p : Text) (w : Wanted) (at : ℕ) → Stops (shows_packument p w at)
+stops-packument p w at = either-of Stops (accepts_abbreviated w.accept) _ _ (stops-reading (reads_caller w.authorization) _ (λ who _. stops-asks (request at who (AbbreviatedPackument p)) ends stops-ends)) (stops-asks_for shown p w at)
+
 stops-leads : (e : NpmEndpoint) (v : Values) (w : Wanted) (at : ℕ) → Stops (leads e v w at)
-stops-leads by.Packument v w at = stops-reading (one reads_name v) _ (λ p _. stops-asks_for shown p w at)
+stops-leads by.Packument v w at = stops-reading (one reads_name v) _ (λ p _. stops-packument p w at)
 stops-leads by.Document v w at = stops-document v w at
 stops-leads by.Revised v w at = stops-reading (one reads_name v) _ (λ p _. stops-reading (reads_revision v.second) _ (λ named _. stops-reading (reads_document w.body) _ (λ d _. stops-asks_for (judged (Some named) d) p w at)))
 stops-leads by.Unpublish v w at = stops-reading (one reads_name v) _ (λ p _. stops-reading (reads_revision v.second) _ (λ named _. stops-asks_for (withdrawn named) p w at))

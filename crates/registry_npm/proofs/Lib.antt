@@ -1,12 +1,14 @@
 pub mod CallerFacts
 pub mod CallFacts
 pub mod ChangeFacts
+pub mod CollaboratorFacts
 pub mod ComesFacts
 pub mod DeterminedFacts
 pub mod FormFacts
 pub mod LabelFacts
 pub mod LawFacts
 pub mod NeverFacts
+pub mod RightFacts
 pub mod ServiceFacts
 pub mod ShownFacts
 pub mod TagFacts

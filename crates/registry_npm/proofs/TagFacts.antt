@@ -15,11 +15,10 @@ use Rattle.sha2.proofs.Facts256.{length-sha256}
 use Rattle.registry_documents.specs.Fronts.{maintainers_text}
 use Rattle.registry_documents.specs.Revisions.{revised}
 use Rattle.registry_names.specs.Texts.{Text}
-use Rattle.registry_names.specs.Versions.{VersionParts, text_of_version}
 use Rattle.registry_packument.specs.TextValues.{is_plain_char}
 use Rattle.registry_packument.proofs.QuotedFacts.{quoted-plain}
 use Rattle.registry_wire.specs.EntityTags.{is_etagc, is_tag, tag_of}
-use Rattle.registry_npm.specs.Labels.{archive_tag, tag_in}
+use Rattle.registry_npm.specs.Labels.{content_tag, tag_in}
 use Rattle.registry_npm.specs.Packages.{behind_brace, revision, shown_text}
 
 -- ---- digests in hexadecimal
@@ -153,7 +152,7 @@ take-two n xs ys = elim (cases_lt n (length xs)) [
 pub part-two : (front rest : List ℕ) → take 64 (drop 9 front) ++ take (64 - length (take 64 (drop 9 front))) (drop (9 - length front) rest) ≡ take 64 (drop 9 (front ++ rest))
 part-two front rest = sym (ap (take 64) (drop-two 9 front rest) ∙ take-two 64 (drop 9 front) (drop (9 - length front) rest))
 
--- ---- archives
+-- ---- what is sent as it is
 
-pub archive-some : (p : Text) (v : VersionParts) → tag_of (archive_tag p v) ≡ Some (archive_tag p v)
-archive-some p v = tag-some (archive_tag p v) (hex-is_tag (p ++ 64 ∷ text_of_version v))
+pub content-some : (bytes : List ℕ) → tag_of (content_tag bytes) ≡ Some (content_tag bytes)
+content-some bytes = tag-some (content_tag bytes) (hex-is_tag bytes)

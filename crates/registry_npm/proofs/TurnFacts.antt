@@ -7,11 +7,10 @@ use Rattle.registry_rules.specs.declared.request.Request.{Request}
 use Rattle.registry_service.specs.HttpAnswers.{AnswersSo, Outcome, labelled}
 use Rattle.registry_service.specs.Requests.{reads_request}
 use Rattle.registry_service.specs.Servings.{IsTurnTold}
-use Rattle.registry_service.specs.Turns.{Answering, AsksByRoute, Exchange, Turns, exchange, request, spoken, stopped}
+use Rattle.registry_service.specs.Turns.{Answering, AsksByRoute, Exchange, Turns, exchange, names_document, request, spoken, stopped}
 use Rattle.registry_service.specs.declared.answer.Answer.{Answer}
 use Rattle.registry_service.specs.declared.turning.Turned.{Turned}
 use Rattle.registry_wire.specs.Responses.{no_labels}
-use Rattle.registry_wire.specs.TagReading.{names_some}
 use Rattle.registry_wire.specs.declared.labels.Labels.{Labels}
 use Rattle.registry_wire.specs.declared.wanted.Wanted.{Wanted}
 use Rattle.registry_npm.specs.Labels.{other_labels, own_labels}
@@ -33,7 +32,7 @@ other r w at es o e own h = same-route r (npm_route_of w.method w.target) w at e
 
 -- the answer of a turn, with the labels that its dialect says
 abbrev Labelled : Wanted → Outcome → Answer → Labels → Type 0
-Labelled w o a labels = AnswersSo (labelled o labels) (names_some w.if_none_match (labelled o labels).tag) o a
+Labelled w o a labels = AnswersSo (labelled o labels) (names_document w (labelled o labels).tag) o a
 
 same-labels : (w : Wanted) (o : Outcome) (a : Answer) (x y : Labels) → x ≡ y → Labelled w o a x → Labelled w o a y
 same-labels w o a x y e h = subst (λ (l : Labels). Labelled w o a l) e h
@@ -72,14 +71,14 @@ module _ {D : Type 0} (answers : Answering D) where
     exchanges = turns.exchanges;
     outcome = turns.outcome;
     is_turn = record { answered = (other r w at turns.exchanges turns.outcome e own turns.is_turn.answered.0, turns.is_turn.answered.1); ends = turns.is_turn.ends };
-    answer = same-labels w turns.outcome t.answer (other_labels turns.exchanges turns.outcome) (labels_by (npm_route_of w.method w.target) w.body turns.exchanges turns.outcome)
-        (sym (kept-by r w.body turns.exchanges turns.outcome own) ∙ ap (λ (x : Option NpmRoute). labels_by x w.body turns.exchanges turns.outcome) e) turns.answer;
+    answer = same-labels w turns.outcome t.answer (other_labels turns.exchanges turns.outcome) (labels_by (npm_route_of w.method w.target) w turns.exchanges turns.outcome)
+        (sym (kept-by r w turns.exchanges turns.outcome own) ∙ ap (λ (x : Option NpmRoute). labels_by x w turns.exchanges turns.outcome) e) turns.answer;
     counts = turns.counts;
   }
 
   -- the turn of a request of npm's own
   pub npms-turn : (M : D) (r : NpmRoute) (w : Wanted) (at : ℕ) (last : Bool) (o : Outcome) (labels : Labels) (t : Turned) (N : D) → Some r ≡ npm_route_of w.method w.target → is_npms r.endpoint w.body ≡ true
-      → Comes answers M (leads r.endpoint r.values w at) o N → labels ≡ own_labels r.endpoint o → IsTurnTold o labels w last t → Turns (spoken npm answers) M (request w at) last t N
+      → Comes answers M (leads r.endpoint r.values w at) o N → labels ≡ own_labels r.endpoint w.accept o → IsTurnTold o labels w last t → Turns (spoken npm answers) M (request w at) last t N
   npms-turn M r w at last o labels t N e own (es, h, each) says is = record {
     exchanges = es;
     outcome = o;
@@ -87,7 +86,7 @@ module _ {D : Type 0} (answers : Answering D) where
       answered = (same-route (Some r) (npm_route_of w.method w.target) w at es o (sym e) (yes-either (is_npms r.endpoint w.body) (leads r.endpoint r.values w at) (AsksByRoute w at) es o own h), each);
       ends = is.ends;
     };
-    answer = same-labels w o t.answer labels (labels_by (npm_route_of w.method w.target) w.body es o)
-        (says ∙ (sym (own-by r w.body es o own) ∙ ap (λ (x : Option NpmRoute). labels_by x w.body es o) e)) is.answer;
+    answer = same-labels w o t.answer labels (labels_by (npm_route_of w.method w.target) w es o)
+        (says ∙ (sym (own-by r w es o own) ∙ ap (λ (x : Option NpmRoute). labels_by x w es o) e)) is.answer;
     counts = is.counts;
   }

@@ -1,23 +1,25 @@
 -- What holds of what is said to those who keep documents: the laws that functions of `src/laws.rt`
 -- ensure.
-use Rattle.std.specs.Prelude.{◌≡◌, ◌∷◌, [], ℕ, true, false, List, Some, Ok}
+use Rattle.std.specs.Prelude.{◌≡◌, ◌⊎◌, ◌∷◌, [], ℕ, true, false, List, Some, Ok}
 use Rattle.registry_names.specs.Texts.{Text}
 use Rattle.registry_names.specs.Versions.{VersionParts}
 use Rattle.registry_routes.specs.NpmRoutes.{NpmRoute, npm_route_of}
 use Rattle.registry_routes.specs.declared.npm_endpoint.NpmEndpoint.TheVariants as by
 use Rattle.registry_rules.specs.declared.reply.Reply.TheVariants.{Bytes, Doc}
-use Rattle.registry_rules.specs.declared.request.Action.TheVariants.{Archive, Packument}
+use Rattle.registry_rules.specs.declared.request.Action.TheVariants.{AbbreviatedPackument, Archive, Packument}
 use Rattle.registry_rules.specs.declared.request.Credential.{Credential}
 use Rattle.registry_rules.specs.declared.request.Credential.TheVariants.{Anonymous}
 use Rattle.registry_service.specs.HttpAnswers.{Outcome}
 use Rattle.registry_service.specs.Turns.{Exchange, exchange}
 use Rattle.registry_wire.specs.EntityTags.{is_tag}
+use Rattle.registry_wire.specs.MediaRanges.{accepts_abbreviated}
 use Rattle.registry_wire.specs.Responses.{no_labels}
 use Rattle.registry_wire.specs.declared.labels.Caching.TheVariants.{Checked, Shared}
+use Rattle.registry_wire.specs.declared.labels.DocumentForm.TheVariants.{Full, Only}
 use Rattle.registry_wire.specs.declared.labels.Labels.{Labels}
 use Rattle.registry_wire.specs.declared.wanted.Wanted.{Wanted}
 use Rattle.registry_npm.specs.Changes.{AreNamed}
-use Rattle.registry_npm.specs.Labels.{archive_caching, archive_tag}
+use Rattle.registry_npm.specs.Labels.{abbreviated_labels, archive_caching, content_tag}
 use Rattle.registry_npm.specs.Laws.{is_npm}
 use Rattle.registry_npm.specs.Leading.{is_stop, request}
 use Rattle.registry_npm.specs.Npm.{npm}
@@ -26,6 +28,19 @@ use Rattle.registry_npm.specs.Packages.{revision, shown_text}
 -- a refusal or a fault says nothing to those who keep documents
 abbrev pub RefusalsHaveNoLabels : Type 0
 RefusalsHaveNoLabels = (w : Wanted) (es : List Exchange) (o : Outcome) → is_stop o ≡ true → npm.labels w es o ≡ no_labels
+
+-- whoever reads an archive, at this moment
+abbrev pub AsksArchive : ℕ → List Exchange → Outcome → Type 0
+AsksArchive at es o = (who : Credential) × (p : Text) × (v : VersionParts) × (es ≡ exchange (request at who (Archive p v)) o ∷ [])
+
+-- a packument is read, by the one route for that
+abbrev pub ReadsPackument : Wanted → Type 0
+ReadsPackument w = (r : NpmRoute) × (npm_route_of w.method w.target ≡ Some r) × (r.endpoint ≡ by.Packument)
+
+-- something is said only of a packument or an archive that is read
+abbrev pub OnlyReadsAreLabelled : Type 0
+OnlyReadsAreLabelled = (w : Wanted) (at : ℕ) (es : List Exchange) (o : Outcome) → npm.asks w at es o
+    → (npm.labels w es o ≡ no_labels) ⊎ ReadsPackument w ⊎ AsksArchive at es o
 
 -- What is shown is the packument that the turn read, with the maintainers that it read, and the tag is
 -- their revision
@@ -40,21 +55,36 @@ pub record IsTagged (at : ℕ) (es : List Exchange) (shown : Text) (labels : Lab
   pub shows : shown ≡ shown_text text names
   pub tag : labels.tag ≡ Some (revision text names)
   pub caching : labels.caching ≡ Checked
+  pub form : labels.form ≡ Full
 
 abbrev pub TagsAreRevisions : Type 0
 TagsAreRevisions = (w : Wanted) (at : ℕ) (es : List Exchange) (shown : Text) (r : NpmRoute)
-    → npm_route_of w.method w.target ≡ Some r → r.endpoint ≡ by.Packument → npm.asks w at es (Ok (Doc shown))
+    → npm_route_of w.method w.target ≡ Some r → r.endpoint ≡ by.Packument → accepts_abbreviated w.accept ≡ false → npm.asks w at es (Ok (Doc shown))
     → IsTagged at es shown (npm.labels w es (Ok (Doc shown)))
 
--- an archive has the tag of its name and version, whoever asks for it and whenever
+-- What is shown is the abbreviated packument as the registry answered it, and its labels are those of
+-- its text, whoever asks
+pub record IsAbbreviated (at : ℕ) (es : List Exchange) (shown : Text) (labels : Labels) : Type 0 where
+  pub who : Credential
+  pub name : Text
+  pub asked : es ≡ exchange (request at who (AbbreviatedPackument name)) (Ok (Doc shown)) ∷ []
+  pub labels_of_text : labels ≡ abbreviated_labels shown
+
+-- who accepts the abbreviated packument is shown that
+abbrev pub AbbreviatedAreShown : Type 0
+AbbreviatedAreShown = (w : Wanted) (at : ℕ) (es : List Exchange) (shown : Text) (r : NpmRoute)
+    → npm_route_of w.method w.target ≡ Some r → r.endpoint ≡ by.Packument → accepts_abbreviated w.accept ≡ true → npm.asks w at es (Ok (Doc shown))
+    → IsAbbreviated at es shown (npm.labels w es (Ok (Doc shown)))
+
+-- an archive has the tag of its bytes, whoever asks for it and whenever
 abbrev pub ArchivesKeepTags : Type 0
 ArchivesKeepTags = (w : Wanted) (at : ℕ) (who : Credential) (p : Text) (v : VersionParts) (bytes : List ℕ) → is_npm w ≡ false
     → npm.labels w (exchange (request at who (Archive p v)) (Ok (Bytes bytes)) ∷ []) (Ok (Bytes bytes))
-    ≡ record { tag = Some (archive_tag p v); caching = archive_caching who }
+    ≡ record { tag = Some (content_tag bytes); caching = archive_caching who; form = Only }
 
--- a tag that is said may be sent
-abbrev pub ArchiveTagsAreTags : Type 0
-ArchiveTagsAreTags = (p : Text) (v : VersionParts) → is_tag (archive_tag p v) ≡ true
+-- the digest of any bytes may be sent as a tag
+abbrev pub ContentTagsAreTags : Type 0
+ContentTagsAreTags = (bytes : List ℕ) → is_tag (content_tag bytes) ≡ true
 
 -- what all may share is an archive that was answered to nobody in particular
 abbrev pub SharedIsPublic : Type 0

@@ -1,9 +1,8 @@
 -- What responses say to those who keep documents, where npm's own requests are served.
-use Rattle.std.specs.Prelude.{Bool, true, false, if◌then◌else◌, ◌++◌, ◌∷◌, [], List, take, drop, Option, Some, Ok}
+use Rattle.std.specs.Prelude.{Bool, true, false, if◌then◌else◌, ℕ, ◌∷◌, [], List, take, drop, Option, Some, Ok}
 use Rattle.hex.specs.Hex.{encode_lower}
 use Rattle.sha2.specs.Sha256.{sha256}
 use Rattle.registry_names.specs.Texts.{Text}
-use Rattle.registry_names.specs.Versions.{VersionParts, text_of_version}
 use Rattle.registry_routes.specs.declared.npm_endpoint.NpmEndpoint.{NpmEndpoint}
 use Rattle.registry_routes.specs.declared.npm_endpoint.NpmEndpoint.TheVariants as by
 use Rattle.registry_rules.specs.declared.reply.Reply.TheVariants.{Bytes, Doc}
@@ -14,10 +13,22 @@ use Rattle.registry_rules.specs.declared.request.Credential.TheVariants.{Anonymo
 use Rattle.registry_service.specs.HttpAnswers.{Outcome}
 use Rattle.registry_service.specs.Turns.{Exchange}
 use Rattle.registry_wire.specs.EntityTags.{tag_of}
+use Rattle.registry_wire.specs.MediaRanges.{accepts_abbreviated}
 use Rattle.registry_wire.specs.Responses.{no_labels}
 use Rattle.registry_wire.specs.declared.labels.Caching.{Caching}
 use Rattle.registry_wire.specs.declared.labels.Caching.TheVariants.{Checked, Kept, Shared}
+use Rattle.registry_wire.specs.declared.labels.DocumentForm.TheVariants.{Abbreviated, Full, Only}
 use Rattle.registry_wire.specs.declared.labels.Labels.{Labels}
+use Rattle.registry_wire.specs.declared.wanted.FieldValue.{FieldValue}
+
+-- the tag of what is sent as the registry keeps it: the SHA-256 of its bytes in hexadecimal
+abbrev pub content_tag : List ℕ → Text
+content_tag bytes = encode_lower (sha256 bytes)
+
+-- a document has labels, and no other outcome
+abbrev pub of_document : (Text → Labels) → Outcome → Labels
+of_document says (Ok (Doc text)) = says text
+of_document says _ = no_labels
 
 -- ---- packuments
 
@@ -25,9 +36,16 @@ use Rattle.registry_wire.specs.declared.labels.Labels.{Labels}
 abbrev pub tag_in : Text → Option Text
 tag_in shown = tag_of (take 64 (drop 9 shown))
 
--- who keeps it asks each time whether it is the same still
-abbrev pub packument_labels : Text → Labels
-packument_labels shown = record { tag = tag_in shown; caching = Checked }
+-- who keeps one asks each time whether it is the same still
+abbrev pub full_labels : Text → Labels
+full_labels shown = record { tag = tag_in shown; caching = Checked; form = Full }
+
+abbrev pub abbreviated_labels : Text → Labels
+abbreviated_labels text = record { tag = Some (content_tag text); caching = Checked; form = Abbreviated }
+
+-- a packument that is read, by a request with this field `accept`
+abbrev pub packument_labels : FieldValue → Outcome → Labels
+packument_labels accept o = if accepts_abbreviated accept then of_document abbreviated_labels o else of_document full_labels o
 
 -- the route by which a packument is read
 abbrev pub is_packument : NpmEndpoint → Bool
@@ -35,30 +53,25 @@ is_packument by.Packument = true
 is_packument _ = false
 
 -- What a request of npm's own comes to. Only a packument that is read has labels
-abbrev pub own_labels : NpmEndpoint → Outcome → Labels
-own_labels e (Ok (Doc text)) = if is_packument e then packument_labels text else no_labels
-own_labels e _ = no_labels
+abbrev pub own_labels : NpmEndpoint → FieldValue → Outcome → Labels
+own_labels e accept o = if is_packument e then packument_labels accept o else no_labels
 
 -- ---- archives
-
--- the digest of `kit@1.0.0`: under one name and version there is one archive for good
-abbrev pub archive_tag : Text → VersionParts → Text
-archive_tag p v = encode_lower (sha256 (p ++ 64 ∷ text_of_version v))
 
 -- what is answered to nobody in particular may be shared by all
 abbrev pub archive_caching : Credential → Caching
 archive_caching Anonymous = Shared
 archive_caching _ = Kept
 
-abbrev pub archive_labels : Credential → Action → Labels
-archive_labels who (Archive p v) = record { tag = Some (archive_tag p v); caching = archive_caching who }
-archive_labels who _ = no_labels
+abbrev pub archive_labels : Credential → Action → List ℕ → Labels
+archive_labels who (Archive p v) bytes = record { tag = Some (content_tag bytes); caching = archive_caching who; form = Only }
+archive_labels who _ bytes = no_labels
 
-abbrev pub asked_labels : List Exchange → Labels
-asked_labels [] = no_labels
-asked_labels (e ∷ es) = archive_labels e.asked.who e.asked.what
+abbrev pub asked_labels : List Exchange → List ℕ → Labels
+asked_labels [] bytes = no_labels
+asked_labels (e ∷ es) bytes = archive_labels e.asked.who e.asked.what bytes
 
 -- What a request of the registry's own routes comes to. Only an archive has labels
 abbrev pub other_labels : List Exchange → Outcome → Labels
-other_labels es (Ok (Bytes bytes)) = asked_labels es
+other_labels es (Ok (Bytes bytes)) = asked_labels es bytes
 other_labels es _ = no_labels

@@ -2,6 +2,7 @@ pub mod Asked
 pub mod Bodies
 pub mod Callers
 pub mod Changes
+pub mod Collaborators
 pub mod Forms
 pub mod LabelLaws
 pub mod Labels

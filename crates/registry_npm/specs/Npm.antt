@@ -1,7 +1,6 @@
 -- The dialect of npm's own requests.
-use Rattle.std.specs.Prelude.{◌||◌, ℕ, not, Bool, true, false, bytes_eq, is_some, option_map, unwrap_or, List, Option, Some, None, Ok, Err, if◌then◌else◌}
+use Rattle.std.specs.Prelude.{◌||◌, ℕ, not, Bool, true, false, bytes_eq, option_map, unwrap_or, List, Option, Some, None, Ok, Err, if◌then◌else◌}
 use Rattle.registry_access.specs.declared.role.Role.{Role}
-use Rattle.registry_names.specs.Names.{scope_of}
 use Rattle.registry_names.specs.Texts.{Text}
 use Rattle.registry_names.specs.declared.refusal.Refusal.TheVariants.{NotFound, NotServed}
 use Rattle.registry_packument.specs.Lists.{username_text}
@@ -12,7 +11,7 @@ use Rattle.registry_routes.specs.declared.npm_endpoint.NpmEndpoint.TheVariants a
 use Rattle.registry_rules.specs.declared.reply.Reply.{Reply}
 use Rattle.registry_rules.specs.declared.reply.Reply.TheVariants.{Refused}
 use Rattle.registry_rules.specs.declared.request.Action.{Action}
-use Rattle.registry_rules.specs.declared.request.Action.TheVariants.{OrgSet, Maintainers, Members, MyPackages, Tags, Teams, WhoAmI}
+use Rattle.registry_rules.specs.declared.request.Action.TheVariants.{OrgSet, Members, MyPackages, Tags, Teams, WhoAmI}
 use Rattle.registry_rules.specs.declared.request.Credential.TheVariants.{Anonymous}
 use Rattle.registry_rules.specs.declared.request.Credential.{Credential}
 use Rattle.registry_service.specs.HttpAnswers.{Outcome}
@@ -22,7 +21,8 @@ use Rattle.registry_wire.specs.declared.labels.Labels.{Labels}
 use Rattle.registry_wire.specs.declared.wanted.Wanted.{Wanted}
 use Rattle.registry_npm.specs.Asked.{reads_first, reads_member, reads_user}
 use Rattle.registry_npm.specs.Bodies.{begins_object}
-use Rattle.registry_npm.specs.Forms.{empty_text, grants_form, membership_form, profile_form, teams_form, user_text, visibility_text, writers_form}
+use Rattle.registry_npm.specs.Collaborators.{shows_writers}
+use Rattle.registry_npm.specs.Forms.{empty_text, grants_form, membership_form, profile_form, teams_form, user_text, visibility_text}
 use Rattle.registry_npm.specs.Labels.{other_labels, own_labels}
 use Rattle.registry_npm.specs.Packages.{leads_document, leads_packument, leads_revised, leads_unpublish}
 use Rattle.registry_npm.specs.Leading.{Leads, asks, by_caller, document_of, either, ends, is_refused, or_memory, reading, request, shown_as, shows, unless_stopped}
@@ -56,10 +56,6 @@ asks_caller p at who (Ok told) = asks (request at who (Tags p)) (unless_stopped 
 -- what is told of the package to nobody, and then to the caller
 abbrev pub shows_visibility : Text → Wanted → ℕ → Leads
 shows_visibility p w at = by_caller w (λ who. asks (request at Anonymous (Tags p)) (asks_caller p at who))
-
--- the maintainers of a package that has no scope
-abbrev pub shows_writers : Text → Wanted → ℕ → Leads
-shows_writers p w at = by_caller w (λ who. asks (request at who (Maintainers p)) (either (is_some (scope_of p)) not_served (shown_as writers_form)))
 
 -- ---- organisations
 
@@ -139,9 +135,9 @@ abbrev pub asks_by : Option NpmRoute → Wanted → ℕ → Leads
 asks_by None w at = AsksByRoute w at
 asks_by (Some r) w at = either (is_npms r.endpoint w.body) (leads r.endpoint r.values w at) (AsksByRoute w at)
 
-abbrev pub labels_by : Option NpmRoute → Text → List Exchange → Outcome → Labels
-labels_by None body es o = other_labels es o
-labels_by (Some r) body es o = if is_npms r.endpoint body then own_labels r.endpoint o else other_labels es o
+abbrev pub labels_by : Option NpmRoute → Wanted → List Exchange → Outcome → Labels
+labels_by None w es o = other_labels es o
+labels_by (Some r) w es o = if is_npms r.endpoint w.body then own_labels r.endpoint w.accept o else other_labels es o
 
 -- the registry's own routes, where an archive has labels
 abbrev pub others : Dialect
@@ -151,5 +147,5 @@ others = record { asks = AsksByRoute; labels = λ w es o. other_labels es o }
 abbrev pub npm : Dialect
 npm = record {
   asks = λ w at. asks_by (npm_route_of w.method w.target) w at;
-  labels = λ w es o. labels_by (npm_route_of w.method w.target) w.body es o;
+  labels = λ w es o. labels_by (npm_route_of w.method w.target) w es o;
 }

@@ -29,12 +29,13 @@ use Rattle.registry_routes.specs.declared.body.Deprecation.{Deprecation}
 use Rattle.registry_rules.specs.declared.reply.Reply.{Reply}
 use Rattle.registry_rules.specs.declared.reply.Reply.TheVariants.{Refused}
 use Rattle.registry_rules.specs.declared.request.Action.{Action}
-use Rattle.registry_rules.specs.declared.request.Action.TheVariants.{Deprecate, Maintainers, OwnerAdd, OwnerRemove, Packument, WhoAmI, Withdraw, WithdrawAll}
+use Rattle.registry_rules.specs.declared.request.Action.TheVariants.{AbbreviatedPackument, Deprecate, Maintainers, OwnerAdd, OwnerRemove, Packument, WhoAmI, Withdraw, WithdrawAll}
 use Rattle.registry_rules.specs.declared.request.Credential.{Credential}
 use Rattle.registry_rules.specs.declared.request.Request.{Request}
 use Rattle.registry_service.specs.HttpAnswers.{Outcome}
 use Rattle.registry_service.specs.Readings.{Reading, one, reads_name}
 use Rattle.registry_service.specs.Requests.{reads_request}
+use Rattle.registry_wire.specs.MediaRanges.{accepts_abbreviated}
 use Rattle.registry_wire.specs.declared.wanted.Wanted.{Wanted}
 use Rattle.registry_npm.specs.Forms.{names_in}
 use Rattle.registry_npm.specs.Leading.{Leads, asks, by_caller, document_of, either, ends, or_memory, is_stop, reading, request, shows}
@@ -235,8 +236,16 @@ reads_claim body (Ok None) = (d : Data) → IsDocumentOf body d → kind_of d �
 reads_claim body (Ok (Some d)) = IsDocumentOf body d × (kind_of d ≢ Publication)
 reads_claim body (Err stop) = stop ≡ Faulted Memory
 
+-- what an install reads of the packument, as the registry answers it
+abbrev pub shows_abbreviated : Text → Wanted → ℕ → Leads
+shows_abbreviated p w at = by_caller w (λ who. asks (request at who (AbbreviatedPackument p)) ends)
+
+-- the abbreviated packument where the request accepts it, and otherwise the full one
+abbrev pub shows_packument : Text → Wanted → ℕ → Leads
+shows_packument p w at = either (accepts_abbreviated w.accept) (shows_abbreviated p w at) (asks_for shown p w at)
+
 abbrev pub leads_packument : Values → Wanted → ℕ → Leads
-leads_packument v w at = reading (one reads_name v) (λ p. asks_for shown p w at)
+leads_packument v w at = reading (one reads_name v) (λ p. shows_packument p w at)
 
 -- a document under this revision
 abbrev pub claims : Text → Text → Wanted → ℕ → Leads

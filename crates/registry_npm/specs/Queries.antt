@@ -1,6 +1,7 @@
 -- Why a `GET` asks nothing but queries where npm's own requests are served.
-use Rattle.std.proofs.Common.{◌≡◌, ◌∷◌, ◌∙◌, [], ℕ, Bool, true, false, List, Option, Some, None, Result, Ok, Err, is_some, option_and_then, refl, sym, ap, subst, inl, inr}
+use Rattle.std.proofs.Common.{◌≡◌, ◌∷◌, ◌∙◌, [], ℕ, Bool, true, false, List, Option, Some, None, Result, Ok, Err, is_some, length, option_and_then, refl, sym, ap, subst, inl, inr}
 use Rattle.std.proofs.lemmas.Bool.{false≢true}
+use Rattle.registry_access.specs.Levels as levels
 use Rattle.registry_names.specs.Names.{scope_of}
 use Rattle.registry_names.specs.Texts.{Text}
 use Rattle.registry_names.specs.declared.method.Method.{Method}
@@ -8,6 +9,8 @@ use Rattle.registry_names.specs.declared.method.Method.TheVariants.{Get}
 use Rattle.registry_names.specs.declared.refusal.Refusal.TheVariants.{NotFound, NotServed}
 use Rattle.registry_names.specs.declared.stop.Fault.TheVariants.{Database}
 use Rattle.registry_names.specs.declared.stop.Stop.{Stop}
+use Rattle.registry_packument.specs.declared.list.Member.{Member}
+use Rattle.registry_packument.specs.declared.list.PackageLevel.{PackageLevel}
 use Rattle.registry_routes.specs.NpmRoutes.{NpmRoute, npm_route_in, npm_route_of, or_later_npm}
 use Rattle.registry_routes.specs.NpmTable.{npm_table}
 use Rattle.registry_routes.specs.Paths.{path_of, segments_of}
@@ -17,7 +20,7 @@ use Rattle.registry_routes.specs.declared.npm_endpoint.NpmEndpoint.TheVariants a
 use Rattle.registry_rules.specs.Actions.{is_command}
 use Rattle.registry_rules.specs.declared.reply.Reply.TheVariants.{Refused}
 use Rattle.registry_rules.specs.declared.request.Action.{Action}
-use Rattle.registry_rules.specs.declared.request.Action.TheVariants.{Maintainers, MyPackages, Packument, Tags, Teams, WhoAmI}
+use Rattle.registry_rules.specs.declared.request.Action.TheVariants.{AbbreviatedPackument, Maintainers, Members, MyPackages, Packument, Tags, TeamMembers, TeamPackages, Teams, WhoAmI}
 use Rattle.registry_rules.specs.declared.request.Credential.{Credential}
 use Rattle.registry_rules.specs.declared.request.Credential.TheVariants.{Anonymous}
 use Rattle.registry_rules.specs.declared.request.Request.{Request}
@@ -27,10 +30,12 @@ use Rattle.registry_service.specs.HttpAnswers.{Outcome}
 use Rattle.registry_service.specs.Readings.{Reading, one, reads_ident, reads_name}
 use Rattle.registry_service.specs.Turns.{AsksByRoute, Exchange}
 use Rattle.registry_service.proofs.DialectFacts.{profile_asks_queries}
+use Rattle.registry_wire.specs.MediaRanges.{accepts_abbreviated}
 use Rattle.registry_wire.specs.declared.wanted.Wanted.{Wanted}
 use Rattle.registry_npm.specs.Asked.{reads_first, reads_user}
+use Rattle.registry_npm.specs.Collaborators.{asks_all, asks_scope, asks_teams, for_form, for_left, left_after, level_said, levels_in, members_in, most_bytes, taking, teams_in}
 use Rattle.registry_npm.specs.Forms.{empty_text, grants_form, names_in, profile_form, teams_form, user_text, writers_form}
-use Rattle.registry_npm.specs.Packages.{asks_names, for_document, for_names, fulfils, other_of, serves, shown, shows_fronted, with_names}
+use Rattle.registry_npm.specs.Packages.{asks_names, for_document, for_names, fulfils, other_of, serves, shown, shows_fronted, shows_packument, tries, with_names}
 use Rattle.registry_npm.specs.Leading.{Leads, asks, document_of, either, ends, in_form, is_stop, or_memory, reading, request, shown_as, shows, unless_stopped}
 use Rattle.registry_npm.specs.Npm.{asks_caller, asks_first, follows, is_npms, is_user, leads, not_served, npm, shows_public, asks_by}
 
@@ -138,9 +143,40 @@ q-caller p at who (Ok told) = q-asks (request at who (Tags p)) _ refl (λ c. q-u
 q-not_served : (c : Outcome) → Queries (not_served c)
 q-not_served c = q-unless (ends (Ok (Refused NotServed))) c (q-ends (Ok (Refused NotServed)))
 
-q-writers : (b : Bool) (c : Outcome) → Queries (either b not_served (shown_as writers_form) c)
-q-writers true c = q-not_served c
-q-writers false c = q-shown writers_form c
+q-form : {A : Type 0} (next : A → Leads) (a : Option A) → ((x : A) → Queries (next x)) → Queries (for_form next a)
+q-form next None f = q-ends (Err Database)
+q-form next (Some x) f = f x
+
+q-left : (next : ℕ → Leads) (rest : Option ℕ) → ((n : ℕ) → Queries (next n)) → Queries (for_left next rest)
+q-left next None f = q-ends (Ok (Refused NotServed))
+q-left next (Some n) f = f n
+
+q-text : (next : Text → Leads) (other : Leads) (t : Option Text) → ((text : Text) → Queries (next text)) → Queries other → Queries (for_document next other t)
+q-text next other None f g = g
+q-text next other (Some text) f g = f text
+
+q-taking : {A : Type 0} (left : ℕ) (form : Text → Option A) (next : A → ℕ → Leads) (c : Outcome) → ((x : A) (n : ℕ) → Queries (next x n)) → Queries (taking left form next c)
+unfolding taking
+q-taking left form next c f = q-text _ (ends c) (document_of c) (λ text. q-left _ (left_after left (length text)) (λ n. q-or_memory _ (q-form _ (form text) (λ x. f x n)))) (q-ends c)
+
+q-tries : (r : Request) (next : Outcome → Leads) → is_command r.what ≡ false → ((c : Outcome) → Queries (next c)) → Queries (tries r next)
+q-tries r next is f = q-or_memory (asks r next) (q-asks r next is f)
+
+module _ (p o : Text) (at : ℕ) (who : Credential) where
+  q-each : (members : List Member) (ts : List Text) (left : ℕ) (granted : List PackageLevel) → Queries (asks_teams p o at who members ts left granted)
+  q-each members [] left granted = q-shows _
+  q-each members (t ∷ ts) left granted = q-tries (request at who (TeamPackages o t)) _ refl (λ c. q-taking left levels_in _ c (λ rows rest.
+      q-either (levels.reads (level_said p rows)) _ _
+      (q-tries (request at who (TeamMembers o t)) _ refl (λ d. q-taking rest names_in _ d (λ users least. q-each members ts least _)))
+      (q-each members ts rest granted)))
+
+  q-all : Queries (asks_all p at who o)
+  q-all = q-tries (request at who (Members o)) _ refl (λ c. q-taking most_bytes members_in _ c (λ members left.
+      q-tries (request at who (Teams o)) _ refl (λ d. q-taking left teams_in _ d (λ teams rest. q-each members teams rest []))))
+
+q-scope : (p : Text) (at : ℕ) (who : Credential) (o : Option Text) (c : Outcome) → Queries (asks_scope p at who o c)
+q-scope p at who None c = q-shown writers_form c
+q-scope p at who (Some o) c = q-unless (asks_all p at who o) c (q-all p o at who)
 
 gave : (a b : Action) → ◌≡◌ {A = Result Action Stop} (Ok a) (Ok b) → is_command b ≡ false → is_command a ≡ false
 gave a b same is = let one : a ≡ b = cc in ap is_command one ∙ is
@@ -166,8 +202,13 @@ q-shown_by p at who (Some text) c = q-shown_text p at who text
 q-serves : (p : Text) (at : ℕ) (who : Credential) → Queries (serves shown p at who)
 q-serves p at who = q-or_memory _ (q-asks (request at who (Packument p)) _ refl (λ c. q-shown_by p at who (document_of c) c))
 
+q-packument : (p : Text) (w : Wanted) (at : ℕ) → Queries (shows_packument p w at)
+q-packument p w at = q-either (accepts_abbreviated w.accept) _ _
+    (q-reading (reads_caller w.authorization) _ (λ who _. q-asks (request at who (AbbreviatedPackument p)) ends refl q-ends))
+    (q-reading (reads_caller w.authorization) _ (λ who _. q-serves p at who))
+
 q-leads : (e : NpmEndpoint) (v : Values) (w : Wanted) (at : ℕ) → is_reader e ≡ true → is_npms e w.body ≡ true → Queries (leads e v w at)
-q-leads by.Packument v w at is own = q-reading (one reads_name v) _ (λ p _. q-reading (reads_caller w.authorization) _ (λ who _. q-serves p at who))
+q-leads by.Packument v w at is own = q-reading (one reads_name v) _ (λ p _. q-packument p w at)
 q-leads by.Document v w at is own = absurd (false≢true is)
 q-leads by.Revised v w at is own = absurd (false≢true is)
 q-leads by.Unpublish v w at is own = absurd (false≢true is)
@@ -175,7 +216,7 @@ q-leads by.FileDrop v w at is own = absurd (false≢true is)
 q-leads by.ScopedFileDrop v w at is own = absurd (false≢true is)
 q-leads by.Visibility v w at is own = q-reading (one reads_name v) _ (λ p _. q-reading (reads_caller w.authorization) _ (λ who _. q-asks (request at Anonymous (Tags p)) _ refl (q-caller p at who)))
 q-leads by.SetAccess v w at is own = absurd (false≢true is)
-q-leads by.Collaborators v w at is own = q-reading (one reads_name v) _ (λ p _. q-reading (reads_caller w.authorization) _ (λ who _. q-asks (request at who (Maintainers p)) _ refl (q-writers (is_some (scope_of p)))))
+q-leads by.Collaborators v w at is own = q-reading (one reads_name v) _ (λ p _. q-reading (reads_caller w.authorization) _ (λ who _. q-asks (request at who (Maintainers p)) _ refl (q-scope p at who (scope_of p))))
 q-leads by.OrgPackages v w at is own = q-first by.OrgPackages v w at (λ what x. gave what _ x.2 refl) q-ends
 q-leads by.UserPackages v w at is own = q-reading (one reads_ident v) _ (λ u _. q-reading (reads_caller w.authorization) _ (λ who _. q-asks (request at who WhoAmI) _ refl (λ c. q-unless _ c (q-or_memory _ (q-either (is_user u c) _ _ (q-asks (request at who MyPackages) ends refl q-ends) (q-ends (Ok (Refused NotFound))))))))
 q-leads by.Members v w at is own = q-first by.Members v w at (λ what x. gave what _ x.2 refl) q-ends

@@ -1,36 +1,84 @@
 //! The routes of packuments, of documents and of the withdrawal of all versions.
 
-ghost use Rattle.std.specs.Prelude.{option_map, Ok, Err, MatchResult};
+ghost use Rattle.std.specs.Prelude.{◌≡◌, option_map, Ok, Err, MatchResult};
 ghost use Rattle.registry_documents.specs.Documents.{value_of};
 ghost use Rattle.registry_routes.specs.Readings.{values_view};
+ghost use Rattle.registry_npm.specs.Labels.{packument_labels};
 ghost use Rattle.registry_npm.specs.Leading.{Comes, reading};
 ghost use Rattle.registry_npm.specs.Packages as spec;
 
+use crate::caller::caller_of;
+use crate::following::request;
+use crate::labels::{abbreviated_labels, full_labels};
 use crate::packages::{Purpose, package};
-use crate::path;
 use crate::told::{faulted, stopped};
+use crate::{path, shown};
 use registry_documents::{Document, Kind};
-use registry_names::{Moment, Name, Refusal, Stop, Text};
+use registry_names::{Fault, Moment, Name, Refusal, Stop, Text};
 use registry_routes::{Values, decode_text};
+use registry_rules::{Action, Reply};
 use registry_service::{Service, Told, request_of};
-use registry_wire::Wanted;
+use registry_wire::{Labels, Wanted, accepts_abbreviated};
 use std::alloc::Global;
 
-/// The packument of a package.
+/// The packument of a package, and its labels.
 pub(crate) fn packument<D: Service>(
     alloc: Global,
     service: &mut D,
     values: Values<'_>,
     wanted: &Wanted,
     at: Moment,
-) -> Told
-    ensures { Comes D.answers service.old
-        (spec.leads_packument (values_view values.entry) wanted.now at) result service.new }
+) -> (Told, Labels)
+    ensures comes { Comes D.answers service.old
+        (spec.leads_packument (values_view values.entry) wanted.now at) result.0 service.new }
+    ensures labels { result.1 ≡ packument_labels wanted.now.accept result.0 }
 {
     match path::name(alloc, values) {
-        Ok(name) => package(alloc, service, Purpose::Shown, &name, wanted, at),
-        Err(stop) => stopped(stop),
+        Ok(name) => packument_of(alloc, service, name, wanted, at),
+        Err(stop) => (stopped(stop), Labels::none()),
     }
+}
+
+// The abbreviated packument, where it is accepted, and otherwise the full one.
+fn packument_of<D: Service>(
+    alloc: Global,
+    service: &mut D,
+    name: Name,
+    wanted: &Wanted,
+    at: Moment,
+) -> (Told, Labels)
+    ensures comes { Comes D.answers service.old (spec.shows_packument name wanted.now at) result.0
+        service.new }
+    ensures labels { result.1 ≡ packument_labels wanted.now.accept result.0 }
+{
+    if accepts_abbreviated(&wanted.accept) {
+        let outcome = abbreviated(alloc, service, name, wanted, at);
+        let labels = abbreviated_labels(&outcome);
+        return (Told::of(outcome), labels);
+    }
+    let told = package(alloc, service, Purpose::Shown, &name, wanted, at);
+    let labels = full_labels(&told);
+    (told, labels)
+}
+
+// The abbreviated packument, as the registry answers it.
+fn abbreviated<D: Service>(
+    alloc: Global,
+    service: &mut D,
+    name: Name,
+    wanted: &Wanted,
+    at: Moment,
+) -> Result<Reply, Fault>
+    ensures { Comes D.answers service.old (spec.shows_abbreviated name wanted.now at) result
+        service.new }
+{
+    let who = match caller_of(&wanted.authorization) {
+        Ok(who) => who,
+        Err(stop) => return shown::stopped(stop),
+    };
+    let what = Action::AbbreviatedPackument { package: name };
+    let request = request(at, &who, what);
+    service.answer(alloc, &request)
 }
 
 /// A document under a revision.

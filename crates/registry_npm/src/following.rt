@@ -14,6 +14,7 @@ ghost use Rattle.registry_routes.specs.declared.npm_endpoint.NpmEndpoint.TheVari
 
 use crate::asked::{first, member};
 use crate::caller::{Caller, caller_of, credential};
+use crate::collaborators::collaborators;
 use crate::shown::{is_stop, stopped};
 use crate::{documents, path, shown, told};
 use registry_access::Role;
@@ -40,12 +41,17 @@ pub(crate) fn by_route<D: Service>(
         NpmEndpoint::Ping => Told::of(shown::empty(alloc)),
         NpmEndpoint::NotServed => told::stopped(Stop::Refused(Refusal::NotServed)),
         NpmEndpoint::Visibility => Told::of(visibility(alloc, service, values, wanted, at)),
-        NpmEndpoint::Collaborators => Told::of(collaborators(alloc, service, values, wanted, at)),
+        NpmEndpoint::Collaborators => {
+            Told::of(collaborators(alloc, service, values, wanted, at))
+        }
         NpmEndpoint::Teams => Told::of(teams(alloc, service, values, wanted, at)),
         NpmEndpoint::OrgSet => Told::of(org_set(alloc, service, values, wanted, at)),
         NpmEndpoint::User => Told::of(user(alloc, service, values, wanted, at)),
         NpmEndpoint::UserPackages => Told::of(user_packages(alloc, service, values, wanted, at)),
-        NpmEndpoint::Packument => documents::packument(alloc, service, values, wanted, at),
+        NpmEndpoint::Packument => {
+            let (told, _labels) = documents::packument(alloc, service, values, wanted, at);
+            told
+        }
         NpmEndpoint::Document => documents::document(alloc, service, values, wanted, at),
         NpmEndpoint::Revised => documents::revised(alloc, service, values, wanted, at),
         NpmEndpoint::Unpublish => documents::unpublish(alloc, service, values, wanted, at),
@@ -254,48 +260,6 @@ fn told_to_caller<D: Service>(
     shown::public(alloc, told)
 }
 
-fn collaborators<D: Service>(
-    alloc: Global,
-    service: &mut D,
-    values: Values<'_>,
-    wanted: &Wanted,
-    at: Moment,
-) -> Result<Reply, Fault>
-    ensures { Comes D.answers service.old
-        (spec.leads by.Collaborators (values_view values.entry) wanted.now at) result service.new }
-{
-    match path::name(alloc, values) {
-        Ok(package) => writers_of(alloc, service, package, wanted, at),
-        Err(stop) => stopped(stop),
-    }
-}
-
-// The maintainers of a package that has no scope.
-fn writers_of<D: Service>(
-    alloc: Global,
-    service: &mut D,
-    name: Name,
-    wanted: &Wanted,
-    at: Moment,
-) -> Result<Reply, Fault>
-    ensures { Comes D.answers service.old (spec.shows_writers name wanted.now at)
-        result service.new }
-{
-    let who = match caller_of(&wanted.authorization) {
-        Ok(who) => who,
-        Err(stop) => return stopped(stop),
-    };
-    let is_scoped = is_scoped(&name);
-    let what = Action::Maintainers { package: name };
-    let request = request(at, &who, what);
-    let outcome = service.answer(alloc, &request);
-    if is_scoped {
-        shown::not_served(outcome)
-    } else {
-        shown::writers(alloc, outcome)
-    }
-}
-
 /// Whether a package has a scope.
 pub(crate) fn is_scoped(name: &Name) -> bool
     ensures { result ≡ is_some (scope_of name.now) }
@@ -421,7 +385,8 @@ fn set_named<D: Service>(
     }
 }
 
-fn copied(alloc: Global, name: &Ident) -> Result<Ident, Fault>
+/// The name once more.
+pub(crate) fn copied(alloc: Global, name: &Ident) -> Result<Ident, Fault>
     ensures ok { IfOk result (λ copy. copy ≡ name.now) }
     ensures err { IfErr result (λ fault. fault ≡ Fault.Memory) }
 {

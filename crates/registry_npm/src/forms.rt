@@ -18,7 +18,7 @@ use std::alloc::{AllocError, Global};
 // ---- what the registry answers, as values
 
 // The value of a document. `None` where it isn't JSON.
-fn value_of(alloc: Global, text: &str) -> Result<Option<Value>, Fault>
+pub(crate) fn value_of(alloc: Global, text: &str) -> Result<Option<Value>, Fault>
     ensures ok { IfOk result (λ value. option_map view value ≡ read text.now) }
     ensures err { IfErr result (λ fault. fault ≡ Fault.Memory) }
 {
@@ -75,7 +75,7 @@ fn level_of(grant: Grant) -> Level
 
 // The packages of an object, each with the level that is granted on it. `None` where a value isn't a
 // grant.
-fn levels_of(
+pub(crate) fn levels_of(
     alloc: Global,
     members: &Map<String, Value>,
 ) -> Result<Option<Vec<PackageLevel>>, AllocError>

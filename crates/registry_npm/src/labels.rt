@@ -2,24 +2,21 @@
 
 ghost use Rattle.std.specs.Prelude.{◌≡◌, ◌++◌, ◌∷◌, ◌+◌, ◌≤◌, [], Some, drop, length, take};
 ghost use Rattle.hex.specs.Hex.{encode_lower};
-ghost use Rattle.sha2.specs.Sha256.{sha256};
-ghost use Rattle.registry_names.specs.Versions.{text_of_version};
 ghost use Rattle.registry_service.specs.Turns.{exchange};
 ghost use Rattle.registry_wire.specs.EntityTags as tags;
 ghost use Rattle.registry_npm.specs.Labels as spec;
 
 use arrayvec::ArrayVec;
-use registry_names::{Fault, Name, Ver};
-use registry_routes::NpmEndpoint;
+use registry_cache::{SharedBlob, SharedText};
+use registry_names::Fault;
 use registry_rules::{Action, Credential, Reply, Request};
 use registry_service::Told;
-use registry_wire::{Caching, EntityTag, Labels};
-use sha2::{Digest, Sha256};
+use registry_wire::{Caching, DocumentForm, EntityTag, Labels};
 
 /// The bytes before the revision in a packument as npm reads it: `{"_rev":"`.
 const BEFORE_REVISION: usize = 9;
 
-/// The bytes of a revision, and of an archive's tag.
+/// The bytes of a tag, which is a digest in hexadecimal.
 const TAG_LEN: usize = 64;
 
 // At most so many bytes of the text, behind those that are skipped.
@@ -53,22 +50,37 @@ fn tag_in(front: &[u8], rest: &[u8]) -> Option<EntityTag>
     tag_of(begun, left)
 }
 
-// The labels of a packument that is read: its revision.
-fn packument_labels(front: &[u8], rest: &[u8]) -> Labels
-    ensures { result ≡ spec.packument_labels (front.now ++ rest.now) }
+// The labels of the packument that these two pieces are: its revision.
+fn front_labels(front: &[u8], rest: &[u8]) -> Labels
+    ensures { result ≡ spec.full_labels (front.now ++ rest.now) }
 {
     Labels {
         tag: tag_in(front, rest),
         caching: Caching::Checked,
+        form: DocumentForm::Full,
     }
 }
 
-/// The labels of what a request of npm's own by this route came to.
-pub(crate) fn own_labels(endpoint: NpmEndpoint, told: &Told) -> Labels
-    ensures { result ≡ spec.own_labels endpoint told.now }
+/// The labels of a packument as npm reads it, and of no other outcome.
+pub(crate) fn full_labels(told: &Told) -> Labels
+    ensures { result ≡ spec.of_document spec.full_labels told.now }
 {
-    match (endpoint, told.pieces()) {
-        (NpmEndpoint::Packument, Some((front, rest))) => packument_labels(front, rest),
+    match told.pieces() {
+        Some((front, rest)) => front_labels(front, rest),
+        None => Labels::none(),
+    }
+}
+
+/// The labels of an abbreviated packument, which is sent as it is, and of no other outcome.
+pub(crate) fn abbreviated_labels(outcome: &Result<Reply, Fault>) -> Labels
+    ensures { result ≡ spec.of_document spec.abbreviated_labels outcome.now }
+{
+    match outcome {
+        Ok(Reply::Doc(text)) => Labels {
+            tag: text_tag(text),
+            caching: Caching::Checked,
+            form: DocumentForm::Abbreviated,
+        },
         _ => Labels::none(),
     }
 }
@@ -79,38 +91,37 @@ pub(crate) fn other_labels(request: &Request, outcome: &Result<Reply, Fault>) ->
     ensures { result ≡ spec.other_labels (exchange request.now outcome.now ∷ []) outcome.now }
 {
     match (&request.what, outcome) {
-        (Action::Archive { package, version }, Ok(Reply::Bytes(_))) => Labels {
-            tag: archive_tag(package, version),
+        (Action::Archive { .. }, Ok(Reply::Bytes(bytes))) => Labels {
+            tag: archive_tag(bytes),
             caching: archive_caching(&request.who),
+            form: DocumentForm::Only,
         },
         _ => Labels::none(),
     }
 }
 
-// The digest of `kit@1.0.0`.
-fn archive_digest(name: &Name, version: &Ver) -> [u8; 32]
-    ensures { result ≡ sha256 (name.now ++ 64 ∷ text_of_version version.now) }
-{
-    let mut hasher = Sha256::new();
-    hasher.update(name.text().as_bytes());
-    hasher.update(b"@".as_slice());
-    hasher.update(version.text().as_bytes());
-    hasher.finalize()
-}
-
 // The tag that is a digest in hexadecimal.
-fn digest_tag(digest: [u8; 32]) -> Option<EntityTag>
-    ensures { result ≡ tags.tag_of (encode_lower digest) }
+fn digest_tag(digest: &[u8]) -> Option<EntityTag>
+    requires { length digest.now ≡ 32 }
+    ensures { result ≡ tags.tag_of (encode_lower digest.now) }
 {
     let mut tag = [0; TAG_LEN];
     let _fits = hex::encode_to_slice(digest, &mut tag);
     EntityTag::of(tag.as_slice())
 }
 
-fn archive_tag(name: &Name, version: &Ver) -> Option<EntityTag>
-    ensures { result ≡ Some (spec.archive_tag name.now version.now) }
+fn text_tag(text: &SharedText) -> Option<EntityTag>
+    ensures { result ≡ Some (spec.content_tag text.now) }
 {
-    digest_tag(archive_digest(name, version))
+    let digest = text.digest();
+    digest_tag(digest.as_slice())
+}
+
+fn archive_tag(bytes: &SharedBlob) -> Option<EntityTag>
+    ensures { result ≡ Some (spec.content_tag bytes.now) }
+{
+    let digest = bytes.digest();
+    digest_tag(digest.as_slice())
 }
 
 fn archive_caching(who: &Credential) -> Caching

@@ -2,7 +2,7 @@
 
 ghost use Rattle.registry_service.specs.Dialects.{AsksQueriesByGet, IsDetermined};
 ghost use Rattle.registry_npm.specs.Changes.{DocumentsChangeOneThing};
-ghost use Rattle.registry_npm.specs.LabelLaws.{ArchivesKeepTags, ArchiveTagsAreTags, RefusalsHaveNoLabels, SharedIsPublic, TagsAreRevisions};
+ghost use Rattle.registry_npm.specs.LabelLaws.{AbbreviatedAreShown, ArchivesKeepTags, ContentTagsAreTags, OnlyReadsAreLabelled, RefusalsHaveNoLabels, SharedIsPublic, TagsAreRevisions};
 ghost use Rattle.registry_npm.specs.Laws.{AsksForCaller, FaultsEnd, FilesAreGone, NeverNotFound, NpmIsApart, OneCommand, OthersStay};
 ghost use Rattle.registry_npm.specs.Npm.{npm};
 
@@ -75,16 +75,28 @@ pub fn refusals_have_no_labels()
     ensures { RefusalsHaveNoLabels }
 {}
 
-/// The tag of a packument that is read is the revision of the packument and the maintainers that were
-/// read in the turn, in front of which they are shown.
+/// Something is said to those who keep documents only of a packument or an archive that is read.
+pub fn only_reads_are_labelled()
+    ensures { OnlyReadsAreLabelled }
+{}
+
+/// The tag of a full packument that is read is the revision of the packument and the maintainers that
+/// were read in the turn, in front of which they are shown.
 pub fn tags_are_revisions()
     ensures { TagsAreRevisions }
 {}
 
-/// The tag of an archive is that of its name and version, whoever asks.
+/// Who accepts the abbreviated packument is shown that, as the registry answers it to them. Its tag is
+/// the digest of its text.
+pub fn abbreviated_are_shown()
+    ensures { AbbreviatedAreShown }
+{}
+
+/// The tag of an archive is the digest of its bytes, whoever asks: since those of a version never
+/// change, it is the same for good, and stands for no other archive.
 pub fn archives_keep_tags()
     ensures same { ArchivesKeepTags }
-    ensures form { ArchiveTagsAreTags }
+    ensures form { ContentTagsAreTags }
 {}
 
 /// What all may share is an archive that was answered to nobody in particular.

@@ -6,13 +6,15 @@
 //! of their outcomes, is in `specs/Npm`, by cases on the route. Every other request means what it means
 //! without this crate ([`laws`]).
 //!
-//! What is shown of a package has its revision as entity tag, and an archive has one for good
-//! (`specs/Labels`), so that neither is sent again to those who have it.
+//! Who accepts an abbreviated packument is shown that. What is shown of a package has its revision as
+//! entity tag, and an abbreviated packument or an archive the digest of its bytes (`specs/Labels`), so
+//! that neither is sent again to those who have it.
 #![tactic(auto)]
 
 mod asked;
 mod body;
 mod caller;
+mod collaborators;
 mod commands;
 mod documents;
 mod following;
@@ -22,6 +24,7 @@ mod labels;
 pub mod laws;
 mod packages;
 mod path;
+mod rights;
 mod service;
 mod shown;
 mod told;

@@ -3,14 +3,18 @@
 ghost use Rattle.std.specs.Prelude.{◌≡◌};
 ghost use Rattle.registry_service.specs.Turns.{Turns, request, spoken};
 ghost use Rattle.registry_npm.specs.Npm as spec;
+ghost use Rattle.registry_npm.specs.Labels.{own_labels};
+ghost use Rattle.registry_npm.specs.Leading.{Comes};
 ghost use Rattle.registry_npm.specs.Npm.{npm, others};
+ghost use Rattle.registry_routes.specs.Readings.{values_view};
 
 use crate::body::begins_object;
+use crate::documents;
 use crate::following::by_route;
-use crate::labels::{other_labels, own_labels};
+use crate::labels::other_labels;
 use crate::told::stopped;
 use registry_names::Moment;
-use registry_routes::{NpmEndpoint, npm_route_of};
+use registry_routes::{NpmEndpoint, Values, npm_route_of};
 use registry_service::{Service, Told, Turned, request_of, turn_told};
 use registry_wire::{Labels, Wanted};
 use std::alloc::Global;
@@ -51,6 +55,28 @@ fn is_npms(endpoint: NpmEndpoint, body: &[u8]) -> bool
     }
 }
 
+// What a request by this route of npm's comes to, and its labels. Only a packument has some.
+fn own<D: Service>(
+    alloc: Global,
+    service: &mut D,
+    endpoint: NpmEndpoint,
+    values: Values<'_>,
+    wanted: &Wanted,
+    at: Moment,
+) -> (Told, Labels)
+    ensures comes { Comes D.answers service.old
+        (spec.leads endpoint (values_view values.entry) wanted.now at) result.0 service.new }
+    ensures labels { result.1 ≡ own_labels endpoint wanted.now.accept result.0 }
+{
+    match endpoint {
+        NpmEndpoint::Packument => documents::packument(alloc, service, values, wanted, at),
+        _ => {
+            let told = by_route(alloc, service, endpoint, values, wanted, at);
+            (told, Labels::none())
+        }
+    }
+}
+
 // The turn of a request by the registry's own routes. What of it is an archive has labels.
 fn other_turn<D: Service>(
     alloc: Global,
@@ -78,7 +104,8 @@ fn other_turn<D: Service>(
 ///
 /// The service is asked one request after the other, at most one command among them. A fault of one
 /// ends the turn, and is the answer. A packument that is read as npm reads it has its revision as
-/// entity tag, and an archive one of its own; who names it again is told that it is the same.
+/// entity tag, and an abbreviated one or an archive the digest of its bytes; who names it again is
+/// told that it is the same.
 pub fn npm_turn<D: Service>(
     alloc: Global,
     service: &mut D,
@@ -95,7 +122,6 @@ pub fn npm_turn<D: Service>(
     if !is_npms(route.endpoint, wanted.body.as_slice()) {
         return other_turn(alloc, service, wanted, at, is_last);
     }
-    let told = by_route(alloc, service, route.endpoint, route.values, wanted, at);
-    let labels = own_labels(route.endpoint, &told);
+    let (told, labels) = own(alloc, service, route.endpoint, route.values, wanted, at);
     turn_told(told, labels, wanted, is_last)
 }

@@ -2,7 +2,7 @@
 
 use crate::outcome::same;
 use crate::parts::shared;
-use registry_cache::{Shared, TextDigest};
+use registry_cache::{ContentDigest, Shared};
 use std::process::Abort;
 
 // Texts with their SHA-256: the examples of FIPS 180-4 of one block and of two, and the empty text,
@@ -34,14 +34,14 @@ static DIGESTS: [(&str, [u8; 32]); 3] = [
     ),
 ];
 
-fn is_digest(rt: &impl Abort, text: &str, digest: TextDigest, wanted: &[u8; 32]) {
+fn is_digest(rt: &impl Abort, text: &str, digest: ContentDigest, wanted: &[u8; 32]) {
     same(rt, text, digest.as_slice(), wanted.as_slice());
 }
 
 #[test]
 fn digests(rt: HostRuntime) {
     for (text, wanted) in &DIGESTS {
-        is_digest(&rt, text, TextDigest::of(text), wanted);
+        is_digest(&rt, text, ContentDigest::of(text.as_bytes()), wanted);
     }
 }
 

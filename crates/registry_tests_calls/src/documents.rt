@@ -4,7 +4,7 @@ mod judging;
 
 use crate::outcome::{is_refused, same};
 use crate::parts::texts;
-use registry_cache::TextDigest;
+use registry_cache::ContentDigest;
 use registry_documents::Kind::{self, Maintainers, Other, Package, Publication};
 use registry_documents::{Document, Revision, front};
 use registry_names::Refusal;
@@ -28,7 +28,7 @@ static REVISIONS: [(&str, &[&str], &str); 2] = [
 fn revisions(rt: HostRuntime) {
     for (packument, names, wanted) in &REVISIONS {
         let names = texts(&rt, rt.alloc(), names);
-        let digest = TextDigest::of(packument);
+        let digest = ContentDigest::of(packument.as_bytes());
         let revision = Revision::of(rt.alloc(), &digest, &names).expect(&rt, "memory");
         same(&rt, *packument, revision.text(), *wanted);
         same(&rt, *packument, revision.is(wanted), true);
@@ -54,7 +54,7 @@ static FRONTS: [(&[&str], &str); 3] = [
 
 #[test]
 fn fronts(rt: HostRuntime) {
-    let digest = TextDigest::of("{}");
+    let digest = ContentDigest::of(b"{}");
     let revision = Revision::of(rt.alloc(), &digest, &[]).expect(&rt, "memory");
     for (names, wanted) in &FRONTS {
         let names = texts(&rt, rt.alloc(), names);

@@ -3,6 +3,7 @@
 
 ghost use Rattle.std.specs.Prelude.{false};
 
+mod collaborators;
 mod documents;
 mod labels;
 
@@ -33,13 +34,20 @@ fn answer_to(action: &Action, is_known: bool) -> (&'static str, Result<&'static 
         Action::WhoAmI => ("WhoAmI", Err(Refusal::NoCaller)),
         Action::Tags { package } => ("Tags", tags(package.text(), is_known)),
         Action::Maintainers { .. } => ("Maintainers", Ok("[\"ann\",\"bob\"]")),
-        Action::Members { .. } => ("Members", Ok("{\"ann\":\"owner\",\"eve\":\"admin\"}")),
+        Action::Members { organisation } => ("Members", members(organisation.text())),
         Action::Teams { .. } => ("Teams", Ok("[\"developers\",\"ops\"]")),
-        Action::TeamMembers { .. } => ("TeamMembers", Ok("[\"ann\"]")),
-        Action::TeamPackages { .. } => (
-            "TeamPackages",
-            Ok("{\"@lab/kit\":\"read-only\",\"@lab/new\":\"read-write\"}"),
-        ),
+        Action::TeamMembers { organisation, team } => {
+            (
+                "TeamMembers",
+                team_members(organisation.text(), team.text()),
+            )
+        }
+        Action::TeamPackages { organisation, team } => {
+            (
+                "TeamPackages",
+                team_packages(organisation.text(), team.text()),
+            )
+        }
         Action::OrgPackages { .. } => ("OrgPackages", Ok("{\"@lab/kit\":\"read\"}")),
         Action::MyPackages => ("MyPackages", Ok("{\"tool\":\"write\"}")),
         Action::VersionDoc { package, .. } => ("VersionDoc", version(package.text())),
@@ -53,6 +61,9 @@ fn answer_to(action: &Action, is_known: bool) -> (&'static str, Result<&'static 
         Action::SetAccess { .. } => ("SetAccess", Ok("")),
         Action::TokenRemove { .. } => ("TokenRemove", Ok("")),
         Action::Packument { package } => ("Packument", packument(package.text())),
+        Action::AbbreviatedPackument { package } => {
+            ("AbbreviatedPackument", abbreviated(package.text()))
+        }
         Action::Archive { package, .. } => ("Archive", archive(package.text(), is_known)),
         Action::Deprecate { package, .. } => ("Deprecate", written(package.text())),
         Action::Withdraw { package, .. } => ("Withdraw", version_of(package.text())),
@@ -60,6 +71,33 @@ fn answer_to(action: &Action, is_known: bool) -> (&'static str, Result<&'static 
         Action::OwnerAdd { user, .. } => ("OwnerAdd", done(user.text())),
         Action::OwnerRemove { .. } => ("OwnerRemove", Ok("")),
         _ => ("another", Err(Refusal::Waiting)),
+    }
+}
+
+// The house has developers, bob is no member of `shut`, and `vast` has more than a turn reads.
+fn members(organisation: &str) -> Result<&'static str, Refusal> {
+    match organisation {
+        "house" => Ok(collaborators::MEMBERS),
+        "shut" => Err(Refusal::Denied(Rule::A9)),
+        "vast" => Ok("vast"),
+        "odd" => Ok("{\"ann\":\"boss\"}"),
+        _ => Ok("{\"ann\":\"owner\",\"eve\":\"admin\"}"),
+    }
+}
+
+fn team_members(organisation: &str, team: &str) -> Result<&'static str, Refusal> {
+    match (organisation, team) {
+        ("house", "developers") => Ok("[\"bob\",\"dan\"]"),
+        ("house", _) => Ok("[\"dan\"]"),
+        _ => Ok("[\"ann\"]"),
+    }
+}
+
+fn team_packages(organisation: &str, team: &str) -> Result<&'static str, Refusal> {
+    match (organisation, team) {
+        ("house", "developers") => Ok("{\"@house/kit\":\"read-only\"}"),
+        ("house", _) => Ok("{\"@house/kit\":\"read-write\",\"@house/new\":\"read-only\"}"),
+        _ => Ok("{\"@lab/kit\":\"read-only\",\"@lab/new\":\"read-write\"}"),
     }
 }
 
@@ -83,6 +121,13 @@ fn version(package: &str) -> Result<&'static str, Refusal> {
 fn packument(package: &str) -> Result<&'static str, Refusal> {
     match package {
         "tool" | "theirs" => Ok(documents::TOOL),
+        _ => Err(Refusal::NotFound),
+    }
+}
+
+fn abbreviated(package: &str) -> Result<&'static str, Refusal> {
+    match package {
+        "tool" => Ok(labels::ABBREVIATED),
         _ => Err(Refusal::NotFound),
     }
 }
@@ -123,6 +168,7 @@ fn done(user: &str) -> Result<&'static str, Refusal> {
 fn reply(alloc: Global, answer: Result<&'static str, Refusal>) -> Result<Reply, Fault> {
     match answer {
         Ok("") => Ok(Reply::Done),
+        Ok("vast") => Ok(Reply::Doc(collaborators::vast(alloc)?)),
         Ok("archive") => Ok(Reply::Bytes(SharedBlob::from_slice(alloc, b"archive")?)),
         Ok(text) => Ok(Reply::Doc(SharedText::from_str(alloc, text)?)),
         Err(refusal) => Ok(Reply::Refused(refusal)),
@@ -166,7 +212,7 @@ const NOT_SERVED: &str = "{\"error\":\"NotServed\"}";
 const BAD_BODY: &str = "{\"error\":\"BadBody\"}";
 
 // Asked with the token of bob.
-static CASES: [Case; 46] = [
+static CASES: [Case; 45] = [
     (Get, "/-/ping?write=true", "", "", 200, "{}"),
     (
         Get,
@@ -224,14 +270,6 @@ static CASES: [Case; 46] = [
         "Maintainers ",
         200,
         "{\"ann\":\"write\",\"bob\":\"write\"}",
-    ),
-    (
-        Get,
-        "/-/package/@lab%2fkit/collaborators",
-        "",
-        "Maintainers ",
-        405,
-        NOT_SERVED,
     ),
     (
         Post,
@@ -485,6 +523,7 @@ fn wanted(
         target: blob(rt, alloc, target.as_bytes()),
         authorization,
         if_none_match: FieldValue::Absent,
+        accept: FieldValue::Absent,
         body: blob(rt, alloc, body.as_bytes()),
         closes: false,
     }

@@ -2,7 +2,7 @@
 
 use crate::outcome::same;
 use crate::parts::{concat, string, texts};
-use registry_cache::TextDigest;
+use registry_cache::ContentDigest;
 use registry_documents::{Asked, Document, Present, Revision, front, judge};
 use registry_names::{Stop, Text};
 use std::alloc::Global;
@@ -482,7 +482,7 @@ fn shown(rt: &impl Abort, alloc: Global, asked: &Result<Asked, Stop>) -> String 
 }
 
 fn revision(rt: &impl Abort, alloc: Global, maintainers: &[Text]) -> Revision {
-    Revision::of(alloc, &TextDigest::of(TOOL), maintainers).expect(rt, "memory")
+    Revision::of(alloc, &ContentDigest::of(TOOL.as_bytes()), maintainers).expect(rt, "memory")
 }
 
 // What a body asks for, where the packument is there.

@@ -3,11 +3,12 @@
 use super::{BOB, Fixed, NOT_FOUND, bearer, wanted};
 use crate::outcome::same;
 use crate::parts::{as_text, blob, concat};
-use registry_names::Method::Get;
+use registry_names::Method::{Get, Put};
 use registry_names::Moment;
 use registry_npm::npm_turn;
 use registry_wire::Caching::{Checked, Kept, Shared, Unsaid};
-use registry_wire::{Caching, EntityTag, FieldValue};
+use registry_wire::DocumentForm::{Abbreviated, Full, Only};
+use registry_wire::{Caching, DocumentForm, EntityTag, FieldValue};
 use std::alloc::Global;
 use std::process::Abort;
 
@@ -24,12 +25,17 @@ type Case = (
     &'static str,
 );
 
-// The revision of `tool`, as `sha256sum` told, and the digests of `tool@1.0.0` and `@lab/kit@1.0.0`.
+// The revision of `tool`, and the digests of its abbreviated packument and of `archive`, as `sha256sum`
+// told.
 const REVISION: &str = "a19ad3ca0a750021e752d6f385405e7e46a195a2a4b27f058a11b88727114031";
 
-const TOOL_ARCHIVE: &str = "5b6dd9a0246a391d959e635ec56a82a7bf0a299cfabbceeb0c65020839d1a22f";
+const DIGEST: &str = "b8a4e15dfcecbabb6a8a16bcca50eb7c9f62c1afeb2bcc91c68617a7ab90264a";
 
-const KIT_ARCHIVE: &str = "095a8625c4ff6d9f8aeb58743fd1a6d09fa38cc7490bab6d36d7b57698325ca0";
+const ARCHIVE: &str = "0eb3e36bfb24dcd9bb1d1bece1531216b59539a8fde17ee80224af0653c92aa3";
+
+/// The abbreviated packument of `tool`.
+pub(super) const ABBREVIATED: &str =
+    r#"{"dist-tags":{"latest":"1.1.0"},"modified":"1970-01-01T00:00:00.000Z","name":"tool","versions":{"1.0.0":{"name":"tool"},"1.1.0":{"name":"tool"}}}"#;
 
 const PACKUMENT: &str =
     r#"{"_rev":"a19ad3ca0a750021e752d6f385405e7e46a195a2a4b27f058a11b88727114031","maintainers":[{"email":"","name":"ann"},{"email":"","name":"bob"}],"_id":"tool","dist-tags":{"latest":"1.1.0"},"name":"tool","versions":{"1.0.0":{"name":"tool"},"1.1.0":{"name":"tool"}}}"#;
@@ -105,7 +111,7 @@ static CASES: [Case; 19] = [
         true,
         "",
         200,
-        TOOL_ARCHIVE,
+        ARCHIVE,
         Kept,
         "archive",
     ),
@@ -114,25 +120,26 @@ static CASES: [Case; 19] = [
         false,
         "",
         200,
-        TOOL_ARCHIVE,
+        ARCHIVE,
         Shared,
         "archive",
     ),
     (
         "/tool/-/tool-1.0.0.tgz",
         false,
-        "\"5b6dd9a0246a391d959e635ec56a82a7bf0a299cfabbceeb0c65020839d1a22f\"",
+        "\"0eb3e36bfb24dcd9bb1d1bece1531216b59539a8fde17ee80224af0653c92aa3\"",
         304,
-        TOOL_ARCHIVE,
+        ARCHIVE,
         Shared,
         "",
     ),
+    // The digest of the archive's name.
     (
         "/tool/-/tool-1.0.0.tgz",
         false,
-        "\"095a8625c4ff6d9f8aeb58743fd1a6d09fa38cc7490bab6d36d7b57698325ca0\"",
+        "\"5b6dd9a0246a391d959e635ec56a82a7bf0a299cfabbceeb0c65020839d1a22f\"",
         200,
-        TOOL_ARCHIVE,
+        ARCHIVE,
         Shared,
         "archive",
     ),
@@ -141,7 +148,7 @@ static CASES: [Case; 19] = [
         true,
         "",
         200,
-        KIT_ARCHIVE,
+        ARCHIVE,
         Kept,
         "archive",
     ),
@@ -150,7 +157,7 @@ static CASES: [Case; 19] = [
         true,
         "*",
         304,
-        KIT_ARCHIVE,
+        ARCHIVE,
         Kept,
         "",
     ),
@@ -209,4 +216,172 @@ fn what_is_kept_is_labelled(rt: HostRuntime) {
     for case in &CASES {
         is_labelled(&rt, rt.alloc(), case);
     }
+}
+
+// ---- what is accepted
+
+// What npm 10 sends where it installs.
+const OF_NPM: &str = "application/vnd.npm.install-v1+json; q=1.0, application/json; q=0.8, */*";
+
+/// The value of `accept`, which is absent where it is empty; a target; the value of `if-none-match`;
+/// what is asked; and the status, the tag, the form, and the body.
+type Accepted = (
+    &'static str,
+    &'static str,
+    &'static str,
+    &'static str,
+    u16,
+    &'static str,
+    DocumentForm,
+    &'static str,
+);
+
+const ONE: &str = "AbbreviatedPackument ";
+
+const BOTH: &str = "Packument Maintainers ";
+
+static ACCEPTED: [Accepted; 12] = [
+    (
+        OF_NPM,
+        "/tool",
+        "",
+        ONE,
+        200,
+        DIGEST,
+        Abbreviated,
+        ABBREVIATED,
+    ),
+    (
+        OF_NPM,
+        "/tool",
+        "\"b8a4e15dfcecbabb6a8a16bcca50eb7c9f62c1afeb2bcc91c68617a7ab90264a\"",
+        ONE,
+        304,
+        DIGEST,
+        Abbreviated,
+        "",
+    ),
+    // Who has the full one has another document.
+    (
+        OF_NPM,
+        "/tool",
+        "\"a19ad3ca0a750021e752d6f385405e7e46a195a2a4b27f058a11b88727114031\"",
+        ONE,
+        200,
+        DIGEST,
+        Abbreviated,
+        ABBREVIATED,
+    ),
+    (
+        "application/vnd.npm.install-v1+json",
+        "/tool?write=true",
+        "",
+        ONE,
+        200,
+        DIGEST,
+        Abbreviated,
+        ABBREVIATED,
+    ),
+    // What `npm view`, `npm publish` and `npm deprecate` send, and a browser.
+    (
+        "application/json",
+        "/tool",
+        "",
+        BOTH,
+        200,
+        REVISION,
+        Full,
+        PACKUMENT,
+    ),
+    ("*/*", "/tool", "", BOTH, 200, REVISION, Full, PACKUMENT),
+    ("", "/tool", "", BOTH, 200, REVISION, Full, PACKUMENT),
+    (
+        "",
+        "/tool",
+        "\"b8a4e15dfcecbabb6a8a16bcca50eb7c9f62c1afeb2bcc91c68617a7ab90264a\"",
+        BOTH,
+        200,
+        REVISION,
+        Full,
+        PACKUMENT,
+    ),
+    (OF_NPM, "/hidden", "*", ONE, 404, "", Only, NOT_FOUND),
+    // Nothing else has two forms.
+    (
+        OF_NPM,
+        "/-/whoami",
+        "*",
+        "WhoAmI ",
+        200,
+        "",
+        Only,
+        "{\"username\":\"bob\"}",
+    ),
+    (
+        OF_NPM,
+        "/tool/1.0.0",
+        "*",
+        "VersionDoc ",
+        200,
+        "",
+        Only,
+        "{}",
+    ),
+    (
+        OF_NPM,
+        "/tool/-/tool-1.0.0.tgz",
+        "",
+        "Archive ",
+        200,
+        ARCHIVE,
+        Only,
+        "archive",
+    ),
+];
+
+fn is_accepted(rt: &impl Abort, alloc: Global, case: &Accepted) {
+    let (accept, target, value, asked, status, tag, form, text) = case;
+    let mut wanted = wanted(rt, alloc, Get, target, "", bearer(rt, alloc, BOB));
+    wanted.accept = field(rt, alloc, accept);
+    wanted.if_none_match = field(rt, alloc, value);
+    let mut service = Fixed {
+        asked: String::new(alloc),
+    };
+    let turned = npm_turn(alloc, &mut service, &wanted, Moment::clamped(0), false);
+    same(rt, *target, service.asked.as_str(), *asked);
+    same(rt, *target, &turned.answer.status.as_u16(), status);
+    same(rt, *target, tag_text(&turned.answer.labels.tag), *tag);
+    same(rt, *target, &turned.answer.labels.form, form);
+    let (front, rest) = turned.answer.body.as_slices();
+    let body = concat(rt, alloc, &[as_text(front), as_text(rest)]);
+    same(rt, *target, body.as_str(), *text);
+}
+
+#[test]
+fn what_is_accepted_is_shown(rt: HostRuntime) {
+    for case in &ACCEPTED {
+        is_accepted(&rt, rt.alloc(), case);
+    }
+}
+
+// A change is none the less one: npm sends `accept` with each request.
+#[test]
+fn changes_accept_what_they_like(rt: HostRuntime) {
+    let alloc = rt.alloc();
+    let mut wanted = wanted(
+        &rt,
+        alloc,
+        Put,
+        "/-/package/tool/dist-tags/next",
+        "\"1.0.0\"",
+        bearer(&rt, alloc, BOB),
+    );
+    wanted.accept = field(&rt, alloc, OF_NPM);
+    wanted.if_none_match = field(&rt, alloc, "*");
+    let mut service = Fixed {
+        asked: String::new(alloc),
+    };
+    let turned = npm_turn(alloc, &mut service, &wanted, Moment::clamped(0), false);
+    same(&rt, "labels", tag_text(&turned.answer.labels.tag), "");
+    same(&rt, "form", &turned.answer.labels.form, &Only);
 }

@@ -11,4 +11,4 @@ returns-then-not-is_npms g c =
 pub returns : goal.returns
 returns g c =
     let found = rw (c.in-Some.is, c.as_slice.ensures) at c.npm_route_of.ensures in
-    npms-turn g.D.Service.answers _ _ c.args.wanted.now c.args.at c.args.is_last _ _ _ _ found (sym (rw c.as_slice-2.ensures at c.is_npms.ensures) ∙ c.if-not-is_npms.false) c.by_route-told.ensures c.own_labels-labels.ensures c.turn_told.ensures
+    npms-turn g.D.Service.answers _ _ c.args.wanted.now c.args.at c.args.is_last _ _ _ _ found (sym (rw c.as_slice-2.ensures at c.is_npms.ensures) ∙ c.if-not-is_npms.false) c.own-told.ensures.comes c.own-told.ensures.labels c.turn_told.ensures

@@ -1,0 +1,5 @@
+use Rattle.registry_npm.proofs.TagFacts.{content-some}
+use Rattle.registry_npm.proofs.labels.text_tag.Goals as goal
+
+pub returns : goal.returns
+returns c = rw (c.digest_tag.ensures, c.as_slice.ensures, c.digest-digest.ensures) (content-some c.args.text.now)
