@@ -5,7 +5,7 @@ use Rattle.std.specs.Io.KnownBytes.{Appends}
 use Rattle.std.proofs.Math.Logic.{∥∥₁_map}
 use Rattle.std.proofs.Math.Seq.{take-add}
 use Rattle.std.proofs.lemmas.List.{ext_get_or}
-use Rattle.sqlite.specs.Closing.{IsCopied}
+use Rattle.sqlite.specs.Closing.{HoldsAlone, IsCopied}
 use Rattle.sqlite.specs.Effect.{Database, IsDatabase}
 use Rattle.sqlite.specs.Files.{Finds, HoldsDatabase, IsOpened, file_state, image_of}
 use Rattle.sqlite.specs.Held.{Held}
@@ -17,6 +17,7 @@ use Rattle.sqlite_disk.specs.declared.Files.{Files}
 use Rattle.sqlite_schema.specs.declared.schema.Schema.{Schema}
 use Rattle.sqlite_store.specs.declared.store.FileStore.{FileStore}
 use Rattle.sqlite_trees.specs.Tree.{Trees}
+use Rattle.sqlite_wal.specs.Recovery.{Image}
 use Rattle.registry_desk.specs.Adopted.{IsMade}
 use Rattle.registry_desk.specs.Opened.{IsMadeOf, IsOurs}
 use Rattle.registry_desk.specs.Resting.{IsRegistryOf, Rests}
@@ -24,7 +25,7 @@ use Rattle.registry_migration.specs.Older.{schema_of}
 use Rattle.registry_migration.specs.declared.older.Older.{Older}
 use Rattle.registry_migration.specs.declared.older.Older.TheVariants.{First, Second}
 use Rattle.registry_names.specs.Texts.{Text}
-use Rattle.registry_program.specs.Copies.{HoldsSeen, HoldsTold, IsCopy, IsHeld, IsOlder, IsRestored, RestoresOlder, RestoresRegistry, StaysCommitted, alone}
+use Rattle.registry_program.specs.Copies.{HoldsSeen, HoldsTold, IsCopy, IsHeld, IsOlder, IsRead, IsRestored, RestoresOlder, RestoresRegistry, StaysCommitted, alone}
 use Rattle.registry_program.specs.Lines.{lines_of}
 use Rattle.registry_rows.specs.Tables.{no_tables}
 use Rattle.registry_rows.specs.Ready.{IsReady}
@@ -60,6 +61,21 @@ is_copy {D} {g} conn files old new rests copied wrote = record {
   wrote = wrote;
   holds = ∥∥₁_map (holds_trees {g = g} conn files (file_state conn) copied rests copied.was_clean copied.was_open refl) (λ h. ((file_state conn).now.trees, h.0, h.1));
 }
+
+abbrev image_with : List ℕ → List ℕ → Image
+image_with log db = record { log = log; db = db }
+
+-- what was copied into a file is in it after that was read, too
+pub still_copied : {D : Type 0} {g : Ghosts D} (conn : Held (FileStore D g)) (files rest : Files D) → rest.log ≡ files.log → IsRead g files.db rest.db → IsCopied conn files → IsCopied conn rest
+still_copied {D} {g} conn files rest log read copied =
+    let logs : image_with (g.seen rest.log) (g.seen rest.db) ≡ image_with (g.seen files.log) (g.seen rest.db) = ap (λ (d : D). image_with (g.seen d) (g.seen rest.db)) log in
+    let same : image_with (g.seen rest.log) (g.seen rest.db) ≡ image_with (g.seen files.log) (g.seen files.db) = logs ∙ ap (λ (bytes : List ℕ). image_with (g.seen files.log) bytes) read.seen in
+    record {
+      was_clean = copied.was_clean;
+      was_open = copied.was_open;
+      seen = subst (λ (image : Image). HoldsAlone image (file_state conn).committed.trees) (sym same) copied.seen;
+      left = λ image may. copied.left image (subst (λ (d : D). g.may_leave d image.log) log may.0, read.crash image.db may.1);
+    }
 
 -- the registry that a closed connection was made of, which stayed as it was until then
 pub is_held : {D : Type 0} {g : Ghosts D} (conn : Held (FileStore D g)) (files : Files D) (s : Shown) (checks : Bool) (lines : List Text) → Rests s → StaysCommitted s (file_state conn)

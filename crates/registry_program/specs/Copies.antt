@@ -4,6 +4,7 @@ use Rattle.std.specs.Io.KnownBytes.{Appends}
 use Rattle.sqlite.specs.Files.{AreFoundIn, HoldsDatabase}
 use Rattle.sqlite.specs.State.{State as Shown, HasCleanDisk, KeepsCommit}
 use Rattle.sqlite_catalog.specs.Listing.{IsSound}
+use Rattle.sqlite_disk.specs.declared.Disk.{Ghosts}
 use Rattle.sqlite_schema.specs.declared.schema.Schema.{Schema}
 use Rattle.sqlite_trees.specs.Tree.{Trees}
 use Rattle.sqlite_wal.specs.Recovery.{Image}
@@ -21,21 +22,28 @@ use Rattle.registry_program.specs.Lines.{lines_of}
 abbrev pub alone : List ℕ → Image
 alone file = record { log = []; db = file }
 
--- without a log the file holds a registry with c, and an open of it finds a registry
+-- without a log the file holds the tables of a registry with c, which an open of it finds
 abbrev pub HoldsRegistry : List ℕ → Contents → Type 0
 HoldsRegistry file c = ∥ ((db : Trees) × HoldsDatabase (alone file) db × IsRegistryOf db c) ∥₁
 
--- A writer took the bytes of one file. Without a log they hold a registry's database with
--- everything that was stored, and an open of it finds a registry.
+-- A writer took the bytes of one file. Without a log they hold the tables of a registry with
+-- everything that was stored and nothing else, which an open of it finds.
 pub record IsCopy (last : Shown) (old new : Option (List ℕ)) : Type 0 where
   pub file : List ℕ
   pub wrote : Appends old new file
   pub holds : HoldsRegistry file (stored last)
 
--- What was committed is committed still, and a connection that is open was open
+-- A disk was read alone: it holds what it held, now and after a crash
+pub record IsRead {D : Type 0} (g : Ghosts D) (old new : D) : Type 0 where
+  pub seen : g.seen new ≡ g.seen old
+  pub crash : (bytes : List ℕ) → g.may_leave new bytes → g.may_leave old bytes
+
+-- What was committed is committed still, a connection that is open was open, and a crash leaves only
+-- what it could have left before
 pub record StaysCommitted (old new : Shown) : Type 0 where
   pub clean : HasCleanDisk new → HasCleanDisk old
   pub committed : HasCleanDisk new → KeepsCommit old new
+  pub crash : HasCleanDisk new → (db : Trees) → new.may_leave db → old.may_leave db
 
 -- the file alone holds a registry with c, and these are the lines on it, if it is to be checked
 abbrev pub HoldsTold : List ℕ → Contents → Bool → List Text → Type 0

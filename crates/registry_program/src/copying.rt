@@ -1,6 +1,6 @@
 //! Copying the file that keeps a registry.
 
-ghost use Rattle.std.specs.Prelude.{◌≡◌, false, true, IfOk, IsTrue, OnOk, map, string_bytes};
+ghost use Rattle.std.specs.Prelude.{◌≡◌, ℕ, false, true, IfOk, IsTrue, List, OnOk, map, string_bytes};
 ghost use Rattle.std.specs.Io.KnownBytes.{Appends};
 ghost use Rattle.sqlite.specs.Closing.{IsCopied};
 ghost use Rattle.sqlite.specs.Files.{file_state};
@@ -9,7 +9,7 @@ ghost use Rattle.sqlite.specs.State.{HasCleanDisk};
 ghost use Rattle.sqlite_wal.specs.Reads.{AreClean};
 ghost use Rattle.registry_rows.specs.Ready.{Ready};
 ghost use Rattle.registry_tables.specs.Schema as tables;
-ghost use Rattle.registry_program.specs.Copies.{IsCopy, IsHeld, StaysCommitted};
+ghost use Rattle.registry_program.specs.Copies.{IsCopy, IsHeld, IsRead, StaysCommitted};
 ghost use Rattle.registry_program.specs.Lines.{lines_of};
 
 use crate::beside::{TRIES, busy, hold_server, is_busy, pause, require_held, require_no_other};
@@ -148,13 +148,16 @@ fn copy_registry<D: Disk + Drop, W: Write>(
 /// stay locked until they are dropped.
 ///
 /// What is written is one file that holds the registry, as long as the disk returns what was
-/// written to it. A fault is returned where a file can't be read or written.
+/// written to it. So do the files that are returned, now and after a crash. A fault is returned where a
+/// file can't be read or written.
 pub fn write_copy<D: Disk + Drop, W: Write>(
     registry: Registry<FileStore<D>>,
     output: &mut W,
 ) -> Result<Files<D>, Ending>
     ensures copied { IfOk result (λ files. AreClean D.Disk files.log files.db
         → IsCopy (file_state registry) (W.contents output.old) (W.contents output.new)) }
+    ensures kept { IfOk result (λ files. AreClean D.Disk files.log files.db
+        → IsCopied registry files) }
 {
     match close_files(registry) {
         Ok(files) => write_files(files, output),
@@ -165,7 +168,7 @@ pub fn write_copy<D: Disk + Drop, W: Write>(
     }
 }
 
-// Writes the database file.
+// Writes the database file. The files hold what they held.
 fn write_files<D: Disk + Drop, W: Write>(
     files: Files<D>,
     output: &mut W,
@@ -173,7 +176,8 @@ fn write_files<D: Disk + Drop, W: Write>(
     requires usable { IsTrue (D.Disk.is_usable files.db) }
     ensures wrote { IfOk result (λ left. AreClean D.Disk left.log left.db
         → AreClean D.Disk files.log files.db
-        × Appends (W.contents output.old) (W.contents output.new) (D.Disk.seen files.db)) }
+        × Appends (W.contents output.old) (W.contents output.new) (D.Disk.seen files.db)
+        × (left.log ≡ files.log) × IsRead D.Disk files.db left.db) }
 {
     let mut files = files;
     match write_disk(&mut files.db, output) {
@@ -182,9 +186,12 @@ fn write_files<D: Disk + Drop, W: Write>(
     }
 }
 
-// Writes everything that a disk holds, piece by piece.
+// Writes everything that a disk holds, piece by piece. The disk holds what it held.
 fn write_disk<D: Disk, W: Write>(disk: &mut D, output: &mut W) -> io::Result<()>
     requires usable { IsTrue (D.Disk.is_usable disk.old) }
+    ensures seen { D.Disk.seen disk.new ≡ D.Disk.seen disk.old }
+    ensures crash { (bytes : List ℕ) → D.Disk.may_leave disk.new bytes
+        → D.Disk.may_leave disk.old bytes }
     ensures clean { IsTrue (D.Disk.is_clean disk.new) → IsTrue (D.Disk.is_clean disk.old) }
     ensures wrote { OnOk result (IsTrue (D.Disk.is_clean disk.new)
         → Appends (W.contents output.old) (W.contents output.new) (D.Disk.seen disk.old)) }

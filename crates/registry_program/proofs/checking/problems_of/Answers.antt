@@ -44,8 +44,9 @@ returns-clause-still g c =
     let new = state g.S.Store c.rollback.new.self.0 in
     let first : HasCleanDisk begun → HasCleanDisk old = rw c.transaction-tx.ensures.begun (λ clean. clean) in
     let begins : KeepsCommit old begun = rw c.transaction-tx.ensures.begun (record { was_open = λ on. on; committed = λ on. refl }) in
+    let before : (db : Trees) → begun.may_leave db → old.may_leave db = rw c.transaction-tx.ensures.begun (λ db may. may) in
     let stays = c.check-problems.ensures.stays in
     let second : HasCleanDisk mid → HasCleanDisk begun = λ clean. omega (arith, stays.survives.clean, clean) in
     let third : HasCleanDisk new → HasCleanDisk mid = λ clean. omega (arith, c.rollback.ensures.survives.clean, clean) in
     let same : c.rollback.new.self.0 ≡ c.conn-1.given.0 = search rules in
-    subst (λ h. StaysCommitted old (state g.S.Store h)) same (rolled_stays old begun mid new first begins second stays.committed third c.rollback.ensures.undone)
+    subst (λ h. StaysCommitted old (state g.S.Store h)) same (rolled_stays old begun mid new first begins before second stays.committed stays.survives third c.rollback.ensures.undone c.rollback.ensures.survives)

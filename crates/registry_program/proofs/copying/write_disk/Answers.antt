@@ -22,6 +22,7 @@ pieces-preserved g c =
       usable = c.in_ok-read_at.ensures.usable;
       clean = λ is. inv.clean (c.in_ok-read_at.ensures.clean is);
       seen = c.in_ok-read_at.ensures.seen ∙ inv.seen;
+      crash = λ bytes may. inv.crash bytes (c.in_ok-read_at.ensures.crash bytes may);
       size = λ is. inv.size (c.in_ok-read_at.ensures.clean is);
       wrote = λ is.
           let held : Holds file at buf = subst (λ (f : List ℕ). Holds f at buf) inv.seen (c.in_ok-read_at.ensures.read is some) in
