@@ -146,6 +146,8 @@ cat > "$work/commands" <<'END'
 --at 100 publish BODY
 --at 100 --as bob packument @lab/kit
 --at 100 packument @lab/kit
+--at 100 --as bob abbreviated-packument @lab/kit
+--at 100 abbreviated-packument @lab/kit
 --at 100 --as bob version-doc @lab/kit latest
 --at 100 --as bob version-doc @lab/kit 1.0.0
 --at 100 --as bob archive @lab/kit 1.0.0

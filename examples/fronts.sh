@@ -204,6 +204,30 @@ compresses() {
 }
 try 'JSON is compressed and has its tag, at both fronts' compresses
 
+# What yarn and pnpm send where they install, and npm in `outdated`.
+installs='accept: application/vnd.npm.install-v1+json; q=1.0, application/json; q=0.8, */*'
+short_documents() {
+    for front in ask at_further; do
+        [ "$(status_at $front bob -H "$installs" "$address/@lab%2fkit")" = 200 ] && has '^content-type: application/vnd.npm.install-v1+json' &&
+            has '"tarball":"https://localhost' && ! has '_rev' && grep -qi '^vary:.*accept' "$work/head" || return 1
+        short=$(tag_of)
+        [ "$(status_at $front bob "$address/@lab%2fkit")" = 200 ] && has '^content-type: application/json' && has '_rev' && [ "$(tag_of)" != "$short" ] &&
+            [ "$(status_at $front bob -H "$installs" -H "if-none-match: $short" "$address/@lab%2fkit")" = 304 ] &&
+            [ "$(status_at $front bob -H "if-none-match: $short" "$address/@lab%2fkit")" = 200 ] &&
+            [ "$(status_at $front eve -H "$installs" -H "if-none-match: $short" "$address/@lab%2fkit")" = 404 ] || return 1
+    done
+}
+try 'a short document passes both fronts with a tag of its own, and its archives are at the front' short_documents
+keeps_both() {
+    for _ in 1 2; do
+        for field in "$installs" 'accept: application/json'; do
+            mark
+            [ "$(status_at at_further bob -H "$field" "$address/@lab%2fkit")" = 200 ] && asked 1 && grep -q ' 304$' "$work/asked" || return 1
+        done
+    done
+}
+try 'the further front keeps both, and asks before each use' keeps_both
+
 # ---- who is answered what
 
 try 'five readers are answered at the further front as at the first one, byte for byte' all_the_same
@@ -427,9 +451,27 @@ try 'after a publish it gets the one packument that changed' npm_is_told
 yarn_installs() { rm -rf "$work/cal/yarn" && installs "$1" 6 $yarn add --non-interactive --cache-folder "$work/cal/yarn" @lab/kit; }
 yarn_cold() { ends && rm -rf "$work/kept" && begins && yarn_installs 200; }
 yarn_warm() { yarn_installs 304; }
+
+# The registry's log has the length of each answer: of a whole packument, and of what a client asks for.
+shorter() {
+    mark
+    from=$marks
+    [ "$(status_at ask bob "$address/@lab%2fkit")" = 200 ] || return 1
+    "$@"
+    mark
+    sed "1,/ \/-\/mark-$from /d" "$work/requests.log" | grep ' GET /@lab%2fkit 200 ' | cut -d ' ' -f 6 > "$work/out"
+    [ "$(wc -l < "$work/out")" = 2 ] && [ "$(tail -n 1 "$work/out")" -lt "$(head -n 1 "$work/out")" ]
+}
+npm_outdated() { as cal "$work/projects/npm" npm outdated || true; }
+try 'npm outdated asks for short documents, which are shorter' shorter npm_outdated
+yarn_again() {
+    ends && rm -rf "$work/kept" "$work/cal/yarn" && begins && project npm &&
+        through cal "$work/projects/npm" $yarn add --non-interactive --cache-folder "$work/cal/yarn" @lab/kit
+}
 if [ -n "$yarn" ]; then
     try "yarn $($yarn --version) installs them through an empty one" yarn_cold
     try 'and where the front has them' yarn_warm
+    try 'it asks for short documents' shorter yarn_again
 else
     say 'skipped: yarn, which is not there (yarn 1.x, or yarnpkg of Debian)'
 fi
@@ -490,7 +532,7 @@ keeps_whole() {
 }
 try 'half an answer is not kept' keeps_whole
 says_so() {
-    sed -i '/X-Accel-Expires/d' "$work/further/first-front" && ends && begins && reads bob /@lab%2fopen 200 200 && reads bob /@lab%2fopen 200 200 && all_the_same
+    sed -i '/X-Accel-Expires/d' "$work/further/first-front" && ends && rm -rf "$work/kept" && begins && reads bob /@lab%2fopen 200 200 && reads bob /@lab%2fopen 200 200 && all_the_same
 }
 try 'without the line that lets answers be kept nothing new is' says_so
 

@@ -1,8 +1,8 @@
 /* Asks a server of HTTP on 127.0.0.1 for one path over many connections that stay open.
  *
- *     load PORT CONNECTIONS SECONDS STATUS PATH [TOKEN]
+ *     load PORT CONNECTIONS SECONDS STATUS PATH [FIELD..]
  *
- * Each connection has one request under way. An answer's length is that of its content-length. An
+ * A FIELD is a whole field of the request's head, such as `accept: text/plain`. Each connection has one request under way. An answer's length is that of its content-length. An
  * answer of another status than STATUS ends the run. Where the server says that it ends a
  * connection (it may, after some number of requests), another is opened in its place.
  *
@@ -145,18 +145,24 @@ static int by_time(const void *a, const void *b) {
     return (x > y) - (x < y);
 }
 
+/* Adds to the request. */
+static void add(const char *form, const char *text) {
+    request_len += (size_t)snprintf(request + request_len, sizeof request - request_len, form, text);
+    if (request_len >= sizeof request) stop("the request is too long");
+}
+
 int main(int count, char **words) {
     if (count < 6) {
-        fprintf(stderr, "load PORT CONNECTIONS SECONDS STATUS PATH [TOKEN]\n");
+        fprintf(stderr, "load PORT CONNECTIONS SECONDS STATUS PATH [FIELD..]\n");
         return 2;
     }
     int connections = atoi(words[2]);
     double seconds = atof(words[3]);
     status = words[4];
     if (strlen(status) != 3) stop("a status has three digits");
-    request_len = (size_t)snprintf(request, sizeof request, "GET %s HTTP/1.1\r\nhost: localhost\r\n%s%s%s\r\n",
-        words[5], count > 6 ? "authorization: Bearer " : "", count > 6 ? words[6] : "", count > 6 ? "\r\n" : "");
-    if (request_len >= sizeof request) stop("the request is too long");
+    add("GET %s HTTP/1.1\r\nhost: localhost\r\n", words[5]);
+    for (int i = 6; i < count; i++) add("%s\r\n", words[i]);
+    add("%s", "\r\n");
     server.sin_family = AF_INET;
     server.sin_port = htons((unsigned short)atoi(words[1]));
     server.sin_addr.s_addr = htonl(INADDR_LOOPBACK);

@@ -146,12 +146,12 @@ class Client:
     def __init__(self, port):
         self.port, self.socket = port, None
 
-    def ask(self, method, path, body=b'', token=TOKEN):
+    def ask(self, method, path, body=b'', token=TOKEN, accept=None):
         """The whole response to a request, and how many seconds it took from the first byte sent
         to the last one read."""
         if self.socket is None:
             self.socket = connect(self.port)
-        request = request_of(method, path, body, token)
+        request = request_of(method, path, body, token, accept)
         began = time.perf_counter()
         self.socket.sendall(request)
         response = read_response(self.socket)
@@ -178,10 +178,12 @@ def connect(port):
     return connection
 
 
-def request_of(method, path, body=b'', token=None):
+def request_of(method, path, body=b'', token=None, accept=None):
     lines = [f'{method} {path} HTTP/1.1', 'host: localhost']
     if token:
         lines.append(f'authorization: Bearer {token}')
+    if accept:
+        lines.append(f'accept: {accept}')
     if body:
         lines += ['content-type: application/json', f'content-length: {len(body)}']
     return '\r\n'.join(lines + ['', '']).encode() + body
