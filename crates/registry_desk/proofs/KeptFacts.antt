@@ -5,7 +5,6 @@ use Rattle.registry_access.specs.declared.caller.Caller.{Caller}
 use Rattle.registry_names.specs.Texts.{Text}
 use Rattle.registry_names.specs.Versions.{VersionParts, text_of_version}
 use Rattle.registry_names.specs.declared.refusal.Refusal.{Refusal}
-use Rattle.registry_cache.specs.Caches.{Cache}
 use Rattle.registry_rules.specs.Actions.{is_command}
 use Rattle.registry_rules.specs.Changes.{Change}
 use Rattle.registry_rules.specs.declared.reply.Reply.{Reply}
@@ -20,7 +19,7 @@ use Rattle.registry_tables.specs.Teams.{AreTeamsSound}
 use Rattle.registry_laws_history.specs.Answers.{archive_in, reply_to}
 use Rattle.registry_laws_history.specs.Apart.{is_about, is_read_in}
 use Rattle.registry_laws_history.specs.Runs.{Outcome}
-use Rattle.registry_desk.specs.Caches.{AreAnswers, AreArchives, AreLeftBy, ArePackuments, HasAnswers, IsSoundFor, KeepNoMore, KeepsReply, LeavesCacheRight, live_packument, moves, texts_of}
+use Rattle.registry_desk.specs.Caches.{AreAnswers, AreLeftBy, ArePackuments, HasAnswers, IsSoundFor, KeepNoMore, KeepsReply, LeavesCacheRight, live_packument, moves, texts_of}
 use Rattle.registry_desk.specs.Sending.{IsAnyPackument}
 use Rattle.registry_desk.specs.Views.{asks_packument}
 use Rattle.registry_desk.specs.declared.cache.Caches.{Caches}

@@ -275,7 +275,8 @@ fn forget_packument(cache: &mut TextCache, change: &Change<'_>)
 {
     match changed_package(change) {
         Changed::Packument(name) => cache.forget(name.text()),
-        Changed::Maintainers(_) | Changed::Nothing => {}
+        Changed::Maintainers(_) => {}
+        Changed::Nothing => {}
     }
 }
 
@@ -293,7 +294,8 @@ fn forget_read(cache: &mut TextCache, change: &Change<'_>)
     ensures { cache.new ≡ without_read (change_of change.now ∷ []) cache.old }
 {
     match changed_package(change) {
-        Changed::Packument(name) | Changed::Maintainers(name) => cache.forget(name.text()),
+        Changed::Packument(name) => cache.forget(name.text()),
+        Changed::Maintainers(name) => cache.forget(name.text()),
         Changed::Nothing => {}
     }
 }
