@@ -13,8 +13,8 @@ pub returns-in-Ok-Refused-clause-right : goal.returns-in-Ok-Refused-clause-right
 returns-in-Ok-Refused-clause-right g c =
     right_left (state g.S.Store c.args.conn.now) (state g.S.Store c.origin_of.new.conn) c.args.caches.now c.args.caches.now c.origin_of.ensures.left (keep_same c.args.caches.now) c.requires.right
 
-pub returns-in-Err-clause-right : goal.returns-in-Err-clause-right
-returns-in-Err-clause-right g c =
+pub returns-clause-right : goal.returns-clause-right
+returns-clause-right g c =
     right_left (state g.S.Store c.args.conn.now) (state g.S.Store c.origin_of.new.conn) c.args.caches.now c.args.caches.now c.origin_of.ensures.left (keep_same c.args.caches.now) c.requires.right
 
 pub returns-in-Ok-Kept-clause-right : goal.returns-in-Ok-Kept-clause-right
@@ -45,8 +45,8 @@ returns-in-Ok-Stored-clause-stored g c =
 
 -- ---- how it was sent
 
-pub returns-in-Err-clause-sends : goal.returns-in-Err-clause-sends
-returns-in-Err-clause-sends g c =
+pub returns-clause-sends : goal.returns-clause-sends
+returns-clause-sends g c =
     fault_sends g.S.Store (λ h db on. g.met.S.Store.settled h.store db on) c.unread_packages_are_unheard_of.ensures.replies (g.O.Opener.opens c.args.opener.now) c.args.conn.now c.origin_of.new.conn c.args.request.now c.args.name.now
     c.requires.asks c.origin_of.ensures.left c.in-Err.fault _ _
 
