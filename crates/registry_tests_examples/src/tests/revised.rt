@@ -2,7 +2,7 @@
 
 use crate::tests::lists::LAB_KIT;
 use registry_desk::Registry;
-use registry_names::Refusal;
+use registry_names::{Name, Refusal};
 use registry_rules::{Action, Reply, Request};
 use registry_tests_requests::{outcome_of, request_of, requests_of};
 use registry_tests_support::{otherwise, same};
@@ -89,7 +89,7 @@ fn is_shown<S: Alter>(
     line: &str,
     shown: &Option<&'static str>,
 ) -> Result<(), Fail> {
-    let query = as_npm_reads(request_of(alloc, line)?)?;
+    let query = as_npm_reads(alloc, line)?;
     match (outcome_of(alloc, registry, &query), shown) {
         (Ok(Reply::Doc(text)), Some(shown)) => same(line, text.as_str(), *shown),
         (Ok(Reply::Refused(Refusal::NotFound)), None) => Ok(()),
@@ -98,13 +98,15 @@ fn is_shown<S: Alter>(
 }
 
 // The query for the same packument as npm reads it.
-fn as_npm_reads(query: Request) -> Result<Request, Fail> {
-    let Request { at, who, what } = query;
-    match what {
-        Action::Packument { package } => {
-            let what = Action::RevisedPackument { package };
-            Ok(Request { at, who, what })
-        }
-        _ => Err(Fail::new(format_args!("another query"))),
-    }
+fn as_npm_reads(alloc: Global, line: &str) -> Result<Request, Fail> {
+    let mut query = request_of(alloc, line)?;
+    let package = match &query.what {
+        Action::Packument { package } => Name::parse(alloc, package.text()),
+        _ => return Err(Fail::new(format_args!("{line}: another query"))),
+    };
+    let Ok(package) = package else {
+        return Err(Fail::new(format_args!("{line}: no name")));
+    };
+    query.what = Action::RevisedPackument { package };
+    Ok(query)
 }
