@@ -7,15 +7,15 @@ use Rattle.registry_names.specs.Texts.{Text, is}
 use Rattle.registry_cache.specs.Caches.{Cache, asked, forgotten, kept, with_room, with_text}
 use Rattle.registry_cache.proofs.CacheFacts.{kept-asked, kept-kept_where, kept_where-all, kept_where-same, kept_where-twice, limit-with_room, limit-with_text, put_keeps_right, room_keeps_right}
 use Rattle.registry_names.proofs.TextFacts.{is_sym, is_true}
-use Rattle.registry_packument.specs.declared.form.PackForm.{PackForm}
 use Rattle.registry_rules.specs.Changes.{Change, change_of}
 use Rattle.registry_rules.specs.declared.change.Change as declared
 use Rattle.registry_tables.specs.Archives.{HeldAreStored}
 use Rattle.registry_tables.specs.Changes.{all_stored}
 use Rattle.registry_tables.specs.Contents.{Contents, registry_of}
 use Rattle.registry_tables.proofs.StepFacts.{changes_make}
-use Rattle.registry_laws_history.specs.Apart.{is_about}
-use Rattle.registry_desk.specs.Caches.{ArePackuments, IsPut, KeepsLatest, KeepsNoMore, LeavesTextsRight, live_packument, without_changed, without_touched}
+use Rattle.registry_desk.specs.Caches.{ArePackuments, IsPut, KeepsLatest, KeepsNoMore, LeavesTextsRight, live_packument, without_touched}
+use Rattle.registry_desk.specs.Views.{changes_view}
+use Rattle.registry_desk.specs.declared.view.View.{View}
 use Rattle.registry_desk.proofs.LivingFacts.{live_of_others}
 
 -- ---- what is forgotten
@@ -133,39 +133,39 @@ module _ (name text : Text) where
 
 -- ---- what changes make of the texts that are kept
 
-made_still : (form : PackForm) (c : Contents) (cs : List Change) (cache : Cache) → HeldAreStored c → (p text : Text) → kept (without_changed cs cache) p ≡ Some text → live_packument form (registry_of (all_stored cs c)) p ≡ live_packument form (registry_of c) p
-made_still form c cs cache held p text h =
-    ap (λ S. live_packument form S p) (changes_make cs c held)
-    ∙ live_of_others form (registry_of c) cs p (untouched_found is_about cs cache p text h).0
+made_still : (view : View) (c : Contents) (cs : List Change) (cache : Cache) → HeldAreStored c → (p text : Text) → kept (without_touched (changes_view view) cs cache) p ≡ Some text → live_packument view (registry_of (all_stored cs c)) p ≡ live_packument view (registry_of c) p
+made_still view c cs cache held p text h =
+    ap (λ S. live_packument view S p) (changes_make cs c held)
+    ∙ live_of_others view (registry_of c) cs p (untouched_found (changes_view view) cs cache p text h).0
 
 -- ---- what becomes of the texts that are kept
 
-pub texts_leave : (c d : Contents) (cs : List Change) (old new : Cache) → HeldAreStored c → d ≡ all_stored cs c → new ≡ without_changed cs old → LeavesTextsRight c d new
-texts_leave c d cs old new held is left p text h form =
-    ap (λ (e : Contents). live_packument form (registry_of e) p) is ∙ made_still form c cs old held p text (ap (λ (s : Cache). kept s p) (sym left) ∙ h)
+pub texts_leave : (view : View) (c d : Contents) (cs : List Change) (old new : Cache) → HeldAreStored c → d ≡ all_stored cs c → new ≡ without_touched (changes_view view) cs old → LeavesTextsRight view c d new
+texts_leave view c d cs old new held is left p text h =
+    ap (λ (e : Contents). live_packument view (registry_of e) p) is ∙ made_still view c cs old held p text (ap (λ (s : Cache). kept s p) (sym left) ∙ h)
 
 -- what is refused changes nothing
-pub texts_refused : (c d : Contents) (cache : Cache) → d ≡ c → LeavesTextsRight c d cache
-texts_refused c d cache same p text h form = ap (λ (e : Contents). live_packument form (registry_of e) p) same
+pub texts_refused : (view : View) (c d : Contents) (cache : Cache) → d ≡ c → LeavesTextsRight view c d cache
+texts_refused view c d cache same p text h = ap (λ (e : Contents). live_packument view (registry_of e) p) same
 
 -- ---- what is right after a request
 
 -- nothing was stored otherwise, and no text came
-pub texts_unchanged : (form : PackForm) (c d : Contents) (was is_now : Cache) → d ≡ c → KeepsNoMore was is_now → ArePackuments form c was → ArePackuments form d is_now
-texts_unchanged form c d was is_now same keeps are =
-    record { right = λ p text h. ap (λ (e : Contents). live_packument form (registry_of e) p) same ∙ are.right p text (keeps.before p text h) }
+pub texts_unchanged : (view : View) (c d : Contents) (was is_now : Cache) → d ≡ c → KeepsNoMore was is_now → ArePackuments view c was → ArePackuments view d is_now
+texts_unchanged view c d was is_now same keeps are =
+    record { right = λ p text h. ap (λ (e : Contents). live_packument view (registry_of e) p) same ∙ are.right p text (keeps.before p text h) }
 
 -- the request was answered
-pub texts_answered : (form : PackForm) (c d : Contents) (was is_now : Cache) → LeavesTextsRight c d is_now → KeepsNoMore was is_now → ArePackuments form c was → ArePackuments form d is_now
-texts_answered form c d was is_now leaves keeps are = record { right = λ p text h. leaves p text h form ∙ are.right p text (keeps.before p text h) }
+pub texts_answered : (view : View) (c d : Contents) (was is_now : Cache) → LeavesTextsRight view c d is_now → KeepsNoMore was is_now → ArePackuments view c was → ArePackuments view d is_now
+texts_answered view c d was is_now leaves keeps are = record { right = λ p text h. leaves p text h ∙ are.right p text (keeps.before p text h) }
 
 -- what is replied is kept
-pub texts_kept : (form : PackForm) (d : Contents) (name text : Text) (was is_now : Cache) → ArePackuments form d was → live_packument form (registry_of d) name ≡ Some text → KeepsLatest name text was is_now → ArePackuments form d is_now
-texts_kept form d name text was is_now right shown keeps =
+pub texts_kept : (view : View) (d : Contents) (name text : Text) (was is_now : Cache) → ArePackuments view d was → live_packument view (registry_of d) name ≡ Some text → KeepsLatest name text was is_now → ArePackuments view d is_now
+texts_kept view d name text was is_now right shown keeps =
     let more = more_kept name text was is_now keeps in
     record {
       right = λ p found h. elim (more.found p found h) [
         | inl before ↦ right.right p found before
-        | inr same ↦ ap (live_packument form (registry_of d)) (sym same.0) ∙ shown ∙ ap (λ (t : Text). Some t) same.1
+        | inr same ↦ ap (live_packument view (registry_of d)) (sym same.0) ∙ shown ∙ ap (λ (t : Text). Some t) same.1
       ];
     }

@@ -1,20 +1,23 @@
 -- Whether a version of a package lives, and its packument where one does.
 use Rattle.std.proofs.Common.{◌≡◌, Bool, true, false, cond, if◌then◌else◌, ◌&&◌, ◌||◌, List, [], ◌∷◌, not, is_some, Option, Some, None, option_map, refl, ap, ap₂, ◌∙◌, true≢false}
+use Rattle.std.specs.List.{list_any}
 use Rattle.registry_names.specs.Keys.{pair_is}
 use Rattle.registry_names.specs.Texts.{Text, is}
 use Rattle.registry_names.specs.Maps.{at, of}
 use Rattle.registry_names.proofs.KeyFacts.{text_key, pair_key}
 use Rattle.registry_names.proofs.MapFacts.{at-revise}
 use Rattle.registry_names.proofs.PartFacts.{part-put, part-erase, same_part}
-use Rattle.registry_packument.specs.declared.form.PackForm.{PackForm}
+use Rattle.registry_packument.specs.declared.form.PackForm.TheVariants as form
 use Rattle.registry_rules.specs.Actions.{version_of}
 use Rattle.registry_rules.specs.Changes.{Change, AddUser, AddToken, DropToken, AddOrg, PutMember, DropMember, AddTeam, PutTeamMember, DropTeamMember, DropTeam, PutGrant, DropGrant, PutOwner, DropOwner, PutStatus, AddVersion, RetireVersion, PutDeprecation, PutTag, DropTag, made, all_made, release_of}
 use Rattle.registry_rules.specs.Operations.{with_member, with_role, with_grant, regranted, with_status, restated, with_tag, moved}
 use Rattle.registry_rules.specs.State.{State, Release, has_live, is_empty}
-use Rattle.registry_laws_history.specs.Answers.{packument_in}
 use Rattle.registry_laws_history.specs.Apart.{are_about, is_about}
-use Rattle.registry_laws_history.proofs.ApartFacts.{changes_of_others}
+use Rattle.registry_laws_history.proofs.ApartFacts.{changes_of_others, none_about, revised_after_others}
 use Rattle.registry_desk.specs.Caches.{live_packument}
+use Rattle.registry_desk.specs.Views.{changes_view, viewed}
+use Rattle.registry_desk.specs.declared.view.View.{View}
+use Rattle.registry_desk.specs.declared.view.View.TheVariants.{Full, Abbreviated, Revised}
 
 -- ---- the packument of a package of which a version lives
 
@@ -22,11 +25,11 @@ some_if : (b : Bool) (packument text : Text) → (if b then Some packument else 
 some_if true packument text e = (refl, cc)
 some_if false packument text e = (cc, cc)
 
-pub live_so : (form : PackForm) (S : State) (p text : Text) → live_packument form S p ≡ Some text → (has_live S p ≡ true) × (text ≡ packument_in form S p)
-live_so form S p text e = some_if (has_live S p) (packument_in form S p) text e
+pub live_so : (view : View) (S : State) (p text : Text) → live_packument view S p ≡ Some text → (has_live S p ≡ true) × (text ≡ viewed view S p)
+live_so view S p text e = some_if (has_live S p) (viewed view S p) text e
 
-pub live_shown : (form : PackForm) (S : State) (p : Text) → has_live S p ≡ true → live_packument form S p ≡ Some (packument_in form S p)
-live_shown form S p lives = ap (λ (b : Bool). if b then Some (packument_in form S p) else None) lives
+pub live_shown : (view : View) (S : State) (p : Text) → has_live S p ≡ true → live_packument view S p ≡ Some (viewed view S p)
+live_shown view S p lives = ap (λ (b : Bool). if b then Some (viewed view S p) else None) lives
 
 -- ---- changes of no version and no tag of the package
 
@@ -74,7 +77,14 @@ all_live S (change ∷ changes) p e =
     let apart = neither (is_about change p) (are_about changes p) e in
     all_live (made S change) changes p apart.1 ∙ same_live S change p apart.0
 
--- they change neither its packument nor whether a version lives
-pub live_of_others : (form : PackForm) (S : State) (changes : List Change) (p : Text) → are_about changes p ≡ false → live_packument form (all_made S changes) p ≡ live_packument form S p
-live_of_others form S changes p e =
-    ap₂ (λ (b : Bool) (text : Text). if b then Some text else None) (ap (λ es. not (is_empty es)) (all_live S changes p e)) (changes_of_others form S changes p e)
+-- changes of nothing that is shown leave it as it is
+viewed_of_others : (view : View) (S : State) (changes : List Change) (p : Text) → list_any (λ change. changes_view view change p) changes ≡ false → (are_about changes p ≡ false) × (viewed view (all_made S changes) p ≡ viewed view S p)
+viewed_of_others Full S changes p e = (e, changes_of_others form.Full S changes p e)
+viewed_of_others Abbreviated S changes p e = (e, changes_of_others form.Abbreviated S changes p e)
+viewed_of_others Revised S changes p e = (none_about changes p e, revised_after_others S changes p e)
+
+-- and whether a version lives
+pub live_of_others : (view : View) (S : State) (changes : List Change) (p : Text) → list_any (λ change. changes_view view change p) changes ≡ false → live_packument view (all_made S changes) p ≡ live_packument view S p
+live_of_others view S changes p e =
+    let others = viewed_of_others view S changes p e in
+    ap₂ (λ (b : Bool) (text : Text). if b then Some text else None) (ap (λ es. not (is_empty es)) (all_live S changes p others.0)) others.1

@@ -7,25 +7,26 @@ use Rattle.registry_names.specs.Texts.{Text}
 use Rattle.registry_packument.specs.Counted.{Takes}
 use Rattle.registry_packument.specs.declared.opener.Sent.{Sent}
 use Rattle.registry_packument.specs.declared.opener.Sent.TheVariants.{Whole}
-use Rattle.registry_packument.specs.declared.form.PackForm.{PackForm}
-use Rattle.registry_packument.specs.declared.form.PackForm.TheVariants.{Full, Abbreviated}
 use Rattle.registry_rules.specs.Actions.{is_command}
 use Rattle.registry_rules.specs.State.{State}
 use Rattle.registry_rules.specs.declared.reply.Reply.{Reply}
 use Rattle.registry_rules.specs.declared.reply.Reply.TheVariants.{Doc}
 use Rattle.registry_rules.specs.declared.request.Action.{Action}
-use Rattle.registry_rules.specs.declared.request.Action.TheVariants.{AbbreviatedPackument, Packument}
+use Rattle.registry_rules.specs.declared.request.Action.TheVariants.{AbbreviatedPackument, Packument, RevisedPackument}
 use Rattle.registry_rules.specs.declared.request.Request.{Request}
 use Rattle.registry_tables.specs.Effects.{stored}
 use Rattle.registry_laws_history.specs.Answers.{answer}
 use Rattle.registry_laws_history.specs.Runs.{Outcome}
 use Rattle.registry_desk.specs.Caches.{live_packument}
 use Rattle.registry_desk.specs.Promises.{Stepped, SurvivesOne, Unchanged}
-use Rattle.registry_desk.specs.Sending.{IsAnyPackument, IsFrom, IsMadeOf, IsOrigin, IsShownBy, LeavesAll, ShowsAlone, asks_packument}
+use Rattle.registry_desk.specs.Sending.{IsAnyPackument, IsFrom, IsMadeOf, IsOrigin, IsShownBy, LeavesAll, ShowsAlone, front_names}
+use Rattle.registry_desk.specs.Views.{asks_packument, text_behind}
+use Rattle.registry_desk.specs.declared.view.View.{View}
+use Rattle.registry_desk.specs.declared.view.View.TheVariants.{Full, Abbreviated, Revised}
 use Rattle.registry_desk.specs.declared.sending.Origin.{Origin}
 use Rattle.registry_desk.specs.declared.sending.Origin.TheVariants as origin
 use Rattle.registry_desk.proofs.LivingFacts.{live_shown}
-use Rattle.registry_desk.proofs.SendingFacts.{packument_from, query_leaves, query_stays}
+use Rattle.registry_desk.proofs.SendingFacts.{query_leaves, query_stays, viewed_from}
 
 -- ---- the text
 
@@ -42,26 +43,26 @@ taken_whole IsText old new sent (Err fault) whole is empty takes = tt
 
 -- ---- the reply
 
-pub shown_is_from : (form : PackForm) (from : Origin) (S : State) (p : Text) → IsShownBy form from S p → IsFrom form from S p
-shown_is_from form (origin.Refused why) S p shown = tt
-shown_is_from form (origin.Kept text) S p shown = shown
-shown_is_from form (origin.Stored head) S p shown = shown
+pub shown_is_from : (view : View) (from : Origin) (S : State) (p : Text) → IsShownBy view from S p → IsFrom view from S p
+shown_is_from view (origin.Refused why) S p shown = tt
+shown_is_from view (origin.Kept text) S p shown = shown
+shown_is_from view (origin.Stored head before) S p shown = shown
 
 -- it is the machine's
-pub made_told : (form : PackForm) (given : Reply) (from : Origin) (S : State) (r : Request) (p : Text) → IsMadeOf given from S p → IsOrigin form from S r p → given ≡ answer S r
-made_told form given (origin.Refused why) S r p made is = made ∙ sym is
-made_told form given (origin.Kept text) S r p made is = made ∙ sym is
-made_told form given (origin.Stored head) S r p made is = made.1 ∙ ap Doc (packument_from form S p head made.0 is.1 made.2) ∙ sym is.0
+pub made_told : (view : View) (given : Reply) (from : Origin) (S : State) (r : Request) (p : Text) → IsMadeOf given from S p → IsOrigin view from S r p → given ≡ answer S r
+made_told view given (origin.Refused why) S r p made is = made ∙ sym is
+made_told view given (origin.Kept text) S r p made is = made ∙ sym is
+made_told view given (origin.Stored head before) S r p made is = made.1 ∙ ap Doc (viewed_from view S p head before made.0 is.1.0 is.1.1 made.2) ∙ sym is.0
 
 -- it shows the packument of the package
-pub made_shows : (form : PackForm) (given : Reply) (from : Origin) (S : State) (p : Text) → IsMadeOf given from S p → IsFrom form from S p → ShowsAlone form S p given
-made_shows form given (origin.Refused why) S p made is text h = cc
-made_shows form given (origin.Kept found) S p made is text h =
+pub made_shows : (view : View) (given : Reply) (from : Origin) (S : State) (p : Text) → IsMadeOf given from S p → IsFrom view from S p → ShowsAlone view S p given
+made_shows view given (origin.Refused why) S p made is text h = cc
+made_shows view given (origin.Kept found) S p made is text h =
     let same : found ≡ text = cc in
     is ∙ ap (λ (t : Text). Some t) same
-made_shows form given (origin.Stored head) S p made is text h =
-    let same : made.0 ≡ text = cc (made.1) in
-    live_shown form S p is.0 ∙ ap (λ (t : Text). Some t) (sym (packument_from form S p head made.0 is.1 made.2) ∙ same)
+made_shows view given (origin.Stored head before) S p made is text h =
+    let same : text_behind (front_names before) made.0 ≡ text = cc (made.1) in
+    live_shown view S p is.0 ∙ ap (λ (t : Text). Some t) (sym (viewed_from view S p head before made.0 is.1.0 is.1.1 made.2) ∙ same)
 
 -- ---- nothing that is stored is changed
 
@@ -77,23 +78,29 @@ module _ (old new : Shown) (r : Request) (query : is_command r.what ≡ false) (
 
 -- ---- what asks for a packument
 
-asks_either : (form : PackForm) (what : Action) (p : Text) → ((q : Text) → what ≡ Packument q → ⊥) → ((q : Text) → what ≡ AbbreviatedPackument q → ⊥) → what ≡ asks_packument form p → ⊥
-asks_either Full what p full short is = full p is
-asks_either Abbreviated what p full short is = short p is
+asks_either : (view : View) (what : Action) (p : Text) → ((q : Text) → what ≡ Packument q → ⊥) → ((q : Text) → what ≡ AbbreviatedPackument q → ⊥) → ((q : Text) → what ≡ RevisedPackument q → ⊥) → what ≡ asks_packument view p → ⊥
+asks_either Full what p full short npms is = full p is
+asks_either Abbreviated what p full short npms is = short p is
+asks_either Revised what p full short npms is = npms p is
 
-pub asks_none : (what : Action) → ((q : Text) → what ≡ Packument q → ⊥) → ((q : Text) → what ≡ AbbreviatedPackument q → ⊥) → ¬ IsAnyPackument what
-asks_none what full short asks = asks_either asks.0 what asks.1 full short asks.2
+pub asks_none : (what : Action) → ((q : Text) → what ≡ Packument q → ⊥) → ((q : Text) → what ≡ AbbreviatedPackument q → ⊥) → ((q : Text) → what ≡ RevisedPackument q → ⊥) → ¬ IsAnyPackument what
+asks_none what full short npms asks = asks_either asks.0 what asks.1 full short npms asks.2
 
 -- ---- what is kept of the reply
 
-named : (form asked : PackForm) (p q : Text) → asks_packument form p ≡ asks_packument asked q → (form ≡ asked) × (p ≡ q)
+named : (view asked : View) (p q : Text) → asks_packument view p ≡ asks_packument asked q → (view ≡ asked) × (p ≡ q)
 named Full Full p q e = (refl, cc)
 named Full Abbreviated p q e = absurd cc
+named Full Revised p q e = absurd cc
 named Abbreviated Full p q e = absurd cc
 named Abbreviated Abbreviated p q e = (refl, cc)
+named Abbreviated Revised p q e = absurd cc
+named Revised Full p q e = absurd cc
+named Revised Abbreviated p q e = absurd cc
+named Revised Revised p q e = (refl, cc)
 
-pub alone_shows : (form : PackForm) (S T : State) (what : Action) (name : Text) (given : Reply) → T ≡ S → what ≡ asks_packument form name → ShowsAlone form S name given
-    → (asked : PackForm) (p text : Text) → what ≡ asks_packument asked p → given ≡ Doc text → live_packument asked T p ≡ Some text
-alone_shows form S T what name given same asks shows asked p text again h =
-    let is = named form asked name p (sym asks ∙ again) in
-    ap (λ (U : State). live_packument asked U p) same ∙ ap (λ (f : PackForm). live_packument f S p) (sym is.0) ∙ ap (live_packument form S) (sym is.1) ∙ shows text h
+pub alone_shows : (view : View) (S T : State) (what : Action) (name : Text) (given : Reply) → T ≡ S → what ≡ asks_packument view name → ShowsAlone view S name given
+    → (asked : View) (p text : Text) → what ≡ asks_packument asked p → given ≡ Doc text → live_packument asked T p ≡ Some text
+alone_shows view S T what name given same asks shows asked p text again h =
+    let is = named view asked name p (sym asks ∙ again) in
+    ap (λ (U : State). live_packument asked U p) same ∙ ap (λ (v : View). live_packument v S p) (sym is.0) ∙ ap (live_packument view S) (sym is.1) ∙ shows text h

@@ -1,6 +1,6 @@
 -- What a packument that is sent comes to: it is a query that is answered, and leaves all as it was.
 use Rattle.std.specs.Option.{option_or}
-use Rattle.std.proofs.Common.{◌≡◌, ◌⊎◌, ◌∙◌, ◌&&◌, arith, inl, inr, ℕ, Bool, true, false, if◌then◌else◌, List, [], map, Option, Some, None, Ok, Err, unwrap_or, IsTrue, refl, sym, ap, subst}
+use Rattle.std.proofs.Common.{◌≡◌, ◌⊎◌, ◌∙◌, ◌&&◌, arith, inl, inr, ℕ, Bool, true, false, if◌then◌else◌, List, [], map, Option, Some, None, Ok, Err, unwrap_or, IsTrue, refl, sym, ap, ap₂, subst}
 use Rattle.sqlite.proofs.Callers.{survives_begin}
 use Rattle.sqlite.proofs.InsideLemmas.{keeps_then}
 use Rattle.sqlite.proofs.StateLemmas.{survives_then, survives_weaker}
@@ -27,7 +27,7 @@ use Rattle.registry_packument.specs.declared.opener.Sent.TheVariants.{Refused, W
 use Rattle.registry_rows.specs.Frames.{IsCommitted}
 use Rattle.registry_rows.specs.Ready.{Reads}
 use Rattle.registry_packument.specs.declared.form.PackForm.{PackForm}
-use Rattle.registry_packument.specs.declared.form.PackForm.TheVariants.{Full, Abbreviated}
+use Rattle.registry_packument.specs.declared.form.PackForm.TheVariants as form
 use Rattle.registry_rules.specs.Actions.{is_command}
 use Rattle.registry_rules.specs.Callers.{caller_of}
 use Rattle.registry_rules.specs.Effects.{step}
@@ -58,10 +58,14 @@ use Rattle.registry_laws_hidden.specs.Without.{state_without}
 use Rattle.registry_desk.specs.Caches.{HasAnswers, KeepNoMore, KeepsNoMore}
 use Rattle.registry_desk.specs.Promises.{Answered, Applied, HoldsReferences, LeavesOne, Served}
 use Rattle.registry_desk.specs.Resting.{IsAsWritten, IsRegistryOf, Rests, next_stored, settled_by, stepped}
-use Rattle.registry_desk.specs.Sending.{BrokenBeginTheAnswer, IsOrigin, IsShownBy, LeavesAll, MayAnswer, Sends, SentAreAsked, answers_as_apply, head_in, versions_in, asks_packument}
+use Rattle.registry_desk.specs.Sending.{BrokenBeginTheAnswer, IsOrigin, IsShownBy, LeavesAll, MayAnswer, Sends, SentAreAsked, answers_as_apply, front_names, head_in, versions_in}
+use Rattle.registry_desk.specs.Views.{asks_packument, form_of, names_in_front, text_behind, viewed}
 use Rattle.registry_desk.specs.declared.cache.Caches.{Caches}
+use Rattle.registry_desk.specs.declared.sending.Front.{Front}
 use Rattle.registry_desk.specs.declared.sending.Origin.{Origin}
 use Rattle.registry_desk.specs.declared.sending.Origin.TheVariants as origin
+use Rattle.registry_desk.specs.declared.view.View.{View}
+use Rattle.registry_desk.specs.declared.view.View.TheVariants.{Full, Abbreviated, Revised}
 use Rattle.registry_desk.proofs.AnswerFacts.{refused, unrefused, versions_are}
 use Rattle.registry_desk.proofs.KeptFacts.{right_unchanged}
 use Rattle.registry_desk.proofs.CommitFacts.{commit_rests, ready_again, registry_left, rests_sure, undone_open, undone_rests, undone_stored}
@@ -91,47 +95,60 @@ reads_before a b c reads before = record {
 
 -- ---- what a packument comes from
 
--- a packument of either form is refused alike, and is no command
-refused_alike : (form : PackForm) (S : State) (now : ℕ) (who : Caller) (p : Text) → refusal_by S now who (asks_packument form p) ≡ refusal_by S now who (Packument p)
+-- a packument in any view is refused alike, and is no command
+refused_alike : (view : View) (S : State) (now : ℕ) (who : Caller) (p : Text) → refusal_by S now who (asks_packument view p) ≡ refusal_by S now who (Packument p)
 refused_alike Full S now who p = refl
 refused_alike Abbreviated S now who p = refl
+refused_alike Revised S now who p = refl
 
-reply_of_form : (form : PackForm) (S : State) (who : Caller) (p : Text) → answers.reply S who (asks_packument form p) ≡ Doc (packument_in form S p)
-reply_of_form Full S who p = refl
-reply_of_form Abbreviated S who p = refl
+reply_of_view : (view : View) (S : State) (who : Caller) (p : Text) → answers.reply S who (asks_packument view p) ≡ Doc (viewed view S p)
+reply_of_view Full S who p = refl
+reply_of_view Abbreviated S who p = refl
+reply_of_view Revised S who p = refl
 
-pub no_command : (form : PackForm) (what : Action) (p : Text) → what ≡ asks_packument form p → is_command what ≡ false
+pub no_command : (view : View) (what : Action) (p : Text) → what ≡ asks_packument view p → is_command what ≡ false
 no_command Full what p is = ap is_command is
 no_command Abbreviated what p is = ap is_command is
+no_command Revised what p is = ap is_command is
 
 -- why a query for a packument is refused
-query_refusal : (form : PackForm) (S : State) (r : Request) (p : Text) (who : Caller) → r.what ≡ asks_packument form p → Some who ≡ caller_of S r.who → refusal S r ≡ refusal_by S r.at who (Packument p)
-query_refusal form S r p who asks known =
-    ap (λ (o : Option Caller). refusal_for S r.at o r.what) (sym known) ∙ ap (refusal_by S r.at who) asks ∙ refused_alike form S r.at who p
+query_refusal : (view : View) (S : State) (r : Request) (p : Text) (who : Caller) → r.what ≡ asks_packument view p → Some who ≡ caller_of S r.who → refusal S r ≡ refusal_by S r.at who (Packument p)
+query_refusal view S r p who asks known =
+    ap (λ (o : Option Caller). refusal_for S r.at o r.what) (sym known) ∙ ap (refusal_by S r.at who) asks ∙ refused_alike view S r.at who p
 
 -- by the policy, or since no version lives
-module _ (form : PackForm) (S : State) (r : Request) (p : Text) (who : Caller) (asks : r.what ≡ asks_packument form p) (known : Some who ≡ caller_of S r.who) where
+module _ (view : View) (S : State) (r : Request) (p : Text) (who : Caller) (asks : r.what ≡ asks_packument view p) (known : Some who ≡ caller_of S r.who) where
   pub query_denied : (why : Refusal) → unless_allowed (permission S.access who (Packument p)) ≡ Some why → answer S r ≡ reply.Refused why
-  query_denied why denied = refused S r why (query_refusal form S r p who asks known ∙ ap (λ (o : Option Refusal). option_or o (state_refusal S r.at (Packument p))) denied)
+  query_denied why denied = refused S r why (query_refusal view S r p who asks known ∙ ap (λ (o : Option Refusal). option_or o (state_refusal S r.at (Packument p))) denied)
 
   -- the query that the policy allows
   module _ (may : unless_allowed (permission S.access who (Packument p)) ≡ None) where
     allowed_refusal : refusal S r ≡ unless_there (has_live S p)
-    allowed_refusal = query_refusal form S r p who asks known ∙ ap (λ (o : Option Refusal). option_or o (state_refusal S r.at (Packument p))) may
+    allowed_refusal = query_refusal view S r p who asks known ∙ ap (λ (o : Option Refusal). option_or o (state_refusal S r.at (Packument p))) may
 
-    live_answer : has_live S p ≡ true → answer S r ≡ Doc (packument_in form S p)
+    live_answer : has_live S p ≡ true → answer S r ≡ Doc (viewed view S p)
     live_answer lives =
-        unrefused S r (allowed_refusal ∙ ap unless_there lives) ∙ ap (λ (o : Option Caller). reply_to S o r.what) (sym known) ∙ ap (answers.reply S who) asks ∙ reply_of_form form S who p
+        unrefused S r (allowed_refusal ∙ ap unless_there lives) ∙ ap (λ (o : Option Caller). reply_to S o r.what) (sym known) ∙ ap (answers.reply S who) asks ∙ reply_of_view view S who p
 
-    pub origin_is : (from : Origin) → IsShownBy form from S p → IsOrigin form from S r p
+    pub origin_is : (from : Origin) → IsShownBy view from S p → IsOrigin view from S r p
     origin_is (origin.Refused why) shown = refused S r why (allowed_refusal ∙ ap unless_there shown.1 ∙ ap (λ (w : Refusal). Some w) (sym shown.0))
-    origin_is (origin.Kept text) shown = let lives = live_so form S p text shown in live_answer lives.0 ∙ ap Doc (sym lives.1)
-    origin_is (origin.Stored head) shown = (live_answer shown.0, shown.1)
+    origin_is (origin.Kept text) shown = let lives = live_so view S p text shown in live_answer lives.0 ∙ ap Doc (sym lives.1)
+    origin_is (origin.Stored head before) shown = (live_answer shown.0, shown.1)
 
 -- the text that is made of what is stored is the packument
 pub packument_from : (form : PackForm) (S : State) (p : Text) (head : HeadParts) (text : Text) → head ≡ head_in form S p → pack_text head (versions_in S p) ≡ Some text → text ≡ packument_in form S p
 packument_from form S p head text is written =
     sym (ap (λ (o : Option Text). unwrap_or o []) (ap (λ (h : HeadParts). pack_text h (versions_in S p)) (sym is) ∙ written))
+
+-- what is in front of it makes it what is shown
+viewed_is : (view : View) (S : State) (p : Text) → text_behind (names_in_front view S p) (packument_in (form_of view) S p) ≡ viewed view S p
+viewed_is Full S p = refl
+viewed_is Abbreviated S p = refl
+viewed_is Revised S p = refl
+
+pub viewed_from : (view : View) (S : State) (p : Text) (head : HeadParts) (before : Front) (text : Text) → head ≡ head_in (form_of view) S p → front_names before ≡ names_in_front view S p
+    → pack_text head (versions_in S p) ≡ Some text → text_behind (front_names before) text ≡ viewed view S p
+viewed_from view S p head before text is named written = ap₂ text_behind named (packument_from (form_of view) S p head text is written) ∙ viewed_is view S p
 
 -- ---- a query enters nothing
 
@@ -283,13 +300,13 @@ module _ {S : Type 0} (store : Ghosts S) (settled : (h : Held S) (db : Trees) �
         sends_by (answers_as_apply store) opens M mid r a b s (λ bytes. bytes ≡ text) sent (λ _. whole)
         (λ fault. answered_as store (state store M) mid (settled mid) replies r query all (Err fault) (λ _ _. tt) (λ _. tt)) (λ fault bytes is. (mid, whole bytes is, fault_after mid mid (leaves_itself (state store mid) all.rests) fault)) takes
 
-    module _ (head : HeadParts) (told : HasCleanDisk (state store mid) → (answer (registry_in (state store M)) r ≡ Doc (packument_in Full (registry_in (state store M)) p)) × (head ≡ head_in Full (registry_in (state store M)) p)) where
+    module _ (head : HeadParts) (told : HasCleanDisk (state store mid) → (answer (registry_in (state store M)) r ≡ Doc (packument_in form.Full (registry_in (state store M)) p)) × (head ≡ head_in form.Full (registry_in (state store M)) p)) where
       -- the text that is made of what is stored is the answer
       made : (text : Text) → pack_text head (versions_in (registry_in (state store mid)) p) ≡ Some text → HasCleanDisk (state store mid) → Doc text ≡ answer (registry_in (state store M)) r
       made text written clean =
           let it = told clean in
           let stays : registry_in (state store mid) ≡ registry_in (state store M) = ap registry_of (all.same clean (open_still clean)) in
-          ap Doc (packument_from Full (registry_in (state store M)) p head text it.1 (subst (λ (T : State). pack_text head (versions_in T p) ≡ Some text) stays written)) ∙ sym it.0
+          ap Doc (packument_from form.Full (registry_in (state store M)) p head text it.1 (subst (λ (T : State). pack_text head (versions_in T p) ≡ Some text) stays written)) ∙ sym it.0
 
       pub stored_sends : (N : Held S) → IsLeftAlone (state store mid) (state store N) → (a b : Option (List ℕ)) (s : Bool) (sent : Sent)
           → (HasCleanDisk (state store N) → IsUnbroken sent → IsTrue (state store N).is_open)

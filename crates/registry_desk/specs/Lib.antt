@@ -10,3 +10,4 @@ pub mod Stops
 pub mod Early
 pub mod Sending
 pub mod TokenUsers
+pub mod Views

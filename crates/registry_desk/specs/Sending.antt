@@ -1,5 +1,5 @@
 -- A packument that is sent as it is made, in place of being answered as one text.
-use Rattle.std.specs.Prelude.{◌≡◌, ℕ, Bool, false, true, List, [], map, Option, Some, Ok, Err, IsTrue, ⊤}
+use Rattle.std.specs.Prelude.{◌≡◌, ℕ, Bool, false, true, List, [], map, Option, None, Some, Ok, Err, IsTrue, ⊤}
 use Rattle.sqlite.specs.Held.{Held, state}
 use Rattle.sqlite.specs.State.{State as Shown, HasCleanDisk, Survives}
 use Rattle.sqlite_trees.specs.declared.store.Store.{Ghosts}
@@ -12,7 +12,6 @@ use Rattle.registry_packument.specs.Sendings.{WritesSome, opened}
 use Rattle.registry_packument.specs.Heads.{HeadParts}
 use Rattle.registry_packument.specs.Packuments.{pack_text}
 use Rattle.registry_packument.specs.declared.form.PackForm.{PackForm}
-use Rattle.registry_packument.specs.declared.form.PackForm.TheVariants.{Full, Abbreviated}
 use Rattle.registry_packument.specs.declared.opener.Sent.{Sent}
 use Rattle.registry_packument.specs.declared.opener.Sent.TheVariants.{Refused, Whole, WriteFault, Broken}
 use Rattle.registry_packument.specs.declared.packument.VersionRow.{VersionRow}
@@ -21,30 +20,29 @@ use Rattle.registry_rules.specs.declared.reply.Reply.{Reply}
 use Rattle.registry_rules.specs.declared.reply.Reply.TheVariants as reply
 use Rattle.registry_rules.specs.declared.reply.Reply.TheVariants.{Doc}
 use Rattle.registry_rules.specs.declared.request.Action.{Action}
-use Rattle.registry_rules.specs.declared.request.Action.TheVariants.{Packument, AbbreviatedPackument}
+use Rattle.registry_rules.specs.declared.request.Action.TheVariants.{Packument}
 use Rattle.registry_rules.specs.declared.request.Request.{Request}
 use Rattle.registry_tables.specs.Effects.{registry_in, stored}
-use Rattle.registry_laws_history.specs.Answers.{answer, head_of, packument_in, version_row}
+use Rattle.registry_laws_history.specs.Answers.{answer, head_of, version_row}
 use Rattle.registry_laws_history.specs.Runs.{Outcome}
 use Rattle.registry_desk.specs.Caches.{live_packument}
 use Rattle.registry_desk.specs.Found.{NeedsFor}
 use Rattle.registry_desk.specs.Promises.{Applied, KeepsStored, WasOpen}
 use Rattle.registry_desk.specs.Resting.{IsRegistryOf, Rests}
+use Rattle.registry_desk.specs.Views.{asks_packument, form_of, names_in_front, text_behind, viewed}
+use Rattle.registry_desk.specs.declared.sending.Front.{Front}
+use Rattle.registry_desk.specs.declared.sending.Front.TheVariants as front
 use Rattle.registry_desk.specs.declared.sending.Origin.{Origin}
 use Rattle.registry_desk.specs.declared.sending.Origin.TheVariants as origin
-
--- the query for the packument of this form
-abbrev pub asks_packument : PackForm → Text → Action
-asks_packument Full name = Packument name
-asks_packument Abbreviated name = AbbreviatedPackument name
+use Rattle.registry_desk.specs.declared.view.View.{View}
 
 -- what asks for a full packument
 abbrev pub IsPackument : Action → Type 0
 IsPackument what = (name : Text) × (what ≡ Packument name)
 
--- what asks for a packument of either form
+-- what asks for a packument in any view
 abbrev pub IsAnyPackument : Action → Type 0
-IsAnyPackument what = (form : PackForm) × (name : Text) × (what ≡ asks_packument form name)
+IsAnyPackument what = (view : View) × (name : Text) × (what ≡ asks_packument view name)
 
 -- ---- a packument that is sent is a request that is answered
 
@@ -99,35 +97,44 @@ head_in form S p = head_of form p (of S.tags p) (of S.live p) (of S.spent p)
 abbrev pub versions_in : State → Text → List VersionRow
 versions_in S p = map version_row (of S.live p)
 
+-- the names that stand in front of it
+abbrev pub front_names : Front → Option (List Text)
+front_names front.Plain = None
+front_names (front.Revised names) = Some names.items
+
+-- what is shown of the package is made of this head and this front
+abbrev pub IsMadeFrom : View → HeadParts → Front → State → Text → Type 0
+IsMadeFrom view head before S p = (head ≡ head_in (form_of view) S p) × (front_names before ≡ names_in_front view S p)
+
 -- the packument of the package comes from this, where the policy allows the query: it isn't there
 -- where no version lives
-abbrev pub IsShownBy : PackForm → Origin → State → Text → Type 0
-IsShownBy form (origin.Refused why) S p = (why ≡ NotFound) × (has_live S p ≡ false)
-IsShownBy form (origin.Kept text) S p = live_packument form S p ≡ Some text
-IsShownBy form (origin.Stored head) S p = (has_live S p ≡ true) × (head ≡ head_in form S p)
+abbrev pub IsShownBy : View → Origin → State → Text → Type 0
+IsShownBy view (origin.Refused why) S p = (why ≡ NotFound) × (has_live S p ≡ false)
+IsShownBy view (origin.Kept text) S p = live_packument view S p ≡ Some text
+IsShownBy view (origin.Stored head before) S p = (has_live S p ≡ true) × IsMadeFrom view head before S p
 
 -- the packument of the package comes from this, unless the query is refused
-abbrev pub IsFrom : PackForm → Origin → State → Text → Type 0
-IsFrom form (origin.Refused why) S p = ⊤
-IsFrom form (origin.Kept text) S p = live_packument form S p ≡ Some text
-IsFrom form (origin.Stored head) S p = (has_live S p ≡ true) × (head ≡ head_in form S p)
+abbrev pub IsFrom : View → Origin → State → Text → Type 0
+IsFrom view (origin.Refused why) S p = ⊤
+IsFrom view (origin.Kept text) S p = live_packument view S p ≡ Some text
+IsFrom view (origin.Stored head before) S p = (has_live S p ≡ true) × IsMadeFrom view head before S p
 
 -- the query for the packument of the package comes to this: why it is refused, or, where it isn't,
 -- what its packument comes from
-abbrev pub IsOrigin : PackForm → Origin → State → Request → Text → Type 0
-IsOrigin form (origin.Refused why) S r p = answer S r ≡ reply.Refused why
-IsOrigin form (origin.Kept text) S r p = answer S r ≡ Doc text
-IsOrigin form (origin.Stored head) S r p = (answer S r ≡ Doc (packument_in form S p)) × (head ≡ head_in form S p)
+abbrev pub IsOrigin : View → Origin → State → Request → Text → Type 0
+IsOrigin view (origin.Refused why) S r p = answer S r ≡ reply.Refused why
+IsOrigin view (origin.Kept text) S r p = answer S r ≡ Doc text
+IsOrigin view (origin.Stored head before) S r p = (answer S r ≡ Doc (viewed view S p)) × IsMadeFrom view head before S p
 
 -- the reply is made of what the query comes to
 abbrev pub IsMadeOf : Reply → Origin → State → Text → Type 0
 IsMadeOf given (origin.Refused why) S p = given ≡ reply.Refused why
 IsMadeOf given (origin.Kept text) S p = given ≡ Doc text
-IsMadeOf given (origin.Stored head) S p = (text : Text) × (given ≡ Doc text) × (pack_text head (versions_in S p) ≡ Some text)
+IsMadeOf given (origin.Stored head before) S p = (text : Text) × (given ≡ Doc (text_behind (front_names before) text)) × (pack_text head (versions_in S p) ≡ Some text)
 
 -- a document that is replied is the packument of the package, and a version of that lives
-abbrev pub ShowsAlone : PackForm → State → Text → Reply → Type 0
-ShowsAlone form S p given = (text : Text) → given ≡ Doc text → live_packument form S p ≡ Some text
+abbrev pub ShowsAlone : View → State → Text → Reply → Type 0
+ShowsAlone view S p given = (text : Text) → given ≡ Doc text → live_packument view S p ≡ Some text
 
 -- ---- what a query leaves
 

@@ -7,11 +7,12 @@ ghost use Rattle.registry_rules.specs.Changes.{change_of};
 ghost use Rattle.registry_cache.specs.Caches as spec;
 ghost use Rattle.registry_cache.specs.Caches.{asked, kept};
 ghost use Rattle.registry_desk.specs.Caches as promises;
-ghost use Rattle.registry_desk.specs.Caches.{IsAbout, IsAboutNone, IsPut, KeepsArchive, KeepsLatest, KeepsNoMore, KeepsReply, Moves, MovesNone, without_changed, without_moved};
+ghost use Rattle.registry_desk.specs.Caches.{IsChanged, IsPut, KeepsArchive, KeepsLatest, KeepsNoMore, KeepsReply, Moves, MovesNone, without_changed, without_moved, without_read};
+ghost use Rattle.registry_laws_history.specs.Apart.{is_about, is_read_in};
 
+use crate::view::View;
 use registry_cache::{BlobCache, Shared, SharedBlob, SharedCache, TextCache};
 use registry_names::{Name, Ver};
-use registry_packument::PackForm;
 use registry_rules::{Action, Change, Reply};
 use std::alloc::{AllocError, Global};
 
@@ -23,6 +24,10 @@ pub(crate) const TEXT_LIMIT: usize = 64 << 20;
 /// alone has more.
 pub(crate) const ABBREVIATED_LIMIT: usize = 16 << 20;
 
+/// The most bytes that the kept texts of packuments as npm reads them have together, without one
+/// text that alone has more.
+pub(crate) const REVISED_LIMIT: usize = 64 << 20;
+
 /// The most bytes that the kept archives have together, without one that alone has more.
 pub(crate) const ARCHIVE_LIMIT: usize = 64 << 20;
 
@@ -33,9 +38,12 @@ pub(crate) struct Caches {
     pub(crate) packuments: TextCache,
     /// The texts of abbreviated packuments, by package.
     pub(crate) abbreviated: TextCache,
+    /// The texts of packuments as npm reads them, by package.
+    pub(crate) revised: TextCache,
     /// The archives of live versions, by package and version.
     pub(crate) archives: BlobCache,
-    /// Whether a text of a packument or an archive that is kept from now on keeps its digest.
+    /// Whether a text of a packument or an archive that is kept from now on keeps its digest. A
+    /// text that npm reads keeps none: its revision stands in it.
     pub(crate) makes_digests: bool,
 }
 
@@ -48,27 +56,40 @@ impl Caches {
             ≡ spec.cache [] None promises.text_limit) }
         ensures abbreviated { IfOk result (λ c. c.abbreviated
             ≡ spec.cache [] None promises.abbreviated_limit) }
+        ensures revised { IfOk result (λ c. c.revised
+            ≡ spec.cache [] None promises.revised_limit) }
         ensures archives { IfOk result (λ c. c.archives
             ≡ spec.cache [] None promises.archive_limit) }
     {
         let packuments = TextCache::new(alloc, TEXT_LIMIT)?;
         let abbreviated = TextCache::new(alloc, ABBREVIATED_LIMIT)?;
+        let revised = TextCache::new(alloc, REVISED_LIMIT)?;
         let archives = BlobCache::new(alloc, ARCHIVE_LIMIT)?;
         Ok(Caches {
             packuments,
             abbreviated,
+            revised,
             archives,
             makes_digests: false,
         })
     }
 
-    /// The texts of packuments of this form.
-    pub(crate) fn texts(&self, form: PackForm) -> &TextCache
-        ensures { result.now ≡ promises.texts_of form self.now }
+    /// The texts of packuments in this view.
+    pub(crate) fn texts(&self, view: View) -> &TextCache
+        ensures { result.now ≡ promises.texts_of view self.now }
     {
-        match form {
-            PackForm::Full => &self.packuments,
-            PackForm::Abbreviated => &self.abbreviated,
+        match view {
+            View::Full => &self.packuments,
+            View::Abbreviated => &self.abbreviated,
+            View::Revised => &self.revised,
+        }
+    }
+
+    /// Whether a text in this view is to keep its digest.
+    pub(crate) fn keeps_digest(&self, view: View) -> bool {
+        match view {
+            View::Full | View::Abbreviated => self.makes_digests,
+            View::Revised => false,
         }
     }
 }
@@ -86,6 +107,9 @@ pub(crate) fn keep_reply(alloc: Global, caches: &mut Caches, what: &Action, repl
         }
         (Action::AbbreviatedPackument { package }, Reply::Doc(text)) => {
             keep(&mut caches.abbreviated, package.text(), text);
+        }
+        (Action::RevisedPackument { package }, Reply::Doc(text)) => {
+            keep(&mut caches.revised, package.text(), text);
         }
         (Action::Archive { package, version }, Reply::Bytes(archive)) => {
             keep_archive(alloc, &mut caches.archives, package, version, archive);
@@ -250,22 +274,55 @@ fn forget_packument(cache: &mut TextCache, change: &Change<'_>)
     ensures { cache.new ≡ without_changed (change_of change.now ∷ []) cache.old }
 {
     match changed_package(change) {
-        Some(name) => cache.forget(name.text()),
-        None => {}
+        Changed::Packument(name) => cache.forget(name.text()),
+        Changed::Maintainers(_) => {}
+        Changed::Nothing => {}
     }
 }
 
-// The package of which it changes a version or a tag. `None` where it changes neither.
-fn changed_package<'a>(change: &Change<'a>) -> Option<&'a Name>
-    ensures some { IfSome result (λ name. IsAbout (change_of change.now) name.now) }
-    ensures none { IfNone result (IsAboutNone (change_of change.now)) }
+/// Forgets, of packuments as npm reads them, that of each package of which a version, a tag or a
+/// maintainer is changed.
+pub(crate) fn forget_revised(cache: &mut TextCache, changes: &[Change<'_>])
+    ensures { cache.new ≡ without_read (map change_of changes.now) cache.old }
+{
+    for change in changes {
+        forget_read(cache, change);
+    }
+}
+
+fn forget_read(cache: &mut TextCache, change: &Change<'_>)
+    ensures { cache.new ≡ without_read (change_of change.now ∷ []) cache.old }
+{
+    match changed_package(change) {
+        Changed::Packument(name) => cache.forget(name.text()),
+        Changed::Maintainers(name) => cache.forget(name.text()),
+        Changed::Nothing => {}
+    }
+}
+
+/// What a change makes another of, of what is shown of a package.
+enum Changed<'a> {
+    /// The packument of this package: a version or a tag of it is changed.
+    Packument(&'a Name),
+    /// The maintainers of this package.
+    Maintainers(&'a Name),
+    /// Neither.
+    Nothing,
+}
+
+// What is shown otherwise after the change.
+fn changed_package<'a>(change: &Change<'a>) -> Changed<'a>
+    ensures { IsChanged result (change_of change.now) }
 {
     match *change {
-        Change::AddVersion { form, .. } => Some(form.name()),
+        Change::AddVersion { form, .. } => Changed::Packument(form.name()),
         Change::RetireVersion { package, .. }
         | Change::PutDeprecation { package, .. }
         | Change::PutTag { package, .. }
-        | Change::DropTag { package, .. } => Some(package),
+        | Change::DropTag { package, .. } => Changed::Packument(package),
+        Change::PutOwner { package, .. } | Change::DropOwner { package, .. } => {
+            Changed::Maintainers(package)
+        }
         Change::AddUser { .. }
         | Change::AddToken { .. }
         | Change::DropToken { .. }
@@ -278,8 +335,6 @@ fn changed_package<'a>(change: &Change<'a>) -> Option<&'a Name>
         | Change::DropTeam { .. }
         | Change::PutGrant { .. }
         | Change::DropGrant { .. }
-        | Change::PutOwner { .. }
-        | Change::DropOwner { .. }
-        | Change::PutStatus { .. } => None,
+        | Change::PutStatus { .. } => Changed::Nothing,
     }
 }

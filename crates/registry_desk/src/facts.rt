@@ -121,7 +121,9 @@ pub(crate) fn load_facts<S: Alter>(
         }
         Action::Deprecate { package, .. } => facts_for_deprecate(alloc, tx, caller, package),
         // Such a query doesn't come here: `queried` and `sent` answer it.
-        Action::Packument { .. } | Action::AbbreviatedPackument { .. } => unreachable!(),
+        Action::Packument { .. }
+        | Action::AbbreviatedPackument { .. }
+        | Action::RevisedPackument { .. } => unreachable!(),
         Action::Tags { package } => {
             facts_about_package(alloc, tx, caller, package).map(Found::About)
         }

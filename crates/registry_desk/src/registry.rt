@@ -18,7 +18,8 @@ ghost use Rattle.registry_desk.specs.Promises as promises;
 ghost use Rattle.registry_desk.specs.Resting.{HoldsAsWritten, IsRegistryOf, Rests, end_stored};
 ghost use Rattle.registry_desk.specs.Adopted.{CanBeAdopted, IsUndone};
 ghost use Rattle.registry_desk.specs.Caches.{HasAnswers, KeepNoMore, KeepsAnswer};
-ghost use Rattle.registry_desk.specs.Sending.{IsAnyPackument, IsPackument, Sends, answers_as_apply, asks_packument};
+ghost use Rattle.registry_desk.specs.Sending.{IsAnyPackument, IsPackument, Sends, answers_as_apply};
+ghost use Rattle.registry_desk.specs.Views.{asks_packument};
 ghost use Rattle.registry_packument.specs.Sendings.{failures_after};
 ghost use Rattle.registry_packument.specs.declared.opener.Sent.TheVariants.{WriteFault};
 
@@ -26,8 +27,9 @@ use crate::answer::identify_and_answer;
 use crate::cache::{Caches, keep_reply};
 use crate::sending::sent;
 use crate::texts::queried;
+use crate::view::View;
 use registry_names::{ByteOut, Fault, Name};
-use registry_packument::{Opener, PackForm, Sent};
+use registry_packument::{Opener, Sent};
 use registry_rows::{commit, fault_of};
 use registry_rules::laws::requests_are_in_form;
 use registry_rules::{Action, Reply, Request};
@@ -45,9 +47,9 @@ const PROBE: &str = "COMMIT";
 /// its organisation's scope, and all that it sees was committed. A fault of the disk may shut it
 /// for good; then every request is answered by a fault.
 ///
-/// It keeps the texts of the packuments that were asked for last, of each form its own, and the
-/// archives. Between requests each is the packument of its form of its package, of which a version
-/// lives, or the archive of its version, by what is stored.
+/// It keeps the texts of the packuments that were asked for last, full, abbreviated and as npm reads
+/// them, and the archives. Between requests each is such a packument of its package, of which a
+/// version lives, or the archive of its version, by what is stored.
 pub struct Registry<S: Alter> {
     pub(crate) conn: Connection<S>,
     pub(crate) caches: Caches,
@@ -362,6 +364,7 @@ fn answer_request<S: Alter>(
     ensures right { HasAnswers (state S.Store conn.new) caches.new }
     ensures limit { caches.new.packuments.limit ≡ caches.old.packuments.limit }
     ensures abbreviated_limit { caches.new.abbreviated.limit ≡ caches.old.abbreviated.limit }
+    ensures revised_limit { caches.new.revised.limit ≡ caches.old.revised.limit }
     ensures archive_limit { caches.new.archives.limit ≡ caches.old.archives.limit }
     ensures answer { Answered (state S.Store conn.old) (state S.Store conn.new)
         request.now result }
@@ -375,19 +378,20 @@ fn answer_request<S: Alter>(
     ensures kept { IfOk result (KeepsAnswer request.now.what caches.old caches.new) }
 {
     match asked_packument(&request.what) {
-        Some((form, package)) => queried(alloc, conn, caches, form, request, package),
+        Some((view, package)) => queried(alloc, conn, caches, view, request, package),
         None => answer_in_transaction(alloc, conn, caches, request),
     }
 }
 
-// The form and the package of the packument that is asked for. `None` where none is.
-fn asked_packument(what: &Action) -> Option<(PackForm, &Name)>
+// The view and the package of the packument that is asked for. `None` where none is.
+fn asked_packument(what: &Action) -> Option<(View, &Name)>
     ensures some { IfSome result (λ asked. what.now ≡ asks_packument asked.0 asked.1.now) }
     ensures none { IfNone result (¬ IsAnyPackument what.now) }
 {
     match what {
-        Action::Packument { package } => Some((PackForm::Full, package)),
-        Action::AbbreviatedPackument { package } => Some((PackForm::Abbreviated, package)),
+        Action::Packument { package } => Some((View::Full, package)),
+        Action::AbbreviatedPackument { package } => Some((View::Abbreviated, package)),
+        Action::RevisedPackument { package } => Some((View::Revised, package)),
         _ => None,
     }
 }
@@ -407,6 +411,7 @@ fn answer_in_transaction<S: Alter>(
     ensures right { HasAnswers (state S.Store conn.new) caches.new }
     ensures limit { caches.new.packuments.limit ≡ caches.old.packuments.limit }
     ensures abbreviated_limit { caches.new.abbreviated.limit ≡ caches.old.abbreviated.limit }
+    ensures revised_limit { caches.new.revised.limit ≡ caches.old.revised.limit }
     ensures archive_limit { caches.new.archives.limit ≡ caches.old.archives.limit }
     ensures answer { Answered (state S.Store conn.old) (state S.Store conn.new)
         request.now result }

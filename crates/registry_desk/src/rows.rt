@@ -111,7 +111,9 @@ pub(crate) fn rows_for<S: Alter>(
         Action::Deprecate { package, .. } => live_rows(alloc, tx, package),
         Action::WithdrawAll { package } => live_rows(alloc, tx, package),
         // Such a query doesn't come here: `queried` and `sent` answer it.
-        Action::Packument { .. } | Action::AbbreviatedPackument { .. } => unreachable!(),
+        Action::Packument { .. }
+        | Action::AbbreviatedPackument { .. }
+        | Action::RevisedPackument { .. } => unreachable!(),
         Action::VersionDoc { package, version } => document_row(tx, package, version),
         Action::Archive { package, version } => {
             archive_row(alloc, tx, &caches.archives, package, version)

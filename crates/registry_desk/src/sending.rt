@@ -12,7 +12,7 @@ ghost use Rattle.registry_packument.specs.Within.{IsWithin};
 ghost use Rattle.registry_packument.specs.declared.form.PackForm.TheVariants.{Full};
 ghost use Rattle.registry_packument.specs.declared.opener.Sent.TheVariants.{WriteFault};
 ghost use Rattle.registry_rows.specs.Frames.{Stays};
-ghost use Rattle.registry_rules.specs.State.{State};
+ghost use Rattle.registry_rules.specs.State.{State, has_live};
 ghost use Rattle.registry_rules.specs.declared.request.Action.TheVariants as asked;
 ghost use Rattle.registry_tables.specs.Contents.{registry_of};
 ghost use Rattle.registry_tables.specs.Effects.{InForm, Knows, Loads, registry_in, shown, stored_in};
@@ -24,11 +24,13 @@ ghost use Rattle.registry_desk.specs.Caches.{ArePackuments, HasAnswers, HasPacku
 ghost use Rattle.registry_desk.specs.Found.{AreTimesOf};
 ghost use Rattle.registry_desk.specs.Promises.{KeepsStored};
 ghost use Rattle.registry_desk.specs.Resting.{Rests};
-ghost use Rattle.registry_desk.specs.Sending.{IsFrom, IsOrigin, IsShownBy, LeavesAll, Sends, answers_as_apply, asks_packument, head_in, versions_in};
+ghost use Rattle.registry_desk.specs.Sending.{IsFrom, IsOrigin, IsShownBy, LeavesAll, Sends, answers_as_apply, front_names, head_in, versions_in};
+ghost use Rattle.registry_desk.specs.Views.{asks_packument, names_in_front};
 
 use crate::cache::{Caches, ask};
 use crate::policy::standing_if_allowed;
 use crate::rows::{cached_text, pack_times};
+use crate::view::View;
 use registry_access::Ask;
 use registry_cache::{SharedText, TextCache};
 use registry_laws_hidden::laws::unread_packages_are_unheard_of;
@@ -40,7 +42,8 @@ use registry_packument::{
 use registry_rows::{commit, fault_of};
 use registry_rules::Request;
 use registry_tables::{
-    LiveRows, VersionWalk, has_live, load_caller, load_tags, load_times, walk_versions,
+    LiveRows, VersionWalk, has_live, load_caller, load_maintainers, load_tags, load_times,
+    walk_versions,
 };
 use sqlite::{Alter, Connection, Transaction};
 use std::alloc::Global;
@@ -56,8 +59,17 @@ pub(crate) enum Origin {
     Refused(Refusal),
     /// The packument is this text, which was made before.
     Kept(SharedText),
-    /// The packument has this head, and the versions that are stored.
-    Stored(PackHead),
+    /// The packument has this head, the versions that are stored, and this in front.
+    Stored(PackHead, Front),
+}
+
+/// What is in front of the first member of a packument.
+#[derive(Drop)]
+pub(crate) enum Front {
+    /// Nothing but its brace.
+    Plain,
+    /// Its revision, and these maintainers, in byte order.
+    Revised(Vec<Text>),
 }
 
 // ---- inside a transaction
@@ -98,20 +110,55 @@ fn loaded_head<S: Alter>(
     Ok(head.in_form(form))
 }
 
+// What is in front of a package's packument in this view.
+fn loaded_front<S: Alter>(
+    alloc: Global,
+    tx: &mut Transaction<'_, S>,
+    view: View,
+    name: &Name,
+) -> Result<Front, Fault>
+    requires in_form { InForm S.Store tx.old }
+    ensures stays { Stays S.Store tx.old tx.new }
+    ensures knows { Knows S.Store tx.old tx.new result
+        (λ front c. front_names front ≡ names_in_front view (registry_of c) name.now) }
+{
+    match view {
+        View::Full | View::Abbreviated => Ok(Front::Plain),
+        View::Revised => Ok(Front::Revised(load_maintainers(alloc, tx, name)?)),
+    }
+}
+
+// What the packument of a package is made of, if a version of it lives.
+fn loaded<S: Alter>(
+    alloc: Global,
+    tx: &mut Transaction<'_, S>,
+    view: View,
+    name: &Name,
+) -> Result<Origin, Fault>
+    requires in_form { InForm S.Store tx.old }
+    ensures stays { Stays S.Store tx.old tx.new }
+    ensures loads { Loads S.Store tx.old tx.new result (λ origin c.
+        has_live (registry_of c) name.now ≡ true → IsShownBy view origin (registry_of c) name.now) }
+{
+    let head = loaded_head(alloc, tx, view.form(), name)?;
+    let front = loaded_front(alloc, tx, view, name)?;
+    Ok(Origin::Stored(head, front))
+}
+
 // What a packument that isn't kept comes from, where the policy allows the query.
 fn stored_from<S: Alter>(
     alloc: Global,
     tx: &mut Transaction<'_, S>,
-    form: PackForm,
+    view: View,
     name: &Name,
 ) -> Result<Origin, Fault>
     requires in_form { InForm S.Store tx.old }
     ensures stays { Stays S.Store tx.old tx.new }
     ensures loads { Loads S.Store tx.old tx.new result
-        (λ origin c. IsShownBy form origin (registry_of c) name.now) }
+        (λ origin c. IsShownBy view origin (registry_of c) name.now) }
 {
     if has_live(tx, name)? {
-        Ok(Origin::Stored(loaded_head(alloc, tx, form, name)?))
+        loaded(alloc, tx, view, name)
     } else {
         Ok(Origin::Refused(Refusal::NotFound))
     }
@@ -123,74 +170,74 @@ fn shown_from<S: Alter>(
     alloc: Global,
     tx: &mut Transaction<'_, S>,
     cache: &TextCache,
-    form: PackForm,
+    view: View,
     name: &Name,
 ) -> Result<Origin, Fault>
     requires in_form { InForm S.Store tx.old }
     ensures stays { Stays S.Store tx.old tx.new }
     ensures knows { Knows S.Store tx.old tx.new result (λ origin c.
-        ArePackuments form c cache.now → IsShownBy form origin (registry_of c) name.now) }
+        ArePackuments view c cache.now → IsShownBy view origin (registry_of c) name.now) }
 {
     match cached_text(cache, name) {
         Some(text) => Ok(Origin::Kept(text)),
-        None => stored_from(alloc, tx, form, name),
+        None => stored_from(alloc, tx, view, name),
     }
 }
 
-// What a query for the packument of this form of the package comes to. The policy is asked before
+// What a query for the packument of the package in this view comes to. The policy is asked before
 // anything of the packument is looked for.
 fn find_origin<S: Alter>(
     alloc: Global,
     tx: &mut Transaction<'_, S>,
     cache: &TextCache,
-    form: PackForm,
+    view: View,
     request: &Request,
     name: &Name,
 ) -> Result<Origin, Fault>
     requires in_form { InForm S.Store tx.old }
-    requires asks { request.now.what ≡ asks_packument form name.now }
+    requires asks { request.now.what ≡ asks_packument view name.now }
     ensures stays { Stays S.Store tx.old tx.new }
     ensures loads { Loads S.Store tx.old tx.new result (λ origin c. AreTeamsSound c
-        → ArePackuments form c cache.now
-        → IsOrigin form origin (registry_of c) request.now name.now) }
+        → ArePackuments view c cache.now
+        → IsOrigin view origin (registry_of c) request.now name.now) }
     ensures shows { HasCleanDisk (shown S.Store tx.new) → IfOk result (λ origin.
-        ArePackuments form (stored_in S.Store tx.old) cache.now
-        → IsFrom form origin (registry_of (stored_in S.Store tx.old)) name.now) }
+        ArePackuments view (stored_in S.Store tx.old) cache.now
+        → IsFrom view origin (registry_of (stored_in S.Store tx.old)) name.now) }
 {
     let Some(caller) = load_caller(alloc, tx, &request.who)? else {
         return Ok(Origin::Refused(Refusal::NoCaller));
     };
     match standing_if_allowed(alloc, tx, &caller, name, &Ask::Read(name))? {
-        Ok(_standing) => shown_from(alloc, tx, cache, form, name),
+        Ok(_standing) => shown_from(alloc, tx, cache, view, name),
         Err(refusal) => Ok(Origin::Refused(refusal)),
     }
 }
 
 // ---- in a transaction of its own
 
-/// What a query for the packument of this form of the package comes to.
+/// What a query for the packument of the package in this view comes to.
 pub(crate) fn origin_of<S: Alter>(
     alloc: Global,
     conn: &mut Connection<S>,
     cache: &TextCache,
-    form: PackForm,
+    view: View,
     request: &Request,
     name: &Name,
 ) -> Result<Origin, Fault>
     requires rests { Rests (state S.Store conn.old) }
-    requires right { HasPackuments form (state S.Store conn.old) cache.now }
-    requires asks { request.now.what ≡ asks_packument form name.now }
+    requires right { HasPackuments view (state S.Store conn.old) cache.now }
+    requires asks { request.now.what ≡ asks_packument view name.now }
     ensures left { LeavesAll (state S.Store conn.old) (state S.Store conn.new) }
     ensures served { HasCleanDisk (state S.Store conn.new)
         → OnOk result (IsTrue (state S.Store conn.new).is_open) }
     ensures origin { HasCleanDisk (state S.Store conn.new) → IfOk result
-        (λ origin. IsOrigin form origin (registry_in (state S.Store conn.old)) request.now
+        (λ origin. IsOrigin view origin (registry_in (state S.Store conn.old)) request.now
         name.now) }
     ensures shows { HasCleanDisk (state S.Store conn.new) → IfOk result
-        (λ origin. IsFrom form origin (registry_in (state S.Store conn.old)) name.now) }
+        (λ origin. IsFrom view origin (registry_in (state S.Store conn.old)) name.now) }
 {
     let mut tx = conn.transaction();
-    let origin = find_origin(alloc, &mut tx, cache, form, request, name)?;
+    let origin = find_origin(alloc, &mut tx, cache, view, request, name)?;
     match commit(tx) {
         Ok(()) => Ok(origin),
         Err(fault) => Err(fault),
@@ -416,6 +463,7 @@ pub(crate) fn sent<S: Alter, W: ByteOut, O: Opener>(
     ensures right { HasAnswers (state S.Store conn.new) caches.new }
     ensures limit { caches.new.packuments.limit ≡ caches.old.packuments.limit }
     ensures abbreviated_limit { caches.new.abbreviated.limit ≡ caches.old.abbreviated.limit }
+    ensures revised_limit { caches.new.revised.limit ≡ caches.old.revised.limit }
     ensures archive_limit { caches.new.archives.limit ≡ caches.old.archives.limit }
     ensures stored { KeepsStored (state S.Store conn.old) (state S.Store conn.new) }
     ensures sends { Sends (answers_as_apply S.Store) (O.opens opener.now) conn.old request.now
@@ -426,20 +474,13 @@ pub(crate) fn sent<S: Alter, W: ByteOut, O: Opener>(
     ensures unknown { W.is_unknown writer.old ≡ true → W.is_unknown writer.new ≡ true }
 {
     unread_packages_are_unheard_of();
-    match origin_of(
-        alloc,
-        conn,
-        &caches.packuments,
-        PackForm::Full,
-        request,
-        name,
-    ) {
+    match origin_of(alloc, conn, &caches.packuments, View::Full, request, name) {
         Ok(Origin::Refused(refusal)) => Sent::Refused(refusal),
         Ok(Origin::Kept(text)) => {
             let _is_kept = ask(&mut caches.packuments, name.text());
             send_text(alloc, text.as_str(), writer, opener)
         }
-        Ok(Origin::Stored(head)) => send_stored(alloc, conn, name, &head, writer, opener),
+        Ok(Origin::Stored(head, _)) => send_stored(alloc, conn, name, &head, writer, opener),
         Err(fault) => Sent::Broken {
             fault,
             has_started: false,

@@ -13,13 +13,16 @@ ghost use Rattle.registry_tables.specs.Walks.{IsLeftAlone};
 ghost use Rattle.registry_desk.specs.Caches.{HasAnswers, HasPackuments, KeepNoMore, KeepsAnswer};
 ghost use Rattle.registry_desk.specs.Promises.{Answered, Served};
 ghost use Rattle.registry_desk.specs.Resting.{Rests};
-ghost use Rattle.registry_desk.specs.Sending.{IsMadeOf, LeavesAll, ShowsAlone, asks_packument, versions_in};
+ghost use Rattle.registry_desk.specs.Sending.{IsMadeOf, LeavesAll, ShowsAlone, front_names, versions_in};
+ghost use Rattle.registry_desk.specs.Views.{asks_packument, text_behind};
 
 use crate::cache::{Caches, keep_reply};
-use crate::sending::{Origin, origin_of, send_again, stored_within};
+use crate::sending::{Front, Origin, origin_of, send_again, stored_within};
+use crate::view::View;
 use registry_cache::{SharedText, TextCache};
+use registry_documents::shown;
 use registry_names::{ByteOut, Fault, Name, Text, WriteFailed};
-use registry_packument::{Opener, PackForm, PackHead, PackumentWithin, Sent};
+use registry_packument::{Opener, PackHead, PackumentWithin, Sent};
 use registry_rules::{Reply, Request};
 use sqlite::{Alter, Connection};
 use std::alloc::{AllocError, Global};
@@ -168,6 +171,16 @@ fn made_text<S: Alter>(
     }
 }
 
+// The packument with this text and this in front.
+fn fronted(alloc: Global, text: Text, front: &Front) -> Result<Text, Fault>
+    ensures { IfOk result (λ shown. shown ≡ text_behind (front_names front.now) text) }
+{
+    match front {
+        Front::Plain => Ok(text),
+        Front::Revised(names) => Ok(Text::from(shown(alloc, text.as_str(), names)?)),
+    }
+}
+
 // The same text, which keeps its digest if it is to.
 fn digested(text: SharedText, keeps_digest: bool) -> SharedText
     ensures { result ≡ text }
@@ -209,52 +222,56 @@ fn reply_of<S: Alter>(
     match origin {
         Origin::Refused(refusal) => Ok(Reply::Refused(refusal)),
         Origin::Kept(text) => Ok(Reply::Doc(text)),
-        Origin::Stored(head) => shared(made_text(alloc, conn, name, &head)?, keeps_digest),
+        Origin::Stored(head, front) => {
+            let text = made_text(alloc, conn, name, &head)?;
+            shared(fronted(alloc, text, &front)?, keeps_digest)
+        }
     }
 }
 
-// The reply to a query for the packument of this form of the package.
+// The reply to a query for the packument of the package in this view.
 fn query_reply<S: Alter>(
     alloc: Global,
     conn: &mut Connection<S>,
     cache: &TextCache,
-    form: PackForm,
+    view: View,
     request: &Request,
     name: &Name,
     keeps_digest: bool,
 ) -> Result<Reply, Fault>
     requires rests { Rests (state S.Store conn.old) }
-    requires right { HasPackuments form (state S.Store conn.old) cache.now }
-    requires asks { request.now.what ≡ asks_packument form name.now }
+    requires right { HasPackuments view (state S.Store conn.old) cache.now }
+    requires asks { request.now.what ≡ asks_packument view name.now }
     ensures left { LeavesAll (state S.Store conn.old) (state S.Store conn.new) }
     ensures served { HasCleanDisk (state S.Store conn.new)
         → OnOk result (IsTrue (state S.Store conn.new).is_open) }
     ensures told { HasCleanDisk (state S.Store conn.new) → IfOk result
         (λ given. given ≡ answer (registry_in (state S.Store conn.old)) request.now) }
     ensures shows { HasCleanDisk (state S.Store conn.new) → IfOk result
-        (ShowsAlone form (registry_in (state S.Store conn.old)) name.now) }
+        (ShowsAlone view (registry_in (state S.Store conn.old)) name.now) }
 {
-    let origin = origin_of(alloc, conn, cache, form, request, name)?;
+    let origin = origin_of(alloc, conn, cache, view, request, name)?;
     reply_of(alloc, conn, name, origin, keeps_digest)
 }
 
-/// Answers a query for the packument of this form of the package, and keeps its text as the latest
+/// Answers a query for the packument of the package in this view, and keeps its text as the latest
 /// asked.
 pub(crate) fn queried<S: Alter>(
     alloc: Global,
     conn: &mut Connection<S>,
     caches: &mut Caches,
-    form: PackForm,
+    view: View,
     request: &Request,
     name: &Name,
 ) -> Result<Reply, Fault>
     requires rests { Rests (state S.Store conn.old) }
     requires right { HasAnswers (state S.Store conn.old) caches.old }
-    requires asks { request.now.what ≡ asks_packument form name.now }
+    requires asks { request.now.what ≡ asks_packument view name.now }
     ensures left { LeavesAll (state S.Store conn.old) (state S.Store conn.new) }
     ensures right { HasAnswers (state S.Store conn.new) caches.new }
     ensures limit { caches.new.packuments.limit ≡ caches.old.packuments.limit }
     ensures abbreviated_limit { caches.new.abbreviated.limit ≡ caches.old.abbreviated.limit }
+    ensures revised_limit { caches.new.revised.limit ≡ caches.old.revised.limit }
     ensures archive_limit { caches.new.archives.limit ≡ caches.old.archives.limit }
     ensures answer { Answered (state S.Store conn.old) (state S.Store conn.new)
         request.now result }
@@ -262,12 +279,12 @@ pub(crate) fn queried<S: Alter>(
     ensures no_more { OnErr result (KeepNoMore caches.old caches.new) }
     ensures kept { IfOk result (KeepsAnswer request.now.what caches.old caches.new) }
 {
-    let keeps_digest = caches.makes_digests;
+    let keeps_digest = caches.keeps_digest(view);
     let reply = query_reply(
         alloc,
         conn,
-        caches.texts(form),
-        form,
+        caches.texts(view),
+        view,
         request,
         name,
         keeps_digest,

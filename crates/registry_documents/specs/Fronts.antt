@@ -1,10 +1,10 @@
--- What comes before the members of a packument where npm reads it: its revision, and its
--- maintainers.
-use Rattle.std.specs.Prelude.{◌≡◌, ℕ, Bool, true, false, List, [], ◌∷◌, ◌++◌, drop, codes}
+-- A packument as npm reads it: before its members its revision and its maintainers.
+use Rattle.std.specs.Prelude.{◌≡◌, ◌==◌, ℕ, Bool, true, false, List, [], ◌∷◌, ◌++◌, drop, codes, if◌then◌else◌}
 use Rattle.serde_json.specs.Data.{Data, string, array, object, Items, no_items, item, Members, no_members, member}
 use Rattle.json.specs.Print.{quoted}
 use Rattle.serde_json.specs.Written.{comma_if, compact_text}
 use Rattle.registry_names.specs.Texts.{Text}
+use Rattle.registry_documents.specs.Revisions.{revision}
 
 -- a maintainer, whose address the registry doesn't hold
 abbrev pub person : Text → Data
@@ -37,6 +37,15 @@ maintainers_text (n ∷ ns) = member_text true (codes "maintainers") (array (peo
 -- the opening brace, both members, and a comma
 abbrev pub front_text : Text → List Text → List ℕ
 front_text rev names = 123 ∷ (member_text false (codes "_rev") (string rev) ++ (maintainers_text names ++ 44 ∷ []))
+
+-- what follows the brace at the front
+abbrev pub behind_brace : Text → Text
+behind_brace [] = []
+behind_brace (b ∷ bs) = if b == 123 then bs else b ∷ bs
+
+-- the packument as npm reads it: before its first member its revision and the maintainers
+unfoldable pub shown_text : Text → List Text → Text
+shown_text text names = front_text (revision text names) names ++ behind_brace text
 
 -- The front, and a packument's text without its first byte, are the compact JSON of the packument
 -- with both members in front of its own.

@@ -17,3 +17,7 @@ revised digest names = encode_lower digest ++ lines names
 -- the revision of a package whose packument's text has this SHA-256
 abbrev pub revision_of : List ℕ → List Text → Text
 revision_of digest names = encode_lower (sha256 (revised digest names))
+
+-- the revision of a package with this packument and these maintainers: what npm's `_rev` is
+abbrev pub revision : Text → List Text → Text
+revision text names = revision_of (sha256 text) names

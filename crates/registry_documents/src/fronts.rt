@@ -1,12 +1,13 @@
-//! What npm reads before a packument's members.
+//! Packuments as npm reads them: before their members a revision and the maintainers.
 
-ghost use Rattle.std.specs.Prelude.{◌≡◌, ◌++◌, ◌∷◌, [], string_bytes, IfOk, OnOk};
+ghost use Rattle.std.specs.Prelude.{◌≡◌, ◌++◌, ◌∷◌, [], drop, string_bytes, IfOk, OnOk};
 ghost use Rattle.json.specs.Print.{quoted};
 ghost use Rattle.serde_json.specs.Data.{array, string};
 ghost use Rattle.serde_json.specs.Written.{comma_if, compact_text};
-ghost use Rattle.registry_documents.specs.Fronts.{front_text, maintainers_text, member_text, people, person};
+ghost use Rattle.registry_documents.specs.Fronts.{behind_brace, front_text, maintainers_text, member_text, people, person, shown_text};
 
 use crate::revision::Revision;
+use registry_cache::ContentDigest;
 use registry_names::Text;
 use serde_json::Value;
 use std::alloc::{AllocError, Global};
@@ -25,6 +26,40 @@ pub fn front(alloc: Global, revision: &Revision, maintainers: &[Text]) -> Result
     push_maintainers(alloc, &mut out, maintainers)?;
     out.push_str(",")?;
     Ok(out)
+}
+
+/// The packument as npm reads it: its text, with the front of its revision and these maintainers in
+/// place of its first brace. The names are in the order in which the registry answers them.
+///
+/// An error is returned when no memory is left.
+pub fn shown(alloc: Global, packument: &str, maintainers: &[Text]) -> Result<String, AllocError>
+    ensures { IfOk result (λ text. string_bytes text
+        ≡ shown_text packument.now maintainers.now) }
+{
+    let digest = ContentDigest::of(packument.as_bytes());
+    let revision = Revision::of(alloc, &digest, maintainers)?;
+    let front = front(alloc, &revision, maintainers)?;
+    joined(alloc, front.as_str(), without_brace(packument))
+}
+
+// The text without the brace that it begins with.
+fn without_brace(text: &str) -> &str
+    ensures { result.now ≡ behind_brace text.now }
+{
+    match text.strip_prefix('{') {
+        Some(rest) => rest,
+        None => text,
+    }
+}
+
+// Both texts, in room for exactly their bytes.
+fn joined(alloc: Global, front: &str, rest: &str) -> Result<String, AllocError>
+    ensures { IfOk result (λ text. string_bytes text ≡ front.now ++ rest.now) }
+{
+    let mut text = String::with_capacity(alloc, front.len().saturating_add(rest.len()))?;
+    text.push_str(front)?;
+    text.push_str(rest)?;
+    Ok(text)
 }
 
 // A text in JSON's quotes.

@@ -23,6 +23,6 @@ mod versions;
 
 pub use crate::asked::Asked;
 pub use crate::document::{Document, Kind};
-pub use crate::fronts::front;
+pub use crate::fronts::{front, shown};
 pub use crate::judging::{Present, judge};
 pub use crate::revision::Revision;

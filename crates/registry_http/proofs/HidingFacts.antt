@@ -15,7 +15,7 @@ use Rattle.registry_rules.specs.State.{State}
 use Rattle.registry_rules.specs.declared.reply.Reply.{Reply}
 use Rattle.registry_rules.specs.declared.reply.Reply.TheVariants.{Refused}
 use Rattle.registry_rules.specs.declared.request.Action.{Action}
-use Rattle.registry_rules.specs.declared.request.Action.TheVariants.{UserAdd, TokenAdd, TokenRemove, TokensRemove, OrgCreate, OrgSet, OrgRemove, TeamCreate, TeamDestroy, TeamAdd, TeamRemove, Grant, Revoke, SetAccess, OwnerAdd, OwnerRemove, Publish, TagSet, TagRemove, Withdraw, WithdrawAll, Deprecate, Packument, AbbreviatedPackument, VersionDoc, Archive, Tags, Members, Teams, TeamMembers, TeamPackages, WhoAmI, Maintainers, OrgPackages, MyPackages, Users, Organisations, Packages}
+use Rattle.registry_rules.specs.declared.request.Action.TheVariants.{UserAdd, TokenAdd, TokenRemove, TokensRemove, OrgCreate, OrgSet, OrgRemove, TeamCreate, TeamDestroy, TeamAdd, TeamRemove, Grant, Revoke, SetAccess, OwnerAdd, OwnerRemove, Publish, TagSet, TagRemove, Withdraw, WithdrawAll, Deprecate, Packument, AbbreviatedPackument, RevisedPackument, VersionDoc, Archive, Tags, Members, Teams, TeamMembers, TeamPackages, WhoAmI, Maintainers, OrgPackages, MyPackages, Users, Organisations, Packages}
 use Rattle.registry_rules.specs.declared.request.Request.{Request}
 use Rattle.registry_laws_history.specs.Answers.{answer, reply, reply_to, unless_refused}
 use Rattle.registry_service.specs.HttpAnswers.{plain_response}
@@ -28,6 +28,7 @@ unread false rest e = refl
 refused-by : (S : State) (now : ℕ) (who : Caller) (what : Action) (p : Text) → IsQueryOf p what → reads (level_in S.access who p) ≡ false → refusal_by S now who what ≡ Some NotFound
 refused-by S now who (Packument q) p is hidden = unread (reads (level_in S.access who q)) _ (ap (λ (q : Text). reads (level_in S.access who q)) is ∙ hidden)
 refused-by S now who (AbbreviatedPackument q) p is hidden = unread (reads (level_in S.access who q)) _ (ap (λ (q : Text). reads (level_in S.access who q)) is ∙ hidden)
+refused-by S now who (RevisedPackument q) p is hidden = unread (reads (level_in S.access who q)) _ (ap (λ (q : Text). reads (level_in S.access who q)) is ∙ hidden)
 refused-by S now who (VersionDoc q asked) p is hidden = unread (reads (level_in S.access who q)) _ (ap (λ (q : Text). reads (level_in S.access who q)) is ∙ hidden)
 refused-by S now who (Archive q v) p is hidden = unread (reads (level_in S.access who q)) _ (ap (λ (q : Text). reads (level_in S.access who q)) is ∙ hidden)
 refused-by S now who (Tags q) p is hidden = unread (reads (level_in S.access who q)) _ (ap (λ (q : Text). reads (level_in S.access who q)) is ∙ hidden)

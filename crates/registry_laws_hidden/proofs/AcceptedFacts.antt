@@ -31,7 +31,7 @@ use Rattle.registry_rules.specs.State.{State, Release, Withdrawal, asked_version
 use Rattle.registry_rules.specs.Withdrawals.{is_any_depended, is_depended, is_less_than_a_day_ago, is_need_of, is_too_old, is_waiting, last_of, live_since, live_versions, needs_in, published_at, versions_in}
 use Rattle.registry_rules.specs.declared.request.Action.{Action}
 use Rattle.registry_rules.specs.declared.request.Action.TheVariants as command
-use Rattle.registry_rules.specs.declared.request.Action.TheVariants.{OrgSet, OrgRemove, TeamCreate, TeamDestroy, TeamAdd, TeamRemove, Revoke, SetAccess, OwnerAdd, OwnerRemove, Publish, TagSet, TagRemove, Withdraw, WithdrawAll, Deprecate, Packument, AbbreviatedPackument, VersionDoc, Archive, Tags, Members, Teams, TeamMembers, TeamPackages, Maintainers, OrgPackages}
+use Rattle.registry_rules.specs.declared.request.Action.TheVariants.{OrgSet, OrgRemove, TeamCreate, TeamDestroy, TeamAdd, TeamRemove, Revoke, SetAccess, OwnerAdd, OwnerRemove, Publish, TagSet, TagRemove, Withdraw, WithdrawAll, Deprecate, Packument, AbbreviatedPackument, RevisedPackument, VersionDoc, Archive, Tags, Members, Teams, TeamMembers, TeamPackages, Maintainers, OrgPackages}
 use Rattle.registry_rules.specs.declared.request.Asked.{Asked}
 use Rattle.registry_rules.specs.declared.request.Asked.TheVariants.{Exact, Latest}
 use Rattle.registry_rules.proofs.AllowedFacts.{policy_passed, state_passed}
@@ -102,6 +102,7 @@ permission_other A who (WithdrawAll q) p other = ap (may_write who) (position_ot
 permission_other A who (Deprecate q selector message) p other = ap (may_write who) (position_other A p q other who)
 permission_other A who (Packument q) p other = ap may_read (position_other A p q other who)
 permission_other A who (AbbreviatedPackument q) p other = ap may_read (position_other A p q other who)
+permission_other A who (RevisedPackument q) p other = ap may_read (position_other A p q other who)
 permission_other A who (VersionDoc q asked) p other = ap may_read (position_other A p q other who)
 permission_other A who (Archive q v) p other = ap may_read (position_other A p q other who)
 permission_other A who (Tags q) p other = ap may_read (position_other A p q other who)
@@ -166,6 +167,7 @@ state_other S now (Withdraw q v) p other apart = absurd (true≢false (sym (ap n
 state_other S now (WithdrawAll q) p other apart = absurd (true≢false (sym (ap not other) ∙ apart))
 state_other S now (Packument q) p other apart = ap unless_there (same_has_live S p q other)
 state_other S now (AbbreviatedPackument q) p other apart = ap unless_there (same_has_live S p q other)
+state_other S now (RevisedPackument q) p other apart = ap unless_there (same_has_live S p q other)
 state_other S now (VersionDoc q asked) p other apart = ap unless_there (ap (lives (state_without S p) q) (same_asked S p q other asked) ∙ same_lives S p q other (asked_version S q asked))
 state_other S now (Archive q v) p other apart = ap unless_there (same_live S p q other (text_of_version v))
 state_other S now (Tags q) p other apart = ap unless_there (same_has_live S p q other)
@@ -218,6 +220,7 @@ refusal_other S now who what p other apart = ap₂ (λ v o. option_or (unless_al
 pub unconcerned : (what : Action) (p : Text) → is_command what ≡ true → names_package what p ≡ false → concerns what p ≡ false
 unconcerned (Packument q) p command other = absurd (true≢false (sym command))
 unconcerned (AbbreviatedPackument q) p command other = absurd (true≢false (sym command))
+unconcerned (RevisedPackument q) p command other = absurd (true≢false (sym command))
 unconcerned (VersionDoc q asked) p command other = absurd (true≢false (sym command))
 unconcerned (Archive q v) p command other = absurd (true≢false (sym command))
 unconcerned (Tags q) p command other = absurd (true≢false (sym command))

@@ -29,7 +29,7 @@ use Rattle.registry_rules.specs.Refusals.{grant_refusal, is_scope, refuse, refus
 use Rattle.registry_rules.specs.State.{State, has_grant, has_team, is_published}
 use Rattle.registry_rules.specs.declared.request.Action.{Action}
 use Rattle.registry_rules.specs.declared.request.Action.TheVariants as command
-use Rattle.registry_rules.specs.declared.request.Action.TheVariants.{Revoke, SetAccess, OwnerAdd, OwnerRemove, Publish, TagSet, TagRemove, Withdraw, WithdrawAll, Deprecate, Packument, AbbreviatedPackument, VersionDoc, Archive, Tags, Maintainers}
+use Rattle.registry_rules.specs.declared.request.Action.TheVariants.{Revoke, SetAccess, OwnerAdd, OwnerRemove, Publish, TagSet, TagRemove, Withdraw, WithdrawAll, Deprecate, Packument, AbbreviatedPackument, RevisedPackument, VersionDoc, Archive, Tags, Maintainers}
 use Rattle.registry_laws_hidden.specs.Without.{state_without}
 use Rattle.registry_laws_hidden.proofs.AcceptedFacts.{same_role}
 use Rattle.registry_laws_hidden.proofs.KeepFacts.{at-unkept}
@@ -235,6 +235,8 @@ module _ (S : State) (now : ℕ) (who : Caller) (p o : Text) (sound : IsSound S.
       refused_both S (state_without S p) now who (Packument q) NotFound (unshown S now who p nothing q here (state_refusal S now (Packument q)) (state_refusal (state_without S p) now (Packument q)))
   concerned_refused (AbbreviatedPackument q) here nothing stranger =
       refused_both S (state_without S p) now who (AbbreviatedPackument q) NotFound (unshown S now who p nothing q here (state_refusal S now (AbbreviatedPackument q)) (state_refusal (state_without S p) now (AbbreviatedPackument q)))
+  concerned_refused (RevisedPackument q) here nothing stranger =
+      refused_both S (state_without S p) now who (RevisedPackument q) NotFound (unshown S now who p nothing q here (state_refusal S now (RevisedPackument q)) (state_refusal (state_without S p) now (RevisedPackument q)))
   concerned_refused (VersionDoc q asked) here nothing stranger =
       refused_both S (state_without S p) now who (VersionDoc q asked) NotFound (unshown S now who p nothing q here (state_refusal S now (VersionDoc q asked)) (state_refusal (state_without S p) now (VersionDoc q asked)))
   concerned_refused (Archive q v) here nothing stranger =

@@ -10,6 +10,7 @@ use Rattle.registry_names.specs.declared.status.Status.{Status}
 use Rattle.registry_names.specs.Versions.{text_of_version}
 use Rattle.registry_names.proofs.KeyFacts.{pair_key, text_key, same_true}
 use Rattle.registry_names.proofs.PartFacts.{part-keep}
+use Rattle.registry_documents.specs.Fronts.{shown_text}
 use Rattle.registry_packument.specs.Documents.{document_text}
 use Rattle.registry_packument.specs.Lists.{levels_text, tags_text, grants_text, names_text}
 use Rattle.registry_access.specs.Access.{Access}
@@ -27,7 +28,7 @@ use Rattle.registry_rules.specs.State.{State, Release, asked_version, is_own}
 use Rattle.registry_rules.specs.Withdrawals.{selected}
 use Rattle.registry_rules.specs.declared.reply.Reply.TheVariants.{Count, Doc, Bytes}
 use Rattle.registry_rules.specs.declared.request.Action.{Action}
-use Rattle.registry_rules.specs.declared.request.Action.TheVariants.{Deprecate, WithdrawAll, Packument, AbbreviatedPackument, VersionDoc, Archive, Tags, TeamPackages, Maintainers, OrgPackages, MyPackages, Packages}
+use Rattle.registry_rules.specs.declared.request.Action.TheVariants.{Deprecate, WithdrawAll, Packument, AbbreviatedPackument, RevisedPackument, VersionDoc, Archive, Tags, TeamPackages, Maintainers, OrgPackages, MyPackages, Packages}
 use Rattle.registry_rules.specs.declared.request.Asked.{Asked}
 use Rattle.registry_laws_history.specs.Answers.{asked_release, dist_tag, levels_in, listed_grant, package_level, packument_of, reply}
 use Rattle.registry_laws_hidden.specs.Without.{state_without}
@@ -157,6 +158,9 @@ reply_other S who (Packument q) p other one nothing =
     λ i. Doc (packument_of Full q (of_other p q other S.tags i) (of_other p q other S.live i) (of_other p q other S.spent i))
 reply_other S who (AbbreviatedPackument q) p other one nothing =
     λ i. Doc (packument_of Abbreviated q (of_other p q other S.tags i) (of_other p q other S.live i) (of_other p q other S.spent i))
+reply_other S who (RevisedPackument q) p other one nothing =
+    ap₂ (λ (text : Text) (names : List Text). Doc (shown_text text names))
+    (λ i. packument_of Full q (of_other p q other S.tags i) (of_other p q other S.live i) (of_other p q other S.spent i)) (ap keys (of_other p q other S.access.maintainers))
 reply_other S who (VersionDoc q asked) p other one nothing =
     ap (λ o. Doc (unwrap_or (option_and_then (λ (r : Release). document_text r.manifest r.message) o) [])) (same_release S p q other asked)
 reply_other S who (Archive q v) p other one nothing = ap (λ o. Bytes (unwrap_or (option_map (λ (r : Release). r.archive) o) [])) (at_other p q other S.live (text_of_version v))

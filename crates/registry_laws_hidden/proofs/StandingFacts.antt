@@ -28,7 +28,7 @@ use Rattle.registry_rules.specs.Laws.{IsApart}
 use Rattle.registry_rules.specs.Refusals.{refusal_by, unless_allowed}
 use Rattle.registry_rules.specs.State.{State, developers, is_in_team}
 use Rattle.registry_rules.specs.declared.request.Action.{Action}
-use Rattle.registry_rules.specs.declared.request.Action.TheVariants.{OrgCreate, OrgSet, OrgRemove, TeamDestroy, TeamAdd, TeamRemove, Packument, AbbreviatedPackument, VersionDoc, Archive, Tags, Maintainers}
+use Rattle.registry_rules.specs.declared.request.Action.TheVariants.{OrgCreate, OrgSet, OrgRemove, TeamDestroy, TeamAdd, TeamRemove, Packument, AbbreviatedPackument, RevisedPackument, VersionDoc, Archive, Tags, Maintainers}
 use Rattle.registry_rules.proofs.AllowedFacts.{policy_passed}
 use Rattle.registry_rules.proofs.LawFacts.{commands_leave_other_packages}
 use Rattle.registry_laws_history.proofs.LeftFacts.{left_by, left_is, joined}
@@ -137,6 +137,7 @@ pub record KeepsStanding (S T : State) (p o : Text) (who : Caller) : Type 0 wher
 unnamed : (what : Action) (p : Text) → concerns what p ≡ false → names_package what p ≡ false
 unnamed (Packument q) p other = refl
 unnamed (AbbreviatedPackument q) p other = refl
+unnamed (RevisedPackument q) p other = refl
 unnamed (VersionDoc q asked) p other = refl
 unnamed (Archive q v) p other = refl
 unnamed (Tags q) p other = refl

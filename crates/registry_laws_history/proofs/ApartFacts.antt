@@ -1,13 +1,16 @@
 -- A packument depends on its own package alone.
-use Rattle.std.proofs.Common.{◌≡◌, ℕ, Bool, true, false, cond, ◌&&◌, ◌||◌, [], ◌∷◌, is_some, Option, Some, None, option_map, refl, ap, ◌∙◌, true≢false}
+use Rattle.std.proofs.Common.{◌≡◌, ℕ, Bool, true, false, cond, ◌&&◌, ◌||◌, List, [], ◌∷◌, is_some, Option, Some, None, option_map, refl, ap, ap₂, ◌∙◌, true≢false}
+use Rattle.std.specs.List.{list_any}
 use Rattle.registry_names.specs.Keys.{pair_is}
 use Rattle.registry_names.specs.Texts.{Text, is}
-use Rattle.registry_names.specs.Maps.{at, of}
+use Rattle.registry_names.specs.Maps.{at, keys, of}
 use Rattle.registry_names.proofs.KeyFacts.{text_key, pair_key}
 use Rattle.registry_names.proofs.MapFacts.{at-revise}
 use Rattle.registry_names.proofs.PartFacts.{part-put, part-erase, same_part}
 use Rattle.registry_access.specs.declared.caller.Caller.{Caller}
+use Rattle.registry_documents.specs.Fronts.{shown_text}
 use Rattle.registry_packument.specs.declared.form.PackForm.{PackForm}
+use Rattle.registry_packument.specs.declared.form.PackForm.TheVariants.{Full}
 use Rattle.registry_rules.specs.Actions.{names_package, version_of}
 use Rattle.registry_rules.specs.Callers.{caller_of}
 use Rattle.registry_rules.specs.Changes.{Change, AddUser, AddToken, DropToken, AddOrg, PutMember, DropMember, AddTeam, PutTeamMember, DropTeamMember, DropTeam, PutGrant, DropGrant, PutOwner, DropOwner, PutStatus, AddVersion, RetireVersion, PutDeprecation, PutTag, DropTag, made, all_made, release_of}
@@ -16,8 +19,8 @@ use Rattle.registry_rules.specs.Operations.{with_member, with_role, with_grant, 
 use Rattle.registry_rules.specs.State.{State, Release}
 use Rattle.registry_rules.specs.declared.request.Action.{Action}
 use Rattle.registry_rules.proofs.LawFacts.{commands_leave_other_packages}
-use Rattle.registry_laws_history.specs.Answers.{packument_in, packument_of}
-use Rattle.registry_laws_history.specs.Apart.{ChangesOfOthers, StepsOfOthers, are_about, is_about}
+use Rattle.registry_laws_history.specs.Answers.{packument_in, packument_of, revised_packument}
+use Rattle.registry_laws_history.specs.Apart.{ChangesOfOthers, RevisedAfterOthers, RevisedAfterSteps, StepsOfOthers, are_about, is_about, is_read_in}
 
 -- the versions of the package, live and withdrawn, and its tags are the same
 record IsSame (S T : State) (p : Text) : Type 0 where
@@ -94,3 +97,88 @@ step_same S now (Some who) what p e =
 
 pub steps_of_others : StepsOfOthers
 steps_of_others form S r p e = same_packument form S (step S r) p (step_same S r.at (caller_of S r.who) r.what p e)
+
+-- ---- as npm reads it
+
+-- and its maintainers are the same
+record IsReadSame (S T : State) (p : Text) : Type 0 where
+  same : IsSame S T p
+  maintainers : of T.access.maintainers p ≡ of S.access.maintainers p
+
+same_revised : (S T : State) (p : Text) → IsReadSame S T p → revised_packument T p ≡ revised_packument S p
+same_revised S T p read = ap₂ shown_text (same_packument Full S T p read.same) (ap keys read.maintainers)
+
+either_named : (b : Bool) (S T U : State) (p : Text) → of T.access.maintainers p ≡ of S.access.maintainers p → of U.access.maintainers p ≡ of S.access.maintainers p
+    → of (cond b T U).access.maintainers p ≡ of S.access.maintainers p
+either_named true S T U p one other = one
+either_named false S T U p one other = other
+
+-- a change of no maintainer of the package
+made_named : (S : State) (change : Change) (p : Text) → is_read_in change p ≡ false → of (made S change).access.maintainers p ≡ of S.access.maintainers p
+made_named S (AddUser u) p e = refl
+made_named S (AddToken digest u) p e = refl
+made_named S (DropToken digest) p e = refl
+made_named S (AddOrg o) p e = refl
+made_named S (PutMember o u role stands) p e =
+    either_named stands S (with_role S o u role) (with_member S o u role) p (either_named (is_some (at S.access.roles (o, u))) S (with_member S o u role) S p refl refl) refl
+made_named S (DropMember o u) p e = refl
+made_named S (AddTeam o t) p e = refl
+made_named S (PutTeamMember o t u) p e = refl
+made_named S (DropTeamMember o t u) p e = refl
+made_named S (DropTeam o t) p e = refl
+made_named S (PutGrant o t q grant stands) p e =
+    either_named stands S (regranted S o t q grant) (with_grant S o t q grant) p (either_named (is_some (at S.access.grants (o, (t, q)))) S (with_grant S o t q grant) S p refl refl) refl
+made_named S (DropGrant o t q) p e = refl
+made_named S (PutOwner q u) p e = part-put text_key S.access.maintainers q u tt p e
+made_named S (DropOwner q u) p e = part-erase text_key S.access.maintainers q u p e
+made_named S (PutStatus q status stands) p e =
+    either_named stands S (restated S q status) (with_status S q status) p (either_named (is_some (at S.access.statuses q)) S (with_status S q status) S p refl refl) refl
+made_named S (AddVersion f now) p e = refl
+made_named S (RetireVersion q v published withdrawn) p e = refl
+made_named S (PutDeprecation q v message) p e = refl
+made_named S (PutTag q t v stands) p e = either_named stands S (moved S q t v) (with_tag S q t v) p (either_named (is_some (at S.tags (q, t))) S (with_tag S q t v) S p refl refl) refl
+made_named S (DropTag q t) p e = refl
+
+-- what changes no maintainer of it and nothing else that is read changes no version and no tag
+pub not_about : (change : Change) (p : Text) → is_read_in change p ≡ false → is_about change p ≡ false
+not_about (PutOwner q u) p e = refl
+not_about (DropOwner q u) p e = refl
+not_about (AddUser u) p e = e
+not_about (AddToken digest u) p e = e
+not_about (DropToken digest) p e = e
+not_about (AddOrg o) p e = e
+not_about (PutMember o u role stands) p e = e
+not_about (DropMember o u) p e = e
+not_about (AddTeam o t) p e = e
+not_about (PutTeamMember o t u) p e = e
+not_about (DropTeamMember o t u) p e = e
+not_about (DropTeam o t) p e = e
+not_about (PutGrant o t q grant stands) p e = e
+not_about (DropGrant o t q) p e = e
+not_about (PutStatus q status stands) p e = e
+not_about (AddVersion f now) p e = e
+not_about (RetireVersion q v published withdrawn) p e = e
+not_about (PutDeprecation q v message) p e = e
+not_about (PutTag q t v stands) p e = e
+not_about (DropTag q t) p e = e
+
+pub none_about : (changes : List Change) (p : Text) → list_any (λ change. is_read_in change p) changes ≡ false → are_about changes p ≡ false
+none_about [] p e = refl
+none_about (change ∷ changes) p e =
+    let apart = neither (is_read_in change p) (list_any (λ c. is_read_in c p) changes) e in
+    ap₂ (λ a b. a || b) (not_about change p apart.0) (none_about changes p apart.1)
+
+pub revised_after_others : RevisedAfterOthers
+revised_after_others S [] p e = refl
+revised_after_others S (change ∷ changes) p e =
+    let apart = neither (is_read_in change p) (list_any (λ c. is_read_in c p) changes) e in
+    revised_after_others (made S change) changes p apart.1
+    ∙ same_revised S (made S change) p (record { same = made_same S change p (not_about change p apart.0); maintainers = made_named S change p apart.0 })
+
+step_named : (S : State) (now : ℕ) (who : Option Caller) (what : Action) (p : Text) → names_package what p ≡ false → of (all_made S (effects_for S now who what)).access.maintainers p ≡ of S.access.maintainers p
+step_named S now None what p e = refl
+step_named S now (Some who) what p e = same_part text_key _ S.access.maintainers p (commands_leave_other_packages S now who what p e).maintainers
+
+pub revised_after_steps : RevisedAfterSteps
+revised_after_steps S r p e =
+    same_revised S (step S r) p (record { same = step_same S r.at (caller_of S r.who) r.what p e; maintainers = step_named S r.at (caller_of S r.who) r.what p e })

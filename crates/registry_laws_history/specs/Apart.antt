@@ -8,7 +8,7 @@ use Rattle.registry_rules.specs.Changes.{Change, AddUser, AddToken, DropToken, A
 use Rattle.registry_rules.specs.Effects.{step}
 use Rattle.registry_rules.specs.State.{State}
 use Rattle.registry_rules.specs.declared.request.Request.{Request}
-use Rattle.registry_laws_history.specs.Answers.{packument_in}
+use Rattle.registry_laws_history.specs.Answers.{packument_in, revised_packument}
 
 -- whether it changes a version of the package, live or withdrawn, or a tag of it
 abbrev pub is_about : Change → Text → Bool
@@ -33,6 +33,12 @@ is_about (PutDeprecation q v message) p = is q p
 is_about (PutTag q t v stands) p = is q p
 is_about (DropTag q t) p = is q p
 
+-- whether it changes what npm reads of the package: besides, it adds or removes a maintainer of it
+abbrev pub is_read_in : Change → Text → Bool
+is_read_in (PutOwner q u) p = is q p
+is_read_in (DropOwner q u) p = is q p
+is_read_in change p = is_about change p
+
 -- whether one of them does
 abbrev pub are_about : List Change → Text → Bool
 are_about changes p = list_any (λ change. is_about change p) changes
@@ -46,3 +52,13 @@ ChangesOfOthers = (form : PackForm) (S : State) (changes : List Change) (p : Tex
 abbrev pub StepsOfOthers : Type 0
 StepsOfOthers = (form : PackForm) (S : State) (r : Request) (p : Text)
     → names_package r.what p ≡ false → packument_in form (step S r) p ≡ packument_in form S p
+
+-- changes of no version, no tag and no maintainer of the package
+abbrev pub RevisedAfterOthers : Type 0
+RevisedAfterOthers = (S : State) (changes : List Change) (p : Text)
+    → list_any (λ change. is_read_in change p) changes ≡ false → revised_packument (all_made S changes) p ≡ revised_packument S p
+
+-- a request that isn't a command about the package
+abbrev pub RevisedAfterSteps : Type 0
+RevisedAfterSteps = (S : State) (r : Request) (p : Text)
+    → names_package r.what p ≡ false → revised_packument (step S r) p ≡ revised_packument S p

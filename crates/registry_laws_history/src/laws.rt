@@ -4,7 +4,7 @@
 ghost use Rattle.std.specs.Prelude.{◌≡◌, Bool, List, IsTrue};
 ghost use Rattle.registry_rules.specs.State.{State, nothing};
 ghost use Rattle.registry_rules.specs.declared.request.Request.{Request};
-ghost use Rattle.registry_laws_history.specs.Apart.{ChangesOfOthers, StepsOfOthers};
+ghost use Rattle.registry_laws_history.specs.Apart.{ChangesOfOthers, RevisedAfterOthers, RevisedAfterSteps, StepsOfOthers};
 ghost use Rattle.registry_laws_history.specs.Headline.{AddsAcceptedPublish, Headline};
 ghost use Rattle.registry_laws_history.specs.History.{Entry, Legal, after};
 ghost use Rattle.registry_laws_history.specs.Lasting.{HistoriesLast, RunsLast};
@@ -39,10 +39,12 @@ pub fn published_for_good()
 
 /// A packument depends on its own package alone: what changes none of its versions, live and
 /// withdrawn, and none of its tags leaves it as it is, and so does a request that isn't a command
-/// about the package.
+/// about the package. As npm reads it, it depends on the maintainers of the package besides.
 pub fn packuments_stand_apart()
     ensures changes { ChangesOfOthers }
     ensures steps { StepsOfOthers }
+    ensures revised_changes { RevisedAfterOthers }
+    ensures revised_steps { RevisedAfterSteps }
 {}
 
 /// The moments of a packument. `created` is when a version of the package was published, and no

@@ -16,7 +16,7 @@ use Rattle.registry_routes.specs.declared.npm_endpoint.NpmEndpoint.{NpmEndpoint}
 use Rattle.registry_routes.specs.declared.npm_endpoint.NpmEndpoint.TheVariants as by
 use Rattle.registry_rules.specs.declared.reply.Reply.TheVariants.{Refused}
 use Rattle.registry_rules.specs.declared.request.Action.{Action}
-use Rattle.registry_rules.specs.declared.request.Action.TheVariants.{AbbreviatedPackument, OrgSet, Maintainers, Members, MyPackages, OwnerAdd, Packument, Tags, TeamMembers, TeamPackages, Teams, WhoAmI}
+use Rattle.registry_rules.specs.declared.request.Action.TheVariants.{AbbreviatedPackument, Maintainers, Members, MyPackages, OrgSet, OwnerAdd, Packument, RevisedPackument, Tags, TeamMembers, TeamPackages, Teams, WhoAmI}
 use Rattle.registry_rules.specs.declared.request.Credential.{Credential}
 use Rattle.registry_rules.specs.declared.request.Credential.TheVariants.{Anonymous}
 use Rattle.registry_rules.specs.declared.request.Request.{Request}
@@ -34,7 +34,7 @@ use Rattle.registry_npm.specs.Laws.{AreAskedFor, AsksForCaller}
 use Rattle.registry_documents.specs.declared.asked.Asked.{Asked}
 use Rattle.registry_documents.specs.declared.asked.Asked.TheVariants.{AlreadySo, Deprecation as Deprecates, Withdrawal, OwnerAdd as AddsOwner, OwnerRemove as RemovesOwner}
 use Rattle.serde_json.specs.Data.{Data}
-use Rattle.registry_npm.specs.Packages.{Purpose, asks_as, asks_for, asks_late, asks_names, does, for_document, for_names, fulfils, is_gone, judged, judges, late, leads_claim, leads_document, leads_stopped, named_by, no_version, other_of, reads_claim, reads_document, reads_owner, reads_revision, reads_versions, reads_withdrawn, serves, serves_user, shown, shows_packument, stale, tries, tries_right, unless_nobody, with_names, withdrawn}
+use Rattle.registry_npm.specs.Packages.{asks_for, asks_late, asks_names, does, for_document, for_names, fulfils, is_gone, judged, judges, late, leads_claim, leads_document, leads_stopped, named_by, no_version, other_of, Purpose, reads_claim, reads_document, reads_owner, reads_revision, reads_versions, reads_withdrawn, serves, serves_user, shows_answer, shows_packument, stale, tries, tries_right, unless_nobody, with_names, withdrawn}
 use Rattle.registry_npm.specs.Leading.{Leads, asks, by_caller, document_of, either, ends, in_form, is_stop, or_memory, reading, request, shown_as, shows, unless_stopped}
 use Rattle.registry_npm.specs.Npm.{asks_caller, asks_first, asks_role, asks_size, follows, is_npms, is_user, leads, not_served, npm, shows_public, asks_by}
 
@@ -159,12 +159,10 @@ by-does w at path p who (AddsOwner user) is = by-either w at (is_some path) _ _ 
 by-does w at path p who (RemovesOwner user) is = by-either w at (is_some path) _ _ (by-reading w at (reads_owner user) _ (λ u _. by-asks_late w at path who _ is)) (by-ends w at (Ok (Refused BadBody)))
 
 by-fulfils : (w : Wanted) (at : ℕ) (purpose : Purpose) (p : Text) (who : Credential) (text : Text) (names : List Text) → reads_caller w.authorization (Ok who) → By w at (fulfils purpose p at who text names)
-by-fulfils w at shown p who text names is = by-shows w at _
 by-fulfils w at (judged path d) p who text names is = by-or_memory w at _ (by-reading w at (judges d path text names) _ (λ asked _. by-does w at path p who asked is))
 by-fulfils w at (withdrawn named) p who text names is = by-or_memory w at _ (by-either w at _ _ _ (by-asks_late w at (Some named) who _ is) (by-ends w at (Ok (Refused Stale))))
 
 by-other : (w : Wanted) (at : ℕ) (purpose : Purpose) (p : Text) (who : Credential) (c : Outcome) → reads_caller w.authorization (Ok who) → By w at (other_of purpose p at who c)
-by-other w at shown p who c is = by-ends w at c
 by-other w at (judged path d) p who c is = by-late w at path c
 by-other w at (withdrawn named) p who c is = by-either w at (is_gone c) _ _ (by-or_memory w at _ (by-right w at (Some named) p who is)) (by-ends w at c)
 
@@ -190,13 +188,8 @@ by-serves w at purpose p who is = by-tries w at (request at who (Packument p)) _
 by-serves_user : (w : Wanted) (at : ℕ) (purpose : Purpose) (p : Text) (who : Credential) → reads_caller w.authorization (Ok who) → By w at (serves_user purpose p at who)
 by-serves_user w at purpose p who is = by-asks w at (request at who WhoAmI) _ (refl, inl is) (λ c. by-either w at (is_stop c) _ _ (by-other w at purpose p who c is) (by-serves w at purpose p who is))
 
-by-asks_as : (w : Wanted) (at : ℕ) (purpose : Purpose) (p : Text) (who : Credential) → reads_caller w.authorization (Ok who) → By w at (asks_as purpose p at who)
-by-asks_as w at shown p who is = by-serves w at shown p who is
-by-asks_as w at (judged path d) p who is = by-serves_user w at (judged path d) p who is
-by-asks_as w at (withdrawn named) p who is = by-serves_user w at (withdrawn named) p who is
-
 by-asks_for : (w : Wanted) (at : ℕ) (purpose : Purpose) (p : Text) → By w at (asks_for purpose p w at)
-by-asks_for w at purpose p = by-reading w at (reads_caller w.authorization) _ (λ who is. by-asks_as w at purpose p who is)
+by-asks_for w at purpose p = by-reading w at (reads_caller w.authorization) _ (λ who is. by-serves_user w at purpose p who is)
 
 by-claim : (w : Wanted) (at : ℕ) (v : Values) (r : Refusal) (d : Option Data) → By w at (leads_claim v w at r d)
 by-claim w at v r None = by-ends w at (Ok (Refused r))
@@ -251,8 +244,11 @@ by-scope w at p who (Some o) c is = by-unless w at (asks_all p at who o) c (by-a
 
 -- ---- all routes
 
+by-answer : (w : Wanted) (at : ℕ) (what : Action) → By w at (shows_answer what w at)
+by-answer w at what = by-caller_asks w at (λ who. what) (λ who. ends) (λ who is c. by-ends w at c)
+
 by-packument : (w : Wanted) (at : ℕ) (p : Text) → By w at (shows_packument p w at)
-by-packument w at p = by-either w at (accepts_abbreviated w.accept) _ _ (by-caller_asks w at (λ who. AbbreviatedPackument p) (λ who. ends) (λ who is c. by-ends w at c)) (by-asks_for w at shown p)
+by-packument w at p = by-either w at (accepts_abbreviated w.accept) _ _ (by-answer w at (AbbreviatedPackument p)) (by-answer w at (RevisedPackument p))
 
 by-leads : (w : Wanted) (at : ℕ) (e : NpmEndpoint) (v : Values) → By w at (leads e v w at)
 by-leads w at by.Packument v = by-reading w at (one reads_name v) _ (λ p _. by-packument w at p)

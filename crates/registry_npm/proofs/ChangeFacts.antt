@@ -13,6 +13,7 @@ use Rattle.registry_documents.specs.declared.asked.Asked.TheVariants.{AlreadySo,
 use Rattle.registry_documents.specs.declared.document.Kind.{Kind}
 use Rattle.registry_documents.specs.declared.document.Kind.TheVariants.{Publication, Package, Maintainers as OfMaintainers, Other}
 use Rattle.registry_documents.proofs.LawFacts.{a_deprecation, a_withdrawal, added, if_some, removed}
+use Rattle.registry_documents.specs.Revisions.{revision}
 use Rattle.registry_names.specs.Names.{scope_of}
 use Rattle.registry_names.specs.Texts.{Text}
 use Rattle.registry_names.specs.Versions.{VersionParts, text_of_version}
@@ -53,7 +54,7 @@ use Rattle.registry_npm.specs.Changes.{Answers, AreCompared, AreNamed, AreRead, 
 use Rattle.registry_npm.specs.Forms.{names_in}
 use Rattle.registry_npm.specs.Leading.{Leads, asks, document_of, either, ends, is_stop, or_memory, reading, request}
 use Rattle.registry_npm.specs.Npm.{is_npms, leads, asks_by}
-use Rattle.registry_npm.specs.Packages.{asks_for, asks_names, does, for_document, for_names, is_gone, judged, judged_by, judges, late, leads_claim, leads_claimed, leads_document, leads_stopped, named_by, no_version, other_of, reads_claim, reads_document, reads_owner, reads_revision, reads_versions, reads_withdrawn, revision, serves, serves_user, unless_nobody, with_names}
+use Rattle.registry_npm.specs.Packages.{asks_for, asks_names, does, for_document, for_names, is_gone, judged, judged_by, judges, late, leads_claim, leads_claimed, leads_document, leads_stopped, named_by, no_version, other_of, reads_claim, reads_document, reads_owner, reads_revision, reads_versions, reads_withdrawn, serves, serves_user, unless_nobody, with_names}
 use Rattle.registry_npm.proofs.DeterminedFacts.{same-claim, same-document, same-name}
 
 -- ---- no version is selected

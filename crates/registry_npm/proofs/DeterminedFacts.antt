@@ -9,6 +9,7 @@ use Rattle.registry_access.specs.declared.role.Role.{Role}
 use Rattle.registry_documents.specs.Judging.{IsJudged, judged as judgement}
 use Rattle.registry_documents.specs.declared.asked.Asked.{Asked}
 use Rattle.registry_documents.specs.declared.asked.Asked.TheVariants.{AlreadySo, Deprecation as Deprecates, Withdrawal, OwnerAdd as AddsOwner, OwnerRemove as RemovesOwner}
+use Rattle.registry_documents.specs.Revisions.{revision}
 use Rattle.registry_names.specs.Names.{scope_of}
 use Rattle.registry_names.specs.Precedence.{version_in}
 use Rattle.registry_names.specs.Texts.{Text}
@@ -33,7 +34,7 @@ use Rattle.registry_routes.specs.declared.npm_endpoint.NpmEndpoint.TheVariants a
 use Rattle.registry_rules.specs.declared.reply.Reply.{Reply}
 use Rattle.registry_rules.specs.declared.reply.Reply.TheVariants.{Refused}
 use Rattle.registry_rules.specs.declared.request.Action.{Action}
-use Rattle.registry_rules.specs.declared.request.Action.TheVariants.{AbbreviatedPackument, OrgSet, OwnerAdd, Maintainers, Members, MyPackages, Packument, Tags, TeamMembers, TeamPackages, Teams, WhoAmI, WithdrawAll}
+use Rattle.registry_rules.specs.declared.request.Action.TheVariants.{AbbreviatedPackument, Maintainers, Members, MyPackages, OrgSet, OwnerAdd, Packument, RevisedPackument, Tags, TeamMembers, TeamPackages, Teams, WhoAmI, WithdrawAll}
 use Rattle.registry_rules.specs.declared.request.Credential.{Credential}
 use Rattle.registry_rules.specs.declared.request.Credential.TheVariants.{Anonymous}
 use Rattle.registry_rules.specs.declared.request.Request.{Request}
@@ -52,7 +53,7 @@ use Rattle.registry_npm.specs.Collaborators.{asks_all, asks_scope, asks_teams, f
 use Rattle.registry_npm.specs.Forms.{grants_form, membership_form, names_in, profile_form, teams_form, user_text, writers_form}
 use Rattle.registry_npm.specs.Leading.{Leads, asks, by_caller, document_of, either, ends, in_form, is_stop, or_memory, reading, request, shown_as, shows, unless_stopped}
 use Rattle.registry_npm.specs.Npm.{asks_caller, asks_first, asks_own, asks_role, asks_size, follows, is_npms, is_user, leads, not_served, npm, sets_member, shows_public, shows_visibility, asks_by}
-use Rattle.registry_npm.specs.Packages.{Purpose, asks_as, asks_for, asks_late, asks_names, does, for_document, for_names, fulfils, is_gone, judged, judges, late, leads_claim, leads_claimed, leads_document, leads_stopped, named_by, no_version, other_of, reads_claim, reads_document, reads_owner, reads_revision, reads_versions, reads_withdrawn, revision, serves, shown, shows_packument, stale, tries, tries_right, unless_nobody, with_names, withdrawn}
+use Rattle.registry_npm.specs.Packages.{asks_for, asks_late, asks_names, does, for_document, for_names, fulfils, is_gone, judged, judges, late, leads_claim, leads_claimed, leads_document, leads_stopped, named_by, no_version, other_of, Purpose, reads_claim, reads_document, reads_owner, reads_revision, reads_versions, reads_withdrawn, serves, shows_answer, shows_packument, stale, tries, tries_right, unless_nobody, with_names, withdrawn}
 use Rattle.registry_npm.proofs.UserFacts.{cancel}
 
 -- ---- one reply
@@ -298,12 +299,10 @@ one-does path p at who (AddsOwner user) = one-either (is_some path) _ _ (one-rea
 one-does path p at who (RemovesOwner user) = one-either (is_some path) _ _ (one-reading (reads_owner user) _ (sole-owner user) (λ u. one-asks_late path at who _)) (one-ends (Ok (Refused BadBody)))
 
 one-fulfils : (purpose : Purpose) (p : Text) (at : ℕ) (who : Credential) (text : Text) (names : List Text) → One (fulfils purpose p at who text names)
-one-fulfils shown p at who text names = one-shows _
 one-fulfils (judged path d) p at who text names = one-or_memory _ (one-reading (judges d path text names) _ (sole-judges d path text names) (one-does path p at who))
 one-fulfils (withdrawn named) p at who text names = one-or_memory _ (one-either (bytes_eq named (revision text names)) (asks_late (Some named) at who (WithdrawAll p)) (ends (Ok (Refused Stale))) (one-asks_late (Some named) at who (WithdrawAll p)) (one-ends (Ok (Refused Stale))))
 
 one-other : (purpose : Purpose) (p : Text) (at : ℕ) (who : Credential) (c : Outcome) → One (other_of purpose p at who c)
-one-other shown p at who c = one-ends c
 one-other (judged path d) p at who c = one-late path c
 one-other (withdrawn named) p at who c = one-either (is_gone c) _ _ (one-or_memory _ (one-right (Some named) p at who)) (one-ends c)
 
@@ -329,16 +328,6 @@ one-serves purpose p at who = one-or_memory _ (one-asks (request at who (Packume
 
 one-served : (purpose : Purpose) (p : Text) (at : ℕ) (who : Credential) (c : Outcome) → One (either (is_stop c) (other_of purpose p at who c) (serves purpose p at who))
 one-served purpose p at who c = one-either (is_stop c) _ _ (one-other purpose p at who c) (one-serves purpose p at who)
-
--- who asks for a package is who asks first
-asked-shown : (p : Text) (w : Wanted) (at : ℕ) → OneAsked (asks_for shown p w at)
-asked-shown p w at e es a b h k =
-    let x = asked-value (reads_caller w.authorization) (asks_as shown p at) e es (Ok a) h in
-    let y = asked-value (reads_caller w.authorization) (asks_as shown p at) e es (Ok b) k in
-    let fst = asked-or_memory _ e es (Ok a) x.2 in
-    let snd = asked-or_memory _ e es (Ok b) y.2 in
-    let same : x.0 ≡ y.0 = same-caller at x.0 y.0 (Packument p) (Packument p) e.asked (first-asked _ _ e es (Ok a) fst) (first-asked _ _ e es (Ok b) snd) in
-    one-serves shown p at x.0 (e ∷ es) a b x.2 (subst (λ (z : Credential). serves shown p at z (e ∷ es) (Ok b)) (sym same) y.2)
 
 asked-judged : (path : Option Text) (d : Data) (p : Text) (w : Wanted) (at : ℕ) → OneAsked (asks_for (judged path d) p w at)
 asked-judged path d p w at = asked-caller w at (λ who. WhoAmI) _ (λ who c. one-served (judged path d) p at who c)
@@ -537,8 +526,11 @@ asked-either : (t : Bool) (fst snd : Leads) → OneAsked fst → OneAsked snd �
 asked-either true fst snd y n = y
 asked-either false fst snd y n = n
 
+asked-answer : (what : Action) (w : Wanted) (at : ℕ) → OneAsked (shows_answer what w at)
+asked-answer what w at = asked-caller w at (λ who. what) (λ who. ends) (λ who. one-ends)
+
 asked-packument : (p : Text) (w : Wanted) (at : ℕ) → OneAsked (shows_packument p w at)
-asked-packument p w at = asked-either (accepts_abbreviated w.accept) _ _ (asked-caller w at (λ who. AbbreviatedPackument p) (λ who. ends) (λ who. one-ends)) (asked-shown p w at)
+asked-packument p w at = asked-either (accepts_abbreviated w.accept) _ _ (asked-answer (AbbreviatedPackument p) w at) (asked-answer (RevisedPackument p) w at)
 
 asked-leads : (e : NpmEndpoint) (v : Values) (w : Wanted) (at : ℕ) → OneAsked (leads e v w at)
 asked-leads by.Packument v w at = asked-reading (one reads_name v) _ (same-name v) (λ p. asked-packument p w at)

@@ -1,10 +1,8 @@
 -- What is said to those who keep documents.
 use Rattle.std.proofs.Common.{◌≡◌, ◌≢◌, ◌⊎◌, ◌∷◌, ◌∙◌, [], ℕ, Bool, true, false, List, Option, Some, None, Ok, Err, is_some, refl, sym, ap, inl, inr, if◌then◌else◌}
 use Rattle.std.proofs.lemmas.Bool.{cases_Bool, false≢true}
-use Rattle.registry_names.specs.Names.{scope_of}
 use Rattle.registry_names.specs.Texts.{Text}
 use Rattle.registry_names.specs.Versions.{VersionParts}
-use Rattle.registry_names.specs.declared.stop.Fault.TheVariants.{Database, Memory}
 use Rattle.registry_names.specs.declared.stop.Stop.{Stop}
 use Rattle.registry_names.specs.declared.stop.Stop.TheVariants.{Refused as Refuses, Fault as Faulted}
 use Rattle.registry_routes.specs.NpmRoutes.{NpmRoute, npm_route_of}
@@ -14,7 +12,7 @@ use Rattle.registry_routes.specs.declared.npm_endpoint.NpmEndpoint.TheVariants a
 use Rattle.registry_rules.specs.declared.reply.Reply.TheVariants.{Bytes, Count, Created, Doc, Done, Refused}
 use Rattle.registry_rules.specs.declared.request.Action.{Action}
 use Rattle.registry_rules.specs.declared.request.Action.TheVariants as action
-use Rattle.registry_rules.specs.declared.request.Action.TheVariants.{AbbreviatedPackument, Archive, Maintainers, Packument}
+use Rattle.registry_rules.specs.declared.request.Action.TheVariants.{AbbreviatedPackument, Archive, RevisedPackument}
 use Rattle.registry_rules.specs.declared.request.Credential.{Credential}
 use Rattle.registry_rules.specs.declared.request.Credential.TheVariants.{Anonymous, Operator, Token, User}
 use Rattle.registry_rules.specs.declared.request.Request.{Request}
@@ -28,13 +26,10 @@ use Rattle.registry_wire.specs.declared.labels.Labels.{Labels}
 use Rattle.registry_wire.specs.declared.wanted.FieldValue.{FieldValue}
 use Rattle.registry_wire.specs.declared.wanted.Wanted.{Wanted}
 use Rattle.registry_npm.specs.LabelLaws.{AbbreviatedAreShown, ArchivesKeepTags, AsksArchive, ContentTagsAreTags, IsAbbreviated, IsTagged, OnlyReadsAreLabelled, RefusalsHaveNoLabels, SharedIsPublic, TagsAreRevisions}
-use Rattle.registry_npm.specs.Changes.{AreNamed}
-use Rattle.registry_npm.specs.Forms.{names_in}
 use Rattle.registry_npm.specs.Labels.{abbreviated_labels, archive_caching, archive_labels, asked_labels, full_labels, is_packument, of_document, other_labels, own_labels, packument_labels, tag_in}
 use Rattle.registry_npm.specs.Laws.{is_npms_by}
-use Rattle.registry_npm.specs.Leading.{Leads, asks, document_of, ends, is_stop, or_memory, reading, request}
+use Rattle.registry_npm.specs.Leading.{Leads, asks, ends, is_stop, reading, request}
 use Rattle.registry_npm.specs.Npm.{asks_by, is_npms, labels_by, leads}
-use Rattle.registry_npm.specs.Packages.{asks_names, for_document, for_names, named_by, other_of, serves, shown, shown_text, shows_fronted, tries, with_names}
 use Rattle.registry_npm.proofs.CallerFacts.{routed-at}
 use Rattle.registry_npm.proofs.TagFacts.{hex-is_tag, shown-tag}
 
@@ -82,86 +77,6 @@ refusals_have_no_labels w es o h = stopped-by (npm_route_of w.method w.target) w
 exchange-is : (e : Exchange) (r : Request) (c : Outcome) → e.asked ≡ r → e.outcome ≡ c → e ≡ exchange r c
 exchange-is e r c same came = rw (← same, ← came) refl
 
-document-is : (c : Outcome) (t : Text) → document_of c ≡ Some t → c ≡ Ok (Doc t)
-document-is (Err fault) t h = absurd (cc)
-document-is (Ok Created) t h = absurd (cc)
-document-is (Ok Done) t h = absurd (cc)
-document-is (Ok (Count n)) t h = absurd (cc)
-document-is (Ok (Bytes bytes)) t h = absurd (cc)
-document-is (Ok (Refused r)) t h = absurd (cc)
-document-is (Ok (Doc u)) t h = let same : u ≡ t = cc in ap (λ (x : Text). Ok (Doc x)) same
-
-no-document : (c : Outcome) (t : Text) → document_of c ≡ None → ◌≢◌ {A = Outcome} (Ok (Doc t)) c
-no-document c t none is = let there : Some t ≡ None = ap document_of is ∙ none in absurd (cc)
-
-module _ (p : Text) (at : ℕ) (who : Credential) (doc : Text) where
-  -- what is shown, and what was asked for it
-  record IsRead (es : List Exchange) : Type 0 where
-    text : Text
-    names : List Text
-    named : List Exchange
-    are_named : AreNamed at who p names named
-    asked : es ≡ exchange (request at who (Packument p)) (Ok (Doc text)) ∷ named
-    shows : doc ≡ shown_text text names
-
-  fronted-is : (text : Text) (names : List Text) (es : List Exchange) → shows_fronted text names es (Ok (Doc doc)) → (es ≡ []) × (doc ≡ shown_text text names)
-  fronted-is text names es (none, inl is) = (none, cc)
-  fronted-is text names es (none, inr is) = absurd (cc)
-
-  names-read : (text : Text) (first second : Exchange) (t : Text) (names : Option (List Text)) (es : List Exchange) → first ≡ exchange (request at who (Packument p)) (Ok (Doc text))
-      → is_some (scope_of p) ≡ false → second ≡ exchange (request at who (Maintainers p)) (Ok (Doc t)) → names_in t ≡ names
-      → for_names (shows_fronted text) names es (Ok (Doc doc)) → IsRead (first ∷ second ∷ es)
-  names-read text first second t None es is-first plain is-second named h = absurd (let there : ◌≡◌ {A = Outcome} (Ok (Doc doc)) (Err Database) = h.1 in cc)
-  names-read text first second t (Some names) es is-first plain is-second named h =
-      let is = fronted-is text names es h in
-      record {
-        text = text;
-        names = names;
-        named = second ∷ [];
-        are_named = inr (t, plain, named, ap (λ (e : Exchange). e ∷ []) is-second);
-        asked = rw (is.0, is-first) refl;
-        shows = is.1;
-      }
-
-  second-read : (text : Text) (first second : Exchange) (t : Option Text) (es : List Exchange) → first ≡ exchange (request at who (Packument p)) (Ok (Doc text)) → is_some (scope_of p) ≡ false
-      → second.asked ≡ request at who (Maintainers p) → document_of second.outcome ≡ t
-      → for_document (with_names (shows_fronted text)) (ends second.outcome) t es (Ok (Doc doc)) → IsRead (first ∷ second ∷ es)
-  unfolding or_memory
-  second-read text first second None es is-first plain is none h = absurd (no-document second.outcome doc none h.1)
-  second-read text first second (Some t) es is-first plain is there (inr h) = absurd (let it : ◌≡◌ {A = Outcome} (Ok (Doc doc)) (Err Memory) = h.1 in cc)
-  second-read text first second (Some t) es is-first plain is there (inl h) =
-      names-read text first second t (names_in t) es is-first plain (exchange-is second (request at who (Maintainers p)) (Ok (Doc t)) is (document-is second.outcome t there)) refl h
-
-  asked-read : (text : Text) (first : Exchange) (es : List Exchange) → first ≡ exchange (request at who (Packument p)) (Ok (Doc text)) → is_some (scope_of p) ≡ false
-      → tries (request at who (Maintainers p)) (named_by (other_of shown p at who) (shows_fronted text)) es (Ok (Doc doc)) → IsRead (first ∷ es)
-  unfolding or_memory asks
-  asked-read text first es is-first plain (inr h) = absurd (let it : ◌≡◌ {A = Outcome} (Ok (Doc doc)) (Err Memory) = h.1 in cc)
-  asked-read text first [] is-first plain (inl h) = absurd h
-  asked-read text first (second ∷ es) is-first plain (inl h) = second-read text first second (document_of second.outcome) es is-first plain h.0 refl h.1
-
-  text-read : (text : Text) (first : Exchange) (es : List Exchange) → first ≡ exchange (request at who (Packument p)) (Ok (Doc text))
-      → asks_names p at who (other_of shown p at who) (shows_fronted text) es (Ok (Doc doc)) → IsRead (first ∷ es)
-  text-read text first es is-first h = elim (cases_Bool (is_some (scope_of p))) [
-    | inl scoped ↦
-        let there : shows_fronted text [] es (Ok (Doc doc)) = rw scoped at h in
-        let is = fronted-is text [] es there in
-        record { text = text; names = []; named = []; are_named = inl (scoped, refl, refl); asked = rw (is.0, is-first) refl; shows = is.1 }
-    | inr plain ↦
-        let there : tries (request at who (Maintainers p)) (named_by (other_of shown p at who) (shows_fronted text)) es (Ok (Doc doc)) = rw plain at h in
-        asked-read text first es is-first plain there
-  ]
-
-  first-read : (first : Exchange) (t : Option Text) (es : List Exchange) → first.asked ≡ request at who (Packument p) → document_of first.outcome ≡ t
-      → for_document (λ text. asks_names p at who (other_of shown p at who) (shows_fronted text)) (ends first.outcome) t es (Ok (Doc doc)) → IsRead (first ∷ es)
-  first-read first None es is none h = absurd (no-document first.outcome doc none h.1)
-  first-read first (Some text) es is there h = text-read text first es (exchange-is first (request at who (Packument p)) (Ok (Doc text)) is (document-is first.outcome text there)) h
-
-  serves-read : (es : List Exchange) → serves shown p at who es (Ok (Doc doc)) → IsRead es
-  unfolding or_memory asks
-  serves-read es (inr h) = absurd (let it : ◌≡◌ {A = Outcome} (Ok (Doc doc)) (Err Memory) = h.1 in cc)
-  serves-read [] (inl h) = absurd h
-  serves-read (first ∷ es) (inl h) = first-read first (document_of first.outcome) es h.0 refl h.1
-
 stopped-no : (s : Stop) (doc : Text) → ◌≢◌ {A = Outcome} (Ok (Doc doc)) (stopped s)
 stopped-no (Refuses r) doc is = absurd (cc)
 stopped-no (Faulted fault) doc is = absurd (cc)
@@ -174,39 +89,38 @@ read-reading reads next es doc f (inr (s, r, h)) = absurd (stopped-no s doc h.1)
 abbrev Tagged : ℕ → List Exchange → Text → Type 0
 Tagged at es doc = IsTagged at es doc (full_labels doc)
 
-tagged : (p : Text) (at : ℕ) (who : Credential) (doc : Text) (es : List Exchange) → IsRead p at who doc es → Tagged at es doc
-tagged p at who doc es is = record {
-  who = who;
-  name = p;
-  text = is.text;
-  names = is.names;
-  named = is.named;
-  are_named = is.are_named;
-  asked = is.asked;
-  shows = is.shows;
-  tag = ap tag_in is.shows ∙ shown-tag is.text is.names;
-  caching = refl;
-  form = refl;
-}
-
 -- what holds of a packument that is read and its labels
 record IsShown (w : Wanted) (at : ℕ) (es : List Exchange) (doc : Text) (labels : Labels) : Type 0 where
   full : accepts_abbreviated w.accept ≡ false → IsTagged at es doc labels
   abbreviated : accepts_abbreviated w.accept ≡ true → IsAbbreviated at es doc labels
 
-abbreviated-read : (p : Text) (at : ℕ) (who : Credential) (es : List Exchange) (doc : Text) → asks (request at who (AbbreviatedPackument p)) ends es (Ok (Doc doc)) → IsAbbreviated at es doc (abbreviated_labels doc)
+-- one query was asked, and its answer is shown
+one-asked : (r : Request) (es : List Exchange) (doc : Text) → asks r ends es (Ok (Doc doc)) → es ≡ exchange r (Ok (Doc doc)) ∷ []
 unfolding asks
-abbreviated-read p at who [] doc h = absurd h
-abbreviated-read p at who (e ∷ es) doc h = record {
+one-asked r [] doc h = absurd h
+one-asked r (e ∷ es) doc h = rw (h.1.0, exchange-is e r (Ok (Doc doc)) h.0 (sym h.1.1)) refl
+
+abbreviated-read : (p : Text) (at : ℕ) (who : Credential) (es : List Exchange) (doc : Text) → asks (request at who (AbbreviatedPackument p)) ends es (Ok (Doc doc)) → IsAbbreviated at es doc (abbreviated_labels doc)
+abbreviated-read p at who es doc h = record {
   who = who;
   name = p;
-  asked = rw (h.1.0, exchange-is e (request at who (AbbreviatedPackument p)) (Ok (Doc doc)) h.0 (sym h.1.1)) refl;
+  asked = one-asked (request at who (AbbreviatedPackument p)) es doc h;
   labels_of_text = refl;
+}
+
+full-read : (p : Text) (at : ℕ) (who : Credential) (es : List Exchange) (doc : Text) → asks (request at who (RevisedPackument p)) ends es (Ok (Doc doc)) → Tagged at es doc
+full-read p at who es doc h = record {
+  who = who;
+  name = p;
+  asked = one-asked (request at who (RevisedPackument p)) es doc h;
+  tag = λ text names is. ap tag_in is ∙ shown-tag text names;
+  caching = refl;
+  form = refl;
 }
 
 full-shown : (v : Values) (w : Wanted) (at : ℕ) (es : List Exchange) (doc : Text) → accepts_abbreviated w.accept ≡ false → leads by.Packument v w at es (Ok (Doc doc)) → Tagged at es doc
 full-shown v w at es doc full h =
-    read-reading _ _ es doc (λ p k. read-reading _ _ es doc (λ who l. tagged p at who doc es (serves-read p at who doc es l)) (rw full at k)) h
+    read-reading _ _ es doc (λ p k. read-reading _ _ es doc (λ who l. full-read p at who es doc l) (rw full at k)) h
 
 abbreviated-shown : (v : Values) (w : Wanted) (at : ℕ) (es : List Exchange) (doc : Text) → accepts_abbreviated w.accept ≡ true → leads by.Packument v w at es (Ok (Doc doc)) → IsAbbreviated at es doc (abbreviated_labels doc)
 abbreviated-shown v w at es doc accepts h =
@@ -288,6 +202,7 @@ shared-archive who (action.WithdrawAll a) bytes h = absurd (cc)
 shared-archive who (action.Deprecate a b c) bytes h = absurd (cc)
 shared-archive who (action.Packument a) bytes h = absurd (cc)
 shared-archive who (action.AbbreviatedPackument a) bytes h = absurd (cc)
+shared-archive who (action.RevisedPackument a) bytes h = absurd (cc)
 shared-archive who (action.VersionDoc a b) bytes h = absurd (cc)
 shared-archive who (action.Archive p v) bytes h = (p, v, shared-who who h, refl)
 shared-archive who (action.Tags a) bytes h = absurd (cc)
@@ -400,6 +315,7 @@ labelled-archive who (action.WithdrawAll a) bytes = inl refl
 labelled-archive who (action.Deprecate a b c) bytes = inl refl
 labelled-archive who (action.Packument a) bytes = inl refl
 labelled-archive who (action.AbbreviatedPackument a) bytes = inl refl
+labelled-archive who (action.RevisedPackument a) bytes = inl refl
 labelled-archive who (action.VersionDoc a b) bytes = inl refl
 labelled-archive who (action.Archive p v) bytes = inr (p, v, refl)
 labelled-archive who (action.Tags a) bytes = inl refl

@@ -24,7 +24,7 @@ use Rattle.registry_routes.specs.declared.npm_endpoint.NpmEndpoint.TheVariants a
 use Rattle.registry_rules.specs.Actions.{is_command}
 use Rattle.registry_rules.specs.declared.reply.Reply.TheVariants.{Refused}
 use Rattle.registry_rules.specs.declared.request.Action.{Action}
-use Rattle.registry_rules.specs.declared.request.Action.TheVariants.{AbbreviatedPackument, OrgSet, Maintainers, Members, MyPackages, OwnerAdd, Packument, Tags, TeamMembers, TeamPackages, Teams, VersionDoc, WhoAmI}
+use Rattle.registry_rules.specs.declared.request.Action.TheVariants.{AbbreviatedPackument, Maintainers, Members, MyPackages, OrgSet, OwnerAdd, Packument, RevisedPackument, Tags, TeamMembers, TeamPackages, Teams, VersionDoc, WhoAmI}
 use Rattle.registry_rules.specs.declared.request.Asked.TheVariants.{Exact}
 use Rattle.registry_rules.specs.declared.request.Credential.{Credential}
 use Rattle.registry_rules.specs.declared.request.Credential.TheVariants.{Anonymous}
@@ -47,7 +47,7 @@ use Rattle.registry_npm.specs.Laws.{FaultsEnd, FilesAreGone, IsGone, NamesFile, 
 use Rattle.registry_documents.specs.declared.asked.Asked.{Asked}
 use Rattle.registry_documents.specs.declared.asked.Asked.TheVariants.{AlreadySo, Deprecation as Deprecates, Withdrawal, OwnerAdd as AddsOwner, OwnerRemove as RemovesOwner}
 use Rattle.serde_json.specs.Data.{Data}
-use Rattle.registry_npm.specs.Packages.{Purpose, asks_as, asks_for, asks_late, asks_names, does, for_document, for_names, fulfils, is_gone, judged, judges, late, leads_claim, leads_document, leads_stopped, named_by, no_version, other_of, reads_claim, reads_document, reads_owner, reads_revision, reads_versions, reads_withdrawn, serves, serves_user, shown, shows_packument, stale, tries, tries_right, unless_nobody, with_names, withdrawn}
+use Rattle.registry_npm.specs.Packages.{asks_for, asks_late, asks_names, does, for_document, for_names, fulfils, is_gone, judged, judges, late, leads_claim, leads_document, leads_stopped, named_by, no_version, other_of, Purpose, reads_claim, reads_document, reads_owner, reads_revision, reads_versions, reads_withdrawn, serves, serves_user, shows_answer, shows_packument, stale, tries, tries_right, unless_nobody, with_names, withdrawn}
 use Rattle.registry_npm.specs.Leading.{Leads, asks, by_caller, document_of, either, ends, in_form, is_stop, or_memory, reading, request, shown_as, shows, unless_stopped}
 use Rattle.registry_npm.specs.Npm.{asks_caller, asks_first, asks_own, asks_role, asks_size, follows, is_npms, is_user, leads, not_served, npm, sets_member, shows_own, shows_public, shows_teams, shows_user, shows_visibility, asks_by}
 
@@ -243,12 +243,10 @@ few-does path p at who (AddsOwner user) = either-of (Few 1) (is_some path) _ _ (
 few-does path p at who (RemovesOwner user) = either-of (Few 1) (is_some path) _ _ (few-reading 1 (reads_owner user) _ (λ u _. few-asks_late path at who _)) (few-ends 1 (Ok (Refused BadBody)))
 
 few-fulfils : (purpose : Purpose) (p : Text) (at : ℕ) (who : Credential) (text : Text) (names : List Text) → Few 1 (fulfils purpose p at who text names)
-few-fulfils shown p at who text names = few-shows 1 _
 few-fulfils (judged path d) p at who text names = few-or_memory 1 _ (few-reading 1 (judges d path text names) _ (λ asked _. few-does path p at who asked))
 few-fulfils (withdrawn named) p at who text names = few-or_memory 1 _ (either-of (Few 1) _ _ _ (few-asks_late (Some named) at who _) (few-ends 1 (Ok (Refused Stale))))
 
 few-other : (purpose : Purpose) (p : Text) (at : ℕ) (who : Credential) (c : Outcome) → Few 1 (other_of purpose p at who c)
-few-other shown p at who c = few-ends 1 c
 few-other (judged path d) p at who c = few-late 1 path c
 few-other (withdrawn named) p at who c = either-of (Few 1) (is_gone c) _ _ (few-or_memory 1 _ (few-right (Some named) p at who)) (few-ends 1 c)
 
@@ -273,13 +271,8 @@ few-serves purpose p at who = few-tries 1 (request at who (Packument p)) _ (omeg
 few-serves_user : (purpose : Purpose) (p : Text) (at : ℕ) (who : Credential) → Few 1 (serves_user purpose p at who)
 few-serves_user purpose p at who = few-asks 0 1 (request at who WhoAmI) _ (omega arith) (λ c. either-of (Few 1) (is_stop c) _ _ (few-other purpose p at who c) (few-serves purpose p at who))
 
-few-asks_as : (purpose : Purpose) (p : Text) (at : ℕ) (who : Credential) → Few 1 (asks_as purpose p at who)
-few-asks_as shown p at who = few-serves shown p at who
-few-asks_as (judged path d) p at who = few-serves_user (judged path d) p at who
-few-asks_as (withdrawn named) p at who = few-serves_user (withdrawn named) p at who
-
 few-asks_for : (purpose : Purpose) (p : Text) (w : Wanted) (at : ℕ) → Few 1 (asks_for purpose p w at)
-few-asks_for purpose p w at = few-reading 1 (reads_caller w.authorization) _ (λ who _. few-asks_as purpose p at who)
+few-asks_for purpose p w at = few-reading 1 (reads_caller w.authorization) _ (λ who _. few-serves_user purpose p at who)
 
 few-claim : (v : Values) (w : Wanted) (at : ℕ) (r : Refusal) (d : Option Data) → Few 1 (leads_claim v w at r d)
 few-claim v w at r None = few-ends 1 (Ok (Refused r))
@@ -294,7 +287,9 @@ few-document v w at es o (inl (r, is, h)) = few-asks 1 0 r ends (cost-one r.what
 few-document v w at es o (inr (s, is, h)) = few-stopped v w at s es o h
 
 few-packument : (p : Text) (w : Wanted) (at : ℕ) → Few 1 (shows_packument p w at)
-few-packument p w at = either-of (Few 1) (accepts_abbreviated w.accept) _ _ (few-reading 1 (reads_caller w.authorization) _ (λ who _. few-asks 0 1 (request at who (AbbreviatedPackument p)) ends (omega arith) (few-ends 1))) (few-asks_for shown p w at)
+few-packument p w at = either-of (Few 1) (accepts_abbreviated w.accept) _ _
+    (few-reading 1 (reads_caller w.authorization) _ (λ who _. few-asks 0 1 (request at who (AbbreviatedPackument p)) ends (omega arith) (few-ends 1)))
+    (few-reading 1 (reads_caller w.authorization) _ (λ who _. few-asks 0 1 (request at who (RevisedPackument p)) ends (omega arith) (few-ends 1)))
 
 few-leads : (e : NpmEndpoint) (v : Values) (w : Wanted) (at : ℕ) → Few 1 (leads e v w at)
 few-leads by.Packument v w at = few-reading 1 (one reads_name v) _ (λ p _. few-packument p w at)
@@ -519,12 +514,10 @@ stops-does path p at who (AddsOwner user) = either-of Stops (is_some path) _ _ (
 stops-does path p at who (RemovesOwner user) = either-of Stops (is_some path) _ _ (stops-reading (reads_owner user) _ (λ u _. stops-asks_late path at who _)) (stops-ended (Ok (Refused BadBody)))
 
 stops-fulfils : (purpose : Purpose) (p : Text) (at : ℕ) (who : Credential) (text : Text) (names : List Text) → Stops (fulfils purpose p at who text names)
-stops-fulfils shown p at who text names = stops-shows _
 stops-fulfils (judged path d) p at who text names = stops-or_memory _ (stops-reading (judges d path text names) _ (λ asked _. stops-does path p at who asked))
 stops-fulfils (withdrawn named) p at who text names = stops-or_memory _ (either-of Stops _ _ _ (stops-asks_late (Some named) at who _) (stops-ended (Ok (Refused Stale))))
 
 stops-other : (purpose : Purpose) (p : Text) (at : ℕ) (who : Credential) → Stops-after (other_of purpose p at who)
-stops-other shown p at who = record { later = stops-ended; at_fault = λ f es o h. h }
 stops-other (judged path d) p at who = record { later = (stops-late path).later; at_fault = (stops-late path).at_fault }
 stops-other (withdrawn named) p at who = record { later = λ c. either-of Stops (is_gone c) _ _ (stops-or_memory _ (stops-right (Some named) p at who)) (stops-ended c); at_fault = λ f es o h. h }
 
@@ -557,13 +550,8 @@ stops-serves_user purpose p at who = stops-asks (request at who WhoAmI) _ (recor
   at_fault = λ f es o h. (stops-other purpose p at who).at_fault f es o h;
 })
 
-stops-asks_as : (purpose : Purpose) (p : Text) (at : ℕ) (who : Credential) → Stops (asks_as purpose p at who)
-stops-asks_as shown p at who = stops-serves shown p at who
-stops-asks_as (judged path d) p at who = stops-serves_user (judged path d) p at who
-stops-asks_as (withdrawn named) p at who = stops-serves_user (withdrawn named) p at who
-
 stops-asks_for : (purpose : Purpose) (p : Text) (w : Wanted) (at : ℕ) → Stops (asks_for purpose p w at)
-stops-asks_for purpose p w at = stops-reading (reads_caller w.authorization) _ (λ who _. stops-asks_as purpose p at who)
+stops-asks_for purpose p w at = stops-reading (reads_caller w.authorization) _ (λ who _. stops-serves_user purpose p at who)
 
 stops-claim : (v : Values) (w : Wanted) (at : ℕ) (r : Refusal) (d : Option Data) → Stops (leads_claim v w at r d)
 stops-claim v w at r None = stops-ended (Ok (Refused r))
@@ -577,8 +565,11 @@ stops-document : (v : Values) (w : Wanted) (at : ℕ) → Stops (leads_document 
 stops-document v w at es o (inl (r, is, h)) = stops-asks r ends stops-ends es o h
 stops-document v w at es o (inr (s, is, h)) = stops-stopped v w at s es o h
 
+stops-answer : (what : Action) (w : Wanted) (at : ℕ) → Stops (shows_answer what w at)
+stops-answer what w at = stops-reading (reads_caller w.authorization) _ (λ who _. stops-asks (request at who what) ends stops-ends)
+
 stops-packument : (p : Text) (w : Wanted) (at : ℕ) → Stops (shows_packument p w at)
-stops-packument p w at = either-of Stops (accepts_abbreviated w.accept) _ _ (stops-reading (reads_caller w.authorization) _ (λ who _. stops-asks (request at who (AbbreviatedPackument p)) ends stops-ends)) (stops-asks_for shown p w at)
+stops-packument p w at = either-of Stops (accepts_abbreviated w.accept) _ _ (stops-answer (AbbreviatedPackument p) w at) (stops-answer (RevisedPackument p) w at)
 
 stops-leads : (e : NpmEndpoint) (v : Values) (w : Wanted) (at : ℕ) → Stops (leads e v w at)
 stops-leads by.Packument v w at = stops-reading (one reads_name v) _ (λ p _. stops-packument p w at)

@@ -4,22 +4,23 @@ use Rattle.std.specs.Prelude.{◌&&◌, nat_lt, slice_index}
 use Rattle.std.specs.List.{list_all}
 use Rattle.std.specs.Int.{byte_at, bytes_high_first, to_be_bytes, w32}
 use Rattle.std.proofs.lemmas.Bool.{and_from, and_parts, cases_lt, lt-ltb, ltb-true}
-use Rattle.std.proofs.lemmas.List.{append-nil, drop-append-le, drop_all, length-take-le, take-append-le, take_all}
-use Rattle.std.proofs.Math.Seq.{drop-append-add, take-append-add}
+use Rattle.std.proofs.lemmas.List.{take-append-le, take_all}
 use Rattle.std.proofs.lemmas.List.Folds.{list_all-append}
 use Rattle.json.specs.Print.{quoted}
 use Rattle.hex.specs.Hex.{encode_lower, encode_with, lower_digits}
 use Rattle.hex.proofs.HexLemmas.{length-encode_with}
 use Rattle.sha2.specs.Sha256.{digest_bytes, sha256}
 use Rattle.sha2.proofs.Facts256.{length-sha256}
-use Rattle.registry_documents.specs.Fronts.{maintainers_text}
-use Rattle.registry_documents.specs.Revisions.{revised}
+use Rattle.registry_documents.specs.Fronts.{behind_brace, maintainers_text, shown_text}
+use Rattle.registry_documents.specs.Revisions.{revised, revision}
+use Rattle.registry_laws_history.specs.Answers.{maintainer_names, packument_in}
 use Rattle.registry_names.specs.Texts.{Text}
 use Rattle.registry_packument.specs.TextValues.{is_plain_char}
+use Rattle.registry_packument.specs.declared.form.PackForm.TheVariants as form
 use Rattle.registry_packument.proofs.QuotedFacts.{quoted-plain}
 use Rattle.registry_wire.specs.EntityTags.{is_etagc, is_tag, tag_of}
 use Rattle.registry_npm.specs.Labels.{content_tag, tag_in}
-use Rattle.registry_npm.specs.Packages.{behind_brace, revision, shown_text}
+use Rattle.registry_npm.specs.LabelLaws.{ShownAreTagged}
 
 -- ---- digests in hexadecimal
 
@@ -119,6 +120,7 @@ behind-nine : (key rev quoted_rev tail rest : List ℕ) → key ≡ 34 ∷ (code
 behind-nine key rev quoted_rev tail rest named is = rw (named, is) (joined rev tail rest)
 
 pub shown-tag : (text : Text) (names : List Text) → tag_in (shown_text text names) ≡ Some (revision text names)
+unfolding shown_text
 shown-tag text names =
     let m = revised (sha256 text) names in
     let tail = maintainers_text names ++ 44 ∷ [] in
@@ -127,30 +129,8 @@ shown-tag text names =
     ∙ ap tag_of (first-64 (hex m) (34 ∷ (tail ++ rest)) (hex-len m))
     ∙ tag-some (hex m) (hex-is_tag m)
 
--- ---- a text in two pieces
-
-drop-two : (n : ℕ) (xs ys : List ℕ) → drop n (xs ++ ys) ≡ drop n xs ++ drop (n - length xs) ys
-drop-two n xs ys = elim (cases_lt n (length xs)) [
-  | inl within ↦ let none : n - length xs ≡ 0 = omega arith in rw none (drop-append-le n xs ys (omega arith))
-  | inr past ↦
-      let all : length xs + (n - length xs) ≡ n = omega arith in
-      sym (ap (λ k. drop k (xs ++ ys)) all) ∙ drop-append-add xs ys (n - length xs) ∙ ap (λ (t : List ℕ). t ++ drop (n - length xs) ys) (sym (drop_all n xs past))
-]
-
-take-two : (n : ℕ) (xs ys : List ℕ) → take n (xs ++ ys) ≡ take n xs ++ take (n - length (take n xs)) ys
-take-two n xs ys = elim (cases_lt n (length xs)) [
-  | inl within ↦
-      let len : length (take n xs) ≡ n = length-take-le n xs (omega arith) in
-      let none : n - length (take n xs) ≡ 0 = omega (arith, len) in
-      rw none (take-append-le n xs ys (omega arith) ∙ sym (append-nil (take n xs)))
-  | inr past ↦
-      let whole : take n xs ≡ xs = take_all n xs past in
-      let all : length xs + (n - length xs) ≡ n = omega arith in
-      rw whole (sym (ap (λ k. take k (xs ++ ys)) all) ∙ take-append-add xs ys (n - length xs))
-]
-
-pub part-two : (front rest : List ℕ) → take 64 (drop 9 front) ++ take (64 - length (take 64 (drop 9 front))) (drop (9 - length front) rest) ≡ take 64 (drop 9 (front ++ rest))
-part-two front rest = sym (ap (take 64) (drop-two 9 front rest) ∙ take-two 64 (drop 9 front) (drop (9 - length front) rest))
+pub shown-tagged : ShownAreTagged
+shown-tagged S p = shown-tag (packument_in form.Full S p) (maintainer_names S p)
 
 -- ---- what is sent as it is
 

@@ -32,7 +32,7 @@ use Rattle.registry_wire.specs.declared.wanted.Wanted.{Wanted}
 use Rattle.registry_npm.specs.Forms.{names_in}
 use Rattle.registry_npm.specs.Leading.{is_stop, request}
 use Rattle.registry_npm.specs.Npm.{npm}
-use Rattle.registry_npm.specs.Packages.{revision}
+use Rattle.registry_documents.specs.Revisions.{revision}
 
 -- ---- what was sent, and what was read
 

@@ -1,12 +1,17 @@
 -- What holds of what is said to those who keep documents: the laws that functions of `src/laws.rt`
 -- ensure.
 use Rattle.std.specs.Prelude.{◌≡◌, ◌⊎◌, ◌∷◌, [], ℕ, true, false, List, Some, Ok}
+use Rattle.registry_documents.specs.Fronts.{shown_text}
+use Rattle.registry_documents.specs.Revisions.{revision}
+use Rattle.registry_laws_history.specs.Answers.{maintainer_names, packument_in, revised_packument}
 use Rattle.registry_names.specs.Texts.{Text}
 use Rattle.registry_names.specs.Versions.{VersionParts}
+use Rattle.registry_packument.specs.declared.form.PackForm.TheVariants as form
 use Rattle.registry_routes.specs.NpmRoutes.{NpmRoute, npm_route_of}
 use Rattle.registry_routes.specs.declared.npm_endpoint.NpmEndpoint.TheVariants as by
+use Rattle.registry_rules.specs.State.{State}
 use Rattle.registry_rules.specs.declared.reply.Reply.TheVariants.{Bytes, Doc}
-use Rattle.registry_rules.specs.declared.request.Action.TheVariants.{AbbreviatedPackument, Archive, Packument}
+use Rattle.registry_rules.specs.declared.request.Action.TheVariants.{AbbreviatedPackument, Archive, RevisedPackument}
 use Rattle.registry_rules.specs.declared.request.Credential.{Credential}
 use Rattle.registry_rules.specs.declared.request.Credential.TheVariants.{Anonymous}
 use Rattle.registry_service.specs.HttpAnswers.{Outcome}
@@ -18,12 +23,10 @@ use Rattle.registry_wire.specs.declared.labels.Caching.TheVariants.{Checked, Sha
 use Rattle.registry_wire.specs.declared.labels.DocumentForm.TheVariants.{Full, Only}
 use Rattle.registry_wire.specs.declared.labels.Labels.{Labels}
 use Rattle.registry_wire.specs.declared.wanted.Wanted.{Wanted}
-use Rattle.registry_npm.specs.Changes.{AreNamed}
-use Rattle.registry_npm.specs.Labels.{abbreviated_labels, archive_caching, content_tag}
+use Rattle.registry_npm.specs.Labels.{abbreviated_labels, archive_caching, content_tag, tag_in}
 use Rattle.registry_npm.specs.Laws.{is_npm}
 use Rattle.registry_npm.specs.Leading.{is_stop, request}
 use Rattle.registry_npm.specs.Npm.{npm}
-use Rattle.registry_npm.specs.Packages.{revision, shown_text}
 
 -- a refusal or a fault says nothing to those who keep documents
 abbrev pub RefusalsHaveNoLabels : Type 0
@@ -42,18 +45,13 @@ abbrev pub OnlyReadsAreLabelled : Type 0
 OnlyReadsAreLabelled = (w : Wanted) (at : ℕ) (es : List Exchange) (o : Outcome) → npm.asks w at es o
     → (npm.labels w es o ≡ no_labels) ⊎ ReadsPackument w ⊎ AsksArchive at es o
 
--- What is shown is the packument that the turn read, with the maintainers that it read, and the tag is
--- their revision
+-- What is shown is what the registry answered to the query for the packument as npm reads it. Where that
+-- is the text of a packument and its maintainers, the tag is their revision
 pub record IsTagged (at : ℕ) (es : List Exchange) (shown : Text) (labels : Labels) : Type 0 where
   pub who : Credential
   pub name : Text
-  pub text : Text
-  pub names : List Text
-  pub named : List Exchange
-  pub are_named : AreNamed at who name names named
-  pub asked : es ≡ exchange (request at who (Packument name)) (Ok (Doc text)) ∷ named
-  pub shows : shown ≡ shown_text text names
-  pub tag : labels.tag ≡ Some (revision text names)
+  pub asked : es ≡ exchange (request at who (RevisedPackument name)) (Ok (Doc shown)) ∷ []
+  pub tag : (text : Text) (names : List Text) → shown ≡ shown_text text names → labels.tag ≡ Some (revision text names)
   pub caching : labels.caching ≡ Checked
   pub form : labels.form ≡ Full
 
@@ -61,6 +59,10 @@ abbrev pub TagsAreRevisions : Type 0
 TagsAreRevisions = (w : Wanted) (at : ℕ) (es : List Exchange) (shown : Text) (r : NpmRoute)
     → npm_route_of w.method w.target ≡ Some r → r.endpoint ≡ by.Packument → accepts_abbreviated w.accept ≡ false → npm.asks w at es (Ok (Doc shown))
     → IsTagged at es shown (npm.labels w es (Ok (Doc shown)))
+
+-- what is shown of a package has as tag the revision of its packument and its maintainers
+abbrev pub ShownAreTagged : Type 0
+ShownAreTagged = (S : State) (p : Text) → tag_in (revised_packument S p) ≡ Some (revision (packument_in form.Full S p) (maintainer_names S p))
 
 -- What is shown is the abbreviated packument as the registry answered it, and its labels are those of
 -- its text, whoever asks

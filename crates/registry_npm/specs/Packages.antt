@@ -1,12 +1,10 @@
--- Packages as npm reads them and sends them back: packuments with a revision, documents, and the
--- withdrawal of all versions.
-use Rattle.std.specs.Prelude.{◌≡◌, ◌≢◌, ◌⊎◌, ◌++◌, ◌∷◌, ◌==◌, ℕ, Bool, true, false, List, [], bytes_eq, codes, is_some, Option, Some, None, Ok, Err, if◌then◌else◌}
+-- Packages as npm reads them and sends them back: packuments, documents, and the withdrawal of all
+-- versions.
+use Rattle.std.specs.Prelude.{◌≡◌, ◌≢◌, ◌⊎◌, ◌==◌, ℕ, Bool, true, false, List, [], bytes_eq, codes, is_some, Option, Some, None, Ok, Err}
 use Rattle.serde_json.specs.Data.{Data}
-use Rattle.sha2.specs.Sha256.{sha256}
 use Rattle.registry_documents.specs.Documents.{IsDocumentOf, IsNoDocument, kind_of}
-use Rattle.registry_documents.specs.Fronts.{front_text}
 use Rattle.registry_documents.specs.Judging.{IsJudged, StopsJudging}
-use Rattle.registry_documents.specs.Revisions.{revision_of}
+use Rattle.registry_documents.specs.Revisions.{revision}
 use Rattle.registry_documents.specs.declared.asked.Asked.{Asked}
 use Rattle.registry_documents.specs.declared.asked.Asked.TheVariants.{AlreadySo, Deprecation as Deprecates, Withdrawal, OwnerAdd as AddsOwner, OwnerRemove as RemovesOwner}
 use Rattle.registry_documents.specs.declared.document.Kind.TheVariants.{Publication}
@@ -29,7 +27,7 @@ use Rattle.registry_routes.specs.declared.body.Deprecation.{Deprecation}
 use Rattle.registry_rules.specs.declared.reply.Reply.{Reply}
 use Rattle.registry_rules.specs.declared.reply.Reply.TheVariants.{Refused}
 use Rattle.registry_rules.specs.declared.request.Action.{Action}
-use Rattle.registry_rules.specs.declared.request.Action.TheVariants.{AbbreviatedPackument, Deprecate, Maintainers, OwnerAdd, OwnerRemove, Packument, WhoAmI, Withdraw, WithdrawAll}
+use Rattle.registry_rules.specs.declared.request.Action.TheVariants.{AbbreviatedPackument, Deprecate, Maintainers, OwnerAdd, OwnerRemove, Packument, RevisedPackument, WhoAmI, Withdraw, WithdrawAll}
 use Rattle.registry_rules.specs.declared.request.Credential.{Credential}
 use Rattle.registry_rules.specs.declared.request.Request.{Request}
 use Rattle.registry_service.specs.HttpAnswers.{Outcome}
@@ -38,7 +36,7 @@ use Rattle.registry_service.specs.Requests.{reads_request}
 use Rattle.registry_wire.specs.MediaRanges.{accepts_abbreviated}
 use Rattle.registry_wire.specs.declared.wanted.Wanted.{Wanted}
 use Rattle.registry_npm.specs.Forms.{names_in}
-use Rattle.registry_npm.specs.Leading.{Leads, asks, by_caller, document_of, either, ends, or_memory, is_stop, reading, request, shows}
+use Rattle.registry_npm.specs.Leading.{Leads, asks, by_caller, document_of, either, ends, or_memory, is_stop, reading, request}
 
 -- this is asked, unless no memory is left to ask it
 abbrev pub tries : Request → (Outcome → Leads) → Leads
@@ -72,22 +70,6 @@ shown_by p at who other next o = for_document (λ text. asks_names p at who othe
 -- the packument, and the maintainers; or what the registry answers instead of one of them
 abbrev pub asks_package : Text → ℕ → Credential → (Outcome → Leads) → (Text → List Text → Leads) → Leads
 asks_package p at who other next = tries (request at who (Packument p)) (shown_by p at who other next)
-
--- what npm's `_rev` is
-abbrev pub revision : Text → List Text → Text
-revision text names = revision_of (sha256 text) names
-
--- what follows the brace at the front
-abbrev pub behind_brace : Text → Text
-behind_brace [] = []
-behind_brace (b ∷ bs) = if b == 123 then bs else b ∷ bs
-
--- the packument as npm reads it: before its first member its revision and the maintainers
-abbrev pub shown_text : Text → List Text → Text
-shown_text text names = front_text (revision text names) names ++ behind_brace text
-
-abbrev pub shows_fronted : Text → List Text → Leads
-shows_fronted text names = shows (shown_text text names)
 
 -- ---- what npm takes for success
 
@@ -177,10 +159,9 @@ unpublished_by p named at who text names = or_memory (either (bytes_eq named (re
 
 -- ---- what npm wants of a package
 
--- to read it; to have a document judged, under the revision that a path names, if it names one; or to
--- withdraw all versions, under the revision that a path names
+-- to have a document judged, under the revision that a path names, if it names one; or to withdraw all
+-- versions, under the revision that a path names
 pub data Purpose : Type 0 where
-  shown : Purpose
   judged : Option Text → Data → Purpose
   withdrawn : Text → Purpose
 
@@ -190,12 +171,10 @@ unless_gone named p at who o = either (is_gone o) (or_memory (tries_right (Some 
 
 -- what follows where the registry doesn't show the package
 abbrev pub other_of : Purpose → Text → ℕ → Credential → Outcome → Leads
-other_of shown p at who o = ends o
 other_of (judged path d) p at who o = late path o
 other_of (withdrawn named) p at who o = unless_gone named p at who o
 
 abbrev pub fulfils : Purpose → Text → ℕ → Credential → Text → List Text → Leads
-fulfils shown p at who text names = shows_fronted text names
 fulfils (judged path d) p at who text names = judged_by p path d at who text names
 fulfils (withdrawn named) p at who text names = unpublished_by p named at who text names
 
@@ -206,18 +185,12 @@ serves purpose p at who = asks_package p at who (other_of purpose p at who) (ful
 abbrev pub served_after : Purpose → Text → ℕ → Credential → Outcome → Leads
 served_after purpose p at who named = either (is_stop named) (other_of purpose p at who named) (serves purpose p at who)
 
--- who the caller is is asked before anything is read for them
+-- only a user sends anything: who the caller is is asked before anything is read for them
 abbrev pub serves_user : Purpose → Text → ℕ → Credential → Leads
 serves_user purpose p at who = asks (request at who WhoAmI) (served_after purpose p at who)
 
--- anybody may read, and only a user sends anything
-abbrev pub asks_as : Purpose → Text → ℕ → Credential → Leads
-asks_as shown p at who = serves shown p at who
-asks_as (judged path d) p at who = serves_user (judged path d) p at who
-asks_as (withdrawn named) p at who = serves_user (withdrawn named) p at who
-
 abbrev pub asks_for : Purpose → Text → Wanted → ℕ → Leads
-asks_for purpose p w at = by_caller w (asks_as purpose p at)
+asks_for purpose p w at = by_caller w (serves_user purpose p at)
 
 -- ---- the routes
 
@@ -236,13 +209,14 @@ reads_claim body (Ok None) = (d : Data) → IsDocumentOf body d → kind_of d �
 reads_claim body (Ok (Some d)) = IsDocumentOf body d × (kind_of d ≢ Publication)
 reads_claim body (Err stop) = stop ≡ Faulted Memory
 
--- what an install reads of the packument, as the registry answers it
-abbrev pub shows_abbreviated : Text → Wanted → ℕ → Leads
-shows_abbreviated p w at = by_caller w (λ who. asks (request at who (AbbreviatedPackument p)) ends)
+-- a query of the caller, as the registry answers it
+abbrev pub shows_answer : Action → Wanted → ℕ → Leads
+shows_answer what w at = by_caller w (λ who. asks (request at who what) ends)
 
--- the abbreviated packument where the request accepts it, and otherwise the full one
+-- the abbreviated packument where the request accepts it, and otherwise the full one, with its
+-- revision and the maintainers
 abbrev pub shows_packument : Text → Wanted → ℕ → Leads
-shows_packument p w at = either (accepts_abbreviated w.accept) (shows_abbreviated p w at) (asks_for shown p w at)
+shows_packument p w at = either (accepts_abbreviated w.accept) (shows_answer (AbbreviatedPackument p) w at) (shows_answer (RevisedPackument p) w at)
 
 abbrev pub leads_packument : Values → Wanted → ℕ → Leads
 leads_packument v w at = reading (one reads_name v) (λ p. shows_packument p w at)

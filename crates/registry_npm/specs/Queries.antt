@@ -1,5 +1,5 @@
 -- Why a `GET` asks nothing but queries where npm's own requests are served.
-use Rattle.std.proofs.Common.{◌≡◌, ◌∷◌, ◌∙◌, [], ℕ, Bool, true, false, List, Option, Some, None, Result, Ok, Err, is_some, length, option_and_then, refl, sym, ap, subst, inl, inr}
+use Rattle.std.proofs.Common.{◌≡◌, ◌∷◌, ◌∙◌, [], ℕ, Bool, true, false, List, Option, Some, None, Result, Ok, Err, length, option_and_then, refl, sym, ap, subst, inl, inr}
 use Rattle.std.proofs.lemmas.Bool.{false≢true}
 use Rattle.registry_access.specs.Levels as levels
 use Rattle.registry_names.specs.Names.{scope_of}
@@ -20,7 +20,7 @@ use Rattle.registry_routes.specs.declared.npm_endpoint.NpmEndpoint.TheVariants a
 use Rattle.registry_rules.specs.Actions.{is_command}
 use Rattle.registry_rules.specs.declared.reply.Reply.TheVariants.{Refused}
 use Rattle.registry_rules.specs.declared.request.Action.{Action}
-use Rattle.registry_rules.specs.declared.request.Action.TheVariants.{AbbreviatedPackument, Maintainers, Members, MyPackages, Packument, Tags, TeamMembers, TeamPackages, Teams, WhoAmI}
+use Rattle.registry_rules.specs.declared.request.Action.TheVariants.{AbbreviatedPackument, Maintainers, Members, MyPackages, RevisedPackument, Tags, TeamMembers, TeamPackages, Teams, WhoAmI}
 use Rattle.registry_rules.specs.declared.request.Credential.{Credential}
 use Rattle.registry_rules.specs.declared.request.Credential.TheVariants.{Anonymous}
 use Rattle.registry_rules.specs.declared.request.Request.{Request}
@@ -35,7 +35,7 @@ use Rattle.registry_wire.specs.declared.wanted.Wanted.{Wanted}
 use Rattle.registry_npm.specs.Asked.{reads_first, reads_user}
 use Rattle.registry_npm.specs.Collaborators.{asks_all, asks_scope, asks_teams, for_form, for_left, left_after, level_said, levels_in, members_in, most_bytes, taking, teams_in}
 use Rattle.registry_npm.specs.Forms.{empty_text, grants_form, names_in, profile_form, teams_form, user_text, writers_form}
-use Rattle.registry_npm.specs.Packages.{asks_names, for_document, for_names, fulfils, other_of, serves, shown, shows_fronted, shows_packument, tries, with_names}
+use Rattle.registry_npm.specs.Packages.{for_document, shows_answer, shows_packument, tries}
 use Rattle.registry_npm.specs.Leading.{Leads, asks, document_of, either, ends, in_form, is_stop, or_memory, reading, request, shown_as, shows, unless_stopped}
 use Rattle.registry_npm.specs.Npm.{asks_caller, asks_first, follows, is_npms, is_user, leads, not_served, npm, shows_public, asks_by}
 
@@ -184,28 +184,11 @@ gave a b same is = let one : a ≡ b = cc in ap is_command one ∙ is
 q-first : (e : NpmEndpoint) (v : Values) (w : Wanted) (at : ℕ) → ((what : Action) → reads_first e v w.body (Ok what) → is_command what ≡ false) → ((c : Outcome) → Queries (follows e c)) → Queries (asks_first e v w at)
 q-first e v w at is f = q-reading (reads_first e v w.body) _ (λ what r. q-reading (reads_caller w.authorization) _ (λ who _. q-asks (request at who what) (follows e) (is what r) f))
 
-q-for_names : (text : Text) (names : Option (List Text)) → Queries (for_names (shows_fronted text) names)
-q-for_names text None = q-ends (Err Database)
-q-for_names text (Some ns) = q-shows _
-
-q-named : (text : Text) (t : Option Text) (c : Outcome) → Queries (for_document (with_names (shows_fronted text)) (ends c) t)
-q-named text None c = q-ends c
-q-named text (Some names) c = q-or_memory _ (q-for_names text (names_in names))
-
-q-shown_text : (p : Text) (at : ℕ) (who : Credential) (text : Text) → Queries (asks_names p at who (other_of shown p at who) (fulfils shown p at who text))
-q-shown_text p at who text = q-either (is_some (scope_of p)) _ _ (q-shows _) (q-or_memory _ (q-asks (request at who (Maintainers p)) _ refl (λ c. q-named text (document_of c) c)))
-
-q-shown_by : (p : Text) (at : ℕ) (who : Credential) (t : Option Text) (c : Outcome) → Queries (for_document (λ text. asks_names p at who (other_of shown p at who) (fulfils shown p at who text)) (ends c) t)
-q-shown_by p at who None c = q-ends c
-q-shown_by p at who (Some text) c = q-shown_text p at who text
-
-q-serves : (p : Text) (at : ℕ) (who : Credential) → Queries (serves shown p at who)
-q-serves p at who = q-or_memory _ (q-asks (request at who (Packument p)) _ refl (λ c. q-shown_by p at who (document_of c) c))
+q-answer : (what : Action) (w : Wanted) (at : ℕ) → is_command what ≡ false → Queries (shows_answer what w at)
+q-answer what w at is = q-reading (reads_caller w.authorization) _ (λ who _. q-asks (request at who what) ends is q-ends)
 
 q-packument : (p : Text) (w : Wanted) (at : ℕ) → Queries (shows_packument p w at)
-q-packument p w at = q-either (accepts_abbreviated w.accept) _ _
-    (q-reading (reads_caller w.authorization) _ (λ who _. q-asks (request at who (AbbreviatedPackument p)) ends refl q-ends))
-    (q-reading (reads_caller w.authorization) _ (λ who _. q-serves p at who))
+q-packument p w at = q-either (accepts_abbreviated w.accept) _ _ (q-answer (AbbreviatedPackument p) w at refl) (q-answer (RevisedPackument p) w at refl)
 
 q-leads : (e : NpmEndpoint) (v : Values) (w : Wanted) (at : ℕ) → is_reader e ≡ true → is_npms e w.body ≡ true → Queries (leads e v w at)
 q-leads by.Packument v w at is own = q-reading (one reads_name v) _ (λ p _. q-packument p w at)

@@ -39,7 +39,8 @@ pub(crate) fn packument<D: Service>(
     }
 }
 
-// The abbreviated packument, where it is accepted, and otherwise the full one.
+// The abbreviated packument, where it is accepted, and otherwise the full one with its revision and
+// the maintainers.
 fn packument_of<D: Service>(
     alloc: Global,
     service: &mut D,
@@ -52,31 +53,32 @@ fn packument_of<D: Service>(
     ensures labels { result.1 ≡ packument_labels wanted.now.accept result.0 }
 {
     if accepts_abbreviated(&wanted.accept) {
-        let outcome = abbreviated(alloc, service, name, wanted, at);
+        let what = Action::AbbreviatedPackument { package: name };
+        let outcome = answered(alloc, service, what, wanted, at);
         let labels = abbreviated_labels(&outcome);
         return (Told::of(outcome), labels);
     }
-    let told = package(alloc, service, Purpose::Shown, &name, wanted, at);
-    let labels = full_labels(&told);
-    (told, labels)
+    let what = Action::RevisedPackument { package: name };
+    let outcome = answered(alloc, service, what, wanted, at);
+    let labels = full_labels(&outcome);
+    (Told::of(outcome), labels)
 }
 
-// The abbreviated packument, as the registry answers it.
-fn abbreviated<D: Service>(
+// A query of the caller, as the registry answers it.
+fn answered<D: Service>(
     alloc: Global,
     service: &mut D,
-    name: Name,
+    what: Action,
     wanted: &Wanted,
     at: Moment,
 ) -> Result<Reply, Fault>
-    ensures { Comes D.answers service.old (spec.shows_abbreviated name wanted.now at) result
+    ensures { Comes D.answers service.old (spec.shows_answer what wanted.now at) result
         service.new }
 {
     let who = match caller_of(&wanted.authorization) {
         Ok(who) => who,
         Err(stop) => return shown::stopped(stop),
     };
-    let what = Action::AbbreviatedPackument { package: name };
     let request = request(at, &who, what);
     service.answer(alloc, &request)
 }

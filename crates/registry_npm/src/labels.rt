@@ -1,16 +1,14 @@
 //! What responses say to those who keep documents.
 
-ghost use Rattle.std.specs.Prelude.{◌≡◌, ◌++◌, ◌∷◌, ◌+◌, ◌≤◌, [], Some, drop, length, take};
+ghost use Rattle.std.specs.Prelude.{◌≡◌, ◌∷◌, [], Some, drop, length, take};
 ghost use Rattle.hex.specs.Hex.{encode_lower};
 ghost use Rattle.registry_service.specs.Turns.{exchange};
 ghost use Rattle.registry_wire.specs.EntityTags as tags;
 ghost use Rattle.registry_npm.specs.Labels as spec;
 
-use arrayvec::ArrayVec;
 use registry_cache::{SharedBlob, SharedText};
 use registry_names::Fault;
 use registry_rules::{Action, Credential, Reply, Request};
-use registry_service::Told;
 use registry_wire::{Caching, DocumentForm, EntityTag, Labels};
 
 /// The bytes before the revision in a packument as npm reads it: `{"_rev":"`.
@@ -19,55 +17,34 @@ const BEFORE_REVISION: usize = 9;
 /// The bytes of a tag, which is a digest in hexadecimal.
 const TAG_LEN: usize = 64;
 
-// At most so many bytes of the text, behind those that are skipped.
+// The bytes behind the first ones, at most so many.
 fn part(text: &[u8], skipped: usize, most: usize) -> &[u8]
-    ensures part { result.now ≡ take most (drop skipped text.now) }
-    ensures few { length result.now ≤ most }
+    ensures { result.now ≡ take most (drop skipped text.now) }
 {
     let (_, behind) = text.split_at(skipped.min(text.len()));
     let (part, _) = behind.split_at(most.min(behind.len()));
     part
 }
 
-// The tag that these two pieces are together.
-fn tag_of(begun: &[u8], rest: &[u8]) -> Option<EntityTag>
-    requires { length begun.now + length rest.now ≤ 64 }
-    ensures { result ≡ tags.tag_of (begun.now ++ rest.now) }
+// The revision that a packument as npm reads it begins with.
+fn tag_in(text: &SharedText) -> Option<EntityTag>
+    ensures { result ≡ spec.tag_in text.now }
 {
-    let mut tag = ArrayVec::<u8, TAG_LEN>::new();
-    let _begun_fits = tag.try_extend_from_slice(begun);
-    let _rest_fits = tag.try_extend_from_slice(rest);
-    EntityTag::of(tag.as_slice())
+    let bytes = text.as_str().as_bytes();
+    EntityTag::of(part(bytes, BEFORE_REVISION, TAG_LEN))
 }
 
-// The revision that a packument begins with, which lies in these two pieces.
-fn tag_in(front: &[u8], rest: &[u8]) -> Option<EntityTag>
-    ensures { result ≡ spec.tag_in (front.now ++ rest.now) }
+/// The labels of a packument as npm reads it, which is sent as it is, and of no other outcome.
+pub(crate) fn full_labels(outcome: &Result<Reply, Fault>) -> Labels
+    ensures { result ≡ spec.of_document spec.full_labels outcome.now }
 {
-    let begun = part(front, BEFORE_REVISION, TAG_LEN);
-    let skipped = BEFORE_REVISION.saturating_sub(front.len());
-    let left = part(rest, skipped, TAG_LEN - begun.len());
-    tag_of(begun, left)
-}
-
-// The labels of the packument that these two pieces are: its revision.
-fn front_labels(front: &[u8], rest: &[u8]) -> Labels
-    ensures { result ≡ spec.full_labels (front.now ++ rest.now) }
-{
-    Labels {
-        tag: tag_in(front, rest),
-        caching: Caching::Checked,
-        form: DocumentForm::Full,
-    }
-}
-
-/// The labels of a packument as npm reads it, and of no other outcome.
-pub(crate) fn full_labels(told: &Told) -> Labels
-    ensures { result ≡ spec.of_document spec.full_labels told.now }
-{
-    match told.pieces() {
-        Some((front, rest)) => front_labels(front, rest),
-        None => Labels::none(),
+    match outcome {
+        Ok(Reply::Doc(text)) => Labels {
+            tag: tag_in(text),
+            caching: Caching::Checked,
+            form: DocumentForm::Full,
+        },
+        _ => Labels::none(),
     }
 }
 

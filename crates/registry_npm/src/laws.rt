@@ -2,7 +2,7 @@
 
 ghost use Rattle.registry_service.specs.Dialects.{AsksQueriesByGet, IsDetermined};
 ghost use Rattle.registry_npm.specs.Changes.{DocumentsChangeOneThing};
-ghost use Rattle.registry_npm.specs.LabelLaws.{AbbreviatedAreShown, ArchivesKeepTags, ContentTagsAreTags, OnlyReadsAreLabelled, RefusalsHaveNoLabels, SharedIsPublic, TagsAreRevisions};
+ghost use Rattle.registry_npm.specs.LabelLaws.{AbbreviatedAreShown, ArchivesKeepTags, ContentTagsAreTags, OnlyReadsAreLabelled, RefusalsHaveNoLabels, SharedIsPublic, ShownAreTagged, TagsAreRevisions};
 ghost use Rattle.registry_npm.specs.Laws.{AsksForCaller, FaultsEnd, FilesAreGone, NeverNotFound, NpmIsApart, OneCommand, OthersStay};
 ghost use Rattle.registry_npm.specs.Npm.{npm};
 
@@ -80,10 +80,12 @@ pub fn only_reads_are_labelled()
     ensures { OnlyReadsAreLabelled }
 {}
 
-/// The tag of a full packument that is read is the revision of the packument and the maintainers that
-/// were read in the turn, in front of which they are shown.
+/// Who doesn't accept the abbreviated packument is shown the full one as npm reads it, as the registry
+/// answers it to them. Its tag is the revision of the packument and the maintainers that it shows, and
+/// so it is of what the registry holds of the package.
 pub fn tags_are_revisions()
-    ensures { TagsAreRevisions }
+    ensures turns { TagsAreRevisions }
+    ensures states { ShownAreTagged }
 {}
 
 /// Who accepts the abbreviated packument is shown that, as the registry answers it to them. Its tag is

@@ -6,9 +6,9 @@
 //! of their outcomes, is in `specs/Npm`, by cases on the route. Every other request means what it means
 //! without this crate ([`laws`]).
 //!
-//! Who accepts an abbreviated packument is shown that. What is shown of a package has its revision as
-//! entity tag, and an abbreviated packument or an archive the digest of its bytes (`specs/Labels`), so
-//! that neither is sent again to those who have it.
+//! Who accepts an abbreviated packument is shown that, and everybody else the full one with its revision
+//! and the maintainers. The full one has its revision as entity tag, and an abbreviated packument or an
+//! archive the digest of its bytes (`specs/Labels`), so that none is sent again to those who have it.
 #![tactic(auto)]
 
 mod asked;
@@ -19,11 +19,11 @@ mod commands;
 mod documents;
 mod following;
 mod forms;
-mod fronted;
 mod labels;
 pub mod laws;
 mod packages;
 mod path;
+mod revisions;
 mod rights;
 mod service;
 mod shown;

@@ -1,4 +1,4 @@
-//! What npm wants of a package: to read it, to have a document judged, or to withdraw all versions.
+//! What npm wants of a package that it read: to have a document judged, or to withdraw all versions.
 
 ghost use Rattle.std.specs.Prelude.{◌≡◌, [], IfErr, IfOk, Ok, Some, bytes_eq, option_map};
 ghost use Rattle.registry_documents.specs.Documents.{value_of};
@@ -8,6 +8,7 @@ ghost use Rattle.registry_npm.specs.Leading as leading;
 ghost use Rattle.registry_npm.specs.Leading.{Comes, asks, either, ends, or_memory};
 ghost use Rattle.registry_names.specs.declared.refusal.Refusal.TheVariants.{Stale};
 ghost use Rattle.registry_rules.specs.declared.reply.Reply.TheVariants.{Refused};
+ghost use Rattle.registry_documents.specs.Revisions.{revision};
 ghost use Rattle.registry_npm.specs.Packages as spec;
 ghost use Rattle.registry_npm.specs.Purposes.{purpose_view};
 
@@ -15,7 +16,7 @@ use crate::caller::{Caller, caller_of};
 use crate::commands::{command, does, is_gone, late, right};
 use crate::following::{is_scoped, request};
 use crate::forms::names_in;
-use crate::fronted::{fronted, revision_of};
+use crate::revisions::revision_of;
 use crate::shown;
 use crate::shown::{document, is_stop};
 use crate::told::{faulted, stopped};
@@ -30,8 +31,6 @@ use std::alloc::Global;
 /// What npm wants of a package.
 #[derive(Clone, Copy)]
 pub(crate) enum Purpose<'a> {
-    /// To read it.
-    Shown,
     /// To have a document judged, under the revision that a path names, if it names one.
     Judged {
         path: Option<&'a str>,
@@ -43,8 +42,8 @@ pub(crate) enum Purpose<'a> {
     },
 }
 
-/// The packument and the maintainers of a package are asked for, and then the purpose is fulfilled.
-/// Where it isn't to read the package, it is asked before who the caller is.
+/// It is asked who the caller is, then the packument and the maintainers of the package are asked for,
+/// and then the purpose is fulfilled.
 pub(crate) fn package<D: Service>(
     alloc: Global,
     service: &mut D,
@@ -57,26 +56,8 @@ pub(crate) fn package<D: Service>(
         (spec.asks_for (purpose_view purpose.entry) name.now wanted.now at) result service.new }
 {
     match caller_of(&wanted.authorization) {
-        Ok(who) => package_by(alloc, service, purpose, name, &who, at),
+        Ok(who) => serve_user(alloc, service, purpose, name, &who, at),
         Err(stop) => stopped(stop),
-    }
-}
-
-fn package_by<D: Service>(
-    alloc: Global,
-    service: &mut D,
-    purpose: Purpose<'_>,
-    name: &Name,
-    who: &Caller,
-    at: Moment,
-) -> Told
-    ensures { Comes D.answers service.old
-        (spec.asks_as (purpose_view purpose.entry) name.now at (who_of who.now)) result service.new }
-{
-    match purpose {
-        Purpose::Shown => serve(alloc, service, purpose, name, who, at),
-        Purpose::Judged { .. } => serve_user(alloc, service, purpose, name, who, at),
-        Purpose::Withdrawn { .. } => serve_user(alloc, service, purpose, name, who, at),
     }
 }
 
@@ -166,7 +147,6 @@ fn otherwise<D: Service>(
         result service.new }
 {
     match purpose {
-        Purpose::Shown => Told::of(outcome),
         Purpose::Judged { path, .. } => Told::of(late(path, outcome)),
         Purpose::Withdrawn { named } => {
             Told::of(withdrawn_from(alloc, service, named, name, who, at, outcome))
@@ -297,7 +277,6 @@ fn fulfil<D: Service>(
         result service.new }
 {
     match purpose {
-        Purpose::Shown => fronted(alloc, text, names),
         Purpose::Judged { path, document } => {
             Told::of(judged(alloc, service, path, document, name, text, names, who, at))
         }
@@ -379,7 +358,7 @@ fn withdrawn<D: Service>(
 
 // Whether the path names the present revision.
 fn is_present(alloc: Global, named: &str, text: &SharedText, names: &[Text]) -> Result<bool, Fault>
-    ensures ok { IfOk result (λ is. is ≡ bytes_eq named.now (spec.revision text.now names.now)) }
+    ensures ok { IfOk result (λ is. is ≡ bytes_eq named.now (revision text.now names.now)) }
     ensures err { IfErr result (λ fault. fault ≡ Fault.Memory) }
 {
     Ok(revision_of(alloc, text, names)?.is(named))

@@ -23,7 +23,7 @@ use Rattle.registry_rules.specs.declared.facts.Facts.{Facts}
 use Rattle.registry_rules.specs.declared.facts.LiveVersion.{LiveVersion}
 use Rattle.registry_rules.specs.declared.facts.PublishFacts.{PublishFacts}
 use Rattle.registry_rules.specs.declared.request.Action.{Action}
-use Rattle.registry_rules.specs.declared.request.Action.TheVariants.{UserAdd, TokenAdd, TokenRemove, TokensRemove, OrgCreate, OrgSet, OrgRemove, TeamCreate, TeamDestroy, TeamAdd, TeamRemove, Grant, Revoke, SetAccess, OwnerAdd, OwnerRemove, Publish, TagSet, TagRemove, Withdraw, WithdrawAll, Deprecate, Packument, AbbreviatedPackument, VersionDoc, Archive, Tags, Members, Teams, TeamMembers, TeamPackages, WhoAmI, Maintainers, OrgPackages, MyPackages, Users, Organisations, Packages}
+use Rattle.registry_rules.specs.declared.request.Action.TheVariants.{UserAdd, TokenAdd, TokenRemove, TokensRemove, OrgCreate, OrgSet, OrgRemove, TeamCreate, TeamDestroy, TeamAdd, TeamRemove, Grant, Revoke, SetAccess, OwnerAdd, OwnerRemove, Publish, TagSet, TagRemove, Withdraw, WithdrawAll, Deprecate, Packument, AbbreviatedPackument, RevisedPackument, VersionDoc, Archive, Tags, Members, Teams, TeamMembers, TeamPackages, WhoAmI, Maintainers, OrgPackages, MyPackages, Users, Organisations, Packages}
 use Rattle.registry_rules.specs.declared.request.Request.{Request}
 
 pub record ArePublishFacts (facts : PublishFacts) (S : State) (who : Caller) (f : FormParts) : Type 0 where
@@ -128,6 +128,7 @@ AboutTells (about.Version standing found) S who (VersionDoc p asked) = StandingT
 AboutTells (about.Version standing found) S who (Archive p v) = StandingTells standing S.access who p × (found ≡ is_live S p (text_of_version v))
 AboutTells (about.Package standing found) S who (Packument p) = StandingTells standing S.access who p × (found ≡ has_live S p)
 AboutTells (about.Package standing found) S who (AbbreviatedPackument p) = StandingTells standing S.access who p × (found ≡ has_live S p)
+AboutTells (about.Package standing found) S who (RevisedPackument p) = StandingTells standing S.access who p × (found ≡ has_live S p)
 AboutTells (about.Package standing found) S who (Tags p) = StandingTells standing S.access who p × (found ≡ has_live S p)
 AboutTells (about.Organisation rows) S who (Members o) = SayOf rows S who o
 AboutTells (about.Organisation rows) S who (Teams o) = SayOf rows S who o

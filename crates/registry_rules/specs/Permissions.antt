@@ -10,7 +10,7 @@ use Rattle.registry_access.specs.Policy.{Verdict, by_rule, for_known, may_operat
 use Rattle.registry_access.specs.Positions.{has_organisation, position_in}
 use Rattle.registry_access.specs.declared.caller.Caller.{Caller}
 use Rattle.registry_rules.specs.declared.request.Action.{Action}
-use Rattle.registry_rules.specs.declared.request.Action.TheVariants.{UserAdd, TokenAdd, TokenRemove, TokensRemove, OrgCreate, OrgSet, OrgRemove, TeamCreate, TeamDestroy, TeamAdd, TeamRemove, Grant, Revoke, SetAccess, OwnerAdd, OwnerRemove, Publish, TagSet, TagRemove, Withdraw, WithdrawAll, Deprecate, Packument, AbbreviatedPackument, VersionDoc, Archive, Tags, Members, Teams, TeamMembers, TeamPackages, WhoAmI, Maintainers, OrgPackages, MyPackages, Users, Organisations, Packages}
+use Rattle.registry_rules.specs.declared.request.Action.TheVariants.{UserAdd, TokenAdd, TokenRemove, TokensRemove, OrgCreate, OrgSet, OrgRemove, TeamCreate, TeamDestroy, TeamAdd, TeamRemove, Grant, Revoke, SetAccess, OwnerAdd, OwnerRemove, Publish, TagSet, TagRemove, Withdraw, WithdrawAll, Deprecate, Packument, AbbreviatedPackument, RevisedPackument, VersionDoc, Archive, Tags, Members, Teams, TeamMembers, TeamPackages, WhoAmI, Maintainers, OrgPackages, MyPackages, Users, Organisations, Packages}
 
 -- A5: any user
 abbrev pub may_be_named : Caller → Verdict
@@ -41,6 +41,7 @@ permission A who (WithdrawAll p) = may_write who (position_in A who p)
 permission A who (Deprecate p selector message) = may_write who (position_in A who p)
 permission A who (Packument p) = may_read (position_in A who p)
 permission A who (AbbreviatedPackument p) = may_read (position_in A who p)
+permission A who (RevisedPackument p) = may_read (position_in A who p)
 permission A who (VersionDoc p asked) = may_read (position_in A who p)
 permission A who (Archive p v) = may_read (position_in A who p)
 permission A who (Tags p) = may_read (position_in A who p)

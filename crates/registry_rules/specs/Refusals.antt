@@ -23,7 +23,7 @@ use Rattle.registry_rules.specs.Permissions.{permission}
 use Rattle.registry_rules.specs.State.{State, developers, has_user, has_token, is_member, has_team, is_in_team, has_grant, is_published, has_maintainer, has_other_maintainer, is_last_owner, is_empty, is_live, is_spent, has_live, stands, asked_version, lives}
 use Rattle.registry_rules.specs.Withdrawals.{is_any_depended, is_depended, is_too_old, is_waiting, live_since, published_at}
 use Rattle.registry_rules.specs.declared.request.Action.{Action}
-use Rattle.registry_rules.specs.declared.request.Action.TheVariants.{UserAdd, TokenAdd, TokenRemove, TokensRemove, OrgCreate, OrgSet, OrgRemove, TeamCreate, TeamDestroy, TeamAdd, TeamRemove, Grant, Revoke, SetAccess, OwnerAdd, OwnerRemove, Publish, TagSet, TagRemove, Withdraw, WithdrawAll, Deprecate, Packument, AbbreviatedPackument, VersionDoc, Archive, Tags, Members, Teams, TeamMembers, TeamPackages, WhoAmI, Maintainers, OrgPackages, MyPackages, Users, Organisations, Packages}
+use Rattle.registry_rules.specs.declared.request.Action.TheVariants.{UserAdd, TokenAdd, TokenRemove, TokensRemove, OrgCreate, OrgSet, OrgRemove, TeamCreate, TeamDestroy, TeamAdd, TeamRemove, Grant, Revoke, SetAccess, OwnerAdd, OwnerRemove, Publish, TagSet, TagRemove, Withdraw, WithdrawAll, Deprecate, Packument, AbbreviatedPackument, RevisedPackument, VersionDoc, Archive, Tags, Members, Teams, TeamMembers, TeamPackages, WhoAmI, Maintainers, OrgPackages, MyPackages, Users, Organisations, Packages}
 use Rattle.registry_rules.specs.declared.request.Request.{Request}
 
 abbrev pub refuse : Bool → Refusal → Option Refusal → Option Refusal
@@ -113,6 +113,7 @@ state_refusal S now (WithdrawAll p) = withdraw_all_refusal now (live_since S p) 
 state_refusal S now (Deprecate p selector message) = None
 state_refusal S now (Packument p) = unless_there (has_live S p)
 state_refusal S now (AbbreviatedPackument p) = unless_there (has_live S p)
+state_refusal S now (RevisedPackument p) = unless_there (has_live S p)
 state_refusal S now (VersionDoc p asked) = unless_there (lives S p (asked_version S p asked))
 state_refusal S now (Archive p v) = unless_there (is_live S p (text_of_version v))
 state_refusal S now (Tags p) = unless_there (has_live S p)

@@ -218,7 +218,10 @@ fn state_refusal(about: &About, action: &Action, now: &Moment) -> Option<Refusal
         (About::Version { lives, .. }, Action::VersionDoc { .. } | Action::Archive { .. })
         | (
             About::Package { lives, .. },
-            Action::Packument { .. } | Action::AbbreviatedPackument { .. } | Action::Tags { .. },
+            Action::Packument { .. }
+            | Action::AbbreviatedPackument { .. }
+            | Action::RevisedPackument { .. }
+            | Action::Tags { .. },
         ) => { unless_there(*lives) }
         _ => Some(Refusal::NotFound),
     }

@@ -255,6 +255,7 @@ fn action_is_in_form(what: &Action)
         Action::SetAccess { package, .. }
         | Action::Packument { package }
         | Action::AbbreviatedPackument { package }
+        | Action::RevisedPackument { package }
         | Action::Tags { package }
         | Action::Maintainers { package }
         | Action::WithdrawAll { package } => {

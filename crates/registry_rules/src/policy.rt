@@ -116,6 +116,9 @@ pub(crate) fn permission(caller: &Caller, about: &About, action: &Action) -> Res
         (About::Package { standing, .. }, Action::AbbreviatedPackument { package }) => {
             may_read(standing, caller, package)
         }
+        (About::Package { standing, .. }, Action::RevisedPackument { package }) => {
+            may_read(standing, caller, package)
+        }
         (About::Package { standing, .. }, Action::Tags { package }) => {
             may_read(standing, caller, package)
         }

@@ -225,6 +225,12 @@ pub enum Action {
         /// The package's name.
         package: Name,
     },
+    /// The query for the packument as npm reads it: the full one, and before its first member its
+    /// revision and the maintainers.
+    RevisedPackument {
+        /// The package's name.
+        package: Name,
+    },
     /// The query for the document of a live version: its manifest, with `deprecated` in it if it is
     /// deprecated.
     VersionDoc {
@@ -375,6 +381,7 @@ impl Drop for Action {
             } => {}
             Action::Packument { package: _ } => {}
             Action::AbbreviatedPackument { package: _ } => {}
+            Action::RevisedPackument { package: _ } => {}
             Action::VersionDoc {
                 package: _,
                 version: _,

@@ -64,6 +64,7 @@ fn answer_to(action: &Action, is_known: bool) -> (&'static str, Result<&'static 
         Action::AbbreviatedPackument { package } => {
             ("AbbreviatedPackument", abbreviated(package.text()))
         }
+        Action::RevisedPackument { package } => ("RevisedPackument", revised(package.text())),
         Action::Archive { package, .. } => ("Archive", archive(package.text(), is_known)),
         Action::Deprecate { package, .. } => ("Deprecate", written(package.text())),
         Action::Withdraw { package, .. } => ("Withdraw", version_of(package.text())),
@@ -128,6 +129,13 @@ fn packument(package: &str) -> Result<&'static str, Refusal> {
 fn abbreviated(package: &str) -> Result<&'static str, Refusal> {
     match package {
         "tool" => Ok(labels::ABBREVIATED),
+        _ => Err(Refusal::NotFound),
+    }
+}
+
+fn revised(package: &str) -> Result<&'static str, Refusal> {
+    match package {
+        "tool" => Ok(labels::PACKUMENT),
         _ => Err(Refusal::NotFound),
     }
 }

@@ -12,5 +12,6 @@ mod lies;
 mod lists;
 mod log;
 mod program;
+mod revised;
 mod sent;
 mod served;

@@ -37,7 +37,8 @@ const ARCHIVE: &str = "0eb3e36bfb24dcd9bb1d1bece1531216b59539a8fde17ee80224af065
 pub(super) const ABBREVIATED: &str =
     r#"{"dist-tags":{"latest":"1.1.0"},"modified":"1970-01-01T00:00:00.000Z","name":"tool","versions":{"1.0.0":{"name":"tool"},"1.1.0":{"name":"tool"}}}"#;
 
-const PACKUMENT: &str =
+/// The packument of `tool` as npm reads it.
+pub(super) const PACKUMENT: &str =
     r#"{"_rev":"a19ad3ca0a750021e752d6f385405e7e46a195a2a4b27f058a11b88727114031","maintainers":[{"email":"","name":"ann"},{"email":"","name":"bob"}],"_id":"tool","dist-tags":{"latest":"1.1.0"},"name":"tool","versions":{"1.0.0":{"name":"tool"},"1.1.0":{"name":"tool"}}}"#;
 
 // Of two packages bob reads both, and nobody in particular only `tool`.
@@ -238,9 +239,9 @@ type Accepted = (
 
 const ONE: &str = "AbbreviatedPackument ";
 
-const BOTH: &str = "Packument Maintainers ";
+const WHOLE: &str = "RevisedPackument ";
 
-static ACCEPTED: [Accepted; 12] = [
+static ACCEPTED: [Accepted; 14] = [
     (
         OF_NPM,
         "/tool",
@@ -287,25 +288,27 @@ static ACCEPTED: [Accepted; 12] = [
         "application/json",
         "/tool",
         "",
-        BOTH,
+        WHOLE,
         200,
         REVISION,
         Full,
         PACKUMENT,
     ),
-    ("*/*", "/tool", "", BOTH, 200, REVISION, Full, PACKUMENT),
-    ("", "/tool", "", BOTH, 200, REVISION, Full, PACKUMENT),
+    ("*/*", "/tool", "", WHOLE, 200, REVISION, Full, PACKUMENT),
+    ("", "/tool", "", WHOLE, 200, REVISION, Full, PACKUMENT),
     (
         "",
         "/tool",
         "\"b8a4e15dfcecbabb6a8a16bcca50eb7c9f62c1afeb2bcc91c68617a7ab90264a\"",
-        BOTH,
+        WHOLE,
         200,
         REVISION,
         Full,
         PACKUMENT,
     ),
     (OF_NPM, "/hidden", "*", ONE, 404, "", Only, NOT_FOUND),
+    ("*/*", "/hidden", "*", WHOLE, 404, "", Only, NOT_FOUND),
+    ("*/*", "/gone", "", WHOLE, 404, "", Only, NOT_FOUND),
     // Nothing else has two forms.
     (
         OF_NPM,

@@ -19,18 +19,18 @@ returns-clause-stays g c = stays_then g.S.Store c.args.tx.now c.load_reply.new.t
 -- ---- what is forgotten
 
 pub returns-in_err-forget_archives-clause-no_more : goal.returns-in_err-forget_archives-clause-no_more
-returns-in_err-forget_archives-clause-no_more g c = record { packuments = same_no_more c.args.caches.now.packuments; abbreviated = same_no_more c.args.caches.now.abbreviated; archives = c.forget_archives.ensures.no_more }
+returns-in_err-forget_archives-clause-no_more g c = record { packuments = same_no_more c.args.caches.now.packuments; abbreviated = same_no_more c.args.caches.now.abbreviated; revised = same_no_more c.args.caches.now.revised; archives = c.forget_archives.ensures.no_more }
 
 pub returns-in_err-make_all-clause-no_more : goal.returns-in_err-make_all-clause-no_more
 returns-in_err-make_all-clause-no_more g c =
-    left_no_more (map change_of c.args.changes.now) c.args.caches.now _ (record { packuments = c.forget_packuments.ensures; abbreviated = c.forget_packuments-2.ensures; archives = c.in_ok-forget_archives.ensures.ok })
+    left_no_more (map change_of c.args.changes.now) c.args.caches.now _ (record { packuments = c.forget_packuments.ensures; abbreviated = c.forget_packuments-2.ensures; revised = c.forget_revised.ensures; archives = c.in_ok-forget_archives.ensures.ok })
 
 pub returns-clause-no_more : goal.returns-clause-no_more
 returns-clause-no_more g c =
-    left_no_more (map change_of c.args.changes.now) c.args.caches.now _ (record { packuments = c.forget_packuments.ensures; abbreviated = c.forget_packuments-2.ensures; archives = c.in_ok-forget_archives.ensures.ok })
+    left_no_more (map change_of c.args.changes.now) c.args.caches.now _ (record { packuments = c.forget_packuments.ensures; abbreviated = c.forget_packuments-2.ensures; revised = c.forget_revised.ensures; archives = c.in_ok-forget_archives.ensures.ok })
 
 pub returns-clause-forgets : goal.returns-clause-forgets
-returns-clause-forgets g c = record { packuments = c.forget_packuments.ensures; abbreviated = c.forget_packuments-2.ensures; archives = c.in_ok-forget_archives.ensures.ok }
+returns-clause-forgets g c = record { packuments = c.forget_packuments.ensures; abbreviated = c.forget_packuments-2.ensures; revised = c.forget_revised.ensures; archives = c.in_ok-forget_archives.ensures.ok }
 
 pub returns-clause-in_range : goal.returns-clause-in_range
 returns-clause-in_range g c held clean =

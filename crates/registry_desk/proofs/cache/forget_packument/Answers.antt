@@ -5,9 +5,17 @@ use Rattle.registry_laws_history.specs.Apart.{is_about}
 use Rattle.registry_desk.proofs.CacheFacts.{forgets_none, forgets_one}
 use Rattle.registry_desk.proofs.cache.forget_packument.Goals as goal
 
-pub returns-in-Some : goal.returns-in-Some
-returns-in-Some c =
-    c.forget.ensures ∙ ap (forgotten c.args.cache.now) c.text.ensures.text ∙ forgets_one is_about c.args.cache.now (change_of c.args.change.now) c.in-Some.name.now c.in-Some.ensures.some
+pub returns-in-Packument : goal.returns-in-Packument
+returns-in-Packument c =
+    let told = rw c.in-Packument.is at c.changed_package.ensures in
+    c.forget.ensures ∙ ap (forgotten c.args.cache.now) c.text.ensures.text ∙ forgets_one is_about c.args.cache.now (change_of c.args.change.now) c.in-Packument.name.now told.0
 
-pub returns-in-None : goal.returns-in-None
-returns-in-None c = forgets_none is_about c.args.cache.now (change_of c.args.change.now) c.in-None.ensures.none
+pub returns-in-Maintainers : goal.returns-in-Maintainers
+returns-in-Maintainers c =
+    let told = rw c.in-Maintainers.is at c.changed_package.ensures in
+    forgets_none is_about c.args.cache.now (change_of c.args.change.now) told.0
+
+pub returns-in-Nothing : goal.returns-in-Nothing
+returns-in-Nothing c =
+    let told = rw c.in-Nothing.is at c.changed_package.ensures in
+    forgets_none is_about c.args.cache.now (change_of c.args.change.now) told.0

@@ -20,7 +20,7 @@ use Rattle.registry_desk.proofs.CommitFacts.{commit_rests, failed_undone, regist
 use Rattle.registry_desk.specs.Caches.{AreAnswers, HasAnswers}
 use Rattle.registry_desk.proofs.SendingFacts.{never_enters}
 use Rattle.registry_desk.proofs.SettlingFacts.{faulted_next, settled_next}
-use Rattle.registry_desk.proofs.KeptFacts.{reply_abbreviated_limit, reply_archive_limit, reply_limit, right_answered, right_kept, right_unchanged, shown_answered}
+use Rattle.registry_desk.proofs.KeptFacts.{reply_abbreviated_limit, reply_archive_limit, reply_limit, reply_revised_limit, right_answered, right_kept, right_unchanged, shown_answered}
 use Rattle.registry_desk.proofs.registry.answer_in_transaction.Goals as goal
 
 pub returns-in-Ok-clause-rests : goal.returns-in-Ok-clause-rests
@@ -294,6 +294,10 @@ returns-in-Ok-clause-limit g c =
 pub returns-in-Ok-clause-abbreviated_limit : goal.returns-in-Ok-clause-abbreviated_limit
 returns-in-Ok-clause-abbreviated_limit g c =
     reply_abbreviated_limit c.args.request.now.what c.in_ok-reply.reply c.identify_and_answer.new.caches c.keep_reply.new.caches c.keep_reply.ensures ∙ c.identify_and_answer.ensures.no_more.abbreviated.limit
+
+pub returns-in-Ok-clause-revised_limit : goal.returns-in-Ok-clause-revised_limit
+returns-in-Ok-clause-revised_limit g c =
+    reply_revised_limit c.args.request.now.what c.in_ok-reply.reply c.identify_and_answer.new.caches c.keep_reply.new.caches c.keep_reply.ensures ∙ c.identify_and_answer.ensures.no_more.revised.limit
 
 pub returns-in-Ok-clause-archive_limit : goal.returns-in-Ok-clause-archive_limit
 returns-in-Ok-clause-archive_limit g c =

@@ -50,7 +50,7 @@ returns-clause-loads g c clean =
       before_reads was one new before.0 placed.0,
       λ sound right.
           let denied = rw c.in-Err.is at (placed.1 (subst (λ (d : Database). AreTeamsSound (contents d.trees)) (sym before.0.same) sound)) in
-          query_denied c.args.form (registry_of (contents was.now.trees)) r p who c.requires.asks known c.in-Err.refusal
+          query_denied c.args.view (registry_of (contents was.now.trees)) r p who c.requires.asks known c.in-Err.refusal
           (subst (λ (d : Database). unless_allowed (permission (access_of (contents d.trees)) who (Packument p)) ≡ Some c.in-Err.refusal) before.0.same denied),
     )
 
@@ -76,8 +76,8 @@ returns-in-Ok-clause-loads g c clean =
       λ sound right.
           let allowed = rw c.in-Ok.is at (placed.1 (subst (λ (d : Database). AreTeamsSound (contents d.trees)) (sym before.0.same) sound)) in
           let may = subst (λ (d : Database). unless_allowed (permission (access_of (contents d.trees)) who (Packument p)) ≡ None) before.0.same allowed.0 in
-          origin_is c.args.form S r p who c.requires.asks known may from
-          (subst (λ (d : Database). IsShownBy c.args.form from (registry_of (contents d.trees)) p) reads.same (it.1 (subst (λ (d : Database). ArePackuments c.args.form (contents d.trees) c.args.cache.now) (sym reads.same) right))),
+          origin_is c.args.view S r p who c.requires.asks known may from
+          (subst (λ (d : Database). IsShownBy c.args.view from (registry_of (contents d.trees)) p) reads.same (it.1 (subst (λ (d : Database). ArePackuments c.args.view (contents d.trees) c.args.cache.now) (sym reads.same) right))),
     ))
     (c.shown_from.ensures.knows clean)
 
@@ -99,6 +99,6 @@ returns-in-Ok-clause-shows g c clean =
     let were : HasCleanDisk one = omega (arith, c.standing_if_allowed.ensures.stays.survives.clean, clean_mid) in
     let reads = before_reads was one mid (c.in_ok-caller.ensures.knows were).0 (c.in_ok-_standing.ensures.loads clean_mid).0 in
     IfOk-weaker c.shown_from.result _ _
-    (λ from it are. shown_is_from c.args.form from (registry_of (contents was.now.trees)) p
-    (subst (λ (d : Database). IsShownBy c.args.form from (registry_of (contents d.trees)) p) reads.same (it.1 (subst (λ (d : Database). ArePackuments c.args.form (contents d.trees) c.args.cache.now) (sym reads.same) are))))
+    (λ from it are. shown_is_from c.args.view from (registry_of (contents was.now.trees)) p
+    (subst (λ (d : Database). IsShownBy c.args.view from (registry_of (contents d.trees)) p) reads.same (it.1 (subst (λ (d : Database). ArePackuments c.args.view (contents d.trees) c.args.cache.now) (sym reads.same) are))))
     (c.shown_from.ensures.knows clean)

@@ -63,16 +63,16 @@ returns-in-Ok-clause-origin g c =
     let r = c.args.request.now in
     let p = c.args.name.now in
     let seen : stored begun ≡ stored old = rw c.transaction-tx.ensures.begun refl in
-    let told : HasCleanDisk new → IsOrigin c.args.form c.in_ok-origin.origin (registry_in old) r p = λ clean.
+    let told : HasCleanDisk new → IsOrigin c.args.view c.in_ok-origin.origin (registry_in old) r p = λ clean.
     let were : HasCleanDisk mid = omega (arith, c.commit.ensures.survives.clean, clean) in
     let first : HasCleanDisk old = omega (arith, (rw c.transaction-tx.ensures.begun at c.find_origin.ensures.stays.survives).clean, were) in
     let loads = c.in_ok-origin.ensures.loads were in
     let was_open : IsTrue old.is_open = rw c.transaction-tx.ensures.begun at loads.0.was_open in
     let teams = subst AreTeamsSound (sym seen) (teams_sound old (c.requires.rests.in_form first was_open) (c.requires.rests.written first was_open).grants) in
-    let are = subst (λ (d : Contents). ArePackuments c.args.form d c.args.cache.now) (sym seen) (c.requires.right first was_open) in
-    subst (λ (d : Contents). IsOrigin c.args.form c.in_ok-origin.origin (registry_of d) r p) seen (loads.1 teams are) in
+    let are = subst (λ (d : Contents). ArePackuments c.args.view d c.args.cache.now) (sym seen) (c.requires.right first was_open) in
+    subst (λ (d : Contents). IsOrigin c.args.view c.in_ok-origin.origin (registry_of d) r p) seen (loads.1 teams are) in
     let same : c.commit.new.tx.0 ≡ c.conn-2-1.given.0 = search rules in
-    subst (λ h. HasCleanDisk (state g.S.Store h) → IsOrigin c.args.form c.in_ok-origin.origin (registry_in old) r p) same told
+    subst (λ h. HasCleanDisk (state g.S.Store h) → IsOrigin c.args.view c.in_ok-origin.origin (registry_in old) r p) same told
 
 pub returns-in-Ok-clause-shows : goal.returns-in-Ok-clause-shows
 returns-in-Ok-clause-shows g c =
@@ -82,11 +82,11 @@ returns-in-Ok-clause-shows g c =
     let new = state g.S.Store c.commit.new.tx.0 in
     let p = c.args.name.now in
     let seen : stored begun ≡ stored old = rw c.transaction-tx.ensures.begun refl in
-    let shows : HasCleanDisk new → IsFrom c.args.form c.in_ok-origin.origin (registry_in old) p = λ clean.
+    let shows : HasCleanDisk new → IsFrom c.args.view c.in_ok-origin.origin (registry_in old) p = λ clean.
     let were : HasCleanDisk mid = omega (arith, c.commit.ensures.survives.clean, clean) in
     let first : HasCleanDisk old = omega (arith, (rw c.transaction-tx.ensures.begun at c.find_origin.ensures.stays.survives).clean, were) in
     let was_open : IsTrue old.is_open = rw c.transaction-tx.ensures.begun at (c.in_ok-origin.ensures.loads were).0.was_open in
-    let are = subst (λ (d : Contents). ArePackuments c.args.form d c.args.cache.now) (sym seen) (c.requires.right first was_open) in
-    subst (λ (d : Contents). IsFrom c.args.form c.in_ok-origin.origin (registry_of d) p) seen (c.in_ok-origin.ensures.shows were are) in
+    let are = subst (λ (d : Contents). ArePackuments c.args.view d c.args.cache.now) (sym seen) (c.requires.right first was_open) in
+    subst (λ (d : Contents). IsFrom c.args.view c.in_ok-origin.origin (registry_of d) p) seen (c.in_ok-origin.ensures.shows were are) in
     let same : c.commit.new.tx.0 ≡ c.conn-2-1.given.0 = search rules in
-    subst (λ h. HasCleanDisk (state g.S.Store h) → IsFrom c.args.form c.in_ok-origin.origin (registry_in old) p) same shows
+    subst (λ h. HasCleanDisk (state g.S.Store h) → IsFrom c.args.view c.in_ok-origin.origin (registry_in old) p) same shows

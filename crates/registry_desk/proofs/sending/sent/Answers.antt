@@ -13,8 +13,8 @@ pub returns-in-Ok-Refused-clause-right : goal.returns-in-Ok-Refused-clause-right
 returns-in-Ok-Refused-clause-right g c =
     right_left (state g.S.Store c.args.conn.now) (state g.S.Store c.origin_of.new.conn) c.args.caches.now c.args.caches.now c.origin_of.ensures.left (keep_same c.args.caches.now) c.requires.right
 
-pub returns-in-Err-clause-right : goal.returns-in-Err-clause-right
-returns-in-Err-clause-right g c =
+pub returns-clause-right : goal.returns-clause-right
+returns-clause-right g c =
     right_left (state g.S.Store c.args.conn.now) (state g.S.Store c.origin_of.new.conn) c.args.caches.now c.args.caches.now c.origin_of.ensures.left (keep_same c.args.caches.now) c.requires.right
 
 pub returns-in-Ok-Kept-clause-right : goal.returns-in-Ok-Kept-clause-right
@@ -24,6 +24,7 @@ returns-in-Ok-Kept-clause-right g c =
     (record {
       packuments = subst (KeepsNoMore was.packuments) (sym c.ask-is_kept.ensures.asked) (asked_no_more was.packuments c.text.result.now);
       abbreviated = same_no_more was.abbreviated;
+      revised = same_no_more was.revised;
       archives = same_no_more was.archives;
     })
     c.requires.right
@@ -44,8 +45,8 @@ returns-in-Ok-Stored-clause-stored g c =
 
 -- ---- how it was sent
 
-pub returns-in-Err-clause-sends : goal.returns-in-Err-clause-sends
-returns-in-Err-clause-sends g c =
+pub returns-clause-sends : goal.returns-clause-sends
+returns-clause-sends g c =
     fault_sends g.S.Store (λ h db on. g.met.S.Store.settled h.store db on) c.unread_packages_are_unheard_of.ensures.replies (g.O.Opener.opens c.args.opener.now) c.args.conn.now c.origin_of.new.conn c.args.request.now c.args.name.now
     c.requires.asks c.origin_of.ensures.left c.in-Err.fault _ _
 
@@ -66,5 +67,5 @@ pub returns-in-Ok-Stored-clause-sends : goal.returns-in-Ok-Stored-clause-sends
 returns-in-Ok-Stored-clause-sends g c =
     stored_sends g.S.Store (λ h db on. g.met.S.Store.settled h.store db on) c.unread_packages_are_unheard_of.ensures.replies (g.O.Opener.opens c.args.opener.now) c.args.conn.now c.origin_of.new.conn c.args.request.now c.args.name.now
     c.requires.asks c.origin_of.ensures.left (λ clean. rw c.in-Ok-Stored.is at (c.origin_of.ensures.served clean)) c.in-Ok-Stored.head
-    (λ clean. rw (c.in-Ok-Stored.is, c.in-Ok-Stored.field-0-is) at (c.origin_of.ensures.origin clean)) c.send_stored.new.conn c.send_stored.ensures.left _ _ _ c.send_stored.result
+    (λ clean. let it = rw (c.in-Ok-Stored.is, c.in-Ok-Stored.field-0-is) at (c.origin_of.ensures.origin clean) in (it.0, it.1.0)) c.send_stored.new.conn c.send_stored.ensures.left _ _ _ c.send_stored.result
     c.send_stored.ensures.unshut c.send_stored.ensures.takes

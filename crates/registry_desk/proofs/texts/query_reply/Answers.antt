@@ -25,7 +25,7 @@ returns-clause-told g c clean =
     let were : HasCleanDisk mid = omega (arith, c.reply_of.ensures.left.survives.clean, clean) in
     let stays : registry_in mid ≡ registry_in old = ap registry_of (c.origin_of.ensures.left.same were (c.in_ok-origin.ensures.served were)) in
     IfOk-weaker c.reply_of.result _ _
-    (λ given made. made_told c.args.form given c.in_ok-origin.origin (registry_in old) c.args.request.now p (subst (λ (T : State). IsMadeOf given c.in_ok-origin.origin T p) stays made) (c.in_ok-origin.ensures.origin were))
+    (λ given made. made_told c.args.view given c.in_ok-origin.origin (registry_in old) c.args.request.now p (subst (λ (T : State). IsMadeOf given c.in_ok-origin.origin T p) stays made) (c.in_ok-origin.ensures.origin were))
     (c.reply_of.ensures.made clean)
 
 pub returns-clause-shows : goal.returns-clause-shows
@@ -36,5 +36,5 @@ returns-clause-shows g c clean =
     let were : HasCleanDisk mid = omega (arith, c.reply_of.ensures.left.survives.clean, clean) in
     let stays : registry_in mid ≡ registry_in old = ap registry_of (c.origin_of.ensures.left.same were (c.in_ok-origin.ensures.served were)) in
     IfOk-weaker c.reply_of.result _ _
-    (λ given made. made_shows c.args.form given c.in_ok-origin.origin (registry_in old) p (subst (λ (T : State). IsMadeOf given c.in_ok-origin.origin T p) stays made) (c.in_ok-origin.ensures.shows were))
+    (λ given made. made_shows c.args.view given c.in_ok-origin.origin (registry_in old) p (subst (λ (T : State). IsMadeOf given c.in_ok-origin.origin T p) stays made) (c.in_ok-origin.ensures.shows were))
     (c.reply_of.ensures.made clean)

@@ -22,10 +22,12 @@ invariant_of-result c = record {
   right = λ clean on. record {
     packuments = subst (AreRight _) (sym c.in_ok-caches.ensures.packuments) (new_right _ _);
     abbreviated = subst (AreRight _) (sym c.in_ok-caches.ensures.abbreviated) (new_right _ _);
+    revised = subst (AreRight _) (sym c.in_ok-caches.ensures.revised) (new_right _ _);
     archives = subst (AreRight _) (sym c.in_ok-caches.ensures.archives) (new_right _ _);
   };
   limited = ap (λ (s : Cache). s.limit) c.in_ok-caches.ensures.packuments;
   abbreviated_limited = ap (λ (s : Cache). s.limit) c.in_ok-caches.ensures.abbreviated;
+  revised_limited = ap (λ (s : Cache). s.limit) c.in_ok-caches.ensures.revised;
   archives_limited = ap (λ (s : Cache). s.limit) c.in_ok-caches.ensures.archives;
 }
 

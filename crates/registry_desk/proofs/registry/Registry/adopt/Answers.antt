@@ -14,10 +14,12 @@ invariant_of-result g c = record {
   right = λ clean on. record {
     packuments = subst (AreRight _) (sym c.in-Ok.ensures.packuments) (new_right _ _);
     abbreviated = subst (AreRight _) (sym c.in-Ok.ensures.abbreviated) (new_right _ _);
+    revised = subst (AreRight _) (sym c.in-Ok.ensures.revised) (new_right _ _);
     archives = subst (AreRight _) (sym c.in-Ok.ensures.archives) (new_right _ _);
   };
   limited = ap (λ (s : Cache). s.limit) c.in-Ok.ensures.packuments;
   abbreviated_limited = ap (λ (s : Cache). s.limit) c.in-Ok.ensures.abbreviated;
+  revised_limited = ap (λ (s : Cache). s.limit) c.in-Ok.ensures.revised;
   archives_limited = ap (λ (s : Cache). s.limit) c.in-Ok.ensures.archives;
 }
 

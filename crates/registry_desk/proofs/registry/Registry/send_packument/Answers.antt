@@ -20,5 +20,6 @@ invariant_of-self g c = record {
   right = c.sent.ensures.right;
   limited = c.sent.ensures.limit ∙ c.self.invariant.limited;
   abbreviated_limited = c.sent.ensures.abbreviated_limit ∙ c.self.invariant.abbreviated_limited;
+  revised_limited = c.sent.ensures.revised_limit ∙ c.self.invariant.revised_limited;
   archives_limited = c.sent.ensures.archive_limit ∙ c.self.invariant.archives_limited;
 }

@@ -1,6 +1,6 @@
 use Rattle.registry_npm.specs.Callers.{who_of}
 use Rattle.registry_npm.proofs.ComesFacts.{comes-asked, comes-ended, comes-read, comes-stopped}
-use Rattle.registry_npm.proofs.documents.abbreviated.Goals as goal
+use Rattle.registry_npm.proofs.documents.answered.Goals as goal
 
 pub returns-in-Err : goal.returns-in-Err
 returns-in-Err g c = comes-stopped g.D.Service.answers _ _ _ c.in-Err.stop _ c.in-Err.ensures c.stopped.ensures

@@ -1,0 +1,20 @@
+use Rattle.std.proofs.Common.{◌∙◌, List, ap, map, take_all}
+use Rattle.registry_rules.specs.Changes.{change_of}
+use Rattle.registry_rules.specs.declared.change.Change.{Change}
+use Rattle.registry_laws_history.specs.Apart.{is_read_in}
+use Rattle.registry_desk.specs.Caches.{without_read}
+use Rattle.registry_desk.proofs.CacheFacts.{forgets_next, untouched_none}
+use Rattle.registry_desk.proofs.cache.forget_revised.Goals as goal
+
+pub loop-change-init : goal.loop-change-init
+loop-change-init c = record { forgets = untouched_none is_read_in c.args.cache.now }
+
+pub loop-change-preserved : goal.loop-change-preserved
+loop-change-preserved c = record {
+  forgets = forgets_next is_read_in c.args.changes.now c.loop-change.change-index c.change-item.result c.loop-change-test.true c.change-item.is
+      c.args.cache.now c.loop-change.cache c.forget_read.new.cache c.loop-change.invariant.forgets c.forget_read.ensures;
+}
+
+pub returns : goal.returns
+returns c =
+    c.loop-change.invariant.forgets ∙ ap (λ (changes : List Change). without_read (map change_of changes) c.args.cache.now) (take_all c.loop-change.change-index c.args.changes.now c.loop-change-test.false)
