@@ -9,6 +9,7 @@
 mod arguments;
 mod clock;
 mod command;
+mod database;
 mod escapes;
 mod exchange;
 mod failure;

@@ -1,9 +1,10 @@
 //! The state of a story: its registry, the moment, and what isn't compared yet.
 
 use crate::command::printed;
+use crate::database::sql_printed;
 use crate::exchange::{Answer, Pace, answered, end_text};
 use crate::failure::{Stop, differing, failed_with};
-use crate::piece::piece;
+use crate::piece::{file_bytes, piece};
 use crate::registry::StoryRegistry;
 use crate::story::{IN_FILE, Line, Story, is_unknown};
 use registry_names::Moment;
@@ -29,7 +30,9 @@ pub struct Scene<'a> {
     calls: u64,
     /// The moment that the story states.
     at: Option<&'a str>,
-    /// What a command printed that no line was compared with yet.
+    /// Lines of SQL that aren't run yet.
+    sql: Option<Vec<u8>>,
+    /// What a command or SQL printed that no line was compared with yet.
     printed: String,
     /// What comes on a connection that isn't answered yet.
     asked: Option<Vec<u8>>,
@@ -55,6 +58,7 @@ impl<'a> Scene<'a> {
             number: 0,
             calls: 0,
             at: None,
+            sql: None,
             printed: String::new(alloc),
             asked: None,
             answer: None,
@@ -82,6 +86,12 @@ impl<'a> Scene<'a> {
     }
 
     fn step(&mut self, line: Line<'a>) -> Result<(), Stop> {
+        if self.printed.is_empty() {
+            if let Some(spelled) = line.text.strip_prefix('%') {
+                return self.add_sql(spelled);
+            }
+            self.run_sql()?;
+        }
         if !self.printed.is_empty() {
             return self.expect_printed(line.text);
         }
@@ -128,14 +138,54 @@ impl<'a> Scene<'a> {
         Ok(())
     }
 
-    // The next line that is printed has to be this one.
+    // More SQL is to be run on the registry's file.
+    fn add_sql(&mut self, spelled: &str) -> Result<(), Stop> {
+        if matches!(self.registry, StoryRegistry::InMemory(_)) {
+            return Err(failed_with(self.alloc, "SQL is for a registry in a file"));
+        }
+        self.end_file()?;
+        self.exchange()?;
+        self.end_answer("[closed]")?;
+        let mut lines = piece(self.rt, self.alloc, spelled, "")?;
+        lines.extend_from_slice(b"\n")?;
+        match &mut self.sql {
+            Some(sql) => sql.extend_from_slice(&lines)?,
+            None => self.sql = Some(lines),
+        }
+        Ok(())
+    }
+
+    // Runs the SQL that is still to be run.
+    fn run_sql(&mut self) -> Result<(), Stop> {
+        if let Some(sql) = mem::replace(&mut self.sql, None) {
+            self.printed = sql_printed(self.rt, self.alloc, &sql)?;
+        }
+        Ok(())
+    }
+
+    // What is printed next has to be this line, or the lines of a file.
     fn expect_printed(&mut self, wanted: &str) -> Result<(), Stop> {
+        if let Some(name) = wanted.strip_prefix("<file ") {
+            return self.expect_printed_file(name);
+        }
         let (came, rest) = self.printed.as_str().split_once('\n').unwrap_or(("", ""));
         if came != wanted {
             return Err(differing(self.alloc, wanted.as_bytes(), came.as_bytes()));
         }
         self.printed = String::from_str(self.alloc, rest)?;
         Ok(())
+    }
+
+    fn expect_printed_file(&mut self, name: &str) -> Result<(), Stop> {
+        let wanted = file_bytes(self.rt, self.alloc, name)?;
+        let came = self.printed.as_str();
+        match came.as_bytes().strip_prefix(wanted.as_slice()) {
+            Some(rest) => {
+                self.printed = String::from_utf8_lossy(self.alloc, rest)?;
+                Ok(())
+            }
+            None => Err(differing(self.alloc, &wanted, came.as_bytes())),
+        }
     }
 
     // More comes on a connection. After an answer, it is a new connection.
@@ -188,6 +238,7 @@ impl<'a> Scene<'a> {
 
     // Ends what was begun: everything that it gave has been compared.
     fn settle(&mut self) -> Result<(), Stop> {
+        self.run_sql()?;
         if !self.printed.is_empty() {
             return Err(differing(self.alloc, &[], self.printed.as_str().as_bytes()));
         }

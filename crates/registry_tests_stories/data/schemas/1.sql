@@ -1,0 +1,17 @@
+-- The tables of schema 1.
+BEGIN;
+CREATE TABLE users (name TEXT NOT NULL, PRIMARY KEY (name)) STRICT;
+CREATE TABLE tokens (digest BLOB NOT NULL, user TEXT NOT NULL, PRIMARY KEY (digest), FOREIGN KEY (user) REFERENCES users) STRICT;
+CREATE TABLE orgs (name TEXT NOT NULL, PRIMARY KEY (name)) STRICT;
+CREATE TABLE members (org TEXT NOT NULL, user TEXT NOT NULL, role INTEGER NOT NULL, PRIMARY KEY (org, user), FOREIGN KEY (org) REFERENCES orgs, FOREIGN KEY (user) REFERENCES users) STRICT;
+CREATE TABLE teams (org TEXT NOT NULL, team TEXT NOT NULL, PRIMARY KEY (org, team), FOREIGN KEY (org) REFERENCES orgs) STRICT;
+CREATE TABLE team_members (org TEXT NOT NULL, team TEXT NOT NULL, user TEXT NOT NULL, PRIMARY KEY (org, team, user), FOREIGN KEY (org, team) REFERENCES teams ON DELETE CASCADE, FOREIGN KEY (org, user) REFERENCES members ON DELETE CASCADE) STRICT;
+CREATE TABLE packages (name TEXT NOT NULL, status INTEGER NOT NULL, PRIMARY KEY (name)) STRICT;
+CREATE TABLE grants (org TEXT NOT NULL, team TEXT NOT NULL, package TEXT NOT NULL, level INTEGER NOT NULL, PRIMARY KEY (org, team, package), FOREIGN KEY (org, team) REFERENCES teams ON DELETE CASCADE, FOREIGN KEY (package) REFERENCES packages) STRICT;
+CREATE TABLE owners (package TEXT NOT NULL, user TEXT NOT NULL, PRIMARY KEY (package, user), FOREIGN KEY (package) REFERENCES packages, FOREIGN KEY (user) REFERENCES users) STRICT;
+CREATE TABLE versions (package TEXT NOT NULL, version TEXT NOT NULL, published INTEGER NOT NULL, manifest TEXT NOT NULL, deprecated TEXT NOT NULL, archive BLOB NOT NULL, PRIMARY KEY (package, version), FOREIGN KEY (package) REFERENCES packages) STRICT;
+CREATE TABLE spent (package TEXT NOT NULL, version TEXT NOT NULL, published INTEGER NOT NULL, withdrawn INTEGER NOT NULL, PRIMARY KEY (package, version), FOREIGN KEY (package) REFERENCES packages) STRICT;
+CREATE TABLE tags (package TEXT NOT NULL, tag TEXT NOT NULL, version TEXT NOT NULL, PRIMARY KEY (package, tag), FOREIGN KEY (package, version) REFERENCES versions) STRICT;
+CREATE TABLE needs (package TEXT NOT NULL, version TEXT NOT NULL, target TEXT NOT NULL, PRIMARY KEY (package, version, target), FOREIGN KEY (package, version) REFERENCES versions ON DELETE CASCADE) STRICT;
+CREATE TABLE meta (name TEXT NOT NULL, value INTEGER NOT NULL, PRIMARY KEY (name)) STRICT;
+COMMIT;

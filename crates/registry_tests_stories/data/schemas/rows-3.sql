@@ -1,0 +1,26 @@
+-- A registry of schema 3 in which nothing is wrong. A clock went back before a withdrawal.
+BEGIN;
+INSERT INTO meta VALUES ('schema', 3);
+INSERT INTO users VALUES ('ann');
+INSERT INTO users VALUES ('bob');
+INSERT INTO tokens VALUES (x'b6105209b6cda59e36efc1968ba52aa75e0ecd46808fc5c3e9ab982b57a5ad98', 'bob');
+INSERT INTO orgs VALUES ('lab');
+INSERT INTO members VALUES ('lab', 'ann', 2);
+INSERT INTO members VALUES ('lab', 'bob', 0);
+INSERT INTO teams VALUES ('lab', 'developers');
+INSERT INTO team_members VALUES ('lab', 'developers', 'bob');
+INSERT INTO packages VALUES ('@lab/kit', 0);
+INSERT INTO packages VALUES ('tool', 1);
+INSERT INTO grants VALUES ('lab', 'developers', '@lab/kit', 2);
+INSERT INTO owners VALUES ('tool', 'ann');
+INSERT INTO versions VALUES ('@lab/kit', '1.0.0', 100, '{"dependencies":{"tool":"^1"},"dist":{"integrity":"sha512-3a81oZNherrMQXNJriBBMRLm+k6JqX6iCp7u5ktV05ohkpkqJ0/BqDa6PCOj/uu9RU1EI2Q86A4qmslPpUyknw=="},"name":"@lab/kit","version":"1.0.0"}', 'old', x'');
+INSERT INTO versions VALUES ('tool', '1.0.0', 103, '{"name":"tool","version":"1.0.0"}', '', x'');
+INSERT INTO spent VALUES ('@lab/kit', '0.9.0', 90, 80);
+INSERT INTO tags VALUES ('@lab/kit', 'latest', '1.0.0');
+INSERT INTO tags VALUES ('tool', 'latest', '1.0.0');
+INSERT INTO need_ranges VALUES ('@lab/kit', '1.0.0', 'tool', '^1');
+INSERT INTO archives (integrity, bytes) VALUES ('sha512-3a81oZNherrMQXNJriBBMRLm+k6JqX6iCp7u5ktV05ohkpkqJ0/BqDa6PCOj/uu9RU1EI2Q86A4qmslPpUyknw==', x'616263');
+INSERT INTO archives (integrity, bytes) VALUES ('sha512-z4PhNX7vuL3xVChQ1m2AB9Yg5AULVxXcg/SpIdNs6c5H0NE8XYXysP+DGNKHfuwvY7kxvUdBeoGlODJ6+SfaPg==', x'');
+INSERT INTO held VALUES ('@lab/kit', '1.0.0', 1);
+INSERT INTO held VALUES ('tool', '1.0.0', 2);
+COMMIT;
