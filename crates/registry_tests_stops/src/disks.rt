@@ -9,7 +9,7 @@ use registry_names::Fault;
 use sqlite::{Connection, FileStore, Files, Options};
 use sqlite_disk::{Crash, Disk, Fuse, Memory};
 use std::alloc::Global;
-use std::test::Fail;
+use std::process::Abort;
 
 /// More calls than a run makes.
 pub(crate) const NEVER: u64 = 1 << 60;
@@ -27,7 +27,7 @@ pub(crate) trait StoppingDisk: Crash + Drop + Sized {
     fn empty(alloc: Global, calls: u64) -> Self;
 
     /// A disk that holds these bytes, also after a crash, and passes this many calls.
-    fn holding(alloc: Global, bytes: &[u8], calls: u64) -> Result<Self, Fail>;
+    fn holding(ends: &impl Abort, alloc: Global, bytes: &[u8], calls: u64) -> Self;
 
     /// Everything that was written.
     fn written(&self) -> &[u8];
@@ -38,17 +38,20 @@ impl StoppingDisk for Fuse<Memory> {
         Fuse::new(Memory::new(alloc), calls)
     }
 
-    fn holding(alloc: Global, bytes: &[u8], calls: u64) -> Result<Fuse<Memory>, Fail> {
+    fn holding(ends: &impl Abort, alloc: Global, bytes: &[u8], calls: u64) -> Fuse<Memory> {
         let mut memory = Memory::new(alloc);
-        memory.write_at(0, bytes)?;
-        memory.sync()?;
-        Ok(Fuse::new(memory, calls))
+        memory.write_at(0, bytes).expect(ends, "bytes");
+        memory.sync().expect(ends, "bytes");
+        Fuse::new(memory, calls)
     }
 
     fn written(&self) -> &[u8] {
         self.inner().bytes()
     }
 }
+
+/// The disk of the tests. A test names it in one call, since each that does takes seconds to check.
+pub(crate) type TestDisk = Fuse<Memory>;
 
 /// Which of the two files stops.
 #[derive(Clone, Copy, Debug)]
@@ -104,41 +107,41 @@ pub(crate) fn empty_files<D: StoppingDisk>(
 
 /// Files that hold the same as these, one or both of which pass this many calls.
 pub(crate) fn copied<D: StoppingDisk>(
+    ends: &impl Abort,
     alloc: Global,
     files: &Files<D>,
     stopping: Stopping,
     calls: u64,
-) -> Result<Files<D>, Fail> {
+) -> Files<D> {
     let (log, db) = stopping.calls(calls);
-    let log = D::holding(alloc, files.log.written(), log)?;
-    beside(alloc, log, files.db.written(), db)
-}
-
-// A log, and a database file that holds these bytes and passes this many calls.
-fn beside<D: StoppingDisk>(
-    alloc: Global,
-    log: D,
-    bytes: &[u8],
-    calls: u64,
-) -> Result<Files<D>, Fail> {
-    let db = D::holding(alloc, bytes, calls)?;
-    Ok(Files { log, db })
+    Files {
+        log: D::holding(ends, alloc, files.log.written(), log),
+        db: D::holding(ends, alloc, files.db.written(), db),
+    }
 }
 
 /// A database of these bytes, with an empty log. No file stops.
-pub(crate) fn files_of<D: StoppingDisk>(alloc: Global, bytes: &[u8]) -> Result<Files<D>, Fail> {
-    beside(alloc, D::empty(alloc, NEVER), bytes, NEVER)
+pub(crate) fn files_of<D: StoppingDisk>(
+    ends: &impl Abort,
+    alloc: Global,
+    bytes: &[u8],
+) -> Files<D> {
+    Files {
+        log: D::empty(alloc, NEVER),
+        db: D::holding(ends, alloc, bytes, NEVER),
+    }
 }
 
 /// The files that a stop leaves of these. They don't stop any more.
 pub(crate) fn left_of<D: StoppingDisk>(
+    ends: &impl Abort,
     alloc: Global,
     files: Files<D>,
     leaves: Leaves,
-) -> Result<Files<D>, Fail> {
+) -> Files<D> {
     match leaves {
-        Leaves::Synced => Ok(synced(files)),
-        Leaves::Written => copied(alloc, &files, Stopping::Both, NEVER),
+        Leaves::Synced => synced(files),
+        Leaves::Written => copied(ends, alloc, &files, Stopping::Both, NEVER),
     }
 }
 
@@ -150,34 +153,10 @@ fn synced<D: StoppingDisk>(files: Files<D>) -> Files<D> {
     Files { log, db }
 }
 
-/// The registry in the files, or what is left of them.
+/// The registry in the files, or a fault and what is left of them. The contract of `open_files` says
+/// far more than a test needs, and every caller is checked with all of it: so this is the only
+/// caller.
 pub(crate) fn opened<D: Disk + Drop>(
-    alloc: Global,
-    files: Files<D>,
-) -> Result<Registry<FileStore<D>>, Files<D>> {
-    match open(alloc, files) {
-        Ok(registry) => Ok(registry),
-        Err((_, files)) => Err(files),
-    }
-}
-
-/// Whether a registry opens from the files.
-pub(crate) fn opens<D: Disk + Drop>(alloc: Global, files: Files<D>) -> bool {
-    refused(alloc, files).is_none()
-}
-
-/// The fault of an open of the files, and what is left of them. `None` where a registry opens.
-pub(crate) fn refused<D: Disk + Drop>(alloc: Global, files: Files<D>) -> Option<(Fault, Files<D>)> {
-    match open(alloc, files) {
-        Ok(_registry) => None,
-        Err(refused) => Some(refused),
-    }
-}
-
-// The registry in the files, or a fault and what is left of them. The contract of `open_files` says
-// far more than a test needs, and every caller is checked with all of it: so this is the only
-// caller.
-fn open<D: Disk + Drop>(
     alloc: Global,
     files: Files<D>,
 ) -> Result<Registry<FileStore<D>>, (Fault, Files<D>)> {
@@ -191,7 +170,7 @@ fn open<D: Disk + Drop>(
 }
 
 /// A connection to the database in the files, or what is left of them. It is the only caller of
-/// `connect`, as [`open`] is of `open_files`.
+/// `connect`, as [`opened`] is of `open_files`.
 pub(crate) fn connected<D: Disk + Drop>(
     alloc: Global,
     files: Files<D>,
@@ -214,11 +193,6 @@ fn options() -> Options {
         checkpoint_frames: CHECKPOINT_FRAMES,
         ..Options::new(1)
     }
-}
-
-/// The files of a registry that ends.
-pub(crate) fn ended<D: Disk + Drop>(registry: Registry<FileStore<D>>) -> Closed<D> {
-    close(registry.release())
 }
 
 /// The files of a connection that ends.

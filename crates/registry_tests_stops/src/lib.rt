@@ -8,14 +8,19 @@
 //!
 //! A function that asks a registry has its store as a parameter, and one that opens and closes a
 //! registry has its disk. The check of a call from the second kind to the first takes a quarter of
-//! a minute, so there are few; the check of a function over any store takes a second or two. Where
-//! a registry or files are alive, a function has one `?` as a rule.
+//! a minute, so there are few; the check of a function over any store takes a second or two. A test
+//! ends by `ends`, so that no function has a second way out on which registries and files are
+//! dropped.
 #![tactic(auto)]
 
+#[cfg(test)]
+mod asking;
 #[cfg(test)]
 mod checks;
 #[cfg(test)]
 mod disks;
+#[cfg(test)]
+mod outcome;
 #[cfg(test)]
 mod requests;
 #[cfg(test)]

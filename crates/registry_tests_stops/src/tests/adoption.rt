@@ -5,27 +5,23 @@ ghost use Rattle.sqlite.specs.Files.{file_state};
 ghost use Rattle.sqlite.specs.Held.{state};
 ghost use Rattle.registry_desk.specs.Adopted.{CanBeAdopted};
 
+use crate::asking::{Rows, are_replies, asked, asked_of, requests};
 use crate::checks::adopted;
 use crate::disks::{
-    Closed, Leaves, NEVER, Stopping, StoppingDisk, close, connected, empty_files, ended, left_of,
-    opened, opens, refused,
+    Closed, Leaves, NEVER, Stopping, StoppingDisk, TestDisk, close, connected, empty_files,
+    left_of, opened,
 };
+use crate::outcome::same;
 use crate::requests::{COMMANDS, QUERIES};
 use registry_desk::Registry;
 use registry_names::Fault;
-use registry_rules::Request;
-use registry_tests_requests::{Outcome, outcome_of, outcomes_of, requests_of};
-use registry_tests_support::same;
 use sqlite::{Alter, Connection, FileStore, Files};
-use sqlite_disk::{Fuse, Memory};
+use sqlite_disk::Disk;
 use std::alloc::Global;
-use std::test::Fail;
+use std::process::Abort;
 
 /// More calls than an open makes of one file.
 const MOST_CALLS: u64 = 1_000;
-
-/// A statement that changes nothing.
-const SAME: &str = "UPDATE meta SET value = 3 WHERE name = 'schema'";
 
 /// What something else changes in a registry's file: then no registry opens.
 static CHANGES: [&str; 4] = [
@@ -36,39 +32,22 @@ static CHANGES: [&str; 4] = [
 ];
 
 #[test]
-fn a_released_registry_is_adopted(rt: HostRuntime) -> Result<(), Fail> {
-    let queries = requests_of(rt.alloc(), QUERIES)?;
-    is_adopted::<Fuse<Memory>>(rt.alloc(), &queries)
+fn a_released_registry_is_adopted(rt: HostRuntime) {
+    let registry = Registry::in_memory(rt.alloc()).expect(&rt, "a registry");
+    shows_the_same(&rt, rt.alloc(), registry);
 }
 
-fn is_adopted<D: StoppingDisk>(alloc: Global, queries: &[Request]) -> Result<(), Fail> {
-    match opened(alloc, files_after::<D>(alloc, SAME)?) {
-        Ok(registry) => shows_the_same(alloc, registry, queries),
-        Err(_files) => Err(Fail::new(format_args!("nothing opens"))),
-    }
-}
-
-// What a registry shows is shown again where its connection is adopted.
-fn shows_the_same<S: Alter + Drop>(
-    alloc: Global,
-    registry: Registry<S>,
-    queries: &[Request],
-) -> Result<(), Fail> {
-    let mut registry = registry;
-    let shown = outcomes_of(alloc, &mut registry, queries)?;
-    let registry = adopted(alloc, registry.release())?;
-    shows_again(alloc, registry, queries, &shown)
-}
-
-fn shows_again<S: Alter + Drop>(
-    alloc: Global,
-    registry: Registry<S>,
-    queries: &[Request],
-    shown: &[Outcome],
-) -> Result<(), Fail> {
-    let mut registry = registry;
-    let found = outcomes_of(alloc, &mut registry, queries)?;
-    same("what is shown", found.as_slice() == shown, true)
+// What a registry shows after the commands is shown again where its connection is adopted.
+fn shows_the_same<S: Alter + Drop>(ends: &impl Abort, alloc: Global, registry: Registry<S>) {
+    let commands = requests(ends, alloc, COMMANDS);
+    let queries = requests(ends, alloc, QUERIES);
+    let lists = [commands.as_slice(), queries.as_slice()];
+    let (shown, registry) = asked_of(ends, alloc, registry, Rows::Any, &lists);
+    are_replies(ends, &shown);
+    let registry = adopted(ends, alloc, registry.release());
+    let (found, _registry) = asked_of(ends, alloc, registry, Rows::Any, &[queries.as_slice()]);
+    let is_shown = shown.get(commands.len()..) == Some(found.as_slice());
+    same(ends, "what is shown", is_shown, true);
 }
 
 // The fault of an adoption, and the connection; `None` where it becomes a registry. The contract of
@@ -87,90 +66,78 @@ fn handed_back<S: Alter + Drop>(
     }
 }
 
-// The same for files.
-fn files_handed_back<D: StoppingDisk>(
+// The faults of an adoption and of a second one, and the connection; `None` where the first makes a
+// registry.
+fn handed_back_twice<S: Alter + Drop>(
+    ends: &impl Abort,
     alloc: Global,
-    connection: Connection<FileStore<D>>,
-) -> Option<(Fault, Connection<FileStore<D>>)>
-    requires rises { connection.in_transaction ≡ false → CanBeAdopted (file_state connection) }
-    ensures again { IfSome result (λ back. back.1.in_transaction ≡ false
-        → CanBeAdopted (file_state back.1)) }
-{
-    handed_back(alloc, connection)
-}
-
-#[test]
-fn what_another_hand_changed_is_handed_back(rt: HostRuntime) -> Result<(), Fail> {
-    for change in &CHANGES {
-        is_refused::<Fuse<Memory>>(rt.alloc(), change)?;
-    }
-    Ok(())
-}
-
-fn is_refused<D: StoppingDisk>(alloc: Global, change: &str) -> Result<(), Fail> {
-    match connected(alloc, files_after::<D>(alloc, change)?) {
-        Ok(connection) => is_handed_back(alloc, change, connection),
-        Err(_files) => Err(Fail::new(format_args!("after {change} nothing opens"))),
-    }
-}
-
-// The connection is refused, twice.
-fn is_handed_back<S: Alter + Drop>(
-    alloc: Global,
-    change: &str,
     connection: Connection<S>,
-) -> Result<(), Fail>
+) -> Option<((Fault, Fault), Connection<S>)>
     requires rises { CanBeAdopted (state S.Store connection) }
 {
     match handed_back(alloc, connection) {
-        None => Err(Fail::new(format_args!("a registry after {change}"))),
-        Some((fault, connection)) => is_back_again(alloc, change, fault, connection),
+        None => None,
+        Some((first, connection)) => match handed_back(alloc, connection) {
+            None => panic!(ends; "the second adoption makes a registry"),
+            Some((second, connection)) => Some(((first, second), connection)),
+        },
     }
 }
 
-fn is_back_again<S: Alter + Drop>(
+// The same for files. Only this function tries to adopt a connection to files.
+fn files_handed_back<D: StoppingDisk>(
+    ends: &impl Abort,
     alloc: Global,
-    change: &str,
-    first: Fault,
-    connection: Connection<S>,
-) -> Result<(), Fail>
-    requires rises { connection.in_transaction ≡ false → CanBeAdopted (state S.Store connection) }
+    connection: Connection<FileStore<D>>,
+) -> Option<((Fault, Fault), Connection<FileStore<D>>)>
+    requires rises { CanBeAdopted (file_state connection) }
 {
-    match handed_back(alloc, connection) {
-        None => Err(Fail::new(format_args!("then a registry after {change}"))),
-        Some((again, _)) => same(change, (first, again), (Fault::Database, Fault::Database)),
+    handed_back_twice(ends, alloc, connection)
+}
+
+#[test]
+fn what_another_hand_changed_is_handed_back(rt: HostRuntime) {
+    for change in &CHANGES {
+        is_handed_back::<TestDisk>(&rt, rt.alloc(), change);
+    }
+}
+
+fn is_handed_back<D: StoppingDisk>(ends: &impl Abort, alloc: Global, change: &str) {
+    let files: Files<D> = files_after(ends, alloc, change);
+    match connected(alloc, files) {
+        Ok(connection) => match files_handed_back(ends, alloc, connection) {
+            None => panic!(ends; "a registry after {change}"),
+            Some((faults, connection)) => {
+                let _closed = close(connection);
+                same(ends, change, faults, (Fault::Database, Fault::Database));
+            }
+        },
+        Err(_files) => panic!(ends; "after {change} nothing opens"),
     }
 }
 
 #[test]
-fn a_connection_inside_a_transaction_is_handed_back(rt: HostRuntime) -> Result<(), Fail> {
-    is_back_inside::<Fuse<Memory>>(rt.alloc())
+fn a_connection_inside_a_transaction_is_handed_back(rt: HostRuntime) {
+    let registry = Registry::in_memory(rt.alloc()).expect(&rt, "a registry");
+    is_back_inside(&rt, rt.alloc(), registry.release());
 }
 
-fn is_back_inside<D: StoppingDisk>(alloc: Global) -> Result<(), Fail> {
-    match connected(alloc, files_after::<D>(alloc, SAME)?) {
-        Ok(connection) => is_back_once_begun(alloc, connection),
-        Err(_files) => Err(Fail::new(format_args!("nothing opens"))),
-    }
-}
-
-fn is_back_once_begun<S: Alter + Drop>(
-    alloc: Global,
-    connection: Connection<S>,
-) -> Result<(), Fail> {
-    let connection = executed(connection, "BEGIN")?;
+fn is_back_inside<S: Alter + Drop>(ends: &impl Abort, alloc: Global, connection: Connection<S>) {
+    let mut connection = connection;
+    run(ends, &mut connection, "BEGIN");
     if connection.is_autocommit() {
-        return Err(Fail::new(format_args!("no transaction is open")));
+        panic!(ends; "no transaction is open");
     }
-    is_back_as_it_was(alloc, connection)
+    is_back_as_it_was(ends, alloc, connection);
 }
 
-fn is_back_as_it_was<S: Alter + Drop>(alloc: Global, connection: Connection<S>) -> Result<(), Fail>
+fn is_back_as_it_was<S: Alter + Drop>(ends: &impl Abort, alloc: Global, connection: Connection<S>)
     requires inside { connection.in_transaction ≡ true }
 {
     match handed_back(alloc, connection) {
-        None => Err(Fail::new(format_args!("a registry inside a transaction"))),
+        None => panic!(ends; "a registry inside a transaction"),
         Some((fault, connection)) => same(
+            ends,
             "the fault, and it is inside",
             (fault, connection.is_autocommit()),
             (Fault::Database, false),
@@ -179,51 +146,42 @@ fn is_back_as_it_was<S: Alter + Drop>(alloc: Global, connection: Connection<S>) 
 }
 
 #[test]
-fn files_come_back_from_an_open(rt: HostRuntime) -> Result<(), Fail> {
-    come_back::<Fuse<Memory>>(rt.alloc())
-}
-
-fn come_back<D: StoppingDisk>(alloc: Global) -> Result<(), Fail> {
-    let files = files_after::<D>(alloc, "CREATE TABLE notes (note TEXT)")?;
-    if !files.may_be_used() {
-        return Err(Fail::new(format_args!("the files can't be used")));
-    }
-    match refused(alloc, files) {
-        None => Err(Fail::new(format_args!("a registry with notes"))),
-        Some((fault, files)) => open_without_notes(alloc, fault, files),
-    }
+fn files_come_back_from_an_open(rt: HostRuntime) {
+    come_back::<TestDisk>(&rt, rt.alloc());
 }
 
 // The open fails with the fault of the database, and one without notes doesn't fail.
-fn open_without_notes<D: StoppingDisk>(
-    alloc: Global,
-    fault: Fault,
-    files: Files<D>,
-) -> Result<(), Fail> {
-    let files = changed(alloc, files, "DROP TABLE notes")?;
-    same(
-        "the fault, and it opens without notes",
-        (fault, opens(alloc, files)),
-        (Fault::Database, true),
-    )
+fn come_back<D: StoppingDisk>(ends: &impl Abort, alloc: Global) {
+    let files: Files<D> = files_after(ends, alloc, "CREATE TABLE notes (note TEXT)");
+    if !files.may_be_used() {
+        panic!(ends; "the files can't be used");
+    }
+    match opened(alloc, files) {
+        Ok(_registry) => panic!(ends; "a registry with notes"),
+        Err((fault, files)) => {
+            let files = changed(ends, alloc, files, "DROP TABLE notes");
+            same(ends, "with notes", fault, Fault::Database);
+            same(ends, "without notes", opens(ends, alloc, files), true);
+        }
+    }
 }
 
 // Repeats until an adoption meets no fault: after a fault, another adoption meets it again, and a
 // crash leaves files that open.
 #[test]
-fn a_fault_of_the_disk_is_met_again(rt: HostRuntime) -> Result<(), Fail> {
+fn a_fault_of_the_disk_is_met_again(rt: HostRuntime) {
     let mut faults = 0u64;
     for calls in 0..MOST_CALLS {
-        match is_met_again::<Fuse<Memory>>(rt.alloc(), calls)? {
+        match adoption_at::<TestDisk>(&rt, rt.alloc(), calls) {
             Adoption::Unopened => {}
             Adoption::Fails => faults = faults.saturating_add(1),
-            Adoption::Succeeds => return same("some adoptions fail", faults > 0, true),
+            Adoption::Succeeds => return same(&rt, "some adoptions fail", faults > 0, true),
         }
     }
-    Err(Fail::new(format_args!("it stops after {MOST_CALLS} calls, too")))
+    panic!(rt; "it stops after {MOST_CALLS} calls, too")
 }
 
-/// The result of an adoption of files whose log stops.
+/// The result of an adoption of empty files whose log stops.
 enum Adoption {
     /// They weren't opened.
     Unopened,
@@ -232,121 +190,77 @@ enum Adoption {
     Succeeds,
 }
 
-fn is_met_again<D: StoppingDisk>(alloc: Global, calls: u64) -> Result<Adoption, Fail> {
-    match connected(alloc, empty_files::<D>(alloc, Stopping::Log, calls)) {
-        Ok(connection) => adoption_of(alloc, calls, connection),
-        Err(_files) => Ok(Adoption::Unopened),
+fn adoption_at<D: StoppingDisk>(ends: &impl Abort, alloc: Global, calls: u64) -> Adoption {
+    let files: Files<D> = empty_files(alloc, Stopping::Log, calls);
+    match connected(alloc, files) {
+        Ok(connection) => adoption_of(ends, alloc, calls, connection),
+        Err(_files) => Adoption::Unopened,
     }
 }
 
 fn adoption_of<D: StoppingDisk>(
+    ends: &impl Abort,
     alloc: Global,
     calls: u64,
     connection: Connection<FileStore<D>>,
-) -> Result<Adoption, Fail>
+) -> Adoption
     requires rises { CanBeAdopted (file_state connection) }
 {
-    match files_handed_back(alloc, connection) {
-        None => Ok(Adoption::Succeeds),
-        Some((_, connection)) => meets_it_again(alloc, calls, connection),
+    match files_handed_back(ends, alloc, connection) {
+        None => Adoption::Succeeds,
+        Some((_, connection)) => {
+            let Closed { files, .. } = close(connection);
+            let is_open = opens(ends, alloc, left_of(ends, alloc, files, Leaves::Synced));
+            same(ends, (calls, "it opens"), is_open, true);
+            Adoption::Fails
+        }
     }
 }
 
-fn meets_it_again<D: StoppingDisk>(
-    alloc: Global,
-    calls: u64,
-    connection: Connection<FileStore<D>>,
-) -> Result<Adoption, Fail>
-    requires rises { connection.in_transaction ≡ false → CanBeAdopted (file_state connection) }
-{
-    match files_handed_back(alloc, connection) {
-        None => Err(Fail::new(format_args!("after {calls} calls a registry"))),
-        Some((_, connection)) => opens_after_a_crash(alloc, calls, connection),
+// Whether a registry opens from the files. It is closed again.
+fn opens<D: Disk + Drop>(ends: &impl Abort, alloc: Global, files: Files<D>) -> bool {
+    match opened(alloc, files) {
+        Ok(registry) => {
+            let (_outcomes, _closed) = asked(ends, alloc, registry, Rows::Any, &[]);
+            true
+        }
+        Err(_) => false,
     }
-}
-
-fn opens_after_a_crash<D: StoppingDisk>(
-    alloc: Global,
-    calls: u64,
-    connection: Connection<FileStore<D>>,
-) -> Result<Adoption, Fail> {
-    let Closed { files, .. } = close(connection);
-    let is_open = opens(alloc, left_of(alloc, files, Leaves::Synced)?);
-    same((calls, "it opens"), is_open, true)?;
-    Ok(Adoption::Fails)
 }
 
 // The files of a registry that was asked the commands, and then changed by this SQL.
-fn files_after<D: StoppingDisk>(alloc: Global, change: &str) -> Result<Files<D>, Fail> {
-    let files = files_of_commands::<D>(alloc)?;
-    changed(alloc, files, change)
-}
-
-// The files of a registry that was asked the commands.
-fn files_of_commands<D: StoppingDisk>(alloc: Global) -> Result<Files<D>, Fail> {
-    match opened(alloc, empty_files::<D>(alloc, Stopping::Both, NEVER)) {
-        Ok(registry) => files_once_asked(alloc, registry),
-        Err(_files) => Err(Fail::new(format_args!("nothing opens"))),
+fn files_after<D: StoppingDisk>(ends: &impl Abort, alloc: Global, change: &str) -> Files<D> {
+    match opened(alloc, empty_files(alloc, Stopping::Both, NEVER)) {
+        Ok(registry) => {
+            let commands = requests(ends, alloc, COMMANDS);
+            let lists = [commands.as_slice()];
+            let (outcomes, Closed { files, .. }) = asked(ends, alloc, registry, Rows::Any, &lists);
+            are_replies(ends, &outcomes);
+            let files = left_of(ends, alloc, files, Leaves::Written);
+            changed(ends, alloc, files, change)
+        }
+        Err(_) => panic!(ends; "nothing opens"),
     }
-}
-
-fn files_once_asked<D: StoppingDisk>(
-    alloc: Global,
-    registry: Registry<FileStore<D>>,
-) -> Result<Files<D>, Fail> {
-    let Closed { files, .. } = ended(asked_by(alloc, registry)?);
-    left_of(alloc, files, Leaves::Written)
-}
-
-fn asked_by<S: Alter + Drop>(alloc: Global, registry: Registry<S>) -> Result<Registry<S>, Fail> {
-    let mut registry = registry;
-    ask_commands(alloc, &mut registry)?;
-    Ok(registry)
-}
-
-fn ask_commands<S: Alter>(alloc: Global, registry: &mut Registry<S>) -> Result<(), Fail> {
-    let commands = requests_of(alloc, COMMANDS)?;
-    ask_all(alloc, registry, &commands)
-}
-
-// No request meets a fault.
-fn ask_all<S: Alter>(
-    alloc: Global,
-    registry: &mut Registry<S>,
-    requests: &[Request],
-) -> Result<(), Fail> {
-    for request in requests {
-        let _reply = outcome_of(alloc, registry, request)?;
-    }
-    Ok(())
 }
 
 // The files of a database that is changed by this SQL.
 fn changed<D: StoppingDisk>(
+    ends: &impl Abort,
     alloc: Global,
     files: Files<D>,
     change: &str,
-) -> Result<Files<D>, Fail> {
+) -> Files<D> {
     match connected(alloc, files) {
-        Ok(connection) => closed_after(alloc, connection, change),
-        Err(_files) => Err(Fail::new(format_args!("nothing opens before {change}"))),
+        Ok(connection) => {
+            let mut connection = connection;
+            run(ends, &mut connection, change);
+            let Closed { files, .. } = close(connection);
+            left_of(ends, alloc, files, Leaves::Written)
+        }
+        Err(_files) => panic!(ends; "nothing opens before {change}"),
     }
 }
 
-fn closed_after<D: StoppingDisk>(
-    alloc: Global,
-    connection: Connection<FileStore<D>>,
-    change: &str,
-) -> Result<Files<D>, Fail> {
-    let Closed { files, .. } = close(executed(connection, change)?);
-    left_of(alloc, files, Leaves::Written)
-}
-
-fn executed<S: Alter + Drop>(
-    connection: Connection<S>,
-    change: &str,
-) -> Result<Connection<S>, Fail> {
-    let mut connection = connection;
-    connection.execute_batch(change)?;
-    Ok(connection)
+fn run<S: Alter>(ends: &impl Abort, connection: &mut Connection<S>, text: &str) {
+    connection.execute_batch(text).expect(ends, text);
 }

@@ -1,20 +1,21 @@
 //! A disk that gives back another byte than it was given: the file is refused, and the page is
 //! never read as data.
 
+use crate::asking::{Rows, are_replies, asked, requests};
 use crate::disks::{
-    Closed, NEVER, Stopping, StoppingDisk, empty_files, ended, files_of, opened, refused,
+    Closed, NEVER, Stopping, StoppingDisk, TestDisk, empty_files, files_of, opened,
 };
+use crate::outcome::same;
 use crate::requests::{ADD_ANN, COMMANDS, QUERIES, TAGS_OF_NONE};
 use registry_desk::Registry;
 use registry_names::{Fault, Refusal};
 use registry_rules::{Reply, Request};
-use registry_tests_requests::{Outcome, outcome_of, outcomes_of, request_of, requests_of};
-use registry_tests_support::same;
-use sqlite::{Alter, FileStore, Files};
-use sqlite_disk::{Disk, Fuse, Memory, Wary};
-use std::alloc::{AllocError, Global};
+use registry_tests_requests::Outcome;
+use sqlite::{FileFrom, FileStore, Files};
+use sqlite_disk::{Disk, Wary};
+use std::alloc::Global;
 use std::fs;
-use std::test::Fail;
+use std::process::Abort;
 
 const FOLDER: &str = "spoiled_files";
 
@@ -42,252 +43,154 @@ const ANN_IS_THERE: Told = (ADD_ANN, Some(Refusal::Exists));
 const NONE_IS_FOUND: Told = (TAGS_OF_NONE, Some(Refusal::NotFound));
 
 #[test]
-fn a_registry_in_files_in_memory_lasts(rt: HostRuntime) -> Result<(), Fail> {
-    lasts::<Fuse<Memory>>(rt.alloc())
-}
-
-#[test]
-fn a_byte_changed_in_the_head_is_refused(rt: HostRuntime) -> Result<(), Fail> {
-    no_changed_head_opens::<Fuse<Memory>>(rt.alloc())
-}
-
-#[test]
-fn a_byte_changed_in_any_page_is_never_read(rt: HostRuntime) -> Result<(), Fail> {
-    let _ = fs::remove_dir_all(&rt, FOLDER);
-    fs::create_dir(&rt, FOLDER)?;
-    no_changed_byte_is_read(&rt)?;
-    Ok(fs::remove_dir_all(&rt, FOLDER)?)
+fn a_registry_in_files_in_memory_lasts(rt: HostRuntime) {
+    lasts::<TestDisk>(&rt, rt.alloc());
 }
 
 // In the second run, a registry holds what was answered in the first.
-fn lasts<D: StoppingDisk>(alloc: Global) -> Result<(), Fail> {
-    let files = empty_files::<D>(alloc, Stopping::Both, NEVER);
-    let files = told_in(alloc, files, ANN_IS_ADDED)?;
-    let _files = told_again(alloc, files)?;
-    Ok(())
-}
-
-fn told_again<D: Disk + Drop>(alloc: Global, files: Files<D>) -> Result<Files<D>, Fail> {
-    let files = told_in(alloc, files, ANN_IS_THERE)?;
-    told_in(alloc, files, NONE_IS_FOUND)
+fn lasts<D: StoppingDisk>(ends: &impl Abort, alloc: Global) {
+    let files: Files<D> = empty_files(alloc, Stopping::Both, NEVER);
+    let files = told_in(ends, alloc, files, ANN_IS_ADDED);
+    let files = told_in(ends, alloc, files, ANN_IS_THERE);
+    let _files = told_in(ends, alloc, files, NONE_IS_FOUND);
 }
 
 // No registry opens from files with one byte of the header changed. The first page ends in a
 // checksum of its bytes, which any change of one byte makes wrong, and no log replaces the page;
 // and a changed size of pages or of checksums isn't a valid size.
-fn no_changed_head_opens<D: StoppingDisk>(alloc: Global) -> Result<(), Fail> {
-    let files = empty_files::<D>(alloc, Stopping::Both, NEVER);
-    let files = told_in(alloc, files, ANN_IS_ADDED)?;
-    whole_alone_opens::<D>(alloc, files.db.written())
+#[test]
+fn a_byte_changed_in_the_head_is_refused(rt: HostRuntime) {
+    whole_alone_opens::<TestDisk>(&rt, rt.alloc());
 }
 
-// A registry opens from these bytes, and none opens where one byte of the header is changed.
-fn whole_alone_opens<D: StoppingDisk>(alloc: Global, whole: &[u8]) -> Result<(), Fail> {
-    opens_whole::<D>(alloc, whole)?;
+// A registry opens from a copy of its files, and none opens where one byte of the header is changed.
+fn whole_alone_opens<D: StoppingDisk>(ends: &impl Abort, alloc: Global) {
+    let files: Files<D> = empty_files(alloc, Stopping::Both, NEVER);
+    let files = told_in(ends, alloc, files, ANN_IS_ADDED);
+    let whole = files.db.written();
+    let copy: Files<D> = files_of(ends, alloc, whole);
+    let _copy = told_in(ends, alloc, copy, ANN_IS_THERE);
     for place in &HEAD {
-        opens_changed_at::<D>(alloc, whole, *place)?;
+        opens_none::<D>(ends, alloc, whole, *place);
     }
-    Ok(())
 }
 
-fn opens_whole<D: StoppingDisk>(alloc: Global, whole: &[u8]) -> Result<(), Fail> {
-    let _files = told_in(alloc, files_of::<D>(alloc, whole)?, ANN_IS_THERE)?;
-    Ok(())
+// No registry opens from these bytes with the one at this place changed.
+fn opens_none<D: StoppingDisk>(ends: &impl Abort, alloc: Global, whole: &[u8], place: usize) {
+    let bytes = spoiled(ends, alloc, whole, place);
+    let files: Files<D> = files_of(ends, alloc, &bytes);
+    if !files.may_be_used() {
+        panic!(ends; "the files can't be used");
+    }
+    match opened(alloc, files) {
+        Ok(_registry) => panic!(ends; "a registry opens, with byte {place} changed"),
+        Err((fault, _files)) => same(ends, place, fault, Fault::Database),
+    }
 }
 
-// The byte at this place is changed.
-fn opens_changed_at<D: StoppingDisk>(
-    alloc: Global,
-    whole: &[u8],
-    place: usize,
-) -> Result<(), Fail> {
-    let bytes = spoiled(alloc, whole, place)?;
-    opens_none(alloc, place, files_of::<D>(alloc, &bytes)?)
-}
-
-fn spoiled(alloc: Global, whole: &[u8], place: usize) -> Result<Vec<u8>, AllocError> {
-    let mut bytes = Vec::new(alloc);
-    bytes.extend_from_slice(whole)?;
+// These bytes, with the one at this place changed.
+fn spoiled(ends: &impl Abort, alloc: Global, whole: &[u8], place: usize) -> Vec<u8> {
+    let mut bytes = Vec::from_slice(alloc, whole).expect(ends, "memory");
     if let Some(byte) = bytes.get_mut(place) {
         *byte ^= 0x5a;
     }
-    Ok(bytes)
-}
-
-// No registry opens from these files, where the byte at this place was changed.
-fn opens_none<D: Disk + Drop>(alloc: Global, place: usize, files: Files<D>) -> Result<(), Fail> {
-    if !files.may_be_used() {
-        return Err(Fail::new(format_args!("the files can't be used")));
-    }
-    match refused(alloc, files) {
-        None => Err(Fail::new(format_args!("a registry opens, with byte {place} changed"))),
-        Some((fault, _files)) => same(place, fault, Fault::Database),
-    }
+    bytes
 }
 
 // The files, after a registry in them answered as it should.
-fn told_in<D: Disk + Drop>(alloc: Global, files: Files<D>, told: Told) -> Result<Files<D>, Fail> {
+fn told_in<D: Disk + Drop>(
+    ends: &impl Abort,
+    alloc: Global,
+    files: Files<D>,
+    told: Told,
+) -> Files<D> {
     match opened(alloc, files) {
-        Ok(registry) => told_closed(alloc, registry, told),
-        Err(_files) => Err(Fail::new(format_args!("no registry opens from the files"))),
+        Ok(registry) => told_closed(ends, alloc, registry, told),
+        Err(_) => panic!(ends; "no registry opens from the files"),
     }
 }
 
 fn told_closed<D: Disk + Drop>(
+    ends: &impl Abort,
     alloc: Global,
     registry: Registry<FileStore<D>>,
     told: Told,
-) -> Result<Files<D>, Fail> {
-    let Closed { is_whole, files } = ended(told_by(alloc, registry, told)?);
-    same("the close", is_whole, true)?;
-    Ok(files)
-}
-
-fn told_by<S: Alter + Drop>(
-    alloc: Global,
-    registry: Registry<S>,
-    told: Told,
-) -> Result<Registry<S>, Fail> {
-    let mut registry = registry;
-    answers_as_told(alloc, &mut registry, told)?;
-    Ok(registry)
-}
-
-fn answers_as_told<S: Alter>(
-    alloc: Global,
-    registry: &mut Registry<S>,
-    told: Told,
-) -> Result<(), Fail> {
-    let is_told = is_told(alloc, registry, told)?;
-    same("the reply", is_told, true)
-}
-
-// Whether a registry answers as it should.
-fn is_told<S: Alter>(alloc: Global, registry: &mut Registry<S>, told: Told) -> Result<bool, Fail> {
+) -> Files<D> {
     let (words, refusal) = told;
-    let request = request_of(alloc, words)?;
-    Ok(is_reply(&outcome_of(alloc, registry, &request), refusal))
+    let requests = requests(ends, alloc, words);
+    let lists = [requests.as_slice()];
+    let (outcomes, Closed { is_whole, files }) = asked(ends, alloc, registry, Rows::Any, &lists);
+    same(ends, words, are_told(&outcomes, refusal), true);
+    same(ends, "the close", is_whole, true);
+    files
 }
 
-fn is_reply(outcome: &Outcome, refusal: Option<Refusal>) -> bool {
-    match outcome {
-        Ok(Reply::Done) => refusal.is_none(),
-        Ok(Reply::Refused(given)) => refusal == Some(*given),
+fn are_told(outcomes: &[Outcome], refusal: Option<Refusal>) -> bool {
+    match outcomes {
+        [Ok(Reply::Done)] => refusal.is_none(),
+        [Ok(Reply::Refused(given))] => refusal == Some(*given),
         _ => false,
     }
 }
 
-// Makes the file. The queries show the same until a byte is changed.
-fn no_changed_byte_is_read(rt: &HostRuntime) -> Result<(), Fail> {
-    let queries = requests_of(rt.alloc(), QUERIES)?;
-    whole_file_alone_opens(rt, &queries)
-}
-
-fn whole_file_alone_opens(rt: &HostRuntime, queries: &[Request]) -> Result<(), Fail> {
-    let outcomes = made(rt)?;
-    are_replies(&outcomes)?;
-    let first = outcomes.len().saturating_sub(queries.len());
-    no_changed_page_opens(rt, queries, outcomes.get(first..).unwrap_or(&[]))
-}
-
-// Makes the file. Returns the outcomes of the commands, and then of the queries.
-fn made(rt: &HostRuntime) -> Result<Vec<Outcome>, Fail> {
-    let text = format!(in rt.alloc(); "{COMMANDS}{QUERIES}")?;
-    made_by(rt, &text)
-}
-
-fn made_by(rt: &HostRuntime, text: &str) -> Result<Vec<Outcome>, Fail> {
-    let requests = requests_of(rt.alloc(), text)?;
-    Ok(outcomes_at(rt, &requests)?)
-}
-
-fn are_replies(outcomes: &[Outcome]) -> Result<(), Fail> {
-    for (place, outcome) in outcomes.iter().enumerate() {
-        same(("a fault", place), outcome.is_err(), false)?;
-    }
-    Ok(())
-}
-
 // With no byte changed, the registry opens and shows what it showed before; with one changed, none
 // opens.
-fn no_changed_page_opens(
-    rt: &HostRuntime,
-    queries: &[Request],
-    shown: &[Outcome],
-) -> Result<(), Fail> {
-    are_shown(rt, queries, shown)?;
-    let whole = fs::read(rt, PATH)?;
+#[test]
+fn a_byte_changed_in_any_page_is_never_read(rt: HostRuntime) {
+    let _ = fs::remove_dir_all(&rt, FOLDER);
+    fs::create_dir(&rt, FOLDER).expect(&rt, "a folder");
+    let commands = requests(&rt, rt.alloc(), COMMANDS);
+    let queries = requests(&rt, rt.alloc(), QUERIES);
+    let made = outcomes_at(&rt, &rt, &[commands.as_slice(), queries.as_slice()]);
+    let found = outcomes_at(&rt, &rt, &[queries.as_slice()]);
+    let is_shown = made.get(commands.len()..) == Some(found.as_slice());
+    same(&rt, "what is shown", is_shown, true);
+    no_changed_page_opens(&rt, &rt);
+    let _ = fs::remove_dir_all(&rt, FOLDER);
+}
+
+fn no_changed_page_opens(rt: &HostRuntime, ends: &impl Abort) {
+    let whole = fs::read(rt, PATH).expect(ends, "a file");
     for place in (PAGE_LEN / 2..whole.len()).step_by(PAGE_LEN) {
-        no_file_opens(rt, queries, &whole, place)?;
+        let bytes = spoiled(ends, rt.alloc(), &whole, place);
+        fs::write(rt, PATH, bytes.as_slice()).expect(ends, "a file");
+        no_file_opens(rt, ends, place);
     }
-    Ok(())
 }
 
-fn are_shown(rt: &HostRuntime, queries: &[Request], shown: &[Outcome]) -> Result<(), Fail> {
-    let found = outcomes_at(rt, queries)?;
-    same("what is shown", found.as_slice() == shown, true)
+// No registry opens from the file, and what is left of it is handed back.
+fn no_file_opens(rt: &HostRuntime, ends: &impl Abort, place: usize) {
+    match opened_at(rt) {
+        Ok(_registry) => panic!(ends; "a registry opens, with byte {place} changed"),
+        Err(refused) => same(ends, place, refused, (Fault::Database, true)),
+    }
 }
 
-// The file has these bytes, and the one at this place is changed.
-fn no_file_opens(
-    rt: &HostRuntime,
-    queries: &[Request],
-    whole: &[u8],
-    place: usize,
-) -> Result<(), Fail> {
-    write_spoiled(rt, whole, place)?;
-    let fault = outcomes_at(rt, queries).err();
-    same(place, fault, Some(Fault::Database))?;
-    same(("left of it", place), is_handed_back(rt), true)
-}
-
-// Whether the file isn't opened, and what is left of it is handed back.
-fn is_handed_back(rt: &HostRuntime) -> bool {
-    matches!(Registry::open_from(rt, PATH, Wary), Err((_, Some(_))))
-}
-
-fn write_spoiled(rt: &HostRuntime, whole: &[u8], place: usize) -> Result<(), Fail> {
-    let bytes = spoiled(rt.alloc(), whole, place)?;
-    Ok(fs::write(rt, PATH, bytes.as_slice())?)
-}
-
-// The outcomes of these requests at a registry from the file, which is closed afterwards. A fault
-// is returned where no registry opens.
-fn outcomes_at(rt: &HostRuntime, requests: &[Request]) -> Result<Vec<Outcome>, Fault> {
+// The registry in the file; or a fault, and whether what is left of the file was handed back. It is
+// the only caller of `open_from`, whose contract says far more.
+fn opened_at(rt: &HostRuntime) -> Result<Registry<FileStore<FileFrom<Wary>>>, (Fault, bool)> {
     match Registry::open_from(rt, PATH, Wary) {
-        Ok(registry) => outcomes_closed(rt.alloc(), registry, requests),
-        Err((fault, _)) => Err(fault),
+        Ok(registry) => Ok(registry),
+        Err((fault, left)) => Err((fault, left.is_some())),
+    }
+}
+
+// The outcomes of these requests at a registry from the file, which is closed afterwards.
+fn outcomes_at(rt: &HostRuntime, ends: &impl Abort, lists: &[&[Request]]) -> Vec<Outcome> {
+    match opened_at(rt) {
+        Ok(registry) => outcomes_closed(ends, rt.alloc(), registry, lists),
+        Err((fault, _)) => panic!(ends; "nothing opens: {fault:?}"),
     }
 }
 
 fn outcomes_closed<D: Disk + Drop>(
+    ends: &impl Abort,
     alloc: Global,
     registry: Registry<FileStore<D>>,
-    requests: &[Request],
-) -> Result<Vec<Outcome>, Fault> {
-    let (outcomes, registry) = outcomes_by(alloc, registry, requests)?;
-    if is_whole_at_the_end(registry) {
-        Ok(outcomes)
-    } else {
-        Err(Fault::Database)
-    }
-}
-
-fn outcomes_by<S: Alter + Drop>(
-    alloc: Global,
-    registry: Registry<S>,
-    requests: &[Request],
-) -> Result<(Vec<Outcome>, Registry<S>), Fault> {
-    let mut registry = registry;
-    let outcomes = outcomes_of(alloc, &mut registry, requests)?;
-    Ok((outcomes, registry))
-}
-
-// Whether everything is done where a registry ends.
-fn is_whole_at_the_end<D: Disk + Drop>(registry: Registry<FileStore<D>>) -> bool {
-    let Closed {
-        is_whole,
-        files: _files,
-    } = ended(registry);
-    is_whole
+    lists: &[&[Request]],
+) -> Vec<Outcome> {
+    let (outcomes, closed) = asked(ends, alloc, registry, Rows::Any, lists);
+    are_replies(ends, &outcomes);
+    same(ends, "the close", closed.is_whole, true);
+    outcomes
 }

@@ -1,20 +1,20 @@
 //! A stop at each call of the database file, and at each of its log. After some of them the open
 //! that follows stops at each of its calls, too.
 
-use crate::checks::checked;
+use crate::asking::{Rows, asked, requests};
 use crate::disks::{
-    Closed, Leaves, Stopping, StoppingDisk, copied, empty_files, ended, left_of, opened,
+    Closed, Leaves, Stopping, StoppingDisk, TestDisk, copied, empty_files, left_of, opened,
 };
+use crate::outcome::same;
 use crate::requests::{COMMANDS, QUERIES};
 use registry_desk::Registry;
 use registry_rules::{Reply, Request};
-use registry_tests_requests::{Outcome, outcome_of, outcomes_of, requests_of};
-use registry_tests_support::same;
+use registry_tests_requests::{Outcome, outcome_of, outcomes_of};
 use sqlite::{Alter, FileStore, Files};
-use sqlite_disk::{Disk, Fuse, Memory};
-use std::alloc::{AllocError, Global};
+use sqlite_disk::Disk;
+use std::alloc::Global;
 use std::env;
-use std::test::Fail;
+use std::process::Abort;
 
 /// More calls than any run makes of one file.
 const MOST_CALLS: u64 = 10_000;
@@ -60,6 +60,24 @@ impl Drop for Answers {
     }
 }
 
+impl Story {
+    // Whether these are what the queries show after this many commands.
+    fn shows(&self, commands: usize, outcomes: &[Outcome]) -> bool {
+        match self.answers.shown.get(commands) {
+            Some(shown) => shown.as_slice() == outcomes,
+            None => false,
+        }
+    }
+
+    // Whether the stopped command is answered as in memory: as for the first time where it wasn't
+    // done, and as when it is asked again where it was. After the last command there is none.
+    fn is_told_again(&self, answered: usize, shown: Shown, reply: Option<&Outcome>) -> bool {
+        let is_first = self.answers.replies.get(answered) == reply;
+        let is_again = self.answers.again.get(answered) == reply;
+        (shown.is_before && is_first) || (shown.is_after && is_again)
+    }
+}
+
 /// What stops, and what a stop leaves.
 #[derive(Clone, Copy)]
 struct Stops {
@@ -96,33 +114,33 @@ struct Shown {
 }
 
 #[test]
-fn a_lost_database_file_loses_no_answer(rt: HostRuntime) -> Result<(), Fail> {
-    no_stop_loses_an_answer(&rt, Stopping::Database, Leaves::Synced)
+fn a_lost_database_file_loses_no_answer(rt: HostRuntime) {
+    no_stop_loses_an_answer(&rt, &rt, Stopping::Database, Leaves::Synced);
 }
 
 #[test]
-fn a_lost_log_loses_no_answer(rt: HostRuntime) -> Result<(), Fail> {
-    no_stop_loses_an_answer(&rt, Stopping::Log, Leaves::Synced)
+fn a_lost_log_loses_no_answer(rt: HostRuntime) {
+    no_stop_loses_an_answer(&rt, &rt, Stopping::Log, Leaves::Synced);
 }
 
 #[test]
-fn a_loss_of_both_files_loses_no_answer(rt: HostRuntime) -> Result<(), Fail> {
-    no_stop_loses_an_answer(&rt, Stopping::Both, Leaves::Synced)
+fn a_loss_of_both_files_loses_no_answer(rt: HostRuntime) {
+    no_stop_loses_an_answer(&rt, &rt, Stopping::Both, Leaves::Synced);
 }
 
 #[test]
-fn a_kill_loses_no_answer(rt: HostRuntime) -> Result<(), Fail> {
-    no_stop_loses_an_answer(&rt, Stopping::Both, Leaves::Written)
+fn a_kill_loses_no_answer(rt: HostRuntime) {
+    no_stop_loses_an_answer(&rt, &rt, Stopping::Both, Leaves::Written);
 }
 
 #[test]
-fn a_kill_at_the_database_file_loses_no_answer(rt: HostRuntime) -> Result<(), Fail> {
-    no_stop_loses_an_answer(&rt, Stopping::Database, Leaves::Written)
+fn a_kill_at_the_database_file_loses_no_answer(rt: HostRuntime) {
+    no_stop_loses_an_answer(&rt, &rt, Stopping::Database, Leaves::Written);
 }
 
 #[test]
-fn a_kill_at_the_log_loses_no_answer(rt: HostRuntime) -> Result<(), Fail> {
-    no_stop_loses_an_answer(&rt, Stopping::Log, Leaves::Written)
+fn a_kill_at_the_log_loses_no_answer(rt: HostRuntime) {
+    no_stop_loses_an_answer(&rt, &rt, Stopping::Log, Leaves::Written);
 }
 
 // Lets a file stop at its first call, at its second, and so on, until a run ends without a stop,
@@ -130,16 +148,24 @@ fn a_kill_at_the_log_loses_no_answer(rt: HostRuntime) -> Result<(), Fail> {
 // the log stops, some run stops each of them.
 fn no_stop_loses_an_answer(
     rt: &HostRuntime,
+    ends: &impl Abort,
     stopping: Stopping,
     leaves: Leaves,
-) -> Result<(), Fail> {
+) {
     let stops = Stops {
         stopping,
         leaves,
         every: every(rt),
     };
-    let story = story_in_memory(rt.alloc())?;
-    goes_on_after_stops(rt, &story, stops)
+    let story = story_in_memory(ends, rt.alloc());
+    let mut made = Made {
+        stopped: Vec::new(rt.alloc()),
+        in_opens: 0,
+    };
+    make_stops(ends, rt.alloc(), &story, stops, &mut made);
+    show(rt, stops, &made);
+    show_places(rt, story.commands.len(), &made.stopped);
+    are_wanted(ends, &story, stopping, &made.stopped);
 }
 
 // After one of this many stops the next open also stops. In `make stops`, `STOPS_EVERY` gives the
@@ -149,17 +175,6 @@ fn every(rt: &HostRuntime) -> u64 {
         Ok(text) => text.as_str().parse::<u64>().unwrap_or(EVERY),
         Err(_) => EVERY,
     }
-}
-
-fn goes_on_after_stops(rt: &HostRuntime, story: &Story, stops: Stops) -> Result<(), Fail> {
-    let mut made = Made {
-        stopped: Vec::new(rt.alloc()),
-        in_opens: 0,
-    };
-    make_stops::<Fuse<Memory>>(rt.alloc(), story, stops, &mut made)?;
-    show(rt, stops, &made);
-    show_places(rt, story.commands.len(), &made.stopped);
-    are_wanted(story, stops.stopping, &made.stopped)
 }
 
 // Prints how many stops there were.
@@ -190,300 +205,265 @@ fn count_at(stopped: &[usize], commands: usize) -> usize {
     count
 }
 
-fn make_stops<D: StoppingDisk>(
-    alloc: Global,
-    story: &Story,
-    stops: Stops,
-    made: &mut Made,
-) -> Result<(), Fail> {
+fn make_stops(ends: &impl Abort, alloc: Global, story: &Story, stops: Stops, made: &mut Made) {
     for calls in 0..MOST_CALLS {
-        if !is_stopped_after::<D>(alloc, calls, story, stops, made)? {
-            return Ok(());
+        if !is_stopped::<TestDisk>(ends, alloc, calls, story, stops, made) {
+            return;
         }
     }
-    Err(Fail::new(format_args!("it stops after {MOST_CALLS} calls, too")))
+    panic!(ends; "it stops after {MOST_CALLS} calls, too")
 }
 
-// Whether a run is stopped where the files that stop pass this many calls. What it leaves goes on.
-fn is_stopped_after<D: StoppingDisk>(
+// Whether a run is stopped where the files that stop pass this many calls. A registry goes on from
+// what it leaves. If the next open is to stop as well, it stops first.
+fn is_stopped<D: StoppingDisk>(
+    ends: &impl Abort,
     alloc: Global,
     calls: u64,
     story: &Story,
     stops: Stops,
     made: &mut Made,
-) -> Result<bool, Fail> {
-    let files = empty_files::<D>(alloc, stops.stopping, calls);
+) -> bool {
+    let files: Files<D> = empty_files(alloc, stops.stopping, calls);
     let Run {
         answered,
         is_stopped,
         files,
-    } = run_until_stopped(alloc, files, &story.commands);
-    let left = left_of(alloc, files, stops.leaves)?;
+    } = run_until_stopped(ends, alloc, files, &story.commands);
+    let left = left_of(ends, alloc, files, stops.leaves);
     if is_stopped {
-        after_the_stop(alloc, calls, left, story, stops, answered, made)?;
-    } else {
-        goes_on(alloc, calls, left, story, answered)?;
+        made.stopped.push(answered).expect(ends, "memory");
+        if calls.checked_rem(stops.every) == Some(0) {
+            let count = stops_of_open(ends, alloc, &left, story, stops, answered);
+            made.in_opens = made.in_opens.saturating_add(count);
+        }
     }
-    Ok(is_stopped)
-}
-
-// A registry goes on from what a stop leaves. If the next open is to stop as well, it stops first.
-fn after_the_stop<D: StoppingDisk>(
-    alloc: Global,
-    calls: u64,
-    left: Files<D>,
-    story: &Story,
-    stops: Stops,
-    answered: usize,
-    made: &mut Made,
-) -> Result<(), Fail> {
-    made.stopped.push(answered)?;
-    if calls.checked_rem(stops.every) == Some(0) {
-        stop_opens(alloc, &left, story, stops, answered, &mut made.in_opens)?;
-    }
-    goes_on(alloc, calls, left, story, answered)
-}
-
-// Lets opens of what a stop left stop, and counts these stops.
-fn stop_opens<D: StoppingDisk>(
-    alloc: Global,
-    left: &Files<D>,
-    story: &Story,
-    stops: Stops,
-    answered: usize,
-    in_opens: &mut u64,
-) -> Result<(), Fail> {
-    let count = stops_of_open(alloc, left, story, stops, answered)?;
-    *in_opens = in_opens.saturating_add(count);
-    Ok(())
+    goes_on(ends, alloc, calls, left, story, answered);
+    is_stopped
 }
 
 // How many stops an open of what a stop left has. After each of them, and where there is none, the
 // registry shows what the first stop left.
 fn stops_of_open<D: StoppingDisk>(
+    ends: &impl Abort,
     alloc: Global,
     left: &Files<D>,
     story: &Story,
     stops: Stops,
     answered: usize,
-) -> Result<u64, Fail> {
+) -> u64 {
     for calls in 0..MOST_CALLS {
-        if !is_open_stopped(alloc, calls, left, story, stops, answered)? {
-            return Ok(calls);
+        if !is_open_stopped(ends, alloc, calls, left, story, stops, answered) {
+            return calls;
         }
     }
-    Err(Fail::new(format_args!("an open stops after {MOST_CALLS} calls, too")))
+    panic!(ends; "an open stops after {MOST_CALLS} calls, too")
 }
 
-// Whether an open is stopped where the files that stop pass this many calls.
+// Whether an open is stopped where the files that stop pass this many calls. A registry opens from
+// what this second stop leaves of the files.
 fn is_open_stopped<D: StoppingDisk>(
+    ends: &impl Abort,
     alloc: Global,
     calls: u64,
     left: &Files<D>,
     story: &Story,
     stops: Stops,
     answered: usize,
-) -> Result<bool, Fail> {
-    let files = copied(alloc, left, stops.stopping, calls)?;
+) -> bool {
+    let files = copied(ends, alloc, left, stops.stopping, calls);
     match opened(alloc, files) {
-        Ok(registry) => shows_left(alloc, calls, registry, story, answered)?,
-        Err(files) => {
-            opens_again(alloc, calls, files, story, stops.leaves, answered)?;
-            return Ok(true);
+        Ok(registry) => {
+            shows_left(ends, alloc, calls, registry, story, answered);
+            false
+        }
+        Err((_, files)) => {
+            let files = left_of(ends, alloc, files, stops.leaves);
+            opens_again(ends, alloc, calls, files, story, answered);
+            true
         }
     }
-    Ok(false)
 }
 
-// A registry opens from what a second stop leaves of the files, and shows what the first one left.
-fn opens_again<D: StoppingDisk>(
+// A registry opens from the files after a second stop, and shows what the first one left.
+fn opens_again<D: Disk + Drop>(
+    ends: &impl Abort,
     alloc: Global,
     calls: u64,
     files: Files<D>,
     story: &Story,
-    leaves: Leaves,
     answered: usize,
-) -> Result<(), Fail> {
-    match opened(alloc, left_of(alloc, files, leaves)?) {
-        Ok(registry) => shows_left(alloc, calls, registry, story, answered),
-        Err(_files) => Err(Fail::new(format_args!("nothing opens after a second stop"))),
+) {
+    match opened(alloc, files) {
+        Ok(registry) => shows_left(ends, alloc, calls, registry, story, answered),
+        Err(_) => panic!(ends; "nothing opens after a second stop"),
     }
 }
 
+// A registry shows what this many answered commands made, or one more.
 fn shows_left<D: Disk + Drop>(
+    ends: &impl Abort,
     alloc: Global,
     calls: u64,
     registry: Registry<FileStore<D>>,
     story: &Story,
     answered: usize,
-) -> Result<(), Fail> {
-    shows(alloc, calls, registry, story, answered)
+) {
+    let lists = [story.queries.as_slice()];
+    let (outcomes, _closed) = asked(ends, alloc, registry, Rows::Sound, &lists);
+    let _shown = seen(ends, calls, story, answered, &outcomes);
 }
 
-// A registry shows what this many answered commands made, or one more.
-fn shows<S: Alter + Drop>(
+// A registry opens from the files. It shows what this many answered commands made, or one more, and
+// answers the commands that follow as in memory.
+fn goes_on<D: Disk + Drop>(
+    ends: &impl Abort,
     alloc: Global,
     calls: u64,
-    registry: Registry<S>,
+    files: Files<D>,
     story: &Story,
     answered: usize,
-) -> Result<(), Fail> {
-    let mut registry = checked(alloc, calls, registry)?;
-    let shown = shown_by(alloc, &mut registry, story, answered)?;
-    same(
-        (calls, "after a second stop"),
-        shown.is_before || shown.is_after,
-        true,
-    )
+) {
+    match opened(alloc, files) {
+        Ok(registry) => {
+            let queries = story.queries.as_slice();
+            let rest = story.commands.get(answered..).unwrap_or(&[]);
+            let lists = [queries, rest, queries];
+            let (outcomes, _closed) = asked(ends, alloc, registry, Rows::Sound, &lists);
+            went_on(ends, calls, story, answered, &outcomes);
+        }
+        Err(_) => panic!(ends; "after {calls} calls nothing opens"),
+    }
 }
 
-// Whether a registry shows what this many commands made, and whether it shows what one more made.
-fn shown_by<S: Alter>(
-    alloc: Global,
-    registry: &mut Registry<S>,
+// What is shown: what this many commands made, or one more.
+fn seen(
+    ends: &impl Abort,
+    calls: u64,
     story: &Story,
     answered: usize,
-) -> Result<Shown, AllocError> {
-    let found = outcomes_of(alloc, registry, &story.queries)?;
-    Ok(Shown {
-        is_before: is_at(&story.answers.shown, answered, &found),
-        is_after: is_at(&story.answers.shown, answered.saturating_add(1), &found),
-    })
+    outcomes: &[Outcome],
+) -> Shown {
+    let shown = Shown {
+        is_before: story.shows(answered, outcomes),
+        is_after: story.shows(answered.saturating_add(1), outcomes),
+    };
+    let is_shown = shown.is_before || shown.is_after;
+    same(ends, (calls, "what is shown"), is_shown, true);
+    shown
 }
 
-// Whether the queries show these after this many commands.
-fn is_at(shown: &[Vec<Outcome>], commands: usize, found: &Vec<Outcome>) -> bool {
-    shown.get(commands) == Some(found)
+// Checks the outcomes of the queries, of the stopped command and those that follow, and of the
+// queries again.
+fn went_on(ends: &impl Abort, calls: u64, story: &Story, answered: usize, outcomes: &[Outcome]) {
+    let count = story.queries.len();
+    let (first, rest) = outcomes.split_at_checked(count).expect(ends, "queries");
+    let shown = seen(ends, calls, story, answered, first);
+    let middle = rest.len().saturating_sub(count);
+    let (replies, last) = rest.split_at_checked(middle).expect(ends, "queries");
+    let is_told = story.is_told_again(answered, shown, replies.first());
+    same(ends, (calls, "the stopped command"), is_told, true);
+    let follow = story.answers.replies.get(answered.saturating_add(1)..);
+    let are_told = replies.get(1..) == follow;
+    same(ends, (calls, "the commands that follow"), are_told, true);
+    let is_end = story.shows(story.commands.len(), last);
+    same(ends, (calls, "the end"), is_end, true);
 }
 
 // Checks that the stops came where they are wanted. A command writes the log, and only a checkpoint
 // writes the database file.
-fn are_wanted(story: &Story, stopping: Stopping, stopped: &[usize]) -> Result<(), Fail> {
+fn are_wanted(ends: &impl Abort, story: &Story, stopping: Stopping, stopped: &[usize]) {
     match stopping {
-        Stopping::Database => is_one_between(story.commands.len(), stopped),
-        Stopping::Log | Stopping::Both => are_all_stopped(story, stopped),
+        Stopping::Database => {
+            let is_between = is_one_between(story.commands.len(), stopped);
+            same(ends, "a stop is between two commands", is_between, true);
+        }
+        Stopping::Log | Stopping::Both => are_all_stopped(ends, story, stopped),
     }
 }
 
-// Some run was stopped between the first and the last of its commands.
-fn is_one_between(commands: usize, stopped: &[usize]) -> Result<(), Fail> {
-    for answered in stopped {
-        if 0 < *answered && *answered < commands {
-            return Ok(());
-        }
-    }
-    Err(Fail::new(format_args!("no stop is between two commands")))
+// Whether some run was stopped between the first and the last of its commands.
+fn is_one_between(commands: usize, stopped: &[usize]) -> bool {
+    stopped
+        .iter()
+        .any(|answered| 0 < *answered && *answered < commands)
 }
 
 // Each command that isn't refused was stopped in some run.
-fn are_all_stopped(story: &Story, stopped: &[usize]) -> Result<(), Fail> {
+fn are_all_stopped(ends: &impl Abort, story: &Story, stopped: &[usize]) {
     for (place, reply) in story.answers.replies.iter().enumerate() {
         let is_refused = matches!(reply, Ok(Reply::Refused(_)));
         let is_stopped = is_refused || stopped.contains(&place);
-        same((place, "stopped"), is_stopped, true)?;
+        same(ends, (place, "stopped"), is_stopped, true);
     }
-    Ok(())
 }
 
 // What is asked, and what a registry in memory answers.
-fn story_in_memory(alloc: Global) -> Result<Story, Fail> {
-    let commands = requests_of(alloc, COMMANDS)?;
-    story_of(alloc, commands)
-}
-
-fn story_of(alloc: Global, commands: Vec<Request>) -> Result<Story, Fail> {
-    let queries = requests_of(alloc, QUERIES)?;
-    story_with(alloc, commands, queries)
-}
-
-fn story_with(alloc: Global, commands: Vec<Request>, queries: Vec<Request>) -> Result<Story, Fail> {
-    let answers = answers_in_memory(alloc, &commands, &queries)?;
-    Ok(Story {
+fn story_in_memory(ends: &impl Abort, alloc: Global) -> Story {
+    let commands = requests(ends, alloc, COMMANDS);
+    let queries = requests(ends, alloc, QUERIES);
+    let mut registry = Registry::in_memory(alloc).expect(ends, "a registry");
+    let answers = answers_of(ends, alloc, &mut registry, &commands, &queries);
+    Story {
         commands,
         queries,
         answers,
-    })
+    }
 }
 
-fn answers_in_memory(
+fn answers_of<S: Alter>(
+    ends: &impl Abort,
     alloc: Global,
+    registry: &mut Registry<S>,
     commands: &[Request],
     queries: &[Request],
-) -> Result<Answers, Fail> {
-    let registry = Registry::in_memory(alloc)?;
-    answers_of(alloc, registry, commands, queries)
-}
-
-fn answers_of<S: Alter + Drop>(
-    alloc: Global,
-    registry: Registry<S>,
-    commands: &[Request],
-    queries: &[Request],
-) -> Result<Answers, Fail> {
-    let mut registry = registry;
+) -> Answers {
     let mut answers = Answers {
         replies: Vec::new(alloc),
         again: Vec::new(alloc),
         shown: Vec::new(alloc),
     };
-    push_all_answers(alloc, &mut registry, commands, queries, &mut answers)?;
-    Ok(answers)
-}
-
-fn push_all_answers<S: Alter>(
-    alloc: Global,
-    registry: &mut Registry<S>,
-    commands: &[Request],
-    queries: &[Request],
-    answers: &mut Answers,
-) -> Result<(), AllocError> {
-    push_shown(alloc, registry, queries, &mut answers.shown)?;
+    push_shown(ends, alloc, registry, queries, &mut answers.shown);
     for command in commands {
-        push_answers(alloc, registry, command, queries, answers)?;
+        push_outcome(ends, alloc, registry, command, &mut answers.replies);
+        push_shown(ends, alloc, registry, queries, &mut answers.shown);
+        push_outcome(ends, alloc, registry, command, &mut answers.again);
     }
-    Ok(())
-}
-
-fn push_answers<S: Alter>(
-    alloc: Global,
-    registry: &mut Registry<S>,
-    command: &Request,
-    queries: &[Request],
-    answers: &mut Answers,
-) -> Result<(), AllocError> {
-    push_outcome(alloc, registry, command, &mut answers.replies)?;
-    push_shown(alloc, registry, queries, &mut answers.shown)?;
-    push_outcome(alloc, registry, command, &mut answers.again)
+    answers
 }
 
 fn push_outcome<S: Alter>(
+    ends: &impl Abort,
     alloc: Global,
     registry: &mut Registry<S>,
     command: &Request,
     outcomes: &mut Vec<Outcome>,
-) -> Result<(), AllocError> {
-    Ok(outcomes.push(outcome_of(alloc, registry, command))?)
+) {
+    let outcome = outcome_of(alloc, registry, command);
+    outcomes.push(outcome).expect(ends, "memory");
 }
 
 fn push_shown<S: Alter>(
+    ends: &impl Abort,
     alloc: Global,
     registry: &mut Registry<S>,
     queries: &[Request],
     shown: &mut Vec<Vec<Outcome>>,
-) -> Result<(), AllocError> {
-    let outcomes = outcomes_of(alloc, registry, queries)?;
-    Ok(shown.push(outcomes)?)
+) {
+    let outcomes = outcomes_of(alloc, registry, queries).expect(ends, "memory");
+    shown.push(outcomes).expect(ends, "memory");
 }
 
 // Asks a registry in these files the commands until one meets a fault, and closes the files.
 fn run_until_stopped<D: Disk + Drop>(
+    ends: &impl Abort,
     alloc: Global,
     files: Files<D>,
     commands: &[Request],
 ) -> Run<D> {
     match opened(alloc, files) {
-        Ok(registry) => run_to_the_end(alloc, registry, commands),
-        Err(files) => Run {
+        Ok(registry) => run_to_the_end(ends, alloc, registry, commands),
+        Err((_, files)) => Run {
             answered: 0,
             is_stopped: true,
             files,
@@ -492,12 +472,19 @@ fn run_until_stopped<D: Disk + Drop>(
 }
 
 fn run_to_the_end<D: Disk + Drop>(
+    ends: &impl Abort,
     alloc: Global,
     registry: Registry<FileStore<D>>,
     commands: &[Request],
 ) -> Run<D> {
-    let (answered, registry) = answered_by(alloc, registry, commands);
-    let Closed { is_whole, files } = ended(registry);
+    let (outcomes, Closed { is_whole, files }) = asked(
+        ends,
+        alloc,
+        registry,
+        Rows::Any,
+        &[commands],
+    );
+    let answered = answered(&outcomes);
     Run {
         answered,
         is_stopped: !is_whole || answered < commands.len(),
@@ -505,131 +492,10 @@ fn run_to_the_end<D: Disk + Drop>(
     }
 }
 
-fn answered_by<S: Alter + Drop>(
-    alloc: Global,
-    registry: Registry<S>,
-    commands: &[Request],
-) -> (usize, Registry<S>) {
-    let mut registry = registry;
-    let answered = answered(alloc, &mut registry, commands);
-    (answered, registry)
-}
-
 // How many commands are answered before one meets a fault.
-fn answered<S: Alter>(alloc: Global, registry: &mut Registry<S>, commands: &[Request]) -> usize {
-    for (place, command) in commands.iter().enumerate() {
-        if outcome_of(alloc, registry, command).is_err() {
-            return place;
-        }
+fn answered(outcomes: &[Outcome]) -> usize {
+    match outcomes.last() {
+        Some(Err(_)) => outcomes.len().saturating_sub(1),
+        _ => outcomes.len(),
     }
-    commands.len()
-}
-
-// A registry opens from the files, and goes on.
-fn goes_on<D: Disk + Drop>(
-    alloc: Global,
-    calls: u64,
-    files: Files<D>,
-    story: &Story,
-    answered: usize,
-) -> Result<(), Fail> {
-    match opened(alloc, files) {
-        Ok(registry) => holds_all(alloc, calls, registry, story, answered),
-        Err(_files) => Err(Fail::new(format_args!("after {calls} calls nothing opens"))),
-    }
-}
-
-fn holds_all<S: Alter + Drop>(
-    alloc: Global,
-    calls: u64,
-    registry: Registry<S>,
-    story: &Story,
-    answered: usize,
-) -> Result<(), Fail> {
-    let mut registry = checked(alloc, calls, registry)?;
-    holds(alloc, calls, &mut registry, story, answered)
-}
-
-// A registry holds what this many answered commands made, or one more, and the commands that follow
-// are answered as in memory.
-fn holds<S: Alter>(
-    alloc: Global,
-    calls: u64,
-    registry: &mut Registry<S>,
-    story: &Story,
-    answered: usize,
-) -> Result<(), Fail> {
-    let shown = shown_by(alloc, registry, story, answered)?;
-    let is_told = is_told_again(alloc, registry, story, answered, shown);
-    same(
-        (calls, "what is shown, and the stopped command"),
-        (shown.is_before || shown.is_after, is_told),
-        (true, true),
-    )?;
-    follow(alloc, calls, registry, story, answered.saturating_add(1))
-}
-
-// Whether the stopped command is answered as in memory: as for the first time where it wasn't done,
-// and as when it is asked again where it was. After the last command there is none.
-fn is_told_again<S: Alter>(
-    alloc: Global,
-    registry: &mut Registry<S>,
-    story: &Story,
-    answered: usize,
-    shown: Shown,
-) -> bool {
-    let Some(command) = story.commands.get(answered) else {
-        return true;
-    };
-    let outcome = outcome_of(alloc, registry, command);
-    let is_first = story.answers.replies.get(answered) == Some(&outcome);
-    let is_again = story.answers.again.get(answered) == Some(&outcome);
-    (shown.is_before && is_first) || (shown.is_after && is_again)
-}
-
-// The commands from this place on are answered as in memory, and then the registry shows everything
-// that the last one leaves there.
-fn follow<S: Alter>(
-    alloc: Global,
-    calls: u64,
-    registry: &mut Registry<S>,
-    story: &Story,
-    from: usize,
-) -> Result<(), Fail> {
-    for place in from..story.commands.len() {
-        is_answered_at(alloc, calls, registry, story, place)?;
-    }
-    shows_the_end(alloc, calls, registry, story)
-}
-
-// The command at this place is answered as in memory.
-fn is_answered_at<S: Alter>(
-    alloc: Global,
-    calls: u64,
-    registry: &mut Registry<S>,
-    story: &Story,
-    place: usize,
-) -> Result<(), Fail> {
-    match story.commands.get(place) {
-        Some(command) => {
-            let outcome = outcome_of(alloc, registry, command);
-            same(
-                (calls, place),
-                Some(&outcome),
-                story.answers.replies.get(place),
-            )
-        }
-        None => Ok(()),
-    }
-}
-
-// The registry shows everything that the last command leaves in memory.
-fn shows_the_end<S: Alter>(
-    alloc: Global,
-    calls: u64,
-    registry: &mut Registry<S>,
-    story: &Story,
-) -> Result<(), Fail> {
-    let shown = shown_by(alloc, registry, story, story.commands.len())?;
-    same((calls, "what is shown at the end"), shown.is_before, true)
 }
