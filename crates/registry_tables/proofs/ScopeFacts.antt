@@ -15,7 +15,6 @@ use Rattle.registry_names.proofs.MapFacts.{at-entries}
 use Rattle.registry_rules.specs.Refusals.{is_scope}
 use Rattle.registry_rows.specs.Columns.{text_in}
 use Rattle.registry_rows.proofs.LookUpFacts.{select_all}
-use Rattle.registry_tables.specs.Schema as table
 use Rattle.registry_tables.specs.Contents.{Contents}
 use Rattle.registry_tables.specs.Effects.{stored}
 use Rattle.registry_tables.specs.Scopes.{grant_places, is_in_its_scope, place_spelled}
