@@ -1,5 +1,5 @@
 -- What the statements on archives make and show.
-use Rattle.std.proofs.Common.{◌≡◌, ℕ, ℤ, ◌+◌, ◌<◌, List, [], ◌∷◌, length, drop, get_or, map, filter, Bool, true, false, cond, ◌&&◌, Some, None, is_some, option_map, slice_get, Ok, refl, sym, ap, ◌∙◌, codes}
+use Rattle.std.proofs.Common.{◌≡◌, ℕ, ℤ, ◌+◌, ◌<◌, List, [], ◌∷◌, length, drop, get_or, map, filter, Bool, true, false, cond, ◌&&◌, Some, None, is_some, option_map, Ok, refl, sym, ap, ◌∙◌, codes}
 use Rattle.std.specs.Prelude.{unwrap_or}
 use Rattle.std.specs.List.{find}
 use Rattle.std.proofs.lemmas.List.{drop_more}
@@ -28,6 +28,7 @@ use Rattle.registry_tables.specs.Effects.{stored}
 use Rattle.registry_tables.specs.Schema as table
 use Rattle.registry_tables.specs.Schema.{schema}
 use Rattle.registry_tables.specs.Spelled.{archive_spelled, blob_of_row, held_spelled, number_among}
+use Rattle.registry_tables.specs.Queries.{ShowsFirst}
 use Rattle.registry_tables.proofs.MappedFacts.{archives_counted, archives_numbered, held_mapped}
 
 -- ---- INSERT of an archive
@@ -51,7 +52,7 @@ archive_put integrity bytes old new form call = insert_numbers archives_numbered
 abbrev list_text : List ℕ
 list_text = codes "SELECT id, bytes FROM archives WHERE integrity = ?1 ORDER BY id"
 
-list_means : MeansQuery schema list_text (select_where table.archives (col 1 0 ∷ col 1 3 ∷ []) (by_column 1) numbers.order (codes "id" ∷ codes "bytes" ∷ []))
+pub list_means : MeansQuery schema list_text (select_where table.archives (col 1 0 ∷ col 1 3 ∷ []) (by_column 1) numbers.order (codes "id" ∷ codes "bytes" ∷ []))
 unfolding understood everything
 list_means = ((refl, (refl, refl)), refl)
 
@@ -100,12 +101,11 @@ among_here bytes rows i r within is_row same =
 abbrev bytes_text : List ℕ
 bytes_text = codes "SELECT bytes FROM archives WHERE id = ?1"
 
-bytes_means : MeansQuery schema bytes_text (select_where table.archives (col 1 3 ∷ []) numbers.wanted [] (codes "bytes" ∷ []))
+pub bytes_means : MeansQuery schema bytes_text (select_where table.archives (col 1 3 ∷ []) numbers.wanted [] (codes "bytes" ∷ []))
 unfolding understood everything
 bytes_means = ((refl, (refl, refl)), refl)
 
-pub bytes_found : (n : ℤ) (old new : Shown) (rows : List Row) → Ready schema old → Queried bytes_text (Int n ∷ []) old new rows → HasCleanDisk new
-    → Reads schema old new × (option_map blob_of_row (slice_get rows 0) ≡ option_map bytes_of (at (stored old).archives n))
+pub bytes_found : (n : ℤ) (old new : Shown) → ShowsFirst bytes_text (Int n ∷ []) old new blob_of_row (option_map bytes_of (at (stored old).archives n))
 bytes_found n old new rows form call clean =
     let it = select_finds_by (by_number_given archives_numbered) bytes_text (col 1 3 ∷ []) _ bytes_means n blob_of_row bytes_of (λ id vs. refl) old new rows form call clean in
     (it.0, first_listed blob_of_row rows _ it.1)
@@ -133,12 +133,11 @@ held_was_new p v n old new form call = insert_meets_none held_mapped hold_text h
 abbrev held_text : List ℕ
 held_text = codes "SELECT archive FROM held WHERE package = ?1 AND version = ?2"
 
-held_means : MeansQuery schema held_text (select_where table.held (col 1 3 ∷ []) (by_texts 1 1 0) [] (codes "archive" ∷ []))
+pub held_means : MeansQuery schema held_text (select_where table.held (col 1 3 ∷ []) (by_texts 1 1 0) [] (codes "archive" ∷ []))
 unfolding understood everything
 held_means = ((refl, (refl, refl)), refl)
 
-pub held_found : (p v : Text) (old new : Shown) (rows : List Row) → Ready schema old → Queried held_text (Stored p ∷ Stored v ∷ []) old new rows → HasCleanDisk new
-    → Reads schema old new × (option_map held_spelled (slice_get rows 0) ≡ at (stored old).held (p, v))
+pub held_found : (p v : Text) (old new : Shown) → ShowsFirst held_text (Stored p ∷ Stored v ∷ []) old new held_spelled (at (stored old).held (p, v))
 held_found p v old new rows form call clean =
     let it = select_finds held_mapped held_text (col 1 3 ∷ []) _ held_means (p, v) held_spelled (λ (n : ℤ). n) (λ id vs. refl) old new rows form call clean in
     (it.0, first_listed held_spelled rows _ it.1 ∙ option_map_id (at (stored old).held (p, v)))

@@ -22,7 +22,7 @@ use Rattle.registry_tables.specs.Opening.{counts_query, is_name_of_archives, nam
 use Rattle.registry_tables.specs.Schema as table
 use Rattle.registry_tables.specs.Schema.{schema}
 
-counts_means : MeansQuery schema counts_query (select_where table.counters (col 1 1 ∷ []) [] [] (codes "name" ∷ []))
+pub counts_means : MeansQuery schema counts_query (select_where table.counters (col 1 1 ∷ []) [] [] (codes "name" ∷ []))
 unfolding understood everything
 counts_means = ((refl, (refl, refl)), refl)
 

@@ -11,7 +11,7 @@ use Rattle.std.proofs.lemmas.Simd.{map-map}
 use Rattle.sqlite.specs.declared.types.Value.{Value}
 use Rattle.sqlite.specs.declared.types.Value.TheVariants.{Text as Stored}
 use Rattle.sqlite.specs.Listing.{understood}
-use Rattle.sqlite.specs.State.{State as Shown, HasCleanDisk}
+use Rattle.sqlite.specs.State.{State as Shown}
 use Rattle.sqlite_tied.specs.Compute.{everything}
 use Rattle.sqlite_value.specs.Order.{Row, column, value_cmp}
 use Rattle.sqlite_value.specs.declared.keys.Collation.TheVariants.{Binary}
@@ -39,7 +39,7 @@ use Rattle.registry_rules.specs.State.{Release}
 use Rattle.registry_rules.specs.Withdrawals.{is_depended, is_need_of, needs_in, versions_in}
 use Rattle.registry_rules.specs.declared.facts.LiveVersion.{LiveVersion as Listed}
 use Rattle.registry_rows.specs.Columns.{text_in}
-use Rattle.registry_rows.specs.Ready.{IsReady, Ready, Reads, Queried}
+use Rattle.registry_rows.specs.Ready.{IsReady}
 use Rattle.registry_rows.specs.Rows.{key_of}
 use Rattle.registry_rows.specs.Statements.{MeansQuery, select_where, in_order, is_wanted}
 use Rattle.registry_rows.specs.TextKeys.{Texts}
@@ -56,6 +56,7 @@ use Rattle.registry_tables.specs.Schema as table
 use Rattle.registry_tables.specs.Schema.{schema}
 use Rattle.registry_tables.specs.Teams.{text_spelled}
 use Rattle.registry_tables.specs.Withdrawals.{is_foreign_need, ranges_on, version_text}
+use Rattle.registry_tables.specs.Queries.{ShowsAll}
 use Rattle.registry_tables.proofs.MappedFacts.{need_ranges_mapped}
 use Rattle.registry_tables.proofs.ReadFacts.{at-read}
 use Rattle.registry_tables.proofs.RetiredFacts.{any_where, where_any}
@@ -69,7 +70,7 @@ list_text = codes "SELECT range, package, version FROM need_ranges WHERE target 
 abbrev list_wanted : List Term
 list_wanted = op2 (Compare Eq Binary) (col 1 3) (col 0 0) ∷ op2 (Compare Ne Binary) (col 1 1) (col 0 0) ∷ []
 
-list_means : MeansQuery schema list_text (select_where table.need_ranges (col 1 4 ∷ col 1 1 ∷ col 1 2 ∷ []) list_wanted (in_order 3 1) (codes "range" ∷ codes "package" ∷ codes "version" ∷ []))
+pub list_means : MeansQuery schema list_text (select_where table.need_ranges (col 1 4 ∷ col 1 1 ∷ col 1 2 ∷ []) list_wanted (in_order 3 1) (codes "range" ∷ codes "package" ∷ codes "version" ∷ []))
 unfolding understood everything
 list_means = ((refl, (refl, refl)), refl)
 
@@ -108,8 +109,7 @@ need_of p r = ((text_in (column r 1), (text_in (column r 2), (p, text_spelled r)
 abbrev range_of : Texts 3 × Unit {0} → Text
 range_of e = e.0.1.1.1
 
-pub dependents_listed : (p : Text) (old new : Shown) (rows : List Row) → Ready schema old → Queried list_text (Stored p ∷ []) old new rows → HasCleanDisk new
-    → Reads schema old new × (map text_spelled rows ≡ ranges_on (stored old) p)
+pub dependents_listed : (p : Text) (old new : Shown) → ShowsAll list_text (Stored p ∷ []) old new text_spelled (ranges_on (stored old) p)
 dependents_listed p old new rows form call clean =
     let it = select_passes_by (by_texts_given need_ranges_mapped) list_text list_wanted (col 1 4 ∷ col 1 1 ∷ col 1 2 ∷ []) _ list_means (Stored p ∷ []) (foreign p) (need_of p) (λ (u : Unit {0}). u) whole old new (passes p old) rows form call clean in
     (it.0, sym (map-map range_of (need_of p) rows) ∙ ap (map range_of) (it.1 ∙ seen_as_is _))

@@ -36,6 +36,7 @@ use Rattle.registry_tables.specs.Levels.{firsts_of}
 use Rattle.registry_tables.specs.Schema as table
 use Rattle.registry_tables.specs.Schema.{schema}
 use Rattle.registry_tables.specs.Teams.{text_spelled}
+use Rattle.registry_tables.specs.Queries.{ShowsAll}
 use Rattle.registry_tables.proofs.MappedFacts.{members_mapped, owners_mapped}
 
 -- the second text is the parameter
@@ -77,12 +78,11 @@ module _ {X : Type 0} {place : ℕ} {child : Table} {value : Row → X} {change 
 abbrev maintained_text : List ℕ
 maintained_text = codes "SELECT package FROM owners WHERE user = ?1 ORDER BY package, user"
 
-maintained_means : MeansQuery schema maintained_text (select_where table.owners (col 1 1 ∷ []) second_wanted (in_order 1 1) (codes "package" ∷ []))
+pub maintained_means : MeansQuery schema maintained_text (select_where table.owners (col 1 1 ∷ []) second_wanted (in_order 1 1) (codes "package" ∷ []))
 unfolding understood everything
 maintained_means = ((refl, (refl, refl)), refl)
 
-pub maintained_listed : (u : Text) (old new : Shown) (rows : List Row) → Ready schema old → Queried maintained_text (Stored u ∷ []) old new rows → HasCleanDisk new
-    → Reads schema old new × (map text_spelled rows ≡ firsts_of (stored old).owners u)
+pub maintained_listed : (u : Text) (old new : Shown) → ShowsAll maintained_text (Stored u ∷ []) old new text_spelled (firsts_of (stored old).owners u)
 maintained_listed u = firsts_listed owners_mapped (λ v. refl) u maintained_text _ maintained_means
 
 -- ---- the organisations of a user
@@ -90,12 +90,11 @@ maintained_listed u = firsts_listed owners_mapped (λ v. refl) u maintained_text
 abbrev organisations_text : List ℕ
 organisations_text = codes "SELECT org FROM members WHERE user = ?1 ORDER BY org, user"
 
-organisations_means : MeansQuery schema organisations_text (select_where table.members (col 1 1 ∷ []) second_wanted (in_order 1 1) (codes "org" ∷ []))
+pub organisations_means : MeansQuery schema organisations_text (select_where table.members (col 1 1 ∷ []) second_wanted (in_order 1 1) (codes "org" ∷ []))
 unfolding understood everything
 organisations_means = ((refl, (refl, refl)), refl)
 
-pub organisations_listed : (u : Text) (old new : Shown) (rows : List Row) → Ready schema old → Queried organisations_text (Stored u ∷ []) old new rows → HasCleanDisk new
-    → Reads schema old new × (map text_spelled rows ≡ firsts_of (stored old).members u)
+pub organisations_listed : (u : Text) (old new : Shown) → ShowsAll organisations_text (Stored u ∷ []) old new text_spelled (firsts_of (stored old).members u)
 organisations_listed u = firsts_listed members_mapped (λ v. refl) u organisations_text _ organisations_means
 
 -- ---- which texts they are

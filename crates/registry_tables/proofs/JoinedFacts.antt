@@ -110,7 +110,7 @@ joined_are_granted c o u p shown loads g = listed_is_granted c o u p shown loads
 abbrev grants_text : List ℕ
 grants_text = codes "SELECT grants.level FROM team_members, grants WHERE team_members.org = ?1 AND team_members.user = ?2 AND grants.org = ?1 AND grants.team = team_members.team AND grants.package = ?3"
 
-grants_means : MeansQuery schema grants_text (Select (record { lets = []; body = join 10 14 (comparisons grant_sides) (col 2 4 ∷ []) }) (codes "level" ∷ []))
+pub grants_means : MeansQuery schema grants_text (Select (record { lets = []; body = join 10 14 (comparisons grant_sides) (col 2 4 ∷ []) }) (codes "level" ∷ []))
 unfolding understood everything
 grants_means = ((refl, (refl, refl)), refl)
 

@@ -27,6 +27,7 @@ pub mod OpeningFacts
 pub mod OrganisationFacts
 pub mod OverviewFacts
 pub mod ParentFacts
+pub mod QueryFacts
 pub mod RangeFacts
 pub mod ReadFacts
 pub mod ReadableFacts
@@ -35,6 +36,7 @@ pub mod RetiredFacts
 pub mod ReviseFacts
 pub mod SchemaFacts
 pub mod ScopeFacts
+pub mod SetRowFacts
 pub mod SortFacts
 pub mod SpentFacts
 pub mod StandingFacts

@@ -1,5 +1,5 @@
 -- What the statements on maintainers make and show.
-use Rattle.std.proofs.Common.{◌≡◌, ◌==◌, ℕ, List, [], ◌∷◌, Bool, ◌||◌, map, not, is_some, length, None, Ok, refl, sym, ap, ◌∙◌, codes}
+use Rattle.std.proofs.Common.{◌≡◌, ℕ, List, [], ◌∷◌, Bool, ◌||◌, is_some, None, Ok, refl, sym, ap, ◌∙◌, codes}
 use Rattle.std.specs.List.{list_any}
 use Rattle.std.proofs.lemmas.Simd.{map-map}
 use Rattle.sqlite.specs.declared.types.Value.TheVariants.{Null, Text as Stored}
@@ -13,7 +13,7 @@ use Rattle.sqlite_sql.specs.Term.{Term, lit, col}
 use Rattle.registry_names.specs.Texts.{Text}
 use Rattle.registry_names.specs.Maps.{at, erase, keys, of, put}
 use Rattle.registry_rows.specs.Frames.{Wrote}
-use Rattle.registry_rows.specs.Ready.{Ready, Leaves, Reads, Queried}
+use Rattle.registry_rows.specs.Ready.{Ready, Leaves}
 use Rattle.registry_rows.specs.Statements.{Means, MeansQuery, IsUncascaded, scan, by_texts, in_order}
 use Rattle.registry_rows.proofs.LookUpFacts.{select_lists, seen_as_is}
 use Rattle.registry_rows.proofs.StatementFacts.{insert_puts, insert_meets_none, delete_erases}
@@ -22,6 +22,7 @@ use Rattle.registry_tables.specs.Schema as table
 use Rattle.registry_tables.specs.Contents.{contents}
 use Rattle.registry_tables.specs.Effects.{stored}
 use Rattle.registry_tables.specs.Teams.{text_spelled}
+use Rattle.registry_tables.specs.Queries.{ShowsAll, ShowsWhether}
 use Rattle.registry_tables.proofs.FoundFacts.{there_found}
 use Rattle.registry_tables.proofs.MappedFacts.{owners_mapped}
 
@@ -68,18 +69,17 @@ owner_dropped p u old new form call = delete_erases owners_mapped drop_text drop
 abbrev find_text : List ℕ
 find_text = codes "SELECT user FROM owners WHERE package = ?1 AND user = ?2"
 
-find_means : MeansQuery schema find_text (Select (record { lets = []; body = scan 16 (by_texts 1 1 0) (col 1 2 ∷ []) [] }) (codes "user" ∷ []))
+pub find_means : MeansQuery schema find_text (Select (record { lets = []; body = scan 16 (by_texts 1 1 0) (col 1 2 ∷ []) [] }) (codes "user" ∷ []))
 unfolding understood everything
 find_means = ((refl, (refl, refl)), refl)
 
-pub maintainer_found : (p u : Text) (old new : Shown) (rows : List Row) → Ready schema old → Queried find_text (Stored p ∷ Stored u ∷ []) old new rows → HasCleanDisk new
-    → Reads schema old new × (not (length rows == 0) ≡ is_some (at (stored old).owners (p, u)))
+pub maintainer_found : (p u : Text) (old new : Shown) → ShowsWhether find_text (Stored p ∷ Stored u ∷ []) old new (is_some (at (stored old).owners (p, u)))
 maintainer_found p u = there_found owners_mapped find_text (col 1 2 ∷ []) _ find_means (p, u)
 
 abbrev list_text : List ℕ
 list_text = codes "SELECT user FROM owners WHERE package = ?1 ORDER BY user"
 
-list_means : MeansQuery schema list_text (Select (record { lets = []; body = scan 16 (by_texts 0 1 0) (col 1 2 ∷ []) (in_order 0 2) }) (codes "user" ∷ []))
+pub list_means : MeansQuery schema list_text (Select (record { lets = []; body = scan 16 (by_texts 0 1 0) (col 1 2 ∷ []) (in_order 0 2) }) (codes "user" ∷ []))
 unfolding understood everything
 list_means = ((refl, (refl, refl)), refl)
 
@@ -87,8 +87,7 @@ list_means = ((refl, (refl, refl)), refl)
 abbrev user_entry : Row → Text × Unit {0}
 user_entry r = (text_spelled r, tt)
 
-pub maintainers_listed : (p : Text) (old new : Shown) (rows : List Row) → Ready schema old → Queried list_text (Stored p ∷ []) old new rows → HasCleanDisk new
-    → Reads schema old new × (map text_spelled rows ≡ keys (of (stored old).owners p))
+pub maintainers_listed : (p : Text) (old new : Shown) → ShowsAll list_text (Stored p ∷ []) old new text_spelled (keys (of (stored old).owners p))
 maintainers_listed p old new rows form call clean =
     let it = select_lists owners_mapped list_text (col 1 2 ∷ []) _ list_means p user_entry (λ (u : Unit {0}). u) (λ id vs. refl) old new rows form call clean in
     (it.0, sym (map-map (λ (e : Text × Unit {0}). e.0) user_entry rows) ∙ ap keys (it.1 ∙ seen_as_is (of (stored old).owners p)))

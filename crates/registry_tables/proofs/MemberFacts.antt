@@ -1,5 +1,5 @@
 -- What the statements on members make and show.
-use Rattle.std.proofs.Common.{◌≡◌, ℕ, Bool, ◌||◌, List, [], ◌∷◌, map, ap, Option, Some, None, option_map, slice_get, Ok, refl, sym, subst, ◌∙◌, codes}
+use Rattle.std.proofs.Common.{◌≡◌, ℕ, Bool, ◌||◌, List, [], ◌∷◌, map, ap, Option, Some, None, refl, sym, ◌∙◌, codes, if◌then◌else◌}
 use Rattle.std.specs.List.{list_any}
 use Rattle.sqlite.specs.declared.types.Value.TheVariants.{Null, Int, Text as Stored}
 use Rattle.sqlite.specs.Command.TheVariants.{Insert, Update, Select}
@@ -7,27 +7,26 @@ use Rattle.sqlite.specs.Source.TheVariants.{Values}
 use Rattle.sqlite.specs.Listing.{understood}
 use Rattle.sqlite.specs.State.{State as Shown, HasCleanDisk}
 use Rattle.sqlite_tied.specs.Compute.{everything}
-use Rattle.sqlite_value.specs.Order.{Row}
 use Rattle.sqlite_sql.specs.Term.{Term, lit, col}
 use Rattle.registry_names.specs.Texts.{Text}
-use Rattle.registry_names.specs.Maps.{at, of, put}
+use Rattle.registry_names.specs.Maps.{at, of}
 use Rattle.registry_names.proofs.KeyFacts.{pair_key, text_key}
 use Rattle.registry_access.specs.declared.role.Role.{Role}
 use Rattle.registry_packument.specs.declared.list.Member.{Member}
 use Rattle.registry_rows.specs.Frames.{Wrote}
-use Rattle.registry_rows.specs.Ready.{Ready, Leaves, Reads, Queried}
+use Rattle.registry_rows.specs.Ready.{Ready, Leaves}
 use Rattle.registry_rows.specs.Statements.{Means, MeansQuery, scan, by_texts, in_order, set_terms}
-use Rattle.registry_rows.proofs.StatementFacts.{insert_puts, insert_meets_none, update_revises}
 use Rattle.registry_rows.proofs.LookUpFacts.{select_finds, select_lists, first_listed}
 use Rattle.registry_tables.specs.Schema.{schema}
-use Rattle.registry_tables.specs.Changes.{amended}
+use Rattle.registry_tables.specs.Changes.{IsFreeUnless, with_row}
 use Rattle.registry_tables.specs.Contents.{access_of, contents}
 use Rattle.registry_tables.specs.Effects.{stored}
 use Rattle.registry_tables.specs.Numbers.{role_number, role_of}
 use Rattle.registry_tables.specs.Spelled.{member_entry, member_spelled, role_spelled}
+use Rattle.registry_tables.specs.Queries.{ShowsAll, ShowsFirst}
 use Rattle.registry_tables.proofs.MappedFacts.{members_mapped}
 use Rattle.registry_tables.proofs.ReadFacts.{at-read, part-read}
-use Rattle.registry_tables.proofs.ReviseFacts.{revised}
+use Rattle.registry_tables.proofs.SetRowFacts.{row_set}
 
 -- ---- INSERT
 
@@ -40,14 +39,6 @@ put_cells = col 0 0 ∷ col 0 1 ∷ col 0 2 ∷ []
 put_means : Means schema put_text (Insert 3 (Values (lit Null ∷ put_cells) 4))
 unfolding understood everything
 put_means = (refl, (refl, refl))
-
-pub member_put : (o u : Text) (role : Role) (old new : Shown) → Ready schema old → Wrote put_text (Stored o ∷ Stored u ∷ Int (role_number role) ∷ []) old new → HasCleanDisk new
-    → Leaves schema contents (record (stored old) { members = put (stored old).members (o, u) (role_number role) }) new
-member_put o u role old new form call = insert_puts members_mapped put_text put_cells put_means (Stored o ∷ Stored u ∷ Int (role_number role) ∷ []) refl old new (Ok call.0) form call.1
-
--- an answered INSERT had a new key
-pub member_was_new : (o u : Text) (role : Role) (old new : Shown) → Ready schema old → Wrote put_text (Stored o ∷ Stored u ∷ Int (role_number role) ∷ []) old new → HasCleanDisk new → at (stored old).members (o, u) ≡ None
-member_was_new o u role old new form call = insert_meets_none members_mapped put_text put_cells put_means (Stored o ∷ Stored u ∷ Int (role_number role) ∷ []) refl old new (Ok call.0) form call.1
 
 -- ---- UPDATE
 
@@ -62,22 +53,20 @@ set_means : Means schema set_text (Update 3 (record { lets = []; body = scan 6 (
 unfolding understood everything
 set_means = (refl, (refl, refl))
 
-pub member_set : (o u : Text) (role : Role) (old new : Shown) → Ready schema old → Wrote set_text (Stored o ∷ Stored u ∷ Int (role_number role) ∷ []) old new → HasCleanDisk new
-    → Leaves schema contents (record (stored old) { members = amended (stored old).members (o, u) (role_number role) }) new
-member_set o u role old new form call clean = subst (λ m. Leaves schema contents (record (stored old) { members = m }) new) (revised pair_key (stored old).members (o, u) (role_number role))
-    (update_revises members_mapped set_text sets set_means refl (o, u) (Int (role_number role) ∷ []) refl (λ _. role_number role) (λ vs. refl) (λ vs. refl) old new (Ok call.0) form call.1 clean)
+pub member_set : (o u : Text) (role : Role) (stands : Bool) (old new : Shown) → Ready schema old → Wrote (if stands then set_text else put_text) (Stored o ∷ Stored u ∷ Int (role_number role) ∷ []) old new → HasCleanDisk new
+    → Leaves schema contents (record (stored old) { members = with_row (stored old).members (o, u) (role_number role) stands }) new × IsFreeUnless (stored old).members (o, u) stands
+member_set o u role = row_set members_mapped set_text put_text sets put_cells set_means put_means (o, u) (Int (role_number role) ∷ []) (role_number role) refl (λ vs. refl) (λ vs. refl) refl refl refl
 
 -- ---- SELECT
 
 abbrev find_text : List ℕ
 find_text = codes "SELECT role FROM members WHERE org = ?1 AND user = ?2"
 
-find_means : MeansQuery schema find_text (Select (record { lets = []; body = scan 6 (by_texts 1 1 0) (col 1 3 ∷ []) [] }) (codes "role" ∷ []))
+pub find_means : MeansQuery schema find_text (Select (record { lets = []; body = scan 6 (by_texts 1 1 0) (col 1 3 ∷ []) [] }) (codes "role" ∷ []))
 unfolding understood everything
 find_means = ((refl, (refl, refl)), refl)
 
-pub role_found : (o u : Text) (old new : Shown) (rows : List Row) → Ready schema old → Queried find_text (Stored o ∷ Stored u ∷ []) old new rows → HasCleanDisk new
-    → Reads schema old new × (option_map role_spelled (slice_get rows 0) ≡ at (access_of (stored old)).roles (o, u))
+pub role_found : (o u : Text) (old new : Shown) → ShowsFirst find_text (Stored o ∷ Stored u ∷ []) old new role_spelled (at (access_of (stored old)).roles (o, u))
 role_found o u old new rows form call clean =
     let it = select_finds members_mapped find_text (col 1 3 ∷ []) _ find_means (o, u) role_spelled role_of (λ id vs. refl) old new rows form call clean in
     (it.0, first_listed role_spelled rows _ it.1 ∙ sym (at-read pair_key (stored old).members (λ _ n. role_of n) (o, u)))
@@ -88,12 +77,11 @@ list_text = codes "SELECT user, role FROM members WHERE org = ?1 ORDER BY user"
 abbrev list_columns : List Term
 list_columns = col 1 2 ∷ col 1 3 ∷ []
 
-list_means : MeansQuery schema list_text (Select (record { lets = []; body = scan 6 (by_texts 0 1 0) list_columns (in_order 0 2) }) (codes "user" ∷ codes "role" ∷ []))
+pub list_means : MeansQuery schema list_text (Select (record { lets = []; body = scan 6 (by_texts 0 1 0) list_columns (in_order 0 2) }) (codes "user" ∷ codes "role" ∷ []))
 unfolding understood everything
 list_means = ((refl, (refl, refl)), refl)
 
-pub members_listed : (o : Text) (old new : Shown) (rows : List Row) → Ready schema old → Queried list_text (Stored o ∷ []) old new rows → HasCleanDisk new
-    → Reads schema old new × (map member_spelled rows ≡ of (access_of (stored old)).roles o)
+pub members_listed : (o : Text) (old new : Shown) → ShowsAll list_text (Stored o ∷ []) old new member_spelled (of (access_of (stored old)).roles o)
 members_listed o old new rows form call clean =
     let it = select_lists members_mapped list_text list_columns _ list_means o member_spelled role_of (λ id vs. refl) old new rows form call clean in
     (it.0, it.1 ∙ sym (part-read text_key (stored old).members role_of o))

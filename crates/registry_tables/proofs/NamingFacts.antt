@@ -4,7 +4,7 @@ use Rattle.std.proofs.lemmas.Simd.{map-map}
 use Rattle.sqlite.specs.declared.types.Value.{Value}
 use Rattle.sqlite.specs.declared.types.Value.TheVariants.{Text as Stored}
 use Rattle.sqlite.specs.Listing.{understood}
-use Rattle.sqlite.specs.State.{State as Shown, HasCleanDisk}
+use Rattle.sqlite.specs.State.{State as Shown}
 use Rattle.sqlite_tied.specs.Compute.{everything}
 use Rattle.sqlite_value.specs.Order.{Row, column}
 use Rattle.sqlite_value.specs.declared.keys.Collation.TheVariants.{Binary}
@@ -19,7 +19,7 @@ use Rattle.registry_names.specs.Maps.{PairMap, entries, keys, of, part, parts, s
 use Rattle.registry_names.proofs.TextFacts.{is_sym, is_true as text_is}
 use Rattle.registry_rules.specs.Withdrawals.{tags_of}
 use Rattle.registry_rows.specs.Columns.{text_in}
-use Rattle.registry_rows.specs.Ready.{IsReady, Ready, Reads, Queried}
+use Rattle.registry_rows.specs.Ready.{IsReady}
 use Rattle.registry_rows.specs.Rows.{key_of}
 use Rattle.registry_rows.specs.Statements.{MeansQuery, select_where, in_order, is_wanted}
 use Rattle.registry_rows.proofs.KeyedFacts.{by_texts_given}
@@ -31,6 +31,7 @@ use Rattle.registry_tables.specs.Effects.{stored}
 use Rattle.registry_tables.specs.Schema as table
 use Rattle.registry_tables.specs.Schema.{schema}
 use Rattle.registry_tables.specs.Teams.{text_spelled}
+use Rattle.registry_tables.specs.Queries.{ShowsAll}
 use Rattle.registry_tables.proofs.MappedFacts.{tags_mapped}
 
 abbrev naming_text : List ℕ
@@ -40,7 +41,7 @@ naming_text = codes "SELECT tag FROM tags WHERE package = ?1 AND version = ?2 OR
 abbrev naming_wanted : List Term
 naming_wanted = op2 (Compare Eq Binary) (col 1 1) (col 0 0) ∷ op2 (Compare Eq Binary) (col 1 3) (col 0 1) ∷ []
 
-naming_means : MeansQuery schema naming_text (select_where table.tags (col 1 2 ∷ []) naming_wanted (in_order 1 1) (codes "tag" ∷ []))
+pub naming_means : MeansQuery schema naming_text (select_where table.tags (col 1 2 ∷ []) naming_wanted (in_order 1 1) (codes "tag" ∷ []))
 unfolding understood everything
 naming_means = ((refl, (refl, refl)), refl)
 
@@ -88,8 +89,7 @@ in_part : (p v : Text) (m : PairMap Text) → map (λ (e : Pair × Text). e.0.1)
 unfolding part
 in_part p v m = tags_are p v (entries m)
 
-pub naming_listed : (p v : Text) (old new : Shown) (rows : List Row) → Ready schema old → Queried naming_text (Stored p ∷ Stored v ∷ []) old new rows → HasCleanDisk new
-    → Reads schema old new × (map text_spelled rows ≡ tags_of (registry_of (stored old)) p v)
+pub naming_listed : (p v : Text) (old new : Shown) → ShowsAll naming_text (Stored p ∷ Stored v ∷ []) old new text_spelled (tags_of (registry_of (stored old)) p v)
 naming_listed p v old new rows form call clean =
     let it = select_passes_by (by_texts_given tags_mapped) naming_text naming_wanted (col 1 2 ∷ []) _ naming_means (Stored p ∷ Stored v ∷ []) (names_it p v) (tag_of p) nothing_of whole old new (passes p v old) rows form call clean in (
       it.0,

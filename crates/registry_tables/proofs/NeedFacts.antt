@@ -1,5 +1,5 @@
 -- What the statements on needs make and show.
-use Rattle.std.proofs.Common.{◌≡◌, ◌==◌, ℕ, List, [], ◌∷◌, ◌++◌, not, Bool, true, false, cond, Option, Some, None, is_some, take, get_or, length, ◌+◌, ◌<◌, Ok, refl, sym, ap, ◌∙◌, codes}
+use Rattle.std.proofs.Common.{◌≡◌, ℕ, List, [], ◌∷◌, ◌++◌, Bool, true, false, cond, Option, Some, None, is_some, take, get_or, length, ◌+◌, ◌<◌, Ok, refl, sym, ap, ◌∙◌, codes}
 use Rattle.std.proofs.lemmas.List.{take_more}
 use Rattle.std.proofs.lemmas.Iterator.Adapters.{option_map_id}
 use Rattle.sqlite.specs.declared.types.Value.TheVariants.{Null, Text as Stored}
@@ -8,11 +8,10 @@ use Rattle.sqlite.specs.Source.TheVariants.{Values}
 use Rattle.sqlite.specs.Listing.{understood}
 use Rattle.sqlite.specs.State.{State as Shown, HasCleanDisk}
 use Rattle.sqlite_tied.specs.Compute.{everything}
-use Rattle.sqlite_value.specs.Order.{Row}
 use Rattle.sqlite_sql.specs.Term.{Term, lit, col}
 use Rattle.registry_names.specs.Texts.{Text}
 use Rattle.registry_rows.specs.Frames.{Wrote}
-use Rattle.registry_rows.specs.Ready.{Ready, Leaves, Reads, Queried}
+use Rattle.registry_rows.specs.Ready.{Ready, Leaves}
 use Rattle.registry_tables.specs.Schema.{schema}
 use Rattle.registry_tables.specs.Contents.{contents}
 use Rattle.registry_tables.specs.Effects.{stored}
@@ -27,6 +26,7 @@ use Rattle.registry_rows.proofs.StatementFacts.{insert_puts}
 use Rattle.registry_rows.proofs.LookUpFacts.{select_finds}
 use Rattle.registry_tables.specs.Contents.{Contents, nothing_in}
 use Rattle.registry_tables.specs.Needs.{need_key, with_need, with_needs}
+use Rattle.registry_tables.specs.Queries.{ShowsWhether}
 use Rattle.registry_tables.proofs.FoundFacts.{some_found}
 use Rattle.registry_tables.proofs.MappedFacts.{need_ranges_mapped}
 
@@ -51,12 +51,11 @@ need_put p v need old new form call = insert_puts need_ranges_mapped put_text pu
 abbrev find_text : List ℕ
 find_text = codes "SELECT target FROM need_ranges WHERE package = ?1 AND version = ?2 AND target = ?3 AND range = ?4"
 
-find_means : MeansQuery schema find_text (Select (record { lets = []; body = scan 33 (by_texts 3 1 0) (col 1 3 ∷ []) [] }) (codes "target" ∷ []))
+pub find_means : MeansQuery schema find_text (Select (record { lets = []; body = scan 33 (by_texts 3 1 0) (col 1 3 ∷ []) [] }) (codes "target" ∷ []))
 unfolding understood everything
 find_means = ((refl, (refl, refl)), refl)
 
-pub need_found : (p v : Text) (need : Need) (old new : Shown) (rows : List Row) → Ready schema old → Queried find_text (Stored p ∷ Stored v ∷ Stored need.target ∷ Stored need.range ∷ []) old new rows → HasCleanDisk new
-    → Reads schema old new × (not (length rows == 0) ≡ is_some (at (stored old).need_ranges (need_key p v need)))
+pub need_found : (p v : Text) (need : Need) (old new : Shown) → ShowsWhether find_text (Stored p ∷ Stored v ∷ Stored need.target ∷ Stored need.range ∷ []) old new (is_some (at (stored old).need_ranges (need_key p v need)))
 need_found p v need old new rows form call clean =
     let it = select_finds need_ranges_mapped find_text (col 1 3 ∷ []) _ find_means (need_key p v need) nothing_in (λ u. u) (λ id vs. refl) old new rows form call clean in
     (it.0, some_found nothing_in rows _ it.1 ∙ ap is_some (option_map_id (at (stored old).need_ranges (need_key p v need))))

@@ -1,5 +1,5 @@
 -- What the statements on organisations make and show.
-use Rattle.std.proofs.Common.{◌≡◌, ◌∙◌, ◌==◌, ℕ, List, [], ◌∷◌, ap, map, not, is_some, length, None, Ok, refl, sym, codes}
+use Rattle.std.proofs.Common.{◌≡◌, ◌∙◌, ℕ, List, [], ◌∷◌, ap, is_some, None, Ok, refl, sym, codes}
 use Rattle.std.proofs.lemmas.Simd.{map-map}
 use Rattle.sqlite.specs.declared.types.Value.TheVariants.{Null, Text as Stored}
 use Rattle.sqlite.specs.Command.TheVariants.{Insert, Select}
@@ -12,7 +12,7 @@ use Rattle.sqlite_sql.specs.Term.{Term, lit, col}
 use Rattle.registry_names.specs.Texts.{Text}
 use Rattle.registry_names.specs.Maps.{at, entries, keys, put}
 use Rattle.registry_rows.specs.Frames.{Wrote}
-use Rattle.registry_rows.specs.Ready.{Ready, Leaves, Reads, Queried}
+use Rattle.registry_rows.specs.Ready.{Ready, Leaves}
 use Rattle.registry_rows.specs.Statements.{Means, MeansQuery, scan, by_texts, in_order, select_where}
 use Rattle.registry_rows.proofs.StatementFacts.{insert_puts, insert_meets_none}
 use Rattle.registry_rows.proofs.LookUpFacts.{select_all, seen_as_is}
@@ -21,6 +21,7 @@ use Rattle.registry_tables.specs.Schema.{schema}
 use Rattle.registry_tables.specs.Teams.{text_spelled}
 use Rattle.registry_tables.specs.Contents.{contents}
 use Rattle.registry_tables.specs.Effects.{stored}
+use Rattle.registry_tables.specs.Queries.{ShowsAll, ShowsWhether}
 use Rattle.registry_tables.proofs.FoundFacts.{there_found}
 use Rattle.registry_tables.proofs.MappedFacts.{organisations_mapped}
 
@@ -49,18 +50,17 @@ organisation_was_new o old new form call = insert_meets_none organisations_mappe
 abbrev find_text : List ℕ
 find_text = codes "SELECT name FROM orgs WHERE name = ?1"
 
-find_means : MeansQuery schema find_text (Select (record { lets = []; body = scan 4 (by_texts 0 1 0) (col 1 1 ∷ []) [] }) (codes "name" ∷ []))
+pub find_means : MeansQuery schema find_text (Select (record { lets = []; body = scan 4 (by_texts 0 1 0) (col 1 1 ∷ []) [] }) (codes "name" ∷ []))
 unfolding understood everything
 find_means = ((refl, (refl, refl)), refl)
 
-pub organisation_found : (o : Text) (old new : Shown) (rows : List Row) → Ready schema old → Queried find_text (Stored o ∷ []) old new rows → HasCleanDisk new
-    → Reads schema old new × (not (length rows == 0) ≡ is_some (at (stored old).organisations o))
+pub organisation_found : (o : Text) (old new : Shown) → ShowsWhether find_text (Stored o ∷ []) old new (is_some (at (stored old).organisations o))
 organisation_found o = there_found organisations_mapped find_text (col 1 1 ∷ []) _ find_means o
 
 abbrev list_text : List ℕ
 list_text = codes "SELECT name FROM orgs ORDER BY name"
 
-list_means : MeansQuery schema list_text (select_where table.organisations (col 1 1 ∷ []) [] (in_order 0 1) (codes "name" ∷ []))
+pub list_means : MeansQuery schema list_text (select_where table.organisations (col 1 1 ∷ []) [] (in_order 0 1) (codes "name" ∷ []))
 unfolding understood everything
 list_means = ((refl, (refl, refl)), refl)
 
@@ -68,8 +68,7 @@ list_means = ((refl, (refl, refl)), refl)
 abbrev organisation_entry : Row → Text × Unit {0}
 organisation_entry r = (text_spelled r, tt)
 
-pub organisations_listed : (old new : Shown) (rows : List Row) → Ready schema old → Queried list_text [] old new rows → HasCleanDisk new
-    → Reads schema old new × (map text_spelled rows ≡ keys (entries (stored old).organisations))
+pub organisations_listed : (old new : Shown) → ShowsAll list_text [] old new text_spelled (keys (entries (stored old).organisations))
 organisations_listed old new rows form call clean =
     let it = select_all organisations_mapped list_text (col 1 1 ∷ []) _ list_means organisation_entry (λ (u : Unit {0}). u) (λ id vs. refl) old new rows form call clean in
     (it.0, sym (map-map (λ (e : Text × Unit {0}). e.0) organisation_entry rows) ∙ ap keys (it.1 ∙ seen_as_is (entries (stored old).organisations)))

@@ -1,12 +1,13 @@
 -- The numbers that are stored stay in range, and tests of all rows tell whether they are.
-use Rattle.std.proofs.Common.{◌≡◌, ◌≤◌, ◌∙◌, ℕ, ℤ, Bool, true, false, cond, ◌&&◌, List, [], ◌∷◌, map, pos, is_some, refl, sym, ap, ap₂, subst, Ordering, Some, None, Option, option_map, IsTrue, All, codes, if◌then◌else◌}
+use Rattle.std.proofs.Common.{◌≡◌, ◌≤◌, ◌∙◌, ℕ, ℤ, Bool, true, false, cond, ◌&&◌, List, [], ◌∷◌, map, pos, is_some, refl, sym, ap, subst, Ordering, Some, None, Option, option_map, IsTrue, All, codes, if◌then◌else◌}
 use Rattle.std.specs.List.{AllByRecursion, list_all}
 use Rattle.std.proofs.lemmas.Bool.{and_from, and_parts, le-leb}
 use Rattle.std.proofs.lemmas.List.Elements.{All-head, All-tail}
+use Rattle.std.proofs.lemmas.List.Folds.{list_all-map}
 use Rattle.std.proofs.lemmas.Simd.{map-map}
 use Rattle.sqlite.specs.Effect.{Database}
 use Rattle.sqlite.specs.Listing.{understood}
-use Rattle.sqlite.specs.State.{State as Shown, HasCleanDisk}
+use Rattle.sqlite.specs.State.{State as Shown}
 use Rattle.sqlite_sql.specs.Term.{Term, col}
 use Rattle.sqlite_tied.specs.Compute.{everything}
 use Rattle.sqlite_value.specs.Order.{Row, column}
@@ -25,7 +26,7 @@ use Rattle.registry_access.specs.declared.role.Role.{Role}
 use Rattle.registry_access.specs.declared.role.Role.TheVariants.{Developer, Admin, Owner}
 use Rattle.registry_rules.specs.Changes.{Change, AddUser, AddToken, DropToken, AddOrg, PutMember, DropMember, AddTeam, PutTeamMember, DropTeamMember, DropTeam, PutGrant, DropGrant, PutOwner, DropOwner, PutStatus, AddVersion, RetireVersion, PutDeprecation, PutTag, DropTag}
 use Rattle.registry_rows.specs.Columns.{text_in}
-use Rattle.registry_rows.specs.Ready.{Queried, Reads, Ready}
+use Rattle.registry_rows.specs.Ready.{Reads}
 use Rattle.registry_rows.specs.Statements.{MeansQuery, in_order, select_where}
 use Rattle.registry_rows.proofs.LookUpFacts.{select_all}
 use Rattle.registry_rows.proofs.QuietFacts.{reads_then}
@@ -34,12 +35,14 @@ use Rattle.registry_tables.specs.Contents.{Contents, LiveVersion, SpentVersion, 
 use Rattle.registry_tables.specs.Effects.{stored}
 use Rattle.registry_tables.specs.Fresh.{fresh}
 use Rattle.registry_tables.specs.Numbers.{grant_number, is_level, is_moment, is_role, is_status, role_number, status_number}
-use Rattle.registry_tables.specs.Ranges.{HasMoments, HasNumbersInRange, NumbersAreReadBack, TellsRanges, all_pass}
+use Rattle.registry_tables.specs.Ranges.{HasMoments, HasNumbersInRange, NumbersAreReadBack, TellsRanges, all_pass, moments_spelled}
 use Rattle.registry_tables.specs.Schema as table
 use Rattle.registry_tables.specs.Schema.{schema}
 use Rattle.registry_tables.specs.Spelled.{fourth_number, second_number, third_number}
+use Rattle.registry_tables.specs.Queries.{ShowsAll}
 use Rattle.registry_tables.proofs.MappedFacts.{grants_mapped, members_mapped, packages_mapped, spent_mapped, versions_mapped}
 use Rattle.registry_tables.proofs.NumberFacts.{grant_again, role_again, status_again}
+use Rattle.registry_tables.proofs.StatusFacts.{list_columns, list_means, list_text}
 
 -- ---- a number that is written
 
@@ -241,40 +244,37 @@ module _ {K X : Type 0} {cmp : K → K → Ordering} {same : K → K → Bool} (
 
 -- all five tables pass exactly where the numbers are in range
 pub tests_tell : (c : Contents) → TellsRanges (all_pass is_role c.members && (all_pass is_status c.packages && (all_pass is_level c.grants && (all_pass (λ v. is_moment v.published) c.versions
-    && (all_pass (λ v. is_moment v.published) c.spent && all_pass (λ v. is_moment v.withdrawn) c.spent))))) c
+    && all_pass (λ v. is_moment v.published && is_moment v.withdrawn) c.spent)))) c
 tests_tell c = (
   λ all.
       let one = and_parts _ _ all in
       let two = and_parts _ _ one.1 in
       let three = and_parts _ _ two.1 in
       let four = and_parts _ _ three.1 in
-      let five = and_parts _ _ four.1 in
       record {
         roles = pass_each pair_key is_role c.members one.0;
         statuses = pass_each text_key is_status c.packages two.0;
         levels = pass_each triple_key is_level c.grants three.0;
         live = pass_each pair_key (λ (v : LiveVersion). is_moment v.published) c.versions four.0;
-        spent = λ k v e. (pass_each pair_key (λ (v : SpentVersion). is_moment v.published) c.spent five.0 k v e, pass_each pair_key (λ (v : SpentVersion). is_moment v.withdrawn) c.spent five.1 k v e);
+        spent = λ k v e. and_parts _ _ (pass_each pair_key (λ (v : SpentVersion). is_moment v.published && is_moment v.withdrawn) c.spent four.1 k v e);
       },
   λ h.
       and_from _ _ (each_pass pair_key is_role c.members h.roles)
       (and_from _ _ (each_pass text_key is_status c.packages h.statuses)
       (and_from _ _ (each_pass triple_key is_level c.grants h.levels)
       (and_from _ _ (each_pass pair_key (λ (v : LiveVersion). is_moment v.published) c.versions h.live)
-      (and_from _ _ (each_pass pair_key (λ (v : SpentVersion). is_moment v.published) c.spent (λ k v e. (h.spent k v e).0))
-      (each_pass pair_key (λ (v : SpentVersion). is_moment v.withdrawn) c.spent (λ k v e. (h.spent k v e).1)))))),
+      (each_pass pair_key (λ (v : SpentVersion). is_moment v.published && is_moment v.withdrawn) c.spent (λ k v e. and_from _ _ (h.spent k v e).0 (h.spent k v e).1))))),
 )
 
 -- ---- SELECT of all rows
 
--- rows that show numbers of the values pass where these do
-shown_pass : {K X : Type 0} (test : ℤ → Bool) (g : X → ℤ) (read : Row → K × ℤ) (rows : List Row) (es : List (K × X)) → map read rows ≡ map (seen g) es
-    → list_all test (map (λ r. (read r).1) rows) ≡ list_all (λ x. test (g x)) (map (λ (e : K × X). e.1) es)
-shown_pass {K} {X} test g read rows es h = ap (list_all test) (sym (map-map (λ (e : K × ℤ). e.1) read rows) ∙ ap (map (λ (e : K × ℤ). e.1)) h) ∙ seen_pass es
-  where
-    seen_pass : (es : List (K × X)) → list_all test (map (λ (e : K × ℤ). e.1) (map (seen g) es)) ≡ list_all (λ x. test (g x)) (map (λ (e : K × X). e.1) es)
-    seen_pass [] = refl
-    seen_pass (e ∷ es) = ap (λ b. test (g e.1) && b) (seen_pass es)
+-- rows that show what is seen of the values
+shown_values : {K X Y : Type 0} (g : X → Y) (read : Row → K × Y) (rows : List Row) (es : List (K × X)) → map read rows ≡ map (seen g) es → map (λ r. (read r).1) rows ≡ map (λ (e : K × X). g e.1) es
+shown_values {K} {X} {Y} g read rows es h = sym (map-map (λ (e : K × Y). e.1) read rows) ∙ ap (map (λ (e : K × Y). e.1)) h ∙ map-map (λ (e : K × Y). e.1) (seen g) es
+
+-- all of them pass where the values do
+pub seen_pass : {K X Y : Type 0} (test : Y → Bool) (g : X → Y) (es : List (K × X)) → list_all test (map (λ (e : K × X). g e.1) es) ≡ list_all (λ x. test (g x)) (map (λ (e : K × X). e.1) es)
+seen_pass {K} {X} test g es = list_all-map test (λ (e : K × X). g e.1) es ∙ sym (list_all-map (λ x. test (g x)) (λ (e : K × X). e.1) es)
 
 abbrev pair_number : Row → Pair × ℤ
 pair_number r = ((text_in (column r 0), text_in (column r 1)), third_number r)
@@ -282,60 +282,52 @@ pair_number r = ((text_in (column r 0), text_in (column r 1)), third_number r)
 abbrev roles_text : List ℕ
 roles_text = codes "SELECT org, user, role FROM members ORDER BY org, user"
 
-roles_means : MeansQuery schema roles_text (select_where table.members (col 1 1 ∷ col 1 2 ∷ col 1 3 ∷ []) [] (in_order 1 1) (codes "org" ∷ codes "user" ∷ codes "role" ∷ []))
+pub roles_means : MeansQuery schema roles_text (select_where table.members (col 1 1 ∷ col 1 2 ∷ col 1 3 ∷ []) [] (in_order 1 1) (codes "org" ∷ codes "user" ∷ codes "role" ∷ []))
 unfolding understood everything
 roles_means = ((refl, (refl, refl)), refl)
 
-pub roles_pass : (old new : Shown) (rows : List Row) → Ready schema old → Queried roles_text [] old new rows → HasCleanDisk new
-    → Reads schema old new × (list_all is_role (map third_number rows) ≡ all_pass is_role (stored old).members)
-roles_pass old new rows form call clean =
+pub roles_listed : (old new : Shown) → ShowsAll roles_text [] old new third_number (map (λ e. e.1) (entries (stored old).members))
+roles_listed old new rows form call clean =
     let it = select_all members_mapped roles_text (col 1 1 ∷ col 1 2 ∷ col 1 3 ∷ []) _ roles_means pair_number (λ (n : ℤ). n) (λ id vs. refl) old new rows form call clean in
-    (it.0, shown_pass is_role (λ (n : ℤ). n) pair_number rows (entries (stored old).members) it.1)
-
-abbrev statuses_text : List ℕ
-statuses_text = codes "SELECT name, status FROM packages ORDER BY name"
-
-statuses_means : MeansQuery schema statuses_text (select_where table.packages (col 1 1 ∷ col 1 2 ∷ []) [] (in_order 0 1) (codes "name" ∷ codes "status" ∷ []))
-unfolding understood everything
-statuses_means = ((refl, (refl, refl)), refl)
+    (it.0, shown_values (λ (n : ℤ). n) pair_number rows (entries (stored old).members) it.1)
 
 abbrev text_number : Row → Text × ℤ
 text_number r = (text_in (column r 0), second_number r)
 
-pub statuses_pass : (old new : Shown) (rows : List Row) → Ready schema old → Queried statuses_text [] old new rows → HasCleanDisk new
-    → Reads schema old new × (list_all is_status (map second_number rows) ≡ all_pass is_status (stored old).packages)
-statuses_pass old new rows form call clean =
-    let it = select_all packages_mapped statuses_text (col 1 1 ∷ col 1 2 ∷ []) _ statuses_means text_number (λ (n : ℤ). n) (λ id vs. refl) old new rows form call clean in
-    (it.0, shown_pass is_status (λ (n : ℤ). n) text_number rows (entries (stored old).packages) it.1)
+pub statuses_listed : (old new : Shown) → ShowsAll list_text [] old new second_number (map (λ e. e.1) (entries (stored old).packages))
+statuses_listed old new rows form call clean =
+    let it = select_all packages_mapped list_text list_columns _ list_means text_number (λ (n : ℤ). n) (λ id vs. refl) old new rows form call clean in
+    (it.0, shown_values (λ (n : ℤ). n) text_number rows (entries (stored old).packages) it.1)
 
-abbrev levels_text : List ℕ
+abbrev pub levels_text : List ℕ
 levels_text = codes "SELECT org, team, package, level FROM grants ORDER BY org, team, package"
 
-levels_means : MeansQuery schema levels_text (select_where table.grants (col 1 1 ∷ col 1 2 ∷ col 1 3 ∷ col 1 4 ∷ []) [] (in_order 2 1) (codes "org" ∷ codes "team" ∷ codes "package" ∷ codes "level" ∷ []))
+abbrev pub levels_columns : List Term
+levels_columns = col 1 1 ∷ col 1 2 ∷ col 1 3 ∷ col 1 4 ∷ []
+
+pub levels_means : MeansQuery schema levels_text (select_where table.grants levels_columns [] (in_order 2 1) (codes "org" ∷ codes "team" ∷ codes "package" ∷ codes "level" ∷ []))
 unfolding understood everything
 levels_means = ((refl, (refl, refl)), refl)
 
 abbrev triple_number : Row → Triple × ℤ
 triple_number r = ((text_in (column r 0), (text_in (column r 1), text_in (column r 2))), fourth_number r)
 
-pub levels_pass : (old new : Shown) (rows : List Row) → Ready schema old → Queried levels_text [] old new rows → HasCleanDisk new
-    → Reads schema old new × (list_all is_level (map fourth_number rows) ≡ all_pass is_level (stored old).grants)
-levels_pass old new rows form call clean =
-    let it = select_all grants_mapped levels_text (col 1 1 ∷ col 1 2 ∷ col 1 3 ∷ col 1 4 ∷ []) _ levels_means triple_number (λ (n : ℤ). n) (λ id vs. refl) old new rows form call clean in
-    (it.0, shown_pass is_level (λ (n : ℤ). n) triple_number rows (entries (stored old).grants) it.1)
+pub levels_listed : (old new : Shown) → ShowsAll levels_text [] old new fourth_number (map (λ e. e.1) (entries (stored old).grants))
+levels_listed old new rows form call clean =
+    let it = select_all grants_mapped levels_text levels_columns _ levels_means triple_number (λ (n : ℤ). n) (λ id vs. refl) old new rows form call clean in
+    (it.0, shown_values (λ (n : ℤ). n) triple_number rows (entries (stored old).grants) it.1)
 
 abbrev live_text : List ℕ
 live_text = codes "SELECT package, version, published FROM versions ORDER BY package, version"
 
-live_means : MeansQuery schema live_text (select_where table.versions (col 1 1 ∷ col 1 2 ∷ col 1 3 ∷ []) [] (in_order 1 1) (codes "package" ∷ codes "version" ∷ codes "published" ∷ []))
+pub live_means : MeansQuery schema live_text (select_where table.versions (col 1 1 ∷ col 1 2 ∷ col 1 3 ∷ []) [] (in_order 1 1) (codes "package" ∷ codes "version" ∷ codes "published" ∷ []))
 unfolding understood everything
 live_means = ((refl, (refl, refl)), refl)
 
-pub live_pass : (old new : Shown) (rows : List Row) → Ready schema old → Queried live_text [] old new rows → HasCleanDisk new
-    → Reads schema old new × (list_all is_moment (map third_number rows) ≡ all_pass (λ v. is_moment v.published) (stored old).versions)
-live_pass old new rows form call clean =
+pub live_listed : (old new : Shown) → ShowsAll live_text [] old new third_number (map (λ e. e.1.published) (entries (stored old).versions))
+live_listed old new rows form call clean =
     let it = select_all versions_mapped live_text (col 1 1 ∷ col 1 2 ∷ col 1 3 ∷ []) _ live_means pair_number (λ (v : LiveVersion). v.published) (λ id vs. refl) old new rows form call clean in
-    (it.0, shown_pass is_moment (λ (v : LiveVersion). v.published) pair_number rows (entries (stored old).versions) it.1)
+    (it.0, shown_values (λ (v : LiveVersion). v.published) pair_number rows (entries (stored old).versions) it.1)
 
 abbrev spent_text : List ℕ
 spent_text = codes "SELECT package, version, published, withdrawn FROM spent ORDER BY package, version"
@@ -343,23 +335,20 @@ spent_text = codes "SELECT package, version, published, withdrawn FROM spent ORD
 abbrev spent_columns : List Term
 spent_columns = col 1 1 ∷ col 1 2 ∷ col 1 3 ∷ col 1 4 ∷ []
 
-spent_means : MeansQuery schema spent_text (select_where table.spent spent_columns [] (in_order 1 1) (codes "package" ∷ codes "version" ∷ codes "published" ∷ codes "withdrawn" ∷ []))
+pub spent_means : MeansQuery schema spent_text (select_where table.spent spent_columns [] (in_order 1 1) (codes "package" ∷ codes "version" ∷ codes "published" ∷ codes "withdrawn" ∷ []))
 unfolding understood everything
 spent_means = ((refl, (refl, refl)), refl)
 
-abbrev pair_fourth : Row → Pair × ℤ
-pair_fourth r = ((text_in (column r 0), text_in (column r 1)), fourth_number r)
+abbrev pair_moments : Row → Pair × (ℤ × ℤ)
+pair_moments r = ((text_in (column r 0), text_in (column r 1)), moments_spelled r)
 
-pub spent_pass : (old new : Shown) (rows : List Row) → Ready schema old → Queried spent_text [] old new rows → HasCleanDisk new
-    → Reads schema old new × ((list_all is_moment (map third_number rows) && list_all is_moment (map fourth_number rows))
-    ≡ (all_pass (λ v. is_moment v.published) (stored old).spent && all_pass (λ v. is_moment v.withdrawn) (stored old).spent))
-spent_pass old new rows form call clean =
-    let one = select_all spent_mapped spent_text spent_columns _ spent_means pair_number (λ (v : SpentVersion). v.published) (λ id vs. refl) old new rows form call clean in
-    let two = select_all spent_mapped spent_text spent_columns _ spent_means pair_fourth (λ (v : SpentVersion). v.withdrawn) (λ id vs. refl) old new rows form call clean in (
-      one.0,
-      ap₂ (λ a b. a && b) (shown_pass is_moment (λ (v : SpentVersion). v.published) pair_number rows (entries (stored old).spent) one.1)
-          (shown_pass is_moment (λ (v : SpentVersion). v.withdrawn) pair_fourth rows (entries (stored old).spent) two.1),
-    )
+abbrev pub moments_of : SpentVersion → ℤ × ℤ
+moments_of v = (v.published, v.withdrawn)
+
+pub spent_listed : (old new : Shown) → ShowsAll spent_text [] old new moments_spelled (map (λ e. moments_of e.1) (entries (stored old).spent))
+spent_listed old new rows form call clean =
+    let it = select_all spent_mapped spent_text spent_columns _ spent_means pair_moments moments_of (λ id vs. refl) old new rows form call clean in
+    (it.0, shown_values moments_of pair_moments rows (entries (stored old).spent) it.1)
 
 -- ---- one query after another
 

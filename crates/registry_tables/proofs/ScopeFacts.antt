@@ -1,14 +1,11 @@
 -- What the statement on all grants shows, and what it says of their scopes.
-use Rattle.std.proofs.Common.{◌≡◌, ◌≢◌, ◌==◌, ◌∙◌, ◌↔◌, ℕ, ℤ, Bool, true, false, cond, List, [], ◌∷◌, map, Option, None, Some, IsSome, is_some, Ordering, refl, sym, ap, subst, codes, true≢false, if◌then◌else◌}
+use Rattle.std.proofs.Common.{◌≡◌, ◌≢◌, ◌==◌, ◌∙◌, ◌↔◌, ℕ, ℤ, Bool, true, false, cond, List, [], ◌∷◌, map, Option, None, Some, IsSome, is_some, Ordering, refl, sym, ap, subst, true≢false, if◌then◌else◌}
 use Rattle.std.specs.List.{before_first, list_all}
 use Rattle.std.proofs.lemmas.Bool.{and_from, and_parts, eqb-true}
 use Rattle.std.proofs.lemmas.List.Folds.{list_all-map}
 use Rattle.std.proofs.lemmas.Simd.{map-map}
-use Rattle.sqlite.specs.Listing.{understood}
-use Rattle.sqlite.specs.State.{State as Shown, HasCleanDisk}
-use Rattle.sqlite_tied.specs.Compute.{everything}
+use Rattle.sqlite.specs.State.{State as Shown}
 use Rattle.sqlite_value.specs.Order.{Row, column}
-use Rattle.sqlite_sql.specs.Term.{Term, col}
 use Rattle.registry_names.specs.Keys.{IsKey, Triple}
 use Rattle.registry_names.specs.Maps.{entries, first_at, keys}
 use Rattle.registry_names.specs.Names.{scope_of}
@@ -17,16 +14,14 @@ use Rattle.registry_names.proofs.KeyFacts.{same_self, same_true, text_key, tripl
 use Rattle.registry_names.proofs.MapFacts.{at-entries}
 use Rattle.registry_rules.specs.Refusals.{is_scope}
 use Rattle.registry_rows.specs.Columns.{text_in}
-use Rattle.registry_rows.specs.Ready.{Ready, Reads, Queried}
-use Rattle.registry_rows.specs.Statements.{MeansQuery, select_where, in_order}
 use Rattle.registry_rows.proofs.LookUpFacts.{select_all}
-use Rattle.registry_tables.specs.Schema as table
-use Rattle.registry_tables.specs.Schema.{schema}
 use Rattle.registry_tables.specs.Contents.{Contents}
 use Rattle.registry_tables.specs.Effects.{stored}
 use Rattle.registry_tables.specs.Scopes.{grant_places, is_in_its_scope, place_spelled}
 use Rattle.registry_tables.specs.Teams.{GrantsInScope}
+use Rattle.registry_tables.specs.Queries.{ShowsAll}
 use Rattle.registry_tables.proofs.MappedFacts.{grants_mapped}
+use Rattle.registry_tables.proofs.RangeFacts.{levels_columns, levels_means, levels_text}
 
 -- a text that begins with no @ has none
 pub bare_has_none : (t : List ℕ) → ((rest : List ℕ) → t ≢ 64 ∷ rest) → scope_of t ≡ None
@@ -39,16 +34,6 @@ bare_has_none (c ∷ rest) bare = each (c == 64) refl
 
 -- ---- all grants
 
-abbrev list_text : List ℕ
-list_text = codes "SELECT org, team, package FROM grants ORDER BY org, team, package"
-
-abbrev list_columns : List Term
-list_columns = col 1 1 ∷ col 1 2 ∷ col 1 3 ∷ []
-
-list_means : MeansQuery schema list_text (select_where table.grants list_columns [] (in_order 2 1) (codes "org" ∷ codes "team" ∷ codes "package" ∷ []))
-unfolding understood everything
-list_means = ((refl, (refl, refl)), refl)
-
 -- a key, as a row spells it
 abbrev key_spelled : Row → Triple × Unit {0}
 key_spelled r = ((text_in (column r 0), (text_in (column r 1), text_in (column r 2))), tt)
@@ -57,10 +42,9 @@ key_spelled r = ((text_in (column r 0), (text_in (column r 1), text_in (column r
 abbrev placed : Triple × Unit {0} → Text × Text
 placed e = (e.0.0, e.0.1.1)
 
-pub places_listed : (old new : Shown) (rows : List Row) → Ready schema old → Queried list_text [] old new rows → HasCleanDisk new
-    → Reads schema old new × (map place_spelled rows ≡ grant_places (stored old))
+pub places_listed : (old new : Shown) → ShowsAll levels_text [] old new place_spelled (grant_places (stored old))
 places_listed old new rows form call clean =
-    let it = select_all grants_mapped list_text list_columns _ list_means key_spelled (λ (grant : ℤ). tt) (λ id vs. refl) old new rows form call clean in
+    let it = select_all grants_mapped levels_text levels_columns _ levels_means key_spelled (λ (grant : ℤ). tt) (λ id vs. refl) old new rows form call clean in
     let es = entries (stored old).grants in
     (it.0, sym (map-map placed key_spelled rows) ∙ ap (map placed) it.1 ∙ map-map placed (λ (e : Triple × ℤ). (e.0, tt)) es ∙ sym (map-map (λ (k : Triple). (k.0, k.1.1)) (λ (e : Triple × ℤ). e.0) es))
 

@@ -1,5 +1,5 @@
 -- What the statements on withdrawn versions show.
-use Rattle.std.proofs.Common.{◌≡◌, ◌==◌, ◌+◌, ◌<◌, List, [], ◌∷◌, ◌++◌, map, take, not, Option, Some, is_some, length, arith, refl, sym, ap, ◌∙◌, codes, ℕ}
+use Rattle.std.proofs.Common.{◌≡◌, ◌+◌, ◌<◌, List, [], ◌∷◌, ◌++◌, map, take, Option, Some, is_some, length, arith, refl, sym, ap, ◌∙◌, codes, ℕ}
 use Rattle.std.specs.Prelude.{max, slice_index_or, unwrap_or}
 use Rattle.std.proofs.lemmas.Simd.{map-map}
 use Rattle.sqlite.specs.declared.types.Value.TheVariants.{Text as Stored}
@@ -25,6 +25,7 @@ use Rattle.registry_tables.specs.Effects.{stored}
 use Rattle.registry_tables.specs.Numbers.{seconds_of}
 use Rattle.registry_tables.specs.Spelled.{held_spelled, number_spelled, second_spelled}
 use Rattle.registry_tables.specs.Withdrawals.{last_number}
+use Rattle.registry_tables.specs.Queries.{ShowsAll, ShowsWhether}
 use Rattle.registry_names.proofs.KeyFacts.{text_key}
 use Rattle.registry_tables.proofs.FoundFacts.{some_found, some_seen}
 use Rattle.registry_tables.proofs.MappedFacts.{spent_mapped}
@@ -34,12 +35,11 @@ use Rattle.registry_tables.proofs.ReadFacts.{part-read}
 abbrev find_text : List ℕ
 find_text = codes "SELECT withdrawn FROM spent WHERE package = ?1 AND version = ?2"
 
-find_means : MeansQuery schema find_text (Select (record { lets = []; body = scan 20 (by_texts 1 1 0) (col 1 4 ∷ []) [] }) (codes "withdrawn" ∷ []))
+pub find_means : MeansQuery schema find_text (Select (record { lets = []; body = scan 20 (by_texts 1 1 0) (col 1 4 ∷ []) [] }) (codes "withdrawn" ∷ []))
 unfolding understood everything
 find_means = ((refl, (refl, refl)), refl)
 
-pub withdrawal_found : (p v : Text) (old new : Shown) (rows : List Row) → Ready schema old → Queried find_text (Stored p ∷ Stored v ∷ []) old new rows → HasCleanDisk new
-    → Reads schema old new × (not (length rows == 0) ≡ is_some (at (stored old).spent (p, v)))
+pub withdrawal_found : (p v : Text) (old new : Shown) → ShowsWhether find_text (Stored p ∷ Stored v ∷ []) old new (is_some (at (stored old).spent (p, v)))
 withdrawal_found p v old new rows form call clean =
     let it = select_finds spent_mapped find_text (col 1 4 ∷ []) _ find_means (p, v) held_spelled (λ (w : SpentVersion). w.withdrawn) (λ id vs. refl) old new rows form call clean in
     (it.0, some_found held_spelled rows _ it.1 ∙ some_seen (λ (w : SpentVersion). w.withdrawn) (at (stored old).spent (p, v)))
@@ -52,7 +52,7 @@ last_text = codes "SELECT withdrawn, published, version FROM spent WHERE package
 abbrev last_columns : List Term
 last_columns = col 1 4 ∷ col 1 3 ∷ col 1 2 ∷ []
 
-last_means : MeansQuery schema last_text (Select (record { lets = []; body = scan 20 (by_texts 0 1 0) last_columns (in_order 0 2) }) (codes "withdrawn" ∷ codes "published" ∷ codes "version" ∷ []))
+pub last_means : MeansQuery schema last_text (Select (record { lets = []; body = scan 20 (by_texts 0 1 0) last_columns (in_order 0 2) }) (codes "withdrawn" ∷ codes "published" ∷ codes "version" ∷ []))
 unfolding understood everything
 last_means = ((refl, (refl, refl)), refl)
 
@@ -83,8 +83,7 @@ last_found p old new rows form call clean =
 abbrev published_entry : Row → Text × ℕ
 published_entry r = (text_in (column r 2), second_spelled r)
 
-pub publications_found : (p : Text) (old new : Shown) (rows : List Row) → Ready schema old → Queried last_text (Stored p ∷ []) old new rows → HasCleanDisk new
-    → Reads schema old new × (map second_spelled rows ≡ spent_publications (of (registry_of (stored old)).spent p))
+pub publications_found : (p : Text) (old new : Shown) → ShowsAll last_text (Stored p ∷ []) old new second_spelled (spent_publications (of (registry_of (stored old)).spent p))
 publications_found p old new rows form call clean =
     let es = of (stored old).spent p in
     let it = select_lists spent_mapped last_text last_columns _ last_means p published_entry (λ (w : SpentVersion). seconds_of w.published) (λ id vs. ap (λ (n : ℕ). (text_in (column vs 1), n)) (as_seconds (column vs 2))) old new rows form call clean in (

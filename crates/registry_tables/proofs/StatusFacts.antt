@@ -1,5 +1,5 @@
 -- What the statements on statuses make and show.
-use Rattle.std.proofs.Common.{◌≡◌, ℕ, Bool, true, false, not, ◌&&◌, cond, drop, filter, Ordering, Less, Equal, Greater, is_lt, ap, ap₂, List, [], ◌∷◌, map, Option, Some, None, option_map, slice_get, Ok, refl, sym, subst, ◌∙◌, codes}
+use Rattle.std.proofs.Common.{◌≡◌, ℕ, Bool, true, false, not, ◌&&◌, cond, drop, filter, Ordering, Less, Equal, Greater, is_lt, ap, ap₂, List, [], ◌∷◌, map, Option, Some, None, refl, sym, ◌∙◌, codes, if◌then◌else◌}
 use Rattle.sqlite.specs.declared.types.Value.TheVariants.{Null, Int, Text as Stored}
 use Rattle.sqlite.specs.Command.TheVariants.{Insert, Update, Select}
 use Rattle.sqlite.specs.Source.TheVariants.{Values}
@@ -19,30 +19,30 @@ use Rattle.std.specs.Ordering.{is_ge}
 use Rattle.sqlite_sql.specs.Term.{Term, lit, col, op2}
 use Rattle.registry_names.specs.Texts.{Text, text_cmp}
 use Rattle.registry_rows.specs.Frames.{Wrote}
-use Rattle.registry_rows.specs.Ready.{IsReady, Ready, Leaves, Reads, Queried}
+use Rattle.registry_rows.specs.Ready.{IsReady, Ready, Leaves}
 use Rattle.registry_tables.specs.Overviews.{package_spelled}
 use Rattle.registry_tables.specs.Schema as table
 use Rattle.registry_tables.specs.Schema.{schema}
 use Rattle.registry_tables.specs.Contents.{access_of, contents}
 use Rattle.registry_tables.specs.Effects.{stored}
-use Rattle.registry_names.specs.Maps.{at, entries, put, seen}
+use Rattle.registry_names.specs.Maps.{at, entries, seen}
 use Rattle.registry_names.specs.declared.status.Status.{Status}
 use Rattle.registry_names.proofs.KeyFacts.{text_key}
 use Rattle.registry_rows.specs.Statements.{Means, MeansQuery, scan, by_texts, in_order, is_wanted, select_where, set_terms}
 use Rattle.registry_rows.specs.Columns.{text_in}
 use Rattle.registry_rows.specs.Rows.{key_of}
-use Rattle.registry_rows.proofs.StatementFacts.{insert_puts, insert_meets_none, update_revises}
 use Rattle.registry_rows.proofs.KeyedFacts.{by_texts_given, texts_of}
 use Rattle.registry_rows.proofs.LookUpFacts.{select_all, select_finds, select_passes_by, first_listed}
 use Rattle.registry_rows.proofs.TextKeyFacts.{and_true, row_parts}
-use Rattle.registry_tables.specs.Changes.{amended}
+use Rattle.registry_tables.specs.Changes.{IsFreeUnless, with_row}
 use Rattle.registry_tables.specs.Numbers.{status_number, status_of}
 use Rattle.registry_tables.specs.Spelled.{status_spelled}
+use Rattle.registry_tables.specs.Queries.{ShowsAll, ShowsFirst}
 use Rattle.registry_tables.proofs.AfterScopeFacts.{is_between}
 use Rattle.registry_tables.proofs.DependentFacts.{truth_is}
 use Rattle.registry_tables.proofs.MappedFacts.{packages_mapped}
 use Rattle.registry_tables.proofs.ReadFacts.{at-read, entries-read}
-use Rattle.registry_tables.proofs.ReviseFacts.{revised}
+use Rattle.registry_tables.proofs.SetRowFacts.{row_set}
 
 -- ---- INSERT
 
@@ -55,14 +55,6 @@ put_cells = col 0 0 ∷ col 0 1 ∷ []
 put_means : Means schema put_text (Insert 6 (Values (lit Null ∷ put_cells) 3))
 unfolding understood everything
 put_means = (refl, (refl, refl))
-
-pub status_put : (p : Text) (status : Status) (old new : Shown) → Ready schema old → Wrote put_text (Stored p ∷ Int (status_number status) ∷ []) old new → HasCleanDisk new
-    → Leaves schema contents (record (stored old) { packages = put (stored old).packages p (status_number status) }) new
-status_put p status old new form call = insert_puts packages_mapped put_text put_cells put_means (Stored p ∷ Int (status_number status) ∷ []) refl old new (Ok call.0) form call.1
-
--- an answered INSERT had a new key
-pub status_was_new : (p : Text) (status : Status) (old new : Shown) → Ready schema old → Wrote put_text (Stored p ∷ Int (status_number status) ∷ []) old new → HasCleanDisk new → at (stored old).packages p ≡ None
-status_was_new p status old new form call = insert_meets_none packages_mapped put_text put_cells put_means (Stored p ∷ Int (status_number status) ∷ []) refl old new (Ok call.0) form call.1
 
 -- ---- UPDATE
 
@@ -77,38 +69,35 @@ set_means : Means schema set_text (Update 6 (record { lets = []; body = scan 12 
 unfolding understood everything
 set_means = (refl, (refl, refl))
 
-pub status_set : (p : Text) (status : Status) (old new : Shown) → Ready schema old → Wrote set_text (Stored p ∷ Int (status_number status) ∷ []) old new → HasCleanDisk new
-    → Leaves schema contents (record (stored old) { packages = amended (stored old).packages p (status_number status) }) new
-status_set p status old new form call clean = subst (λ m. Leaves schema contents (record (stored old) { packages = m }) new) (revised text_key (stored old).packages p (status_number status))
-    (update_revises packages_mapped set_text sets set_means refl p (Int (status_number status) ∷ []) refl (λ _. status_number status) (λ vs. refl) (λ vs. refl) old new (Ok call.0) form call.1 clean)
+pub status_set : (p : Text) (status : Status) (stands : Bool) (old new : Shown) → Ready schema old → Wrote (if stands then set_text else put_text) (Stored p ∷ Int (status_number status) ∷ []) old new → HasCleanDisk new
+    → Leaves schema contents (record (stored old) { packages = with_row (stored old).packages p (status_number status) stands }) new × IsFreeUnless (stored old).packages p stands
+status_set p status = row_set packages_mapped set_text put_text sets put_cells set_means put_means p (Int (status_number status) ∷ []) (status_number status) refl (λ vs. refl) (λ vs. refl) refl refl refl
 
 -- ---- SELECT
 
 abbrev find_text : List ℕ
 find_text = codes "SELECT status FROM packages WHERE name = ?1"
 
-find_means : MeansQuery schema find_text (Select (record { lets = []; body = scan 12 (by_texts 0 1 0) (col 1 2 ∷ []) [] }) (codes "status" ∷ []))
+pub find_means : MeansQuery schema find_text (Select (record { lets = []; body = scan 12 (by_texts 0 1 0) (col 1 2 ∷ []) [] }) (codes "status" ∷ []))
 unfolding understood everything
 find_means = ((refl, (refl, refl)), refl)
 
-pub status_found : (p : Text) (old new : Shown) (rows : List Row) → Ready schema old → Queried find_text (Stored p ∷ []) old new rows → HasCleanDisk new
-    → Reads schema old new × (option_map status_spelled (slice_get rows 0) ≡ at (access_of (stored old)).statuses p)
+pub status_found : (p : Text) (old new : Shown) → ShowsFirst find_text (Stored p ∷ []) old new status_spelled (at (access_of (stored old)).statuses p)
 status_found p old new rows form call clean =
     let it = select_finds packages_mapped find_text (col 1 2 ∷ []) _ find_means p status_spelled status_of (λ id vs. refl) old new rows form call clean in
     (it.0, first_listed status_spelled rows _ it.1 ∙ sym (at-read text_key (stored old).packages (λ _ n. status_of n) p))
 
-abbrev list_text : List ℕ
+abbrev pub list_text : List ℕ
 list_text = codes "SELECT name, status FROM packages ORDER BY name"
 
-abbrev list_columns : List Term
+abbrev pub list_columns : List Term
 list_columns = col 1 1 ∷ col 1 2 ∷ []
 
-list_means : MeansQuery schema list_text (select_where table.packages list_columns [] (in_order 0 1) (codes "name" ∷ codes "status" ∷ []))
+pub list_means : MeansQuery schema list_text (select_where table.packages list_columns [] (in_order 0 1) (codes "name" ∷ codes "status" ∷ []))
 unfolding understood everything
 list_means = ((refl, (refl, refl)), refl)
 
-pub statuses_listed : (old new : Shown) (rows : List Row) → Ready schema old → Queried list_text [] old new rows → HasCleanDisk new
-    → Reads schema old new × (map package_spelled rows ≡ entries (access_of (stored old)).statuses)
+pub statuses_listed : (old new : Shown) → ShowsAll list_text [] old new package_spelled (entries (access_of (stored old)).statuses)
 statuses_listed old new rows form call clean =
     let it = select_all packages_mapped list_text list_columns _ list_means package_spelled status_of (λ id vs. refl) old new rows form call clean in
     (it.0, it.1 ∙ sym (entries-read text_key (stored old).packages (λ _ n. status_of n)))
@@ -122,7 +111,7 @@ between_text = codes "SELECT name, status FROM packages WHERE name >= ?1 AND nam
 abbrev between_wanted : List Term
 between_wanted = op2 (Compare Ge Binary) (col 1 1) (col 0 0) ∷ op2 (Compare Lt Binary) (col 1 1) (col 0 1) ∷ []
 
-between_means : MeansQuery schema between_text (select_where table.packages list_columns between_wanted (in_order 0 1) (codes "name" ∷ codes "status" ∷ []))
+pub between_means : MeansQuery schema between_text (select_where table.packages list_columns between_wanted (in_order 0 1) (codes "name" ∷ codes "status" ∷ []))
 unfolding understood everything
 between_means = ((refl, (refl, refl)), refl)
 
@@ -159,8 +148,7 @@ filter_seen {X} {Y} test g (e ∷ es) = each (test e.0) ∙ ap (λ (l : List (Te
     each true = refl
     each false = refl
 
-pub between_listed : (low high : Text) (old new : Shown) (rows : List Row) → Ready schema old → Queried between_text (Stored low ∷ Stored high ∷ []) old new rows → HasCleanDisk new
-    → Reads schema old new × (map package_spelled rows ≡ filter (λ (e : Text × Status). is_between low high e.0) (entries (access_of (stored old)).statuses))
+pub between_listed : (low high : Text) (old new : Shown) → ShowsAll between_text (Stored low ∷ Stored high ∷ []) old new package_spelled (filter (λ (e : Text × Status). is_between low high e.0) (entries (access_of (stored old)).statuses))
 between_listed low high old new rows form call clean =
     let it = select_passes_by (by_texts_given packages_mapped) between_text between_wanted list_columns _ between_means (Stored low ∷ Stored high ∷ []) (λ e. is_between low high e.0) package_spelled status_of (λ id vs _. refl) old new (passes low high old) rows form call clean in (
       it.0,

@@ -1,5 +1,5 @@
 -- What the statements on teams make and show.
-use Rattle.std.proofs.Common.{◌≡◌, ◌==◌, ℕ, List, [], ◌∷◌, map, not, is_some, length, None, Ok, refl, sym, ap, ◌∙◌, codes}
+use Rattle.std.proofs.Common.{◌≡◌, ℕ, List, [], ◌∷◌, is_some, None, Ok, refl, sym, ap, ◌∙◌, codes}
 use Rattle.std.proofs.lemmas.Simd.{map-map}
 use Rattle.sqlite.specs.declared.types.Value.TheVariants.{Null, Text as Stored}
 use Rattle.sqlite.specs.Command.TheVariants.{Insert, Select}
@@ -12,7 +12,7 @@ use Rattle.sqlite_sql.specs.Term.{Term, lit, col}
 use Rattle.registry_names.specs.Texts.{Text}
 use Rattle.registry_names.specs.Maps.{at, keys, of, put}
 use Rattle.registry_rows.specs.Frames.{Wrote}
-use Rattle.registry_rows.specs.Ready.{Ready, Leaves, Reads, Queried}
+use Rattle.registry_rows.specs.Ready.{Ready, Leaves}
 use Rattle.registry_rows.specs.Statements.{Means, MeansQuery, scan, by_texts, in_order}
 use Rattle.registry_rows.proofs.StatementFacts.{insert_puts, insert_meets_none}
 use Rattle.registry_rows.proofs.LookUpFacts.{select_lists, seen_as_is}
@@ -24,6 +24,7 @@ use Rattle.registry_tables.proofs.ReadFacts.{some-read}
 use Rattle.registry_names.proofs.KeyFacts.{pair_key, triple_key}
 use Rattle.registry_tables.specs.Effects.{stored}
 use Rattle.registry_tables.specs.Teams.{AreTeamsSound, text_spelled}
+use Rattle.registry_tables.specs.Queries.{ShowsAll, ShowsWhether}
 use Rattle.registry_tables.proofs.FoundFacts.{there_found}
 use Rattle.registry_tables.proofs.MappedFacts.{teams_mapped}
 
@@ -52,18 +53,17 @@ team_was_new o t old new form call = insert_meets_none teams_mapped put_text put
 abbrev find_text : List ℕ
 find_text = codes "SELECT team FROM teams WHERE org = ?1 AND team = ?2"
 
-find_means : MeansQuery schema find_text (Select (record { lets = []; body = scan 8 (by_texts 1 1 0) (col 1 2 ∷ []) [] }) (codes "team" ∷ []))
+pub find_means : MeansQuery schema find_text (Select (record { lets = []; body = scan 8 (by_texts 1 1 0) (col 1 2 ∷ []) [] }) (codes "team" ∷ []))
 unfolding understood everything
 find_means = ((refl, (refl, refl)), refl)
 
-pub team_found : (o t : Text) (old new : Shown) (rows : List Row) → Ready schema old → Queried find_text (Stored o ∷ Stored t ∷ []) old new rows → HasCleanDisk new
-    → Reads schema old new × (not (length rows == 0) ≡ is_some (at (stored old).teams (o, t)))
+pub team_found : (o t : Text) (old new : Shown) → ShowsWhether find_text (Stored o ∷ Stored t ∷ []) old new (is_some (at (stored old).teams (o, t)))
 team_found o t = there_found teams_mapped find_text (col 1 2 ∷ []) _ find_means (o, t)
 
 abbrev list_text : List ℕ
 list_text = codes "SELECT team FROM teams WHERE org = ?1 ORDER BY team"
 
-list_means : MeansQuery schema list_text (Select (record { lets = []; body = scan 8 (by_texts 0 1 0) (col 1 2 ∷ []) (in_order 0 2) }) (codes "team" ∷ []))
+pub list_means : MeansQuery schema list_text (Select (record { lets = []; body = scan 8 (by_texts 0 1 0) (col 1 2 ∷ []) (in_order 0 2) }) (codes "team" ∷ []))
 unfolding understood everything
 list_means = ((refl, (refl, refl)), refl)
 
@@ -71,8 +71,7 @@ list_means = ((refl, (refl, refl)), refl)
 abbrev team_entry : Row → Text × Unit {0}
 team_entry r = (text_spelled r, tt)
 
-pub teams_listed : (o : Text) (old new : Shown) (rows : List Row) → Ready schema old → Queried list_text (Stored o ∷ []) old new rows → HasCleanDisk new
-    → Reads schema old new × (map text_spelled rows ≡ keys (of (stored old).teams o))
+pub teams_listed : (o : Text) (old new : Shown) → ShowsAll list_text (Stored o ∷ []) old new text_spelled (keys (of (stored old).teams o))
 teams_listed o old new rows form call clean =
     let it = select_lists teams_mapped list_text (col 1 2 ∷ []) _ list_means o team_entry (λ (u : Unit {0}). u) (λ id vs. refl) old new rows form call clean in
     (it.0, sym (map-map (λ (e : Text × Unit {0}). e.0) team_entry rows) ∙ ap keys (it.1 ∙ seen_as_is (of (stored old).teams o)))

@@ -1,23 +1,23 @@
 -- What the statements on the members of teams make and show.
-use Rattle.std.proofs.Common.{◌≡◌, ◌==◌, ℕ, List, [], ◌∷◌, not, is_some, length, None, Ok, refl, codes}
+use Rattle.std.proofs.Common.{◌≡◌, ℕ, List, [], ◌∷◌, is_some, None, Ok, refl, codes}
 use Rattle.sqlite.specs.declared.types.Value.TheVariants.{Null, Text as Stored}
 use Rattle.sqlite.specs.Command.TheVariants.{Insert, Delete, Select}
 use Rattle.sqlite.specs.Source.TheVariants.{Values}
 use Rattle.sqlite.specs.Listing.{understood}
 use Rattle.sqlite.specs.State.{State as Shown, HasCleanDisk}
 use Rattle.sqlite_tied.specs.Compute.{everything}
-use Rattle.sqlite_value.specs.Order.{Row}
 use Rattle.sqlite_sql.specs.Term.{Term, lit, col}
 use Rattle.registry_names.specs.Texts.{Text}
 use Rattle.registry_names.specs.Maps.{at, erase, put}
 use Rattle.registry_rows.specs.Frames.{Wrote}
-use Rattle.registry_rows.specs.Ready.{Ready, Leaves, Reads, Queried}
+use Rattle.registry_rows.specs.Ready.{Ready, Leaves}
 use Rattle.registry_rows.specs.Statements.{Means, MeansQuery, IsUncascaded, scan, by_texts}
 use Rattle.registry_rows.proofs.StatementFacts.{insert_puts, insert_meets_none, delete_erases}
 use Rattle.registry_tables.specs.Schema.{schema}
 use Rattle.registry_tables.specs.Schema as table
 use Rattle.registry_tables.specs.Contents.{contents}
 use Rattle.registry_tables.specs.Effects.{stored}
+use Rattle.registry_tables.specs.Queries.{ShowsWhether}
 use Rattle.registry_tables.proofs.FoundFacts.{there_found}
 use Rattle.registry_tables.proofs.MappedFacts.{team_members_mapped}
 
@@ -64,10 +64,9 @@ team_member_dropped o t u old new form call = delete_erases team_members_mapped 
 abbrev find_text : List ℕ
 find_text = codes "SELECT user FROM team_members WHERE org = ?1 AND team = ?2 AND user = ?3"
 
-find_means : MeansQuery schema find_text (Select (record { lets = []; body = scan 10 (by_texts 2 1 0) (col 1 3 ∷ []) [] }) (codes "user" ∷ []))
+pub find_means : MeansQuery schema find_text (Select (record { lets = []; body = scan 10 (by_texts 2 1 0) (col 1 3 ∷ []) [] }) (codes "user" ∷ []))
 unfolding understood everything
 find_means = ((refl, (refl, refl)), refl)
 
-pub team_member_found : (o t u : Text) (old new : Shown) (rows : List Row) → Ready schema old → Queried find_text (Stored o ∷ Stored t ∷ Stored u ∷ []) old new rows → HasCleanDisk new
-    → Reads schema old new × (not (length rows == 0) ≡ is_some (at (stored old).team_members (o, (t, u))))
+pub team_member_found : (o t u : Text) (old new : Shown) → ShowsWhether find_text (Stored o ∷ Stored t ∷ Stored u ∷ []) old new (is_some (at (stored old).team_members (o, (t, u))))
 team_member_found o t u = there_found team_members_mapped find_text (col 1 3 ∷ []) _ find_means (o, (t, u))

@@ -1,5 +1,5 @@
 -- What the statements on tokens make and show.
-use Rattle.std.proofs.Common.{◌≡◌, ℕ, List, [], ◌∷◌, map, filter, option_map, slice_get, None, Ok, refl, sym, ap, ◌∙◌, codes}
+use Rattle.std.proofs.Common.{◌≡◌, ℕ, List, [], ◌∷◌, filter, None, Ok, refl, sym, ap, ◌∙◌, codes}
 use Rattle.std.proofs.lemmas.Iterator.Adapters.{option_map_id}
 use Rattle.std.proofs.lemmas.Simd.{map-map}
 use Rattle.sqlite.specs.declared.types.Value.TheVariants.{Null, Blob, Text as Stored}
@@ -15,7 +15,7 @@ use Rattle.registry_names.specs.Maps.{at, put, erase, entries, keys, seen}
 use Rattle.registry_names.proofs.TextFacts.{is_sym}
 use Rattle.registry_rules.specs.State.{tokens_of}
 use Rattle.registry_rows.specs.Frames.{Wrote}
-use Rattle.registry_rows.specs.Ready.{Ready, Leaves, Reads, Queried}
+use Rattle.registry_rows.specs.Ready.{Ready, Leaves}
 use Rattle.registry_rows.specs.KeyKinds.{bytes}
 use Rattle.registry_rows.specs.Statements.{Means, MeansQuery, IsUncascaded, scan, select_where, by_column, by_texts}
 use Rattle.registry_rows.proofs.KeyedFacts.{by_bytes_given}
@@ -26,6 +26,7 @@ use Rattle.registry_tables.specs.Schema.{schema}
 use Rattle.registry_tables.specs.Contents.{contents, registry_of}
 use Rattle.registry_tables.specs.Effects.{stored}
 use Rattle.registry_tables.specs.Spelled.{blob_of_row, named_spelled}
+use Rattle.registry_tables.specs.Queries.{ShowsAll, ShowsFirst}
 use Rattle.registry_tables.proofs.MappedFacts.{tokens_mapped}
 
 -- ---- INSERT
@@ -71,12 +72,11 @@ token_dropped digest old new form call = delete_erases_by (by_bytes_given tokens
 abbrev find_text : List ℕ
 find_text = codes "SELECT user FROM tokens WHERE digest = ?1"
 
-find_means : MeansQuery schema find_text (Select (record { lets = []; body = scan 2 (by_texts 0 1 0) (col 1 2 ∷ []) [] }) (codes "user" ∷ []))
+pub find_means : MeansQuery schema find_text (Select (record { lets = []; body = scan 2 (by_texts 0 1 0) (col 1 2 ∷ []) [] }) (codes "user" ∷ []))
 unfolding understood everything
 find_means = ((refl, (refl, refl)), refl)
 
-pub user_of_found : (digest : Text) (old new : Shown) (rows : List Row) → Ready schema old → Queried find_text (Blob digest ∷ []) old new rows → HasCleanDisk new
-    → Reads schema old new × (option_map named_spelled (slice_get rows 0) ≡ at (stored old).tokens digest)
+pub user_of_found : (digest : Text) (old new : Shown) → ShowsFirst find_text (Blob digest ∷ []) old new named_spelled (at (stored old).tokens digest)
 user_of_found digest old new rows form call clean =
     let it = select_finds_by (by_bytes_given tokens_mapped) find_text (col 1 2 ∷ []) _ find_means digest named_spelled (λ (u : Text). u) (λ id vs. refl) old new rows form call clean in
     (it.0, first_listed named_spelled rows _ it.1 ∙ option_map_id (at (stored old).tokens digest))
@@ -84,7 +84,7 @@ user_of_found digest old new rows form call clean =
 abbrev list_text : List ℕ
 list_text = codes "SELECT digest FROM tokens WHERE user = ?1 ORDER BY digest"
 
-list_means : MeansQuery schema list_text (select_where table.tokens (col 1 1 ∷ []) (by_column 1) bytes.order (codes "digest" ∷ []))
+pub list_means : MeansQuery schema list_text (select_where table.tokens (col 1 1 ∷ []) (by_column 1) bytes.order (codes "digest" ∷ []))
 unfolding understood everything
 list_means = ((refl, (refl, refl)), refl)
 
@@ -100,8 +100,7 @@ is_either : (u : Text) (es : List (Text × Text)) → filter (λ (e : Text × Te
 is_either u [] = refl
 is_either u (e ∷ es) = rw (is_sym u e.1, is_either u es) refl
 
-pub tokens_listed : (u : Text) (old new : Shown) (rows : List Row) → Ready schema old → Queried list_text (Stored u ∷ []) old new rows → HasCleanDisk new
-    → Reads schema old new × (map blob_of_row rows ≡ tokens_of (registry_of (stored old)) u)
+pub tokens_listed : (u : Text) (old new : Shown) → ShowsAll list_text (Stored u ∷ []) old new blob_of_row (tokens_of (registry_of (stored old)) u)
 tokens_listed u old new rows form call clean =
     let it = select_has_by (by_bytes_given tokens_mapped) 1 (Stored u) refl (λ (x : Text). is u x) (λ vs. refl) list_text (col 1 1 ∷ []) _ list_means digest_of nothing_of (λ id vs. refl) old new rows form call clean in (
       it.0,

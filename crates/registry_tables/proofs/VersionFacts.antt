@@ -1,5 +1,5 @@
 -- What the statements on versions make and show.
-use Rattle.std.proofs.Common.{◌≡◌, ◌==◌, ℕ, List, [], ◌∷◌, pos, map, not, is_some, length, option_map, slice_get, Option, None, Some, Ok, refl, sym, ap, ◌∙◌, codes}
+use Rattle.std.proofs.Common.{◌≡◌, ℕ, List, [], ◌∷◌, pos, map, is_some, option_map, Option, None, Some, Ok, refl, sym, ap, ◌∙◌, codes}
 use Rattle.std.proofs.lemmas.Simd.{map-map}
 use Rattle.sqlite.specs.declared.types.Value.TheVariants.{Null, Int, Text as Stored, Blob}
 use Rattle.sqlite.specs.Command.TheVariants.{Insert, Update, Select}
@@ -7,12 +7,12 @@ use Rattle.sqlite.specs.Source.TheVariants.{Values}
 use Rattle.sqlite.specs.Listing.{understood}
 use Rattle.sqlite.specs.State.{State as Shown, HasCleanDisk}
 use Rattle.sqlite_tied.specs.Compute.{everything}
-use Rattle.sqlite_value.specs.Order.{Row, column}
+use Rattle.sqlite_value.specs.Order.{column}
 use Rattle.sqlite_sql.specs.Term.{Term, lit, col}
 use Rattle.registry_names.specs.Texts.{Text}
 use Rattle.registry_rows.specs.Columns.{text_in}
 use Rattle.registry_rows.specs.Frames.{Wrote}
-use Rattle.registry_rows.specs.Ready.{Ready, Leaves, Reads, Queried}
+use Rattle.registry_rows.specs.Ready.{Ready, Leaves}
 use Rattle.registry_tables.specs.Schema.{schema}
 use Rattle.registry_tables.specs.Contents.{LiveVersion, as_release, contents, live_of, registry_of}
 use Rattle.registry_tables.specs.Effects.{stored}
@@ -26,6 +26,7 @@ use Rattle.registry_tables.specs.Teams.{text_spelled}
 use Rattle.registry_tables.specs.Withdrawals.{with_message}
 use Rattle.registry_tables.specs.Numbers.{seconds_of}
 use Rattle.registry_tables.specs.Spelled.{held_spelled, number_spelled, document, document_spelled, published, row_spelled, time_spelled, version_spelled}
+use Rattle.registry_tables.specs.Queries.{ShowsAll, ShowsFirst, ShowsWhether}
 use Rattle.registry_tables.proofs.FoundFacts.{some_found, some_seen}
 use Rattle.registry_tables.proofs.LiveFacts.{document_as_row, documents_as_rows, lives_as_row, lives_as_rows, published_as_row, first_shown, times_as_rows, versions_as_rows}
 use Rattle.registry_tables.proofs.MappedFacts.{versions_mapped}
@@ -76,18 +77,16 @@ message_set p v message old new form call =
 abbrev find_text : List ℕ
 find_text = codes "SELECT published FROM versions WHERE package = ?1 AND version = ?2"
 
-find_means : MeansQuery schema find_text (Select (record { lets = []; body = scan 18 (by_texts 1 1 0) (col 1 3 ∷ []) [] }) (codes "published" ∷ []))
+pub find_means : MeansQuery schema find_text (Select (record { lets = []; body = scan 18 (by_texts 1 1 0) (col 1 3 ∷ []) [] }) (codes "published" ∷ []))
 unfolding understood everything
 find_means = ((refl, (refl, refl)), refl)
 
-pub version_found : (p v : Text) (old new : Shown) (rows : List Row) → Ready schema old → Queried find_text (Stored p ∷ Stored v ∷ []) old new rows → HasCleanDisk new
-    → Reads schema old new × (not (length rows == 0) ≡ is_some (at (live_of (stored old)) (p, v)))
+pub version_found : (p v : Text) (old new : Shown) → ShowsWhether find_text (Stored p ∷ Stored v ∷ []) old new (is_some (at (live_of (stored old)) (p, v)))
 version_found p v old new rows form call clean =
     let it = select_finds versions_mapped find_text (col 1 3 ∷ []) _ find_means (p, v) held_spelled (λ (r : LiveVersion). r.published) (λ id vs. refl) old new rows form call clean in
     (it.0, some_found held_spelled rows _ it.1 ∙ some_seen (λ (r : LiveVersion). r.published) (at (stored old).versions (p, v)) ∙ sym (lives_as_row (stored old) (p, v)))
 
-pub published_found : (p v : Text) (old new : Shown) (rows : List Row) → Ready schema old → Queried find_text (Stored p ∷ Stored v ∷ []) old new rows → HasCleanDisk new
-    → Reads schema old new × (option_map number_spelled (slice_get rows 0) ≡ published_at (registry_of (stored old)) p v)
+pub published_found : (p v : Text) (old new : Shown) → ShowsFirst find_text (Stored p ∷ Stored v ∷ []) old new number_spelled (published_at (registry_of (stored old)) p v)
 published_found p v old new rows form call clean =
     let it = select_finds versions_mapped find_text (col 1 3 ∷ []) _ find_means (p, v) number_spelled (λ (r : LiveVersion). seconds_of r.published) (λ id vs. as_seconds (column vs 2)) old new rows form call clean in
     (it.0, first_listed number_spelled rows _ it.1 ∙ sym (published_as_row (stored old) (p, v)))
@@ -95,12 +94,11 @@ published_found p v old new rows form call clean =
 abbrev document_text : List ℕ
 document_text = codes "SELECT manifest, deprecated FROM versions WHERE package = ?1 AND version = ?2"
 
-document_means : MeansQuery schema document_text (Select (record { lets = []; body = scan 18 (by_texts 1 1 0) (col 1 4 ∷ col 1 5 ∷ []) [] }) (codes "manifest" ∷ codes "deprecated" ∷ []))
+pub document_means : MeansQuery schema document_text (Select (record { lets = []; body = scan 18 (by_texts 1 1 0) (col 1 4 ∷ col 1 5 ∷ []) [] }) (codes "manifest" ∷ codes "deprecated" ∷ []))
 unfolding understood everything
 document_means = ((refl, (refl, refl)), refl)
 
-pub document_found : (p v : Text) (old new : Shown) (rows : List Row) → Ready schema old → Queried document_text (Stored p ∷ Stored v ∷ []) old new rows → HasCleanDisk new
-    → Reads schema old new × (option_map document_spelled (slice_get rows 0) ≡ option_map document (at (live_of (stored old)) (p, v)))
+pub document_found : (p v : Text) (old new : Shown) → ShowsFirst document_text (Stored p ∷ Stored v ∷ []) old new document_spelled (option_map document (at (live_of (stored old)) (p, v)))
 document_found p v old new rows form call clean =
     let it = select_finds versions_mapped document_text (col 1 4 ∷ col 1 5 ∷ []) _ document_means (p, v) document_spelled (λ (r : LiveVersion). document (as_release r)) (λ id vs. refl) old new rows form call clean in
     (it.0, first_listed document_spelled rows _ it.1 ∙ sym (document_as_row (stored old) (p, v)))
@@ -117,8 +115,7 @@ pub list_means : MeansQuery schema list_text (Select (record { lets = []; body =
 unfolding understood everything
 list_means = ((refl, (refl, refl)), refl)
 
-pub versions_listed : (p : Text) (old new : Shown) (rows : List Row) → Ready schema old → Queried list_text (Stored p ∷ []) old new rows → HasCleanDisk new
-    → Reads schema old new × (map row_spelled rows ≡ map (seen document) (of (live_of (stored old)) p))
+pub versions_listed : (p : Text) (old new : Shown) → ShowsAll list_text (Stored p ∷ []) old new row_spelled (map (seen document) (of (live_of (stored old)) p))
 versions_listed p old new rows form call clean =
     let it = select_lists versions_mapped list_text list_columns _ list_means p row_spelled (λ (r : LiveVersion). document (as_release r)) (λ id vs. refl) old new rows form call clean in
     (it.0, it.1 ∙ sym (documents_as_rows (stored old) p))
@@ -129,13 +126,12 @@ times_text = codes "SELECT version, published FROM versions WHERE package = ?1 O
 abbrev times_columns : List Term
 times_columns = col 1 2 ∷ col 1 3 ∷ []
 
-times_means : MeansQuery schema times_text (Select (record { lets = []; body = scan 18 (by_texts 0 1 0) times_columns (in_order 0 2) }) (codes "version" ∷ codes "published" ∷ []))
+pub times_means : MeansQuery schema times_text (Select (record { lets = []; body = scan 18 (by_texts 0 1 0) times_columns (in_order 0 2) }) (codes "version" ∷ codes "published" ∷ []))
 unfolding understood everything
 times_means = ((refl, (refl, refl)), refl)
 
 -- the rows show when each live version was published
-pub times_listed : (p : Text) (old new : Shown) (rows : List Row) → Ready schema old → Queried times_text (Stored p ∷ []) old new rows → HasCleanDisk new
-    → Reads schema old new × (map time_spelled rows ≡ map (seen published) (of (live_of (stored old)) p))
+pub times_listed : (p : Text) (old new : Shown) → ShowsAll times_text (Stored p ∷ []) old new time_spelled (map (seen published) (of (live_of (stored old)) p))
 times_listed p old new rows form call clean =
     let it = select_lists versions_mapped times_text times_columns _ times_means p time_spelled (λ (r : LiveVersion). published (as_release r)) (λ id vs. ap (λ (n : ℕ). (text_in (column vs 1), n)) (as_seconds (column vs 2))) old new rows form call clean in
     (it.0, it.1 ∙ sym (times_as_rows (stored old) p))
@@ -146,13 +142,12 @@ live_text = codes "SELECT version FROM versions WHERE package = ?1 ORDER BY vers
 abbrev live_columns : List Term
 live_columns = col 1 2 ∷ []
 
-live_means : MeansQuery schema live_text (Select (record { lets = []; body = scan 18 (by_texts 0 1 0) live_columns (in_order 0 2) }) (codes "version" ∷ []))
+pub live_means : MeansQuery schema live_text (Select (record { lets = []; body = scan 18 (by_texts 0 1 0) live_columns (in_order 0 2) }) (codes "version" ∷ []))
 unfolding understood everything
 live_means = ((refl, (refl, refl)), refl)
 
 -- the rows show which versions of the package live
-pub live_listed : (p : Text) (old new : Shown) (rows : List Row) → Ready schema old → Queried live_text (Stored p ∷ []) old new rows → HasCleanDisk new
-    → Reads schema old new × (map text_spelled rows ≡ live_versions (registry_of (stored old)) p)
+pub live_listed : (p : Text) (old new : Shown) → ShowsAll live_text (Stored p ∷ []) old new text_spelled (live_versions (registry_of (stored old)) p)
 live_listed p old new rows form call clean =
     let it = select_lists versions_mapped live_text live_columns _ live_means p version_spelled (λ (r : LiveVersion). tt) (λ id vs. refl) old new rows form call clean in (
       it.0,
@@ -163,13 +158,12 @@ live_listed p old new rows form call clean =
 abbrev first_text : List ℕ
 first_text = codes "SELECT version FROM versions WHERE package = ?1 ORDER BY version LIMIT 1"
 
-first_means : MeansQuery schema first_text (Select (record { lets = []; body = first_of 1 (scan 18 (by_texts 0 1 0) (col 1 2 ∷ []) (in_order 0 2)) }) (codes "version" ∷ []))
+pub first_means : MeansQuery schema first_text (Select (record { lets = []; body = first_of 1 (scan 18 (by_texts 0 1 0) (col 1 2 ∷ []) (in_order 0 2)) }) (codes "version" ∷ []))
 unfolding understood everything
 first_means = ((refl, (refl, refl)), refl)
 
 -- a version of the package lives where there is a first one
-pub live_found : (p : Text) (old new : Shown) (rows : List Row) → Ready schema old → Queried first_text (Stored p ∷ []) old new rows → HasCleanDisk new
-    → Reads schema old new × (not (length rows == 0) ≡ has_live (registry_of (stored old)) p)
+pub live_found : (p : Text) (old new : Shown) → ShowsWhether first_text (Stored p ∷ []) old new (has_live (registry_of (stored old)) p)
 live_found p old new rows form call clean =
     let it = select_lists_first versions_mapped 1 first_text (col 1 2 ∷ []) _ first_means p version_spelled (λ (r : LiveVersion). tt) (λ id vs. refl) old new rows form call clean in
     (it.0, first_shown version_spelled rows (λ (r : LiveVersion). tt) (of (stored old).versions p) it.1 ∙ sym (lives_as_rows (stored old) p))

@@ -19,7 +19,7 @@ use Rattle.registry_names.proofs.MapFacts.{at-erase_same}
 use Rattle.registry_rows.specs.Columns.{text_in}
 use Rattle.registry_rows.specs.Frames.{Wrote}
 use Rattle.registry_rows.specs.KeyKinds.{numbers}
-use Rattle.registry_rows.specs.Ready.{Ready, Leaves, Reads, Queried}
+use Rattle.registry_rows.specs.Ready.{Ready, Leaves}
 use Rattle.registry_rows.specs.Statements.{Means, MeansQuery, IsUncascaded, delete_where, select_where, scan, by_column, by_texts, in_order}
 use Rattle.registry_rows.proofs.KeyedFacts.{by_number_given, by_texts_given}
 use Rattle.registry_rows.proofs.LookUpFacts.{select_has_by}
@@ -32,6 +32,7 @@ use Rattle.registry_tables.specs.Effects.{stored}
 use Rattle.registry_tables.specs.Schema as table
 use Rattle.registry_tables.specs.Schema.{schema}
 use Rattle.registry_tables.specs.Withdrawals.{is_held, without_rows}
+use Rattle.registry_tables.specs.Queries.{ShowsWhether}
 use Rattle.registry_tables.proofs.MappedFacts.{archives_numbered, held_mapped, need_ranges_mapped, needs_mapped, spent_mapped, versions_mapped}
 use Rattle.registry_tables.proofs.ReferenceFacts.{named_lives}
 
@@ -113,7 +114,7 @@ archive_dropped n old new form call = delete_erases_by (by_number_given archives
 abbrev holders_text : List ℕ
 holders_text = codes "SELECT package, version FROM held WHERE archive = ?1 ORDER BY package, version"
 
-holders_means : MeansQuery schema holders_text (select_where table.held (col 1 1 ∷ col 1 2 ∷ []) (by_column 2) (in_order 1 1) (codes "package" ∷ codes "version" ∷ []))
+pub holders_means : MeansQuery schema holders_text (select_where table.held (col 1 1 ∷ col 1 2 ∷ []) (by_column 2) (in_order 1 1) (codes "package" ∷ codes "version" ∷ []))
 unfolding understood everything
 holders_means = ((refl, (refl, refl)), refl)
 
@@ -135,8 +136,7 @@ some_passes read rows g test (e ∷ es) h = each (test e) rows h (some_passes re
 abbrev holder : Row → Pair × Unit {0}
 holder r = ((text_in (column r 0), text_in (column r 1)), tt)
 
-pub archive_had : (n : ℤ) (old new : Shown) (rows : List Row) → Ready schema old → Queried holders_text (Int n ∷ []) old new rows → HasCleanDisk new
-    → Reads schema old new × (not (length rows == 0) ≡ is_held n (stored old))
+pub archive_had : (n : ℤ) (old new : Shown) → ShowsWhether holders_text (Int n ∷ []) old new (is_held n (stored old))
 archive_had n old new rows form call clean =
     let it = select_has_by (by_texts_given held_mapped) 2 (Int n) refl (λ (m : ℤ). int_eq n m) (λ vs. refl) holders_text (col 1 1 ∷ col 1 2 ∷ []) _ holders_means
     holder (λ (m : ℤ). tt) (λ id vs. refl) old new rows form call clean in

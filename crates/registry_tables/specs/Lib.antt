@@ -11,6 +11,7 @@ pub mod Needs
 pub mod Numbers
 pub mod Opening
 pub mod Overviews
+pub mod Queries
 pub mod Ranges
 pub mod ReadMaps
 pub mod Schema

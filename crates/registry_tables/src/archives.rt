@@ -1,7 +1,7 @@
 //! The tables `archives` and `held`: each archive that is stored, once, and which of them each live
 //! version has.
 
-ghost use Rattle.std.specs.Prelude.{◌≡◌, ℕ, ℤ, List, IfOk, Some, map, option_map, slice_get};
+ghost use Rattle.std.specs.Prelude.{◌≡◌, ℕ, ℤ, List, IfOk, Some, map, option_map};
 ghost use Rattle.sqlite.specs.State.{HasCleanDisk};
 ghost use Rattle.sqlite_value.specs.Order.{column};
 ghost use Rattle.registry_names.specs.Maps.{at, erase, put};
@@ -15,10 +15,11 @@ ghost use Rattle.registry_tables.specs.Effects.{InForm, IsUnderWay, Makes, Loads
 ghost use Rattle.registry_tables.specs.Spelled.{archive_spelled, blob_of_row, held_spelled, number_among};
 ghost use Rattle.registry_tables.specs.Withdrawals as withdrawals;
 
+use crate::queries::{find, has, query};
 use crate::versions::has_version;
 use registry_names::{Blob, Fault, Name};
 use registry_publish::PublishForm;
-use registry_rows::{RowKind, read, value_of_first_row, value_of_row, write};
+use registry_rows::{RowKind, value_of_row, write};
 use sqlite::types::ValueRef;
 use sqlite::{Alter, Error, Row, Transaction, params};
 
@@ -58,12 +59,11 @@ pub(crate) fn held_archive<S: Alter>(
     ensures loads { Loads S.Store tx.old tx.new result
         (λ number c. number ≡ at c.held (name.now, version.now)) }
 {
-    let rows = read(
+    find::<NumberRow, S>(
         tx,
         "SELECT archive FROM held WHERE package = ?1 AND version = ?2",
         params![name.text(), version],
-    )?;
-    value_of_first_row::<NumberRow>(&rows)
+    )
 }
 
 // The bytes of the archive with this number. It is a fault where no archive has it.
@@ -73,18 +73,11 @@ fn load_bytes<S: Alter>(tx: &mut Transaction<'_, S>, number: i64) -> Result<Blob
     ensures loads { Loads S.Store tx.old tx.new result
         (λ bytes c. option_map (λ a. a.bytes) (at c.archives number) ≡ Some bytes) }
 {
-    let rows = read(
+    match find::<BytesRow, S>(
         tx,
         "SELECT bytes FROM archives WHERE id = ?1",
         params![number],
-    )?;
-    bytes_in(&rows)
-}
-
-fn bytes_in(rows: &[Row]) -> Result<Blob, Fault>
-    ensures { IfOk result (λ bytes. option_map blob_of_row (slice_get rows.now 0) ≡ Some bytes) }
-{
-    match value_of_first_row::<BytesRow>(rows)? {
+    )? {
         Some(bytes) => Ok(bytes),
         None => Err(Fault::Database),
     }
@@ -120,14 +113,14 @@ pub fn store_archive<S: Alter>(
     ensures number { HasCleanDisk (shown S.Store tx.new) → IfOk result (λ number. number
         ≡ archive_number integrity.now bytes.now (stored_in S.Store tx.old)) }
 {
-    match find(tx, integrity, bytes)? {
+    match find_number(tx, integrity, bytes)? {
         Some(number) => Ok(number),
         None => add(tx, integrity, bytes),
     }
 }
 
 // The number of the archive with this integrity and these bytes, as a whole.
-fn find<S: Alter>(
+fn find_number<S: Alter>(
     tx: &mut Transaction<'_, S>,
     integrity: &str,
     bytes: &[u8],
@@ -137,7 +130,7 @@ fn find<S: Alter>(
     ensures loads { Loads S.Store tx.old tx.new result
         (λ number c. number ≡ number_of integrity.now bytes.now c.archives) }
 {
-    let rows = read(
+    let rows = query(
         tx,
         "SELECT id, bytes FROM archives WHERE integrity = ?1 ORDER BY id",
         params![integrity],
@@ -228,12 +221,11 @@ fn is_held<S: Alter>(tx: &mut Transaction<'_, S>, number: i64) -> Result<bool, F
     ensures loads { Loads S.Store tx.old tx.new result
         (λ held c. held ≡ withdrawals.is_held number c) }
 {
-    let rows = read(
+    has(
         tx,
         "SELECT package, version FROM held WHERE archive = ?1 ORDER BY package, version",
         params![number],
-    )?;
-    Ok(!rows.is_empty())
+    )
 }
 
 // Drops the archive with this number.

@@ -5,8 +5,8 @@ ghost use Rattle.registry_rows.specs.Frames.{Stays};
 ghost use Rattle.registry_tables.specs.Effects.{InForm, Loads};
 ghost use Rattle.registry_tables.specs.Opening.{is_name_of_archives, name_archives_alone};
 
+use crate::queries::query;
 use registry_names::Fault;
-use registry_rows::read;
 use sqlite::types::ValueRef;
 use sqlite::{Alter, Row, Transaction};
 
@@ -18,7 +18,7 @@ pub fn counts_archives_alone<S: Alter>(tx: &mut Transaction<'_, S>) -> Result<bo
     ensures loads { Loads S.Store tx.old tx.new result
         (λ alone c. alone ≡ (length c.counters == 0)) }
 {
-    let rows = read(tx, "SELECT name FROM sqlite_sequence", &[])?;
+    let rows = query(tx, "SELECT name FROM sqlite_sequence", &[])?;
     name_archives(&rows)
 }
 

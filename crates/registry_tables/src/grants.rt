@@ -2,19 +2,21 @@
 
 ghost use Rattle.std.specs.Prelude.{◌≡◌, IfOk, is_some, map};
 ghost use Rattle.registry_access.specs.declared.grant.Grant.{Grant as Right};
-ghost use Rattle.registry_names.specs.Maps.{at, erase, put};
+ghost use Rattle.registry_names.specs.Maps.{at, erase};
 ghost use Rattle.registry_names.specs.Texts.{Text as Bytes};
 ghost use Rattle.registry_rows.specs.Frames.{Stays};
-ghost use Rattle.registry_tables.specs.Changes.{IsFree, IsFreeUnless, amended, with_row};
+ghost use Rattle.registry_tables.specs.Changes.{IsFreeUnless, with_row};
 ghost use Rattle.registry_tables.specs.Contents.{access_of};
 ghost use Rattle.registry_tables.specs.Effects.{InForm, Makes, OnlyWhere, Loads};
 ghost use Rattle.registry_tables.specs.Numbers.{grant_number};
 ghost use Rattle.registry_tables.specs.Teams.{AreGranted, grant_spelled, granted_entry, granted_spelled, grants_of};
 
+use crate::queries::{has, list, query};
+use crate::rows::set_row;
 use registry_access::Grant;
 use registry_names::{Fault, Name, Text};
 use registry_packument::Granted;
-use registry_rows::{RowKind, read, values_of_rows, write};
+use registry_rows::{RowKind, values_of_rows, write};
 use sqlite::{Alter, Error, Row, Transaction, params};
 use std::alloc::Global;
 
@@ -31,12 +33,11 @@ pub fn has_grant<S: Alter>(
         (λ has c. has
         ≡ is_some (at (access_of c).grants (organisation.now, (team.now, name.now)))) }
 {
-    let rows = read(
+    has(
         tx,
         "SELECT level FROM grants WHERE org = ?1 AND team = ?2 AND package = ?3",
         params![organisation, team, name.text()],
-    )?;
-    Ok(!rows.is_empty())
+    )
 }
 
 /// Grants a team this on a package. The flag says whether it is granted something on it already.
@@ -58,54 +59,11 @@ pub(crate) fn put_grant<S: Alter>(
     ensures was_new { OnlyWhere S.Store tx.old tx.new result
         (λ c. IsFreeUnless c.grants (organisation.now, (team.now, name.now)) stands) }
 {
-    if stands {
-        update_grant(tx, organisation, team, name, grant)
-    } else {
-        insert_grant(tx, organisation, team, name, grant)
-    }
-}
-
-fn insert_grant<S: Alter>(
-    tx: &mut Transaction<'_, S>,
-    organisation: &str,
-    team: &str,
-    name: &str,
-    grant: Grant,
-) -> Result<(), Fault>
-    requires in_form { InForm S.Store tx.old }
-    ensures stays { Stays S.Store tx.old tx.new }
-    ensures makes { Makes S.Store tx.old tx.new result
-        (λ c. record c {
-          grants = put c.grants (organisation.now, (team.now, name.now)) (grant_number grant);
-        }) }
-    ensures was_new { OnlyWhere S.Store tx.old tx.new result
-        (λ c. IsFree c.grants (organisation.now, (team.now, name.now))) }
-{
-    write(
+    set_row(
         tx,
-        "INSERT INTO grants VALUES (?1, ?2, ?3, ?4)",
-        params![organisation, team, name, number_of(grant)],
-    )
-}
-
-fn update_grant<S: Alter>(
-    tx: &mut Transaction<'_, S>,
-    organisation: &str,
-    team: &str,
-    name: &str,
-    grant: Grant,
-) -> Result<(), Fault>
-    requires in_form { InForm S.Store tx.old }
-    ensures stays { Stays S.Store tx.old tx.new }
-    ensures makes { Makes S.Store tx.old tx.new result
-        (λ c. record c {
-          grants = amended c.grants
-              (organisation.now, (team.now, name.now)) (grant_number grant);
-        }) }
-{
-    write(
-        tx,
+        stands,
         "UPDATE grants SET level = ?4 WHERE org = ?1 AND team = ?2 AND package = ?3",
+        "INSERT INTO grants VALUES (?1, ?2, ?3, ?4)",
         params![organisation, team, name, number_of(grant)],
     )
 }
@@ -152,7 +110,7 @@ pub fn load_grants<S: Alter>(
     ensures loads { Loads S.Store tx.old tx.new result
         (λ grants c. AreGranted c organisation.now user.now name.now grants.items) }
 {
-    let rows = read(
+    let rows = query(
         tx,
         "SELECT grants.level FROM team_members, grants WHERE team_members.org = ?1 AND team_members.user = ?2 AND grants.org = ?1 AND grants.team = team_members.team AND grants.package = ?3",
         params![organisation, user, name.text()],
@@ -172,12 +130,12 @@ pub(crate) fn load_team_grants<S: Alter>(
     ensures loads { Loads S.Store tx.old tx.new result
         (λ granted c. map granted_entry granted.items ≡ grants_of c organisation.now team.now) }
 {
-    let rows = read(
+    list::<ListedGrant, S>(
+        alloc,
         tx,
         "SELECT package, level FROM grants WHERE org = ?1 AND team = ?2 ORDER BY package",
         params![organisation, team],
-    )?;
-    values_of_rows::<ListedGrant>(alloc, &rows)
+    )
 }
 
 // A package and what is granted on it.

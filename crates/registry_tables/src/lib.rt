@@ -23,6 +23,8 @@ mod needs;
 mod numbers;
 mod organisations;
 mod packages;
+mod queries;
+mod rows;
 mod schema;
 mod scopes;
 mod spent;

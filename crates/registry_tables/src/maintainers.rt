@@ -11,9 +11,9 @@ ghost use Rattle.registry_tables.specs.Contents.{registry_of};
 ghost use Rattle.registry_tables.specs.Effects.{InForm, Makes, OnlyWhere, Loads};
 ghost use Rattle.registry_tables.specs.Levels.{firsts_of};
 
-use crate::texts::texts_in;
+use crate::queries::{has, texts};
 use registry_names::{Fault, Name, Text};
-use registry_rows::{read, write};
+use registry_rows::write;
 use sqlite::{Alter, Transaction, params};
 use std::alloc::Global;
 
@@ -28,12 +28,11 @@ pub fn is_maintainer<S: Alter>(
     ensures loads { Loads S.Store tx.old tx.new result
         (λ is c. is ≡ is_some (at c.owners (name.now, user.now))) }
 {
-    let rows = read(
+    has(
         tx,
         "SELECT user FROM owners WHERE package = ?1 AND user = ?2",
         params![name.text(), user],
-    )?;
-    Ok(!rows.is_empty())
+    )
 }
 
 /// Whether another user than this is a maintainer of the package.
@@ -63,12 +62,12 @@ pub fn load_maintainers<S: Alter>(
     ensures loads { Loads S.Store tx.old tx.new result
         (λ users c. users.items ≡ keys (of c.owners name.now)) }
 {
-    let rows = read(
+    texts(
+        alloc,
         tx,
         "SELECT user FROM owners WHERE package = ?1 ORDER BY user",
         params![name.text()],
-    )?;
-    texts_in(alloc, &rows)
+    )
 }
 
 /// The packages that a user maintains, in byte order.
@@ -82,12 +81,12 @@ pub(crate) fn load_maintained<S: Alter>(
     ensures loads { Loads S.Store tx.old tx.new result
         (λ packages c. packages.items ≡ firsts_of c.owners user.now) }
 {
-    let rows = read(
+    texts(
+        alloc,
         tx,
         "SELECT package FROM owners WHERE user = ?1 ORDER BY package, user",
         params![user],
-    )?;
-    texts_in(alloc, &rows)
+    )
 }
 
 fn maintained_by_another(maintainers: &[Text], user: &str) -> bool

@@ -4,11 +4,11 @@ ghost use Rattle.std.specs.Prelude.{◌≡◌, ◌&&◌, IfOk, Some, map, not};
 ghost use Rattle.std.specs.List.{list_any};
 ghost use Rattle.registry_access.specs.declared.role.Role.{Role as Rank};
 ghost use Rattle.registry_access.specs.Levels.{is_owner};
-ghost use Rattle.registry_names.specs.Maps.{at, of, put};
+ghost use Rattle.registry_names.specs.Maps.{at, of};
 ghost use Rattle.registry_names.specs.Texts.{Text as Bytes, is};
 ghost use Rattle.registry_rows.specs.Frames.{Stays};
 ghost use Rattle.registry_rules.specs.State as spec;
-ghost use Rattle.registry_tables.specs.Changes.{IsFree, IsFreeUnless, amended, with_row};
+ghost use Rattle.registry_tables.specs.Changes.{IsFreeUnless, with_row};
 ghost use Rattle.registry_tables.specs.Contents.{access_of, registry_of};
 ghost use Rattle.registry_tables.specs.Effects.{InForm, Makes, OnlyWhere, Loads};
 ghost use Rattle.registry_tables.specs.Levels.{firsts_of};
@@ -16,11 +16,12 @@ ghost use Rattle.registry_tables.specs.Numbers.{role_number};
 ghost use Rattle.registry_tables.specs.Spelled.{member_entry, member_spelled, role_spelled};
 ghost use Rattle.registry_tables.specs.Teams.{without_member};
 
-use crate::texts::texts_in;
+use crate::queries::{find, list, texts};
+use crate::rows::set_row;
 use registry_access::Role;
 use registry_names::{Fault, Text};
 use registry_packument::Member;
-use registry_rows::{RowKind, read, value_of_first_row, values_of_rows, write};
+use registry_rows::{RowKind, write};
 use sqlite::{Alter, Error, Row, Transaction, params};
 use std::alloc::Global;
 
@@ -35,12 +36,11 @@ pub fn load_role<S: Alter>(
     ensures loads { Loads S.Store tx.old tx.new result
         (λ role c. role ≡ at (access_of c).roles (organisation.now, user.now)) }
 {
-    let rows = read(
+    find::<RoleRow, S>(
         tx,
         "SELECT role FROM members WHERE org = ?1 AND user = ?2",
         params![organisation, user],
-    )?;
-    value_of_first_row::<RoleRow>(&rows)
+    )
 }
 
 /// The members of an organisation with their roles, in byte order of their names.
@@ -55,12 +55,12 @@ pub fn load_members<S: Alter>(
         (λ members c. map member_entry members.items
         ≡ of (access_of c).roles organisation.now) }
 {
-    let rows = read(
+    list::<ListedMember, S>(
+        alloc,
         tx,
         "SELECT user, role FROM members WHERE org = ?1 ORDER BY user",
         params![organisation],
-    )?;
-    values_of_rows::<ListedMember>(alloc, &rows)
+    )
 }
 
 /// The organisations of which a user is a member, in byte order.
@@ -74,12 +74,12 @@ pub(crate) fn load_user_organisations<S: Alter>(
     ensures loads { Loads S.Store tx.old tx.new result
         (λ organisations c. organisations.items ≡ firsts_of c.members user.now) }
 {
-    let rows = read(
+    texts(
+        alloc,
         tx,
         "SELECT org FROM members WHERE user = ?1 ORDER BY org, user",
         params![user],
-    )?;
-    texts_in(alloc, &rows)
+    )
 }
 
 /// Whether another member of the organisation than this user is an owner.
@@ -129,51 +129,11 @@ pub(crate) fn put_member<S: Alter>(
     ensures was_new { OnlyWhere S.Store tx.old tx.new result
         (λ c. IsFreeUnless c.members (organisation.now, user.now) stands) }
 {
-    if stands {
-        update_member(tx, organisation, user, role)
-    } else {
-        insert_member(tx, organisation, user, role)
-    }
-}
-
-fn insert_member<S: Alter>(
-    tx: &mut Transaction<'_, S>,
-    organisation: &str,
-    user: &str,
-    role: Role,
-) -> Result<(), Fault>
-    requires in_form { InForm S.Store tx.old }
-    ensures stays { Stays S.Store tx.old tx.new }
-    ensures makes { Makes S.Store tx.old tx.new result
-        (λ c. record c {
-          members = put c.members (organisation.now, user.now) (role_number role);
-        }) }
-    ensures was_new { OnlyWhere S.Store tx.old tx.new result
-        (λ c. IsFree c.members (organisation.now, user.now)) }
-{
-    write(
+    set_row(
         tx,
-        "INSERT INTO members VALUES (?1, ?2, ?3)",
-        params![organisation, user, number_of(role)],
-    )
-}
-
-fn update_member<S: Alter>(
-    tx: &mut Transaction<'_, S>,
-    organisation: &str,
-    user: &str,
-    role: Role,
-) -> Result<(), Fault>
-    requires in_form { InForm S.Store tx.old }
-    ensures stays { Stays S.Store tx.old tx.new }
-    ensures makes { Makes S.Store tx.old tx.new result
-        (λ c. record c {
-          members = amended c.members (organisation.now, user.now) (role_number role);
-        }) }
-{
-    write(
-        tx,
+        stands,
         "UPDATE members SET role = ?3 WHERE org = ?1 AND user = ?2",
+        "INSERT INTO members VALUES (?1, ?2, ?3)",
         params![organisation, user, number_of(role)],
     )
 }

@@ -5,9 +5,8 @@ ghost use Rattle.registry_tables.specs.Spelled.{number_spelled, second_spelled};
 ghost use Rattle.registry_tables.specs.Withdrawals.{last_number};
 
 use registry_names::{Fault, Moment};
-use registry_rows::{RowKind, value_of_row, values_of_rows};
+use registry_rows::{RowKind, value_of_row};
 use sqlite::{Error, Row};
-use std::alloc::Global;
 
 /// The last of the moments that the rows spell, if there is a row.
 pub(crate) fn last_moment(rows: &[Row]) -> Result<Option<Moment>, Fault>
@@ -31,13 +30,6 @@ fn later(moment: Moment, other: Option<Moment>) -> Moment
     }
 }
 
-/// The moments that the rows spell in their second place.
-pub(crate) fn second_moments(alloc: Global, rows: &[Row]) -> Result<Vec<Moment>, Fault>
-    ensures { IfOk result (λ moments. moments.items ≡ map second_spelled rows.now) }
-{
-    values_of_rows::<SecondMoment>(alloc, rows)
-}
-
 /// A moment alone.
 pub(crate) struct MomentRow;
 
@@ -58,8 +50,8 @@ impl RowKind for MomentRow {
     }
 }
 
-// A moment that comes second.
-struct SecondMoment;
+/// A moment that comes second.
+pub(crate) struct SecondMoment;
 
 impl RowKind for SecondMoment {
     type Value = Moment;

@@ -13,10 +13,10 @@ ghost use Rattle.registry_tables.specs.Effects.{InForm, IsUnderWay, Makes, Loads
 ghost use Rattle.registry_tables.specs.Needs.{HoldsNeeds, need_key, with_need, with_needs};
 ghost use Rattle.registry_tables.specs.Withdrawals.{ranges_on};
 
-use crate::texts::texts_in;
+use crate::queries::{has, texts};
 use registry_names::{Fault, Name, Text};
 use registry_publish::Need;
-use registry_rows::{read, write};
+use registry_rows::write;
 use sqlite::{Alter, Transaction, params};
 use std::alloc::Global;
 
@@ -87,12 +87,11 @@ fn has_need<S: Alter>(
     ensures loads { Loads S.Store tx.old tx.new result
         (λ has c. has ≡ is_some (at c.need_ranges (need_key name.now version.now need.now))) }
 {
-    let rows = read(
+    has(
         tx,
         "SELECT target FROM need_ranges WHERE package = ?1 AND version = ?2 AND target = ?3 AND range = ?4",
         params![name, version, need.target.as_str(), need.range.as_str()],
-    )?;
-    Ok(!rows.is_empty())
+    )
 }
 
 /// The ranges in which live versions of other packages need this one, one for each that needs it.
@@ -112,10 +111,10 @@ pub fn load_dependents<S: Alter>(
         → IfOk result (λ texts. (v : VersionParts) → list_any (λ text. binds text v) texts.items
         ≡ is_depended (registry_of (stored_in S.Store tx.old)) name.now v) }
 {
-    let rows = read(
+    texts(
+        alloc,
         tx,
         "SELECT range, package, version FROM need_ranges WHERE target = ?1 AND package <> ?1 ORDER BY package, version, target, range",
         params![name.text()],
-    )?;
-    texts_in(alloc, &rows)
+    )
 }

@@ -1,16 +1,17 @@
 //! Whether the numbers in columns are in range.
 
-ghost use Rattle.std.specs.Prelude.{◌≡◌, ◌&&◌, ℤ, IfOk, map};
+ghost use Rattle.std.specs.Prelude.{◌≡◌, ◌&&◌, ℤ};
 ghost use Rattle.std.specs.List.{list_all};
 ghost use Rattle.registry_rows.specs.Frames.{Stays};
 ghost use Rattle.registry_tables.specs.Effects.{InForm, Loads};
 ghost use Rattle.registry_tables.specs.Numbers as spec;
-ghost use Rattle.registry_tables.specs.Ranges.{TellsRanges, all_pass};
+ghost use Rattle.registry_tables.specs.Ranges.{TellsRanges, all_pass, is_pair_of_moments, moments_entry, moments_spelled};
 ghost use Rattle.registry_tables.specs.Spelled.{fourth_number, second_number, third_number};
 
+use crate::queries::list;
 use registry_names::{Fault, Moment};
-use registry_rows::{RowKind, read, values_of_rows};
-use sqlite::{Alter, Error, Row, Transaction, params};
+use registry_rows::RowKind;
+use sqlite::{Alter, Error, Row, Transaction};
 use std::alloc::Global;
 
 /// Whether each number that is stored for a role, a status, a level of a grant or a moment is one
@@ -46,12 +47,13 @@ fn find_roles<S: Alter>(alloc: Global, tx: &mut Transaction<'_, S>) -> Result<bo
     ensures loads { Loads S.Store tx.old tx.new result
         (λ fine c. fine ≡ all_pass spec.is_role c.members) }
 {
-    let rows = read(
+    let roles = list::<ThirdNumber, S>(
+        alloc,
         tx,
         "SELECT org, user, role FROM members ORDER BY org, user",
-        params![],
+        &[],
     )?;
-    are_roles(alloc, &rows)
+    Ok(are_roles(&roles))
 }
 
 fn find_statuses<S: Alter>(alloc: Global, tx: &mut Transaction<'_, S>) -> Result<bool, Fault>
@@ -60,12 +62,13 @@ fn find_statuses<S: Alter>(alloc: Global, tx: &mut Transaction<'_, S>) -> Result
     ensures loads { Loads S.Store tx.old tx.new result
         (λ fine c. fine ≡ all_pass spec.is_status c.packages) }
 {
-    let rows = read(
+    let statuses = list::<SecondNumber, S>(
+        alloc,
         tx,
         "SELECT name, status FROM packages ORDER BY name",
-        params![],
+        &[],
     )?;
-    are_statuses(alloc, &rows)
+    Ok(are_statuses(&statuses))
 }
 
 fn find_levels<S: Alter>(alloc: Global, tx: &mut Transaction<'_, S>) -> Result<bool, Fault>
@@ -74,12 +77,13 @@ fn find_levels<S: Alter>(alloc: Global, tx: &mut Transaction<'_, S>) -> Result<b
     ensures loads { Loads S.Store tx.old tx.new result
         (λ fine c. fine ≡ all_pass spec.is_level c.grants) }
 {
-    let rows = read(
+    let levels = list::<FourthNumber, S>(
+        alloc,
         tx,
         "SELECT org, team, package, level FROM grants ORDER BY org, team, package",
-        params![],
+        &[],
     )?;
-    are_levels(alloc, &rows)
+    Ok(are_levels(&levels))
 }
 
 fn find_live<S: Alter>(alloc: Global, tx: &mut Transaction<'_, S>) -> Result<bool, Fault>
@@ -88,77 +92,58 @@ fn find_live<S: Alter>(alloc: Global, tx: &mut Transaction<'_, S>) -> Result<boo
     ensures loads { Loads S.Store tx.old tx.new result
         (λ fine c. fine ≡ all_pass (λ v. spec.is_moment v.published) c.versions) }
 {
-    let rows = read(
+    let moments = list::<ThirdNumber, S>(
+        alloc,
         tx,
         "SELECT package, version, published FROM versions ORDER BY package, version",
-        params![],
+        &[],
     )?;
-    are_moments(alloc, &rows)
+    Ok(are_moments(&moments))
 }
 
 fn find_spent<S: Alter>(alloc: Global, tx: &mut Transaction<'_, S>) -> Result<bool, Fault>
     requires in_form { InForm S.Store tx.old }
     ensures stays { Stays S.Store tx.old tx.new }
     ensures loads { Loads S.Store tx.old tx.new result (λ fine c. fine
-        ≡ (all_pass (λ v. spec.is_moment v.published) c.spent
-        && all_pass (λ v. spec.is_moment v.withdrawn) c.spent)) }
+        ≡ all_pass (λ v. spec.is_moment v.published && spec.is_moment v.withdrawn) c.spent) }
 {
-    let rows = read(
+    let moments = list::<SpentMoments, S>(
+        alloc,
         tx,
         "SELECT package, version, published, withdrawn FROM spent ORDER BY package, version",
-        params![],
+        &[],
     )?;
-    are_pairs_of_moments(alloc, &rows)
+    Ok(are_pairs_of_moments(&moments))
 }
 
-fn are_roles(alloc: Global, rows: &[Row]) -> Result<bool, Fault>
-    ensures { IfOk result (λ fine. fine
-        ≡ list_all spec.is_role (map third_number rows.now)) }
+fn are_roles(numbers: &[i64]) -> bool
+    ensures { result ≡ list_all spec.is_role numbers.now }
 {
-    let numbers = third_numbers(alloc, rows)?;
-    Ok(numbers.iter().all(|number| is_role(*number)))
+    numbers.iter().all(|number| is_role(*number))
 }
 
-fn are_statuses(alloc: Global, rows: &[Row]) -> Result<bool, Fault>
-    ensures { IfOk result (λ fine. fine
-        ≡ list_all spec.is_status (map second_number rows.now)) }
+fn are_statuses(numbers: &[i64]) -> bool
+    ensures { result ≡ list_all spec.is_status numbers.now }
 {
-    let numbers = second_numbers(alloc, rows)?;
-    Ok(numbers.iter().all(|number| is_status(*number)))
+    numbers.iter().all(|number| is_status(*number))
 }
 
-fn are_levels(alloc: Global, rows: &[Row]) -> Result<bool, Fault>
-    ensures { IfOk result (λ fine. fine
-        ≡ list_all spec.is_level (map fourth_number rows.now)) }
+fn are_levels(numbers: &[i64]) -> bool
+    ensures { result ≡ list_all spec.is_level numbers.now }
 {
-    let numbers = fourth_numbers(alloc, rows)?;
-    Ok(numbers.iter().all(|number| is_level(*number)))
+    numbers.iter().all(|number| is_level(*number))
 }
 
-fn are_moments(alloc: Global, rows: &[Row]) -> Result<bool, Fault>
-    ensures { IfOk result (λ fine. fine
-        ≡ list_all spec.is_moment (map third_number rows.now)) }
+fn are_moments(numbers: &[i64]) -> bool
+    ensures { result ≡ list_all spec.is_moment numbers.now }
 {
-    let numbers = third_numbers(alloc, rows)?;
-    Ok(numbers.iter().all(|number| is_moment(*number)))
+    numbers.iter().all(|number| is_moment(*number))
 }
 
-fn are_later_moments(alloc: Global, rows: &[Row]) -> Result<bool, Fault>
-    ensures { IfOk result (λ fine. fine
-        ≡ list_all spec.is_moment (map fourth_number rows.now)) }
+fn are_pairs_of_moments(pairs: &[SpentMoments]) -> bool
+    ensures { result ≡ list_all (λ pair. is_pair_of_moments (moments_entry pair)) pairs.now }
 {
-    let numbers = fourth_numbers(alloc, rows)?;
-    Ok(numbers.iter().all(|number| is_moment(*number)))
-}
-
-fn are_pairs_of_moments(alloc: Global, rows: &[Row]) -> Result<bool, Fault>
-    ensures { IfOk result (λ fine. fine
-        ≡ (list_all spec.is_moment (map third_number rows.now)
-        && list_all spec.is_moment (map fourth_number rows.now))) }
-{
-    let published = are_moments(alloc, rows)?;
-    let withdrawn = are_later_moments(alloc, rows)?;
-    Ok(published && withdrawn)
+    pairs.iter().all(|pair| is_moment(pair.published) && is_moment(pair.withdrawn))
 }
 
 fn is_role(number: i64) -> bool
@@ -183,24 +168,6 @@ fn is_moment(number: i64) -> bool
     ensures { result ≡ spec.is_moment number }
 {
     Moment::new(number).is_some()
-}
-
-fn second_numbers(alloc: Global, rows: &[Row]) -> Result<Vec<i64>, Fault>
-    ensures { IfOk result (λ numbers. numbers.items ≡ map second_number rows.now) }
-{
-    values_of_rows::<SecondNumber>(alloc, rows)
-}
-
-fn third_numbers(alloc: Global, rows: &[Row]) -> Result<Vec<i64>, Fault>
-    ensures { IfOk result (λ numbers. numbers.items ≡ map third_number rows.now) }
-{
-    values_of_rows::<ThirdNumber>(alloc, rows)
-}
-
-fn fourth_numbers(alloc: Global, rows: &[Row]) -> Result<Vec<i64>, Fault>
-    ensures { IfOk result (λ numbers. numbers.items ≡ map fourth_number rows.now) }
-{
-    values_of_rows::<FourthNumber>(alloc, rows)
 }
 
 // The number in the second column of a row.
@@ -251,5 +218,29 @@ impl RowKind for FourthNumber {
 
     fn read(row: &Row) -> Result<i64, Error> {
         row.get(3)
+    }
+}
+
+// The moments of a version that was withdrawn, as they stand in the third and the fourth column.
+#[derive(Drop)]
+pub(crate) struct SpentMoments {
+    pub(crate) published: i64,
+    pub(crate) withdrawn: i64,
+}
+
+impl RowKind for SpentMoments {
+    type Value = SpentMoments;
+
+    ghost Seen = { ℤ × ℤ };
+
+    ghost seen = { moments_entry };
+
+    ghost spelled = { moments_spelled };
+
+    fn read(row: &Row) -> Result<SpentMoments, Error> {
+        Ok(SpentMoments {
+            published: row.get(2)?,
+            withdrawn: row.get(3)?,
+        })
     }
 }

@@ -6,9 +6,9 @@ ghost use Rattle.registry_rows.specs.Frames.{Stays};
 ghost use Rattle.registry_tables.specs.Changes.{IsFree};
 ghost use Rattle.registry_tables.specs.Effects.{InForm, Makes, OnlyWhere, Loads};
 
-use crate::texts::texts_in;
+use crate::queries::{has, texts};
 use registry_names::{Fault, Text};
-use registry_rows::{read, write};
+use registry_rows::write;
 use sqlite::{Alter, Transaction, params};
 use std::alloc::Global;
 
@@ -22,12 +22,11 @@ pub fn has_organisation<S: Alter>(
     ensures loads { Loads S.Store tx.old tx.new result
         (λ has c. has ≡ is_some (at c.organisations organisation.now)) }
 {
-    let rows = read(
+    has(
         tx,
         "SELECT name FROM orgs WHERE name = ?1",
         params![organisation],
-    )?;
-    Ok(!rows.is_empty())
+    )
 }
 
 /// The names of all organisations, in byte order.
@@ -40,8 +39,7 @@ pub fn load_organisations<S: Alter>(
     ensures loads { Loads S.Store tx.old tx.new result
         (λ names c. names.items ≡ keys (entries c.organisations)) }
 {
-    let rows = read(tx, "SELECT name FROM orgs ORDER BY name", &[])?;
-    texts_in(alloc, &rows)
+    texts(alloc, tx, "SELECT name FROM orgs ORDER BY name", &[])
 }
 
 /// Adds an organisation. It is a fault where one of its name is there.

@@ -11,12 +11,13 @@ ghost use Rattle.registry_tables.specs.Contents.{access_of};
 ghost use Rattle.registry_tables.specs.Effects.{InForm, Knows, Loads};
 ghost use Rattle.registry_tables.specs.Overviews.{is_after_scope, package_entry, package_spelled, packages_viewed, scope_statuses, viewed};
 
+use crate::queries::list;
 use crate::statuses::{find_status, status_of};
 use crate::tags::load_tag;
 use crate::texts::read_back;
 use registry_names::{Fault, Ident, LATEST, Name, Status, Text};
 use registry_packument::Overview;
-use registry_rows::{RowKind, read, values_of_rows};
+use registry_rows::RowKind;
 use sqlite::{Alter, Error, Row, Transaction, params};
 use std::alloc::{AllocError, Global};
 
@@ -52,8 +53,12 @@ fn load_statuses<S: Alter>(
     ensures loads { Loads S.Store tx.old tx.new result
         (λ packages c. map package_entry packages.items ≡ entries (access_of c).statuses) }
 {
-    let rows = read(tx, "SELECT name, status FROM packages ORDER BY name", &[])?;
-    values_of_rows::<ListedPackage>(alloc, &rows)
+    list::<ListedPackage, S>(
+        alloc,
+        tx,
+        "SELECT name, status FROM packages ORDER BY name",
+        &[],
+    )
 }
 
 /// The packages of an organisation's scope with their statuses, in byte order.
@@ -91,12 +96,12 @@ fn load_after_scope<S: Alter>(
 {
     let first = scoped(alloc, organisation, "/")?;
     let end = scoped(alloc, organisation, "0")?;
-    let rows = read(
+    list::<ListedPackage, S>(
+        alloc,
         tx,
         "SELECT name, status FROM packages WHERE name >= ?1 AND name < ?2 ORDER BY name",
         params![first.as_str(), end.as_str()],
-    )?;
-    values_of_rows::<ListedPackage>(alloc, &rows)
+    )
 }
 
 // The scope of an organisation, and a text after it.

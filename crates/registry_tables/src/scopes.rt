@@ -11,8 +11,9 @@ ghost use Rattle.registry_tables.specs.Effects.{InForm, Loads};
 ghost use Rattle.registry_tables.specs.Scopes.{grant_places, is_in_its_scope, place_entry, place_spelled};
 ghost use Rattle.registry_tables.specs.Teams.{GrantsInScope};
 
+use crate::queries::list;
 use registry_names::{Fault, Text};
-use registry_rows::{RowKind, read, values_of_rows};
+use registry_rows::RowKind;
 use sqlite::{Alter, Error, Row, Transaction};
 use std::alloc::Global;
 
@@ -47,12 +48,12 @@ fn load_places<S: Alter>(
     ensures loads { Loads S.Store tx.old tx.new result
         (λ places c. map place_entry places.items ≡ grant_places c) }
 {
-    let rows = read(
+    list::<GrantPlace, S>(
+        alloc,
         tx,
-        "SELECT org, team, package FROM grants ORDER BY org, team, package",
+        "SELECT org, team, package, level FROM grants ORDER BY org, team, package",
         &[],
-    )?;
-    values_of_rows::<GrantPlace>(alloc, &rows)
+    )
 }
 
 impl RowKind for GrantPlace {

@@ -10,9 +10,10 @@ ghost use Rattle.registry_tables.specs.Changes.{IsFree};
 ghost use Rattle.registry_tables.specs.Contents.{registry_of};
 ghost use Rattle.registry_tables.specs.Effects.{InForm, Makes, OnlyWhere, Loads};
 
-use crate::moments::{last_moment, second_moments};
+use crate::moments::{SecondMoment, last_moment};
+use crate::queries::{has, list, query};
 use registry_names::{Fault, Moment, Name};
-use registry_rows::{read, write};
+use registry_rows::write;
 use sqlite::{Alter, Transaction, params};
 use std::alloc::Global;
 
@@ -41,12 +42,11 @@ pub(crate) fn has_withdrawal<S: Alter>(
     ensures loads { Loads S.Store tx.old tx.new result
         (λ has c. has ≡ is_some (at c.spent (name.now, version.now))) }
 {
-    let rows = read(
+    has(
         tx,
         "SELECT withdrawn FROM spent WHERE package = ?1 AND version = ?2",
         params![name.text(), version],
-    )?;
-    Ok(!rows.is_empty())
+    )
 }
 
 /// When a version of the package was withdrawn last. `None` where none ever was.
@@ -59,7 +59,7 @@ pub fn load_last_withdrawal<S: Alter>(
     ensures loads { Loads S.Store tx.old tx.new result
         (λ last c. last ≡ last_withdrawal (registry_of c) name.now) }
 {
-    let rows = read(
+    let rows = query(
         tx,
         "SELECT withdrawn, published, version FROM spent WHERE package = ?1 ORDER BY version",
         params![name.text()],
@@ -78,12 +78,12 @@ pub fn load_spent_publications<S: Alter>(
     ensures loads { Loads S.Store tx.old tx.new result
         (λ moments c. moments.items ≡ spent_publications (of (registry_of c).spent name.now)) }
 {
-    let rows = read(
+    list::<SecondMoment, S>(
+        alloc,
         tx,
         "SELECT withdrawn, published, version FROM spent WHERE package = ?1 ORDER BY version",
         params![name.text()],
-    )?;
-    second_moments(alloc, &rows)
+    )
 }
 
 /// Puts the version among those that were withdrawn, with the moments at which it was published and

@@ -1,17 +1,19 @@
 //! The table `packages`: every name that was ever published, and who may read it.
 
 ghost use Rattle.std.specs.Prelude.{◌≡◌, IfOk};
-ghost use Rattle.registry_names.specs.Maps.{at, put};
+ghost use Rattle.registry_names.specs.Maps.{at};
 ghost use Rattle.registry_names.specs.declared.status.Status.{Status as Readers};
 ghost use Rattle.registry_rows.specs.Frames.{Stays};
-ghost use Rattle.registry_tables.specs.Changes.{IsFree, IsFreeUnless, amended, with_row};
+ghost use Rattle.registry_tables.specs.Changes.{IsFreeUnless, with_row};
 ghost use Rattle.registry_tables.specs.Contents.{access_of};
 ghost use Rattle.registry_tables.specs.Effects.{InForm, Makes, OnlyWhere, Loads};
 ghost use Rattle.registry_tables.specs.Numbers.{status_number};
 ghost use Rattle.registry_tables.specs.Spelled.{status_spelled};
 
+use crate::queries::find;
+use crate::rows::set_row;
 use registry_names::{Fault, Name, Status};
-use registry_rows::{RowKind, read, value_of_first_row, write};
+use registry_rows::{RowKind, write};
 use sqlite::{Alter, Error, Row, Transaction, params};
 
 /// The status of a package. `None` where it was never published.
@@ -37,12 +39,11 @@ pub(crate) fn find_status<S: Alter>(
     ensures loads { Loads S.Store tx.old tx.new result
         (λ status c. status ≡ at (access_of c).statuses name.now) }
 {
-    let rows = read(
+    find::<StatusRow, S>(
         tx,
         "SELECT status FROM packages WHERE name = ?1",
         params![name],
-    )?;
-    value_of_first_row::<StatusRow>(&rows)
+    )
 }
 
 /// Gives a package this status. The flag says whether it has one already.
@@ -61,45 +62,11 @@ pub(crate) fn put_status<S: Alter>(
     ensures was_new { OnlyWhere S.Store tx.old tx.new result
         (λ c. IsFreeUnless c.packages name.now stands) }
 {
-    if stands {
-        update_status(tx, name, status)
-    } else {
-        insert_status(tx, name, status)
-    }
-}
-
-fn insert_status<S: Alter>(
-    tx: &mut Transaction<'_, S>,
-    name: &str,
-    status: Status,
-) -> Result<(), Fault>
-    requires in_form { InForm S.Store tx.old }
-    ensures stays { Stays S.Store tx.old tx.new }
-    ensures makes { Makes S.Store tx.old tx.new result
-        (λ c. record c { packages = put c.packages name.now (status_number status) }) }
-    ensures was_new { OnlyWhere S.Store tx.old tx.new result
-        (λ c. IsFree c.packages name.now) }
-{
-    write(
+    set_row(
         tx,
-        "INSERT INTO packages VALUES (?1, ?2)",
-        params![name, number_of(status)],
-    )
-}
-
-fn update_status<S: Alter>(
-    tx: &mut Transaction<'_, S>,
-    name: &str,
-    status: Status,
-) -> Result<(), Fault>
-    requires in_form { InForm S.Store tx.old }
-    ensures stays { Stays S.Store tx.old tx.new }
-    ensures makes { Makes S.Store tx.old tx.new result
-        (λ c. record c { packages = amended c.packages name.now (status_number status) }) }
-{
-    write(
-        tx,
+        stands,
         "UPDATE packages SET status = ?2 WHERE name = ?1",
+        "INSERT INTO packages VALUES (?1, ?2)",
         params![name, number_of(status)],
     )
 }

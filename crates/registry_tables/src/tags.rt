@@ -1,18 +1,20 @@
 //! The table `tags`: the dist-tags of every package. A tag names a live version.
 
 ghost use Rattle.std.specs.Prelude.{◌≡◌, is_some, map};
-ghost use Rattle.registry_names.specs.Maps.{at, erase, of, put};
+ghost use Rattle.registry_names.specs.Maps.{at, erase, of};
 ghost use Rattle.registry_names.specs.Texts.{Text as Bytes};
 ghost use Rattle.registry_rows.specs.Frames.{Stays};
 ghost use Rattle.registry_rules.specs.Withdrawals.{tags_of};
-ghost use Rattle.registry_tables.specs.Changes.{IsFree, IsFreeUnless, amended, with_row};
+ghost use Rattle.registry_tables.specs.Changes.{IsFreeUnless, with_row};
 ghost use Rattle.registry_tables.specs.Contents.{registry_of};
 ghost use Rattle.registry_tables.specs.Effects.{InForm, Makes, OnlyWhere, Loads};
 ghost use Rattle.registry_tables.specs.Spelled.{tag_entry, tag_spelled};
 
-use crate::texts::{TextRow, texts_in};
+use crate::queries::{find, has, list, texts};
+use crate::rows::set_row;
+use crate::texts::TextRow;
 use registry_names::{DistTag, Fault, Name, Text};
-use registry_rows::{RowKind, read, value_of_first_row, values_of_rows, write};
+use registry_rows::{RowKind, write};
 use sqlite::{Alter, Error, Row, Transaction, params};
 use std::alloc::Global;
 
@@ -23,12 +25,11 @@ pub fn has_tag<S: Alter>(tx: &mut Transaction<'_, S>, name: &Name, tag: &str) ->
     ensures loads { Loads S.Store tx.old tx.new result
         (λ has c. has ≡ is_some (at c.tags (name.now, tag.now))) }
 {
-    let rows = read(
+    has(
         tx,
         "SELECT version FROM tags WHERE package = ?1 AND tag = ?2",
         params![name.text(), tag],
-    )?;
-    Ok(!rows.is_empty())
+    )
 }
 
 /// The version that a tag of a package names. `None` where the tag doesn't exist.
@@ -42,12 +43,11 @@ pub fn load_tag<S: Alter>(
     ensures loads { Loads S.Store tx.old tx.new result
         (λ named c. named ≡ at c.tags (name.now, tag.now)) }
 {
-    let rows = read(
+    find::<TextRow, S>(
         tx,
         "SELECT version FROM tags WHERE package = ?1 AND tag = ?2",
         params![name.text(), tag],
-    )?;
-    value_of_first_row::<TextRow>(&rows)
+    )
 }
 
 /// The tags of a package, in byte order.
@@ -61,12 +61,12 @@ pub fn load_tags<S: Alter>(
     ensures loads { Loads S.Store tx.old tx.new result
         (λ tags c. map tag_entry tags.items ≡ of c.tags name.now) }
 {
-    let rows = read(
+    list::<ListedTag, S>(
+        alloc,
         tx,
         "SELECT tag, version FROM tags WHERE package = ?1 ORDER BY tag",
         params![name.text()],
-    )?;
-    values_of_rows::<ListedTag>(alloc, &rows)
+    )
 }
 
 /// The tags of a package that name this version, in byte order.
@@ -81,12 +81,12 @@ pub fn load_version_tags<S: Alter>(
     ensures loads { Loads S.Store tx.old tx.new result
         (λ tags c. tags.items ≡ tags_of (registry_of c) name.now version.now) }
 {
-    let rows = read(
+    texts(
+        alloc,
         tx,
         "SELECT tag FROM tags WHERE package = ?1 AND version = ?2 ORDER BY package, tag",
         params![name.text(), version],
-    )?;
-    texts_in(alloc, &rows)
+    )
 }
 
 /// Lets a tag of a package name this version. The flag says whether the tag is there already.
@@ -104,47 +104,11 @@ pub(crate) fn put_tag<S: Alter>(
     ensures was_new { OnlyWhere S.Store tx.old tx.new result
         (λ c. IsFreeUnless c.tags (name.now, tag.now) stands) }
 {
-    if stands {
-        update_tag(tx, name, tag, version)
-    } else {
-        insert_tag(tx, name, tag, version)
-    }
-}
-
-fn insert_tag<S: Alter>(
-    tx: &mut Transaction<'_, S>,
-    name: &str,
-    tag: &str,
-    version: &str,
-) -> Result<(), Fault>
-    requires in_form { InForm S.Store tx.old }
-    ensures stays { Stays S.Store tx.old tx.new }
-    ensures makes { Makes S.Store tx.old tx.new result
-        (λ c. record c { tags = put c.tags (name.now, tag.now) version.now }) }
-    ensures was_new { OnlyWhere S.Store tx.old tx.new result
-        (λ c. IsFree c.tags (name.now, tag.now)) }
-{
-    write(
+    set_row(
         tx,
-        "INSERT INTO tags VALUES (?1, ?2, ?3)",
-        params![name, tag, version],
-    )
-}
-
-fn update_tag<S: Alter>(
-    tx: &mut Transaction<'_, S>,
-    name: &str,
-    tag: &str,
-    version: &str,
-) -> Result<(), Fault>
-    requires in_form { InForm S.Store tx.old }
-    ensures stays { Stays S.Store tx.old tx.new }
-    ensures makes { Makes S.Store tx.old tx.new result
-        (λ c. record c { tags = amended c.tags (name.now, tag.now) version.now }) }
-{
-    write(
-        tx,
+        stands,
         "UPDATE tags SET version = ?3 WHERE package = ?1 AND tag = ?2",
+        "INSERT INTO tags VALUES (?1, ?2, ?3)",
         params![name, tag, version],
     )
 }

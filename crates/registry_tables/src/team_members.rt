@@ -8,9 +8,9 @@ ghost use Rattle.registry_tables.specs.Changes.{IsFree};
 ghost use Rattle.registry_tables.specs.Effects.{InForm, Makes, OnlyWhere, Loads};
 ghost use Rattle.registry_tables.specs.Teams.{users_of};
 
-use crate::texts::texts_in;
+use crate::queries::{has, texts};
 use registry_names::{Fault, Text};
-use registry_rows::{read, write};
+use registry_rows::write;
 use sqlite::{Alter, Transaction, params};
 use std::alloc::Global;
 
@@ -26,12 +26,11 @@ pub fn is_in_team<S: Alter>(
     ensures loads { Loads S.Store tx.old tx.new result
         (λ is c. is ≡ is_some (at c.team_members (organisation.now, (team.now, user.now)))) }
 {
-    let rows = read(
+    has(
         tx,
         "SELECT user FROM team_members WHERE org = ?1 AND team = ?2 AND user = ?3",
         params![organisation, team, user],
-    )?;
-    Ok(!rows.is_empty())
+    )
 }
 
 /// Puts a user in a team. A user who is in it already is a fault, and so is a team that isn't
@@ -91,10 +90,10 @@ pub fn load_team_users<S: Alter>(
     ensures loads { Loads S.Store tx.old tx.new result
         (λ users c. users.items ≡ users_of c organisation.now team.now) }
 {
-    let rows = read(
+    texts(
+        alloc,
         tx,
         "SELECT user FROM team_members WHERE org = ?1 AND team = ?2 ORDER BY user",
         params![organisation, team],
-    )?;
-    texts_in(alloc, &rows)
+    )
 }

@@ -7,9 +7,9 @@ ghost use Rattle.registry_tables.specs.Changes.{IsFree};
 ghost use Rattle.registry_tables.specs.Effects.{InForm, Makes, OnlyWhere, Loads};
 ghost use Rattle.registry_tables.specs.Teams.{without_team};
 
-use crate::texts::texts_in;
+use crate::queries::{has, texts};
 use registry_names::{Fault, Text};
-use registry_rows::{read, write};
+use registry_rows::write;
 use sqlite::{Alter, Transaction, params};
 use std::alloc::Global;
 
@@ -24,12 +24,11 @@ pub fn has_team<S: Alter>(
     ensures loads { Loads S.Store tx.old tx.new result
         (λ has c. has ≡ is_some (at c.teams (organisation.now, team.now))) }
 {
-    let rows = read(
+    has(
         tx,
         "SELECT team FROM teams WHERE org = ?1 AND team = ?2",
         params![organisation, team],
-    )?;
-    Ok(!rows.is_empty())
+    )
 }
 
 /// The teams of an organisation, in byte order.
@@ -43,12 +42,12 @@ pub fn load_teams<S: Alter>(
     ensures loads { Loads S.Store tx.old tx.new result
         (λ teams c. teams.items ≡ keys (of c.teams organisation.now)) }
 {
-    let rows = read(
+    texts(
+        alloc,
         tx,
         "SELECT team FROM teams WHERE org = ?1 ORDER BY team",
         params![organisation],
-    )?;
-    texts_in(alloc, &rows)
+    )
 }
 
 /// Adds a team without members to an organisation. A team of its name is a fault, and so is an

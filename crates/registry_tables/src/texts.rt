@@ -1,20 +1,12 @@
 //! Texts, as they are read from the tables.
 
-ghost use Rattle.std.specs.Prelude.{◌≡◌, IfOk, Ok, map};
+ghost use Rattle.std.specs.Prelude.{◌≡◌, IfOk, Ok};
 ghost use Rattle.registry_names.specs.Texts.{Text as Bytes};
 ghost use Rattle.registry_tables.specs.Teams.{text_spelled};
 
 use registry_names::{Fault, Stop, Text};
-use registry_rows::{RowKind, values_of_rows};
+use registry_rows::RowKind;
 use sqlite::{Error, Row};
-use std::alloc::Global;
-
-/// The texts that the rows spell, one each.
-pub(crate) fn texts_in(alloc: Global, rows: &[Row]) -> Result<Vec<Text>, Fault>
-    ensures { IfOk result (λ texts. texts.items ≡ map text_spelled rows.now) }
-{
-    values_of_rows::<TextRow>(alloc, rows)
-}
 
 /// What was parsed of a text that is read from the tables. Its refusal is the fault `Database`,
 /// since no text out of form is ever written.

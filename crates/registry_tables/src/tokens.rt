@@ -1,18 +1,19 @@
 //! The table `tokens`: the digest of each token, and its user. A token's text is kept nowhere.
 
-ghost use Rattle.std.specs.Prelude.{◌≡◌, ℕ, List, IfOk, option_map, slice_get};
+ghost use Rattle.std.specs.Prelude.{◌≡◌, ℕ, List};
 ghost use Rattle.registry_names.specs.Maps.{at, erase, put};
 ghost use Rattle.registry_rows.specs.Frames.{Stays};
 ghost use Rattle.registry_rules.specs.State.{tokens_of};
 ghost use Rattle.registry_tables.specs.Changes.{IsFree};
 ghost use Rattle.registry_tables.specs.Contents.{registry_of};
 ghost use Rattle.registry_tables.specs.Effects.{InForm, Makes, OnlyWhere, Loads};
-ghost use Rattle.registry_tables.specs.Spelled.{blob_of_row, named_spelled};
+ghost use Rattle.registry_tables.specs.Spelled.{blob_of_row};
 
+use crate::queries::{find, list};
 use crate::texts::{TextRow, read_back};
 use registry_names::{Fault, Ident};
 use registry_publish::TokenDigest;
-use registry_rows::{RowKind, read, value_of_first_row, values_of_rows, write};
+use registry_rows::{RowKind, write};
 use sqlite::types::Type;
 use sqlite::{Alter, Error, Row, Transaction, params};
 use std::alloc::Global;
@@ -27,18 +28,11 @@ pub fn load_token_user<S: Alter>(
     ensures stays { Stays S.Store tx.old tx.new }
     ensures loads { Loads S.Store tx.old tx.new result (λ user c. user ≡ at c.tokens digest.now) }
 {
-    let rows = read(
+    match find::<TextRow, S>(
         tx,
         "SELECT user FROM tokens WHERE digest = ?1",
         params![digest.as_slice()],
-    )?;
-    user_in(alloc, &rows)
-}
-
-fn user_in(alloc: Global, rows: &[Row]) -> Result<Option<Ident>, Fault>
-    ensures { IfOk result (λ user. user ≡ option_map named_spelled (slice_get rows.now 0)) }
-{
-    match value_of_first_row::<TextRow>(rows)? {
+    )? {
         Some(user) => Ok(Some(read_back(Ident::parse(alloc, user.as_str()))?)),
         None => Ok(None),
     }
@@ -55,12 +49,12 @@ pub fn load_user_tokens<S: Alter>(
     ensures loads { Loads S.Store tx.old tx.new result
         (λ digests c. digests.items ≡ tokens_of (registry_of c) user.now) }
 {
-    let rows = read(
+    list::<DigestRow, S>(
+        alloc,
         tx,
         "SELECT digest FROM tokens WHERE user = ?1 ORDER BY digest",
         params![user.text()],
-    )?;
-    values_of_rows::<DigestRow>(alloc, &rows)
+    )
 }
 
 /// Adds a token, by its digest, for this user. A token of the same digest is a fault, and so is a

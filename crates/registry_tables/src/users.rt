@@ -9,11 +9,12 @@ ghost use Rattle.registry_tables.specs.Contents.{registry_of};
 ghost use Rattle.registry_tables.specs.Effects.{InForm, Knows, Makes, OnlyWhere, Loads};
 ghost use Rattle.registry_tables.specs.Overviews.{counted, users_counted};
 
-use crate::texts::{read_back, texts_in};
+use crate::queries::{has, texts};
+use crate::texts::read_back;
 use crate::tokens::load_user_tokens;
 use registry_names::{Fault, Ident, Text};
 use registry_packument::TokenCount;
-use registry_rows::{read, write};
+use registry_rows::write;
 use sqlite::{Alter, Transaction, params};
 use std::alloc::Global;
 
@@ -24,8 +25,7 @@ pub fn has_user<S: Alter>(tx: &mut Transaction<'_, S>, user: &str) -> Result<boo
     ensures loads { Loads S.Store tx.old tx.new result
         (λ has c. has ≡ is_some (at c.users user.now)) }
 {
-    let rows = read(tx, "SELECT name FROM users WHERE name = ?1", params![user])?;
-    Ok(!rows.is_empty())
+    has(tx, "SELECT name FROM users WHERE name = ?1", params![user])
 }
 
 /// All users, in byte order, each with how many tokens they have.
@@ -48,8 +48,7 @@ fn load_names<S: Alter>(alloc: Global, tx: &mut Transaction<'_, S>) -> Result<Ve
     ensures loads { Loads S.Store tx.old tx.new result
         (λ names c. names.items ≡ keys (entries c.users)) }
 {
-    let rows = read(tx, "SELECT name FROM users ORDER BY name", &[])?;
-    texts_in(alloc, &rows)
+    texts(alloc, tx, "SELECT name FROM users ORDER BY name", &[])
 }
 
 // Each of these users, with how many tokens they have.

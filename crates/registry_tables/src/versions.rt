@@ -20,12 +20,13 @@ ghost use Rattle.registry_tables.specs.Withdrawals.{with_message};
 use crate::archives::put_archive;
 use crate::moments::MomentRow;
 use crate::needs::put_needs;
+use crate::queries::{find, has, list, texts};
 use crate::spent::has_withdrawal;
-use crate::texts::{read_back, texts_in};
+use crate::texts::read_back;
 use registry_names::{Fault, Moment, Name, Text, Ver};
 use registry_packument::{VersionRow, VersionTime};
 use registry_publish::PublishForm;
-use registry_rows::{RowKind, read, value_of_first_row, values_of_rows, write};
+use registry_rows::{RowKind, write};
 use registry_rules::LiveVersion;
 use sqlite::{Alter, Error, Row, Transaction, params};
 use std::alloc::Global;
@@ -41,12 +42,11 @@ pub fn has_version<S: Alter>(
     ensures loads { Loads S.Store tx.old tx.new result
         (λ lives c. lives ≡ is_some (at (live_of c) (name.now, version.now))) }
 {
-    let rows = read(
+    has(
         tx,
         "SELECT published FROM versions WHERE package = ?1 AND version = ?2",
         params![name.text(), version],
-    )?;
-    Ok(!rows.is_empty())
+    )
 }
 
 /// When a version of the package was published. None where it doesn't live.
@@ -60,12 +60,11 @@ pub fn load_published<S: Alter>(
     ensures loads { Loads S.Store tx.old tx.new result
         (λ published c. published ≡ published_at (registry_of c) name.now version.now) }
 {
-    let rows = read(
+    find::<MomentRow, S>(
         tx,
         "SELECT published FROM versions WHERE package = ?1 AND version = ?2",
         params![name.text(), version],
-    )?;
-    value_of_first_row::<MomentRow>(&rows)
+    )
 }
 
 /// The live versions of a package, in byte order of their texts.
@@ -93,12 +92,12 @@ fn load_live_texts<S: Alter>(
     ensures loads { Loads S.Store tx.old tx.new result
         (λ live c. live.items ≡ live_versions (registry_of c) name.now) }
 {
-    let rows = read(
+    texts(
+        alloc,
         tx,
         "SELECT version FROM versions WHERE package = ?1 ORDER BY version",
         params![name.text()],
-    )?;
-    texts_in(alloc, &rows)
+    )
 }
 
 // The versions of these texts.
@@ -120,12 +119,11 @@ pub fn has_live<S: Alter>(tx: &mut Transaction<'_, S>, name: &Name) -> Result<bo
     ensures loads { Loads S.Store tx.old tx.new result
         (λ lives c. lives ≡ state.has_live (registry_of c) name.now) }
 {
-    let rows = read(
+    has(
         tx,
         "SELECT version FROM versions WHERE package = ?1 ORDER BY version LIMIT 1",
         params![name.text()],
-    )?;
-    Ok(!rows.is_empty())
+    )
 }
 
 /// What asks for the live versions of a package, each with its manifest and its message.
@@ -144,12 +142,12 @@ pub fn load_times<S: Alter>(
     ensures loads { Loads S.Store tx.old tx.new result (λ times c.
         map time_entry times.items ≡ map (seen published) (of (live_of c) name.now)) }
 {
-    let rows = read(
+    list::<TimeRow, S>(
+        alloc,
         tx,
         "SELECT version, published FROM versions WHERE package = ?1 ORDER BY version",
         params![name.text()],
-    )?;
-    values_of_rows::<TimeRow>(alloc, &rows)
+    )
 }
 
 /// The live versions of a package, each with the moment of its publication, in byte order of their
@@ -204,12 +202,11 @@ pub fn load_document<S: Alter>(
         (λ found c. option_map document_entry found
         ≡ option_map document (at (live_of c) (name.now, version.now))) }
 {
-    let rows = read(
+    find::<DocumentRow, S>(
         tx,
         "SELECT manifest, deprecated FROM versions WHERE package = ?1 AND version = ?2",
         params![name.text(), version],
-    )?;
-    value_of_first_row::<DocumentRow>(&rows)
+    )
 }
 
 /// Puts the version of a form, published at this moment and not deprecated, with its archive and

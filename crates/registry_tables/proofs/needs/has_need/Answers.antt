@@ -1,14 +1,9 @@
-use Rattle.std.proofs.Common.{◌==◌, ◌∙◌, ap, not}
-use Rattle.registry_rows.proofs.QuietFacts.{read_stays}
-use Rattle.registry_tables.specs.Effects.{shown}
-use Rattle.registry_tables.proofs.NeedFacts.{need_found}
+use Rattle.registry_tables.proofs.NeedFacts.{find_means, need_found}
+use Rattle.registry_tables.proofs.QueryFacts.{is_query}
 use Rattle.registry_tables.proofs.needs.has_need.Goals as goal
 
-pub returns : goal.returns
-returns g c =
-    let call = rw (c.params-to_sql.ensures, c.params-to_sql-2.ensures, c.params-to_sql-3.ensures, c.params-to_sql-4.ensures, c.as_str.ensures.text, c.as_str-2.ensures.text) at c.in_ok-rows.ensures.shown in
-    let it = need_found c.args.name.now c.args.version.now c.args.need.now (shown g.S.Store c.args.tx.now) (shown g.S.Store c.read.new.tx) _ c.requires.in_form call in
-    record {
-      stays = read_stays g.S.Store _ _ _ c.args.tx.now c.read.new.tx _ c.in_ok-rows.ensures.same_reference call (λ clean. (it clean).0);
-      loads = λ clean. ((it clean).0, ap not (c.is_empty.ensures ∙ ap (λ n. n == 0) c.in_ok-rows.rows.ok.0) ∙ (it clean).1);
-    }
+pub has-requires-clause-query : goal.has-requires-clause-query
+has-requires-clause-query g c = is_query find_means
+
+pub returns-clause-loads : goal.returns-clause-loads
+returns-clause-loads g c = c.has.ensures.loads _ (rw (c.params-to_sql.ensures, c.params-to_sql-2.ensures, c.params-to_sql-3.ensures, c.params-to_sql-4.ensures, c.as_str.ensures.text, c.as_str-2.ensures.text) (need_found c.args.name.now c.args.version.now c.args.need.now _ _))

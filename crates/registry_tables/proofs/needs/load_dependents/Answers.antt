@@ -1,20 +1,21 @@
-use Rattle.std.proofs.Common.{◌∙◌, ap, map}
+use Rattle.std.proofs.Common.{◌∙◌, ap}
 use Rattle.std.specs.List.{list_any}
 use Rattle.std.proofs.lemmas.Result.{IfOk-weaker}
 use Rattle.registry_ranges.specs.Texts.{binds}
-use Rattle.registry_rows.proofs.QuietFacts.{read_stays}
-use Rattle.registry_tables.specs.Effects.{shown, stored_in}
-use Rattle.registry_tables.specs.Teams.{text_spelled}
-use Rattle.registry_tables.proofs.DependentFacts.{dependents_listed, ranges_tell}
+use Rattle.registry_tables.specs.Effects.{stored_in}
+use Rattle.registry_tables.specs.Withdrawals.{ranges_on}
+use Rattle.registry_tables.proofs.DependentFacts.{dependents_listed, list_means, ranges_tell}
+use Rattle.registry_tables.proofs.QueryFacts.{is_query}
 use Rattle.registry_tables.proofs.needs.load_dependents.Goals as goal
+
+pub texts-requires-clause-query : goal.texts-requires-clause-query
+texts-requires-clause-query g c = is_query list_means
 
 pub returns : goal.returns
 returns g c =
-    let call = rw (c.params-to_sql.ensures, c.text.ensures.text) at c.in_ok-rows.ensures.shown in
-    let it = dependents_listed c.args.name.now (shown g.S.Store c.args.tx.now) (shown g.S.Store c.read.new.tx) _ c.requires.in_form call in
+    let it = c.texts.ensures.loads (ranges_on (stored_in g.S.Store c.args.tx.now) c.args.name.now) (rw (c.params-to_sql.ensures, c.text.ensures.text) (dependents_listed c.args.name.now _ _)) in
     record {
-      stays = read_stays g.S.Store _ _ _ c.args.tx.now c.read.new.tx _ c.in_ok-rows.ensures.same_reference call (λ clean. (it clean).0);
-      loads = λ clean. IfOk-weaker c.texts_in.result _ _ (λ _ e. ((it clean).0, e ∙ ap (map text_spelled) c.deref.ensures.value ∙ (it clean).1)) c.texts_in.ensures;
-      depended = λ clean holds. IfOk-weaker c.texts_in.result _ _ (λ _ e v. ap (list_any (λ text. binds text v)) (e ∙ ap (map text_spelled) c.deref.ensures.value ∙ (it clean).1)
-          ∙ ranges_tell (stored_in g.S.Store c.args.tx.now) holds c.args.name.now v) c.texts_in.ensures;
+      stays = c.texts.ensures.stays;
+      loads = it;
+      depended = λ clean holds. IfOk-weaker c.texts.result _ _ (λ _ told v. ap (list_any (λ text. binds text v)) told.1 ∙ ranges_tell (stored_in g.S.Store c.args.tx.now) holds c.args.name.now v) (it clean);
     }

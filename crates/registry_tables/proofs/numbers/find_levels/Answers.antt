@@ -1,18 +1,19 @@
-use Rattle.std.proofs.Common.{◌∙◌, ap, map}
+use Rattle.std.proofs.Common.{◌∙◌, ℤ, ap, map, sym}
 use Rattle.std.specs.List.{list_all}
-use Rattle.std.proofs.lemmas.Result.{IfOk-weaker}
-use Rattle.registry_rows.proofs.QuietFacts.{read_stays}
-use Rattle.registry_tables.specs.Effects.{shown}
+use Rattle.std.proofs.lemmas.List.{map-id}
+use Rattle.registry_names.specs.Keys.{Triple}
+use Rattle.registry_names.specs.Maps.{entries}
+use Rattle.registry_tables.specs.Effects.{stored_in}
 use Rattle.registry_tables.specs.Numbers.{is_level}
-use Rattle.registry_tables.specs.Spelled.{fourth_number}
-use Rattle.registry_tables.proofs.RangeFacts.{levels_pass}
+use Rattle.registry_tables.proofs.QueryFacts.{is_query}
+use Rattle.registry_tables.proofs.RangeFacts.{levels_listed, levels_means, seen_pass}
 use Rattle.registry_tables.proofs.numbers.find_levels.Goals as goal
 
-pub returns : goal.returns
-returns g c =
-    let call = c.in_ok-rows.ensures.shown in
-    let it = levels_pass (shown g.S.Store c.args.tx.now) (shown g.S.Store c.read.new.tx) _ c.requires.in_form call in
-    record {
-      stays = read_stays g.S.Store _ _ _ c.args.tx.now c.read.new.tx _ c.in_ok-rows.ensures.same_reference call (λ clean. (it clean).0);
-      loads = λ clean. IfOk-weaker c.are_levels.result _ _ (λ _ e. ((it clean).0, e ∙ ap (λ rows. list_all is_level (map fourth_number rows)) c.deref.ensures.value ∙ (it clean).1)) c.are_levels.ensures;
-    }
+pub list-requires-clause-query : goal.list-requires-clause-query
+list-requires-clause-query g c = is_query levels_means
+
+pub returns-clause-loads : goal.returns-clause-loads
+returns-clause-loads g c clean =
+    let es = entries (stored_in g.S.Store c.args.tx.now).grants in
+    let it = c.in_ok-levels.ensures.loads (map (λ (e : Triple × ℤ). e.1) es) (levels_listed _ _) clean in
+    (it.0, c.are_levels.ensures ∙ ap (list_all is_level) (c.deref.ensures.value ∙ sym (map-id _) ∙ it.1) ∙ seen_pass is_level (λ (n : ℤ). n) es)

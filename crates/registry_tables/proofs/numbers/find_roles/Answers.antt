@@ -1,18 +1,19 @@
-use Rattle.std.proofs.Common.{◌∙◌, ap, map}
+use Rattle.std.proofs.Common.{◌∙◌, ℤ, ap, map, sym}
 use Rattle.std.specs.List.{list_all}
-use Rattle.std.proofs.lemmas.Result.{IfOk-weaker}
-use Rattle.registry_rows.proofs.QuietFacts.{read_stays}
-use Rattle.registry_tables.specs.Effects.{shown}
+use Rattle.std.proofs.lemmas.List.{map-id}
+use Rattle.registry_names.specs.Keys.{Pair}
+use Rattle.registry_names.specs.Maps.{entries}
+use Rattle.registry_tables.specs.Effects.{stored_in}
 use Rattle.registry_tables.specs.Numbers.{is_role}
-use Rattle.registry_tables.specs.Spelled.{third_number}
-use Rattle.registry_tables.proofs.RangeFacts.{roles_pass}
+use Rattle.registry_tables.proofs.QueryFacts.{is_query}
+use Rattle.registry_tables.proofs.RangeFacts.{roles_listed, roles_means, seen_pass}
 use Rattle.registry_tables.proofs.numbers.find_roles.Goals as goal
 
-pub returns : goal.returns
-returns g c =
-    let call = c.in_ok-rows.ensures.shown in
-    let it = roles_pass (shown g.S.Store c.args.tx.now) (shown g.S.Store c.read.new.tx) _ c.requires.in_form call in
-    record {
-      stays = read_stays g.S.Store _ _ _ c.args.tx.now c.read.new.tx _ c.in_ok-rows.ensures.same_reference call (λ clean. (it clean).0);
-      loads = λ clean. IfOk-weaker c.are_roles.result _ _ (λ _ e. ((it clean).0, e ∙ ap (λ rows. list_all is_role (map third_number rows)) c.deref.ensures.value ∙ (it clean).1)) c.are_roles.ensures;
-    }
+pub list-requires-clause-query : goal.list-requires-clause-query
+list-requires-clause-query g c = is_query roles_means
+
+pub returns-clause-loads : goal.returns-clause-loads
+returns-clause-loads g c clean =
+    let es = entries (stored_in g.S.Store c.args.tx.now).members in
+    let it = c.in_ok-roles.ensures.loads (map (λ (e : Pair × ℤ). e.1) es) (roles_listed _ _) clean in
+    (it.0, c.are_roles.ensures ∙ ap (list_all is_role) (c.deref.ensures.value ∙ sym (map-id _) ∙ it.1) ∙ seen_pass is_role (λ (n : ℤ). n) es)

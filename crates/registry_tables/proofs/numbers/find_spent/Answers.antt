@@ -1,18 +1,23 @@
-use Rattle.std.proofs.Common.{◌∙◌, ◌&&◌, ap, map}
+use Rattle.std.proofs.Common.{◌∙◌, ap, map, sym}
 use Rattle.std.specs.List.{list_all}
-use Rattle.std.proofs.lemmas.Result.{IfOk-weaker}
-use Rattle.registry_rows.proofs.QuietFacts.{read_stays}
-use Rattle.registry_tables.specs.Effects.{shown}
-use Rattle.registry_tables.specs.Numbers.{is_moment}
-use Rattle.registry_tables.specs.Spelled.{fourth_number, third_number}
-use Rattle.registry_tables.proofs.RangeFacts.{spent_pass}
+use Rattle.std.proofs.lemmas.List.Folds.{list_all-map}
+use Rattle.registry_names.specs.Keys.{Pair}
+use Rattle.registry_names.specs.Maps.{entries}
+use Rattle.registry_tables.specs.Contents.{SpentVersion}
+use Rattle.registry_tables.specs.Effects.{stored_in}
+use Rattle.registry_tables.specs.Ranges.{is_pair_of_moments, moments_entry}
+use Rattle.registry_tables.proofs.QueryFacts.{is_query}
+use Rattle.registry_tables.proofs.RangeFacts.{moments_of, seen_pass, spent_listed, spent_means}
 use Rattle.registry_tables.proofs.numbers.find_spent.Goals as goal
 
-pub returns : goal.returns
-returns g c =
-    let call = c.in_ok-rows.ensures.shown in
-    let it = spent_pass (shown g.S.Store c.args.tx.now) (shown g.S.Store c.read.new.tx) _ c.requires.in_form call in
-    record {
-      stays = read_stays g.S.Store _ _ _ c.args.tx.now c.read.new.tx _ c.in_ok-rows.ensures.same_reference call (λ clean. (it clean).0);
-      loads = λ clean. IfOk-weaker c.are_pairs_of_moments.result _ _ (λ _ e. ((it clean).0, e ∙ ap (λ rows. list_all is_moment (map third_number rows) && list_all is_moment (map fourth_number rows)) c.deref.ensures.value ∙ (it clean).1)) c.are_pairs_of_moments.ensures;
-    }
+pub list-requires-clause-query : goal.list-requires-clause-query
+list-requires-clause-query g c = is_query spent_means
+
+pub returns-clause-loads : goal.returns-clause-loads
+returns-clause-loads g c clean =
+    let es = entries (stored_in g.S.Store c.args.tx.now).spent in
+    let it = c.in_ok-moments.ensures.loads (map (λ (e : Pair × SpentVersion). moments_of e.1) es) (spent_listed _ _) clean in (
+      it.0,
+      c.are_pairs_of_moments.ensures ∙ ap (list_all _) c.deref.ensures.value ∙ sym (list_all-map is_pair_of_moments moments_entry c.in_ok-moments.moments.items)
+          ∙ ap (list_all is_pair_of_moments) it.1 ∙ seen_pass is_pair_of_moments moments_of es,
+    )

@@ -1,18 +1,20 @@
-use Rattle.std.proofs.Common.{◌∙◌, ap, map}
+use Rattle.std.proofs.Common.{◌∙◌, ℤ, ap, map, sym}
 use Rattle.std.specs.List.{list_all}
-use Rattle.std.proofs.lemmas.Result.{IfOk-weaker}
-use Rattle.registry_rows.proofs.QuietFacts.{read_stays}
-use Rattle.registry_tables.specs.Effects.{shown}
+use Rattle.std.proofs.lemmas.List.{map-id}
+use Rattle.registry_names.specs.Texts.{Text}
+use Rattle.registry_names.specs.Maps.{entries}
+use Rattle.registry_tables.specs.Effects.{stored_in}
 use Rattle.registry_tables.specs.Numbers.{is_status}
-use Rattle.registry_tables.specs.Spelled.{second_number}
-use Rattle.registry_tables.proofs.RangeFacts.{statuses_pass}
+use Rattle.registry_tables.proofs.QueryFacts.{is_query}
+use Rattle.registry_tables.proofs.RangeFacts.{seen_pass, statuses_listed}
+use Rattle.registry_tables.proofs.StatusFacts.{list_means}
 use Rattle.registry_tables.proofs.numbers.find_statuses.Goals as goal
 
-pub returns : goal.returns
-returns g c =
-    let call = c.in_ok-rows.ensures.shown in
-    let it = statuses_pass (shown g.S.Store c.args.tx.now) (shown g.S.Store c.read.new.tx) _ c.requires.in_form call in
-    record {
-      stays = read_stays g.S.Store _ _ _ c.args.tx.now c.read.new.tx _ c.in_ok-rows.ensures.same_reference call (λ clean. (it clean).0);
-      loads = λ clean. IfOk-weaker c.are_statuses.result _ _ (λ _ e. ((it clean).0, e ∙ ap (λ rows. list_all is_status (map second_number rows)) c.deref.ensures.value ∙ (it clean).1)) c.are_statuses.ensures;
-    }
+pub list-requires-clause-query : goal.list-requires-clause-query
+list-requires-clause-query g c = is_query list_means
+
+pub returns-clause-loads : goal.returns-clause-loads
+returns-clause-loads g c clean =
+    let es = entries (stored_in g.S.Store c.args.tx.now).packages in
+    let it = c.in_ok-statuses.ensures.loads (map (λ (e : Text × ℤ). e.1) es) (statuses_listed _ _) clean in
+    (it.0, c.are_statuses.ensures ∙ ap (list_all is_status) (c.deref.ensures.value ∙ sym (map-id _) ∙ it.1) ∙ seen_pass is_status (λ (n : ℤ). n) es)

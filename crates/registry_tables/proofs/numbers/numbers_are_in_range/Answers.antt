@@ -24,7 +24,7 @@ returns-clause-loads g c clean =
     let r2 = then_found s0 s1 s2 (λ x. all_pass is_status x.packages) c.in_ok-statuses.statuses r1.0 (c.in_ok-statuses.ensures.loads w2) in
     let r3 = then_found s0 s2 s3 (λ x. all_pass is_level x.grants) c.in_ok-levels.levels r2.0 (c.in_ok-levels.ensures.loads w3) in
     let r4 = then_found s0 s3 s4 (λ x. all_pass (λ v. is_moment v.published) x.versions) c.in_ok-live.live r3.0 (c.in_ok-live.ensures.loads w4) in
-    let r5 = then_found s0 s4 s5 (λ x. all_pass (λ v. is_moment v.published) x.spent && all_pass (λ v. is_moment v.withdrawn) x.spent) c.in_ok-spent.spent r4.0 (c.in_ok-spent.ensures.loads w5) in
+    let r5 = then_found s0 s4 s5 (λ x. all_pass (λ v. is_moment v.published && is_moment v.withdrawn) x.spent) c.in_ok-spent.spent r4.0 (c.in_ok-spent.ensures.loads w5) in
     let is = c.are_all.ensures ∙ ap₂ (λ a b. a && b) r1.1 (ap₂ (λ a b. a && b) r2.1 (ap₂ (λ a b. a && b) r3.1 (ap₂ (λ a b. a && b) r4.1 r5.1))) in
     (r5.0, subst (λ (fine : Bool). TellsRanges fine (stored_in g.S.Store c.args.tx.now)) (sym is) (tests_tell (stored_in g.S.Store c.args.tx.now)))
 

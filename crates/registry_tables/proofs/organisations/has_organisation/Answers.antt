@@ -1,14 +1,9 @@
-use Rattle.std.proofs.Common.{◌==◌, ◌∙◌, ap, not}
-use Rattle.registry_rows.proofs.QuietFacts.{read_stays}
-use Rattle.registry_tables.specs.Effects.{shown}
-use Rattle.registry_tables.proofs.OrganisationFacts.{organisation_found}
+use Rattle.registry_tables.proofs.OrganisationFacts.{find_means, organisation_found}
+use Rattle.registry_tables.proofs.QueryFacts.{is_query}
 use Rattle.registry_tables.proofs.organisations.has_organisation.Goals as goal
 
-pub returns : goal.returns
-returns g c =
-    let call = rw (c.params-to_sql.ensures) at c.in_ok-rows.ensures.shown in
-    let it = organisation_found c.args.organisation.now (shown g.S.Store c.args.tx.now) (shown g.S.Store c.read.new.tx) _ c.requires.in_form call in
-    record {
-      stays = read_stays g.S.Store _ _ _ c.args.tx.now c.read.new.tx _ c.in_ok-rows.ensures.same_reference call (λ clean. (it clean).0);
-      loads = λ clean. ((it clean).0, ap not (c.is_empty.ensures ∙ ap (λ n. n == 0) c.in_ok-rows.rows.ok.0) ∙ (it clean).1);
-    }
+pub has-requires-clause-query : goal.has-requires-clause-query
+has-requires-clause-query g c = is_query find_means
+
+pub returns-clause-loads : goal.returns-clause-loads
+returns-clause-loads g c = c.has.ensures.loads _ (rw (c.params-to_sql.ensures) (organisation_found c.args.organisation.now _ _))

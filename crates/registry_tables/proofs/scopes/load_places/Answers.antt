@@ -1,16 +1,10 @@
-use Rattle.std.proofs.Common.{◌∙◌, ap, map}
-use Rattle.std.proofs.lemmas.Result.{IfOk-weaker}
-use Rattle.registry_rows.proofs.QuietFacts.{read_stays}
-use Rattle.registry_tables.specs.Effects.{shown}
-use Rattle.registry_tables.specs.Scopes.{place_spelled}
+use Rattle.registry_tables.proofs.QueryFacts.{is_query}
+use Rattle.registry_tables.proofs.RangeFacts.{levels_means}
 use Rattle.registry_tables.proofs.ScopeFacts.{places_listed}
 use Rattle.registry_tables.proofs.scopes.load_places.Goals as goal
 
-pub returns : goal.returns
-returns g c =
-    let call = c.in_ok-rows.ensures.shown in
-    let it = places_listed (shown g.S.Store c.args.tx.now) (shown g.S.Store c.read.new.tx) _ c.requires.in_form call in
-    record {
-      stays = read_stays g.S.Store _ _ _ c.args.tx.now c.read.new.tx _ c.in_ok-rows.ensures.same_reference call (λ clean. (it clean).0);
-      loads = λ clean. IfOk-weaker c.values_of_rows.result _ _ (λ _ e. ((it clean).0, e ∙ ap (map place_spelled) c.deref.ensures.value ∙ (it clean).1)) c.values_of_rows.ensures;
-    }
+pub list-requires-clause-query : goal.list-requires-clause-query
+list-requires-clause-query g c = is_query levels_means
+
+pub returns-clause-loads : goal.returns-clause-loads
+returns-clause-loads g c = c.list.ensures.loads _ (places_listed _ _)

@@ -1,17 +1,17 @@
 use Rattle.std.proofs.Common.{◌∙◌, ap, map}
 use Rattle.std.proofs.lemmas.Result.{IfOk-weaker}
-use Rattle.registry_rows.proofs.QuietFacts.{read_stays}
 use Rattle.registry_tables.specs.Effects.{shown}
 use Rattle.registry_tables.specs.Spelled.{number_spelled}
 use Rattle.registry_tables.specs.Withdrawals.{last_number}
-use Rattle.registry_tables.proofs.SpentFacts.{last_found}
+use Rattle.registry_tables.proofs.QueryFacts.{is_query}
+use Rattle.registry_tables.proofs.SpentFacts.{last_found, last_means}
 use Rattle.registry_tables.proofs.spent.load_last_withdrawal.Goals as goal
 
-pub returns : goal.returns
-returns g c =
+pub query-requires-clause-query : goal.query-requires-clause-query
+query-requires-clause-query g c = is_query last_means
+
+pub returns-clause-loads : goal.returns-clause-loads
+returns-clause-loads g c clean =
     let call = rw (c.params-to_sql.ensures, c.text.ensures.text) at c.in_ok-rows.ensures.shown in
-    let it = last_found c.args.name.now (shown g.S.Store c.args.tx.now) (shown g.S.Store c.read.new.tx) _ c.requires.in_form call in
-    record {
-      stays = read_stays g.S.Store _ _ _ c.args.tx.now c.read.new.tx _ c.in_ok-rows.ensures.same_reference call (λ clean. (it clean).0);
-      loads = λ clean. IfOk-weaker c.last_moment.result _ _ (λ _ e. ((it clean).0, e ∙ ap (λ rows. last_number (map number_spelled rows)) c.deref.ensures.value ∙ (it clean).1)) c.last_moment.ensures;
-    }
+    let it = last_found c.args.name.now (shown g.S.Store c.args.tx.now) (shown g.S.Store c.query.new.tx) _ c.requires.in_form call clean in
+    IfOk-weaker c.last_moment.result _ _ (λ _ e. (it.0, e ∙ ap (λ rows. last_number (map number_spelled rows)) c.deref.ensures.value ∙ it.1)) c.last_moment.ensures

@@ -1,16 +1,9 @@
-use Rattle.std.proofs.Common.{◌∙◌, ap, map}
-use Rattle.std.proofs.lemmas.Result.{IfOk-weaker}
-use Rattle.registry_rows.proofs.QuietFacts.{read_stays}
-use Rattle.registry_tables.specs.Effects.{shown}
-use Rattle.registry_tables.specs.Spelled.{second_spelled}
-use Rattle.registry_tables.proofs.SpentFacts.{publications_found}
+use Rattle.registry_tables.proofs.QueryFacts.{is_query, listed_as_is}
+use Rattle.registry_tables.proofs.SpentFacts.{last_means, publications_found}
 use Rattle.registry_tables.proofs.spent.load_spent_publications.Goals as goal
 
-pub returns : goal.returns
-returns g c =
-    let call = rw (c.params-to_sql.ensures, c.text.ensures.text) at c.in_ok-rows.ensures.shown in
-    let it = publications_found c.args.name.now (shown g.S.Store c.args.tx.now) (shown g.S.Store c.read.new.tx) _ c.requires.in_form call in
-    record {
-      stays = read_stays g.S.Store _ _ _ c.args.tx.now c.read.new.tx _ c.in_ok-rows.ensures.same_reference call (λ clean. (it clean).0);
-      loads = λ clean. IfOk-weaker c.second_moments.result _ _ (λ _ e. ((it clean).0, e ∙ ap (map second_spelled) c.deref.ensures.value ∙ (it clean).1)) c.second_moments.ensures;
-    }
+pub list-requires-clause-query : goal.list-requires-clause-query
+list-requires-clause-query g c = is_query last_means
+
+pub returns-clause-loads : goal.returns-clause-loads
+returns-clause-loads g c = listed_as_is _ _ c.list.result _ (c.list.ensures.loads _ (rw (c.params-to_sql.ensures, c.text.ensures.text) (publications_found c.args.name.now _ _)))

@@ -1,10 +1,14 @@
-use Rattle.std.proofs.Common.{◌∙◌, sym, true≢false}
 use Rattle.registry_rows.proofs.QuietFacts.{on_answer}
-use Rattle.registry_tables.proofs.EffectFacts.{on_any}
+use Rattle.registry_tables.specs.Effects.{shown}
+use Rattle.registry_tables.proofs.TagFacts.{tag_set}
 use Rattle.registry_tables.proofs.tags.put_tag.Goals as goal
 
-pub returns-then-stands-clause-was_new : goal.returns-then-stands-clause-was_new
-returns-then-stands-clause-was_new g c clean = on_any c.update_tag.result (λ new. absurd (true≢false (sym c.if-stands.true ∙ new)))
+pub returns-clause-makes : goal.returns-clause-makes
+returns-clause-makes g c clean =
+    on_answer c.set_row.result (λ wrote. (tag_set c.args.name.now c.args.tag.now c.args.version.now c.args.stands (shown g.S.Store c.args.tx.now) (shown g.S.Store c.set_row.new.tx) c.requires.in_form wrote clean).0)
+    (rw (c.params-to_sql.ensures, c.params-to_sql-2.ensures, c.params-to_sql-3.ensures) at c.set_row.ensures.wrote)
 
-pub returns-else-stands-clause-was_new : goal.returns-else-stands-clause-was_new
-returns-else-stands-clause-was_new g c clean = on_answer c.insert_tag.result (λ free new. free) (c.insert_tag.ensures.was_new clean)
+pub returns-clause-was_new : goal.returns-clause-was_new
+returns-clause-was_new g c clean =
+    on_answer c.set_row.result (λ wrote. (tag_set c.args.name.now c.args.tag.now c.args.version.now c.args.stands (shown g.S.Store c.args.tx.now) (shown g.S.Store c.set_row.new.tx) c.requires.in_form wrote clean).1)
+    (rw (c.params-to_sql.ensures, c.params-to_sql-2.ensures, c.params-to_sql-3.ensures) at c.set_row.ensures.wrote)

@@ -1,16 +1,21 @@
-use Rattle.std.proofs.Common.{◌∙◌, ap, option_map, slice_get}
-use Rattle.std.proofs.lemmas.Result.{IfOk-weaker}
-use Rattle.registry_rows.proofs.QuietFacts.{read_stays}
-use Rattle.registry_tables.specs.Effects.{shown}
-use Rattle.registry_tables.specs.Spelled.{named_spelled}
-use Rattle.registry_tables.proofs.TokenFacts.{user_of_found}
+use Rattle.std.proofs.Common.{◌∙◌, Some, ap, sym}
+use Rattle.std.proofs.lemmas.Iterator.Adapters.{option_map_id}
+use Rattle.registry_names.specs.Maps.{at}
+use Rattle.registry_tables.specs.Effects.{stored_in}
+use Rattle.registry_tables.proofs.QueryFacts.{is_query}
+use Rattle.registry_tables.proofs.TokenFacts.{find_means, user_of_found}
 use Rattle.registry_tables.proofs.tokens.load_token_user.Goals as goal
 
-pub returns : goal.returns
-returns g c =
-    let call = rw (c.params-to_sql.ensures, c.as_slice.ensures.value) at c.in_ok-rows.ensures.shown in
-    let it = user_of_found c.args.digest.now (shown g.S.Store c.args.tx.now) (shown g.S.Store c.read.new.tx) _ c.requires.in_form call in
-    record {
-      stays = read_stays g.S.Store _ _ _ c.args.tx.now c.read.new.tx _ c.in_ok-rows.ensures.same_reference call (λ clean. (it clean).0);
-      loads = λ clean. IfOk-weaker c.user_in.result _ _ (λ _ e. ((it clean).0, e ∙ ap (λ rows. option_map named_spelled (slice_get rows 0)) c.deref.ensures.value ∙ (it clean).1)) c.user_in.ensures;
-    }
+pub find-requires-clause-query : goal.find-requires-clause-query
+find-requires-clause-query g c = is_query find_means
+
+pub returns-in_ok-read_back-in-Some-clause-loads : goal.returns-in_ok-read_back-in-Some-clause-loads
+returns-in_ok-read_back-in-Some-clause-loads g c clean =
+    let it = c.in_ok-user.ensures.loads (at (stored_in g.S.Store c.args.tx.now).tokens c.args.digest.now) (rw (c.params-to_sql.ensures, c.as_slice.ensures.value) (user_of_found c.args.digest.now _ _)) clean in
+    let same = rw (c.in_ok-read_back-in-Some.ensures) at c.parse.ensures.ok in
+    (it.0, ap (λ u. Some u) (same.0 ∙ c.as_str.ensures.text) ∙ sym c.in-Some.is ∙ sym (option_map_id _) ∙ it.1)
+
+pub returns-in-None-clause-loads : goal.returns-in-None-clause-loads
+returns-in-None-clause-loads g c clean =
+    let it = c.in_ok-user.ensures.loads (at (stored_in g.S.Store c.args.tx.now).tokens c.args.digest.now) (rw (c.params-to_sql.ensures, c.as_slice.ensures.value) (user_of_found c.args.digest.now _ _)) clean in
+    (it.0, sym c.in-None.is ∙ sym (option_map_id _) ∙ it.1)

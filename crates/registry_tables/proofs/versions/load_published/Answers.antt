@@ -1,17 +1,9 @@
-use Rattle.std.proofs.Common.{◌∙◌, ap, option_map, slice_get, sym}
-use Rattle.std.proofs.lemmas.Iterator.Adapters.{option_map_id}
-use Rattle.std.proofs.lemmas.Result.{IfOk-weaker}
-use Rattle.registry_rows.proofs.QuietFacts.{read_stays}
-use Rattle.registry_tables.specs.Effects.{shown}
-use Rattle.registry_tables.specs.Spelled.{number_spelled}
-use Rattle.registry_tables.proofs.VersionFacts.{published_found}
+use Rattle.registry_tables.proofs.QueryFacts.{found_as_is, is_query}
+use Rattle.registry_tables.proofs.VersionFacts.{find_means, published_found}
 use Rattle.registry_tables.proofs.versions.load_published.Goals as goal
 
-pub returns : goal.returns
-returns g c =
-    let call = rw (c.params-to_sql.ensures, c.params-to_sql-2.ensures, c.text.ensures.text) at c.in_ok-rows.ensures.shown in
-    let it = published_found c.args.name.now c.args.version.now (shown g.S.Store c.args.tx.now) (shown g.S.Store c.read.new.tx) _ c.requires.in_form call in
-    record {
-      stays = read_stays g.S.Store _ _ _ c.args.tx.now c.read.new.tx _ c.in_ok-rows.ensures.same_reference call (λ clean. (it clean).0);
-      loads = λ clean. IfOk-weaker c.value_of_first_row.result _ _ (λ found e. ((it clean).0, sym (option_map_id found) ∙ e ∙ ap (λ rows. option_map number_spelled (slice_get rows 0)) c.deref.ensures.value ∙ (it clean).1)) c.value_of_first_row.ensures;
-    }
+pub find-requires-clause-query : goal.find-requires-clause-query
+find-requires-clause-query g c = is_query find_means
+
+pub returns-clause-loads : goal.returns-clause-loads
+returns-clause-loads g c = found_as_is _ c.find.result _ (c.find.ensures.loads _ (rw (c.params-to_sql.ensures, c.params-to_sql-2.ensures, c.text.ensures.text) (published_found c.args.name.now c.args.version.now _ _)))

@@ -1,9 +1,0 @@
-use Rattle.registry_rows.proofs.QuietFacts.{on_answer}
-use Rattle.registry_tables.specs.Effects.{shown}
-use Rattle.registry_tables.proofs.TagFacts.{tag_moved}
-use Rattle.registry_tables.proofs.tags.update_tag.Goals as goal
-
-pub returns-clause-makes : goal.returns-clause-makes
-returns-clause-makes g c clean = on_answer c.write.result
-    (λ wrote. tag_moved c.args.name.now c.args.tag.now c.args.version.now (shown g.S.Store c.args.tx.now) (shown g.S.Store c.write.new.tx) c.requires.in_form wrote clean)
-    (rw (c.params-to_sql.ensures, c.params-to_sql-2.ensures, c.params-to_sql-3.ensures) at c.write.ensures.wrote)
