@@ -9,8 +9,9 @@ mod serving;
 mod tokens;
 
 use crate::outcome::same;
+use registry_files::{Ending, Failure, report};
 use registry_names::{FromRead, Text, ToWrite};
-use registry_program::{Ending, Failure, program, report};
+use registry_program::program;
 use std::alloc::Global;
 use std::io::{ErrorKind, Read, Write};
 use std::process::Abort;

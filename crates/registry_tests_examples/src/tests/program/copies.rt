@@ -3,7 +3,7 @@
 use crate::outcome::same;
 use crate::tests::in_files::asked;
 use crate::tests::lists::LAB_KIT;
-use registry_program::write_copy;
+use registry_files::write_copy;
 use registry_tests_requests::Outcome;
 use sqlite::Files;
 use sqlite_disk::{Disk, Memory};

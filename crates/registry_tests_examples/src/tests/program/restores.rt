@@ -5,7 +5,7 @@ use crate::outcome::same;
 use crate::tests::at_path::change;
 use crate::tests::in_files::{asked, released};
 use crate::tests::lists::LAB_KIT;
-use registry_program::settle_copy;
+use registry_files::settle_copy;
 use registry_tests_requests::Outcome;
 use sqlite::Files;
 use sqlite_disk::{Disk, Memory};
