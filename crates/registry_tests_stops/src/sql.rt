@@ -1,62 +1,52 @@
-//! What a registry holds.
+//! Databases in files: statements that change them, and the rows that queries show.
 
-ghost use Rattle.sqlite.specs.Held.{state};
-ghost use Rattle.registry_desk.specs.Resting.{Rests};
-
-use crate::outcome::same;
-use registry_check::{Problem, check};
-use registry_desk::Registry;
-use registry_names::Fault;
+use crate::disks::{Closed, Leaves, StoppingDisk, close, connected, left_of};
 use sqlite::types::ValueRef;
-use sqlite::{Alter, Connection, Row};
+use sqlite::{Alter, Connection, Files, Row};
 use std::alloc::Global;
 use std::process::Abort;
 
 /// What a line begins with that is a query.
 const QUERY: &str = "SELECT ";
 
-/// Checks that no row of the registry breaks a rule, and that its tables show what the text says: the
-/// lines after a query are its rows.
-pub fn holds<S: Alter + Drop>(
+/// The files of a database on which statements are run, and then the queries that are lines of a text,
+/// and each query with its rows. Only this function does so in files, since a call that does takes a
+/// quarter of a minute to check.
+pub(crate) fn ran<D: StoppingDisk>(
     ends: &impl Abort,
     alloc: Global,
-    calls: u64,
-    registry: Registry<S>,
-    shows: &str,
-) {
-    let mut connection = registry.release();
-    let problems = problems_of(alloc, &mut connection).expect(ends, "a check");
-    same(ends, (calls, "problems"), problems.len(), 0);
-    let text = shown(ends, alloc, &mut connection, shows);
-    same(ends, calls, text.as_str(), shows);
+    files: Files<D>,
+    statements: &[&str],
+    queries: &str,
+) -> (Files<D>, String) {
+    match connected(alloc, files) {
+        Ok(connection) => {
+            let mut connection = connection;
+            let shown = run_and_show(ends, alloc, &mut connection, statements, queries);
+            let Closed { files, .. } = close(connection);
+            (left_of(ends, alloc, files, Leaves::Written), shown)
+        }
+        Err(_files) => panic!(ends; "no database opens"),
+    }
 }
 
-// What breaks a rule in the tables. The transaction is rolled back where it is dropped.
-fn problems_of<S: Alter>(
-    alloc: Global,
-    connection: &mut Connection<S>,
-) -> Result<Vec<Problem>, Fault>
-    requires rests { Rests (state S.Store connection.old) }
-{
-    let mut tx = connection.transaction();
-    check(alloc, &mut tx)
-}
-
-// The queries of a text, each with the rows that it shows.
-fn shown<S: Alter>(
+fn run_and_show<S: Alter>(
     ends: &impl Abort,
     alloc: Global,
     connection: &mut Connection<S>,
-    shows: &str,
+    statements: &[&str],
+    queries: &str,
 ) -> String {
-    let mut text = String::new(alloc);
-    push(ends, &mut text, "\n");
-    for line in shows.lines() {
+    for text in statements {
+        connection.execute_batch(text).expect(ends, text);
+    }
+    let mut shown = String::new(alloc);
+    for line in queries.lines() {
         if line.starts_with(QUERY) {
-            push_shown(ends, alloc, connection, line, &mut text);
+            push_shown(ends, alloc, connection, line, &mut shown);
         }
     }
-    text
+    shown
 }
 
 // Adds a query and its rows.

@@ -45,8 +45,7 @@ INSERT INTO spent VALUES ('gone', '1.0.0', 10, 11);
 "#;
 
 /// What it shows afterwards: each table, with every column of each row.
-pub const SHOWN: &str = r#"
-SELECT * FROM meta ORDER BY name
+pub const SHOWN: &str = r#"SELECT * FROM meta ORDER BY name
 schema|3
 SELECT * FROM users ORDER BY name
 ann

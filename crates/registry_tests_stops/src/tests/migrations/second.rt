@@ -43,8 +43,7 @@ INSERT INTO tags VALUES ('tool', 'new', '1.1.0');
 "#;
 
 /// What it shows afterwards: each table, with every column of each row.
-pub const SHOWN: &str = r#"
-SELECT * FROM meta ORDER BY name
+pub const SHOWN: &str = r#"SELECT * FROM meta ORDER BY name
 schema|3
 SELECT * FROM users ORDER BY name
 ann

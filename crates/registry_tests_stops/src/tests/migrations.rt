@@ -1,16 +1,18 @@
 //! Registries of older schemas whose files stop at each call while they are migrated. Whatever the
-//! stop leaves, the registry opens afterwards with everything that it held.
+//! stop leaves, the registry opens afterwards with everything that it held. What else can be seen of
+//! a migration is told by stories.
 
+mod first;
+mod second;
+
+use crate::asking::{Rows, asked};
 use crate::disks::{
-    Closed, Leaves, Stopping, StoppingDisk, TestDisk, copied, files_of, left_of, opened,
-    opened_once, ran,
+    Closed, Leaves, NEVER, Stopping, StoppingDisk, TestDisk, copied, empty_files, left_of, opened,
 };
 use crate::outcome::same;
-use crate::shown::holds;
-use crate::{first, second};
+use crate::sql::ran;
 use registry_tables::TABLES;
 use sqlite::Files;
-use sqlite_disk::Disk;
 use std::alloc::Global;
 use std::process::Abort;
 
@@ -71,8 +73,10 @@ fn made<D: StoppingDisk>(
     tables: &[&str],
     rows: &str,
 ) -> Files<D> {
-    let files = ran(ends, alloc, files_of(ends, alloc, &[]), tables);
-    ran(ends, alloc, files, &[rows])
+    let files = empty_files(alloc, Stopping::Both, NEVER);
+    let (files, _) = ran(ends, alloc, files, tables, "");
+    let (files, _) = ran(ends, alloc, files, &[rows], "");
+    files
 }
 
 // Lets a file of the older registry, or each, stop at its first call, at its second, and so on,
@@ -86,17 +90,10 @@ fn outlives_stops<D: StoppingDisk>(
     leaves: Leaves,
 ) {
     for calls in 0..MOST_CALLS {
-        let Closed { is_whole, files } = opened_once(
-            alloc,
-            copied(ends, alloc, older, stopping, calls),
-        );
-        open_again(
-            ends,
-            alloc,
-            calls,
-            left_of(ends, alloc, files, leaves),
-            shows,
-        );
+        let files = copied(ends, alloc, older, stopping, calls);
+        let Closed { is_whole, files } = opened_once(ends, alloc, files, Rows::Any);
+        let left = left_of(ends, alloc, files, leaves);
+        opens_again(ends, alloc, calls, left, shows);
         if is_whole {
             return;
         }
@@ -104,18 +101,38 @@ fn outlives_stops<D: StoppingDisk>(
     panic!(ends; "it stops after {MOST_CALLS} calls, too")
 }
 
-// Checks that the registry in the files opens and closes, and holds afterwards what the text says.
-fn open_again<D: Disk + Drop>(
+// Checks that the registry in the files opens and closes, and again; that no row of it breaks a
+// rule; and that it holds afterwards what the text says.
+fn opens_again<D: StoppingDisk>(
     ends: &impl Abort,
     alloc: Global,
     calls: u64,
     files: Files<D>,
     shows: &str,
 ) {
-    let Closed { is_whole, files } = opened_once(alloc, files);
-    same(ends, (calls, "opened and closed"), is_whole, true);
+    let first = opened_once(ends, alloc, files, Rows::Any);
+    same(ends, (calls, "opened and closed"), first.is_whole, true);
+    let again = opened_once(ends, alloc, first.files, Rows::Sound);
+    same(ends, (calls, "and once more"), again.is_whole, true);
+    let (_files, text) = ran(ends, alloc, again.files, &[], shows);
+    same(ends, calls, text.as_str(), shows);
+}
+
+// The files of a registry that is opened and closed, and whether both did everything.
+fn opened_once<D: StoppingDisk>(
+    ends: &impl Abort,
+    alloc: Global,
+    files: Files<D>,
+    rows: Rows,
+) -> Closed<D> {
     match opened(alloc, files) {
-        Ok(registry) => holds(ends, alloc, calls, registry, shows),
-        Err(_files) => panic!(ends; "no registry opens after {calls} calls"),
+        Ok(registry) => {
+            let (_outcomes, closed) = asked(ends, alloc, registry, rows, &[]);
+            closed
+        }
+        Err((_, files)) => Closed {
+            is_whole: false,
+            files,
+        },
     }
 }
