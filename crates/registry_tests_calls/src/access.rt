@@ -69,65 +69,42 @@ const FIRST: Answers = [Ok(Rule::A5), NOT_FOUND, NOT_FOUND, NOT_FOUND];
 
 const MISSING: Answers = [NOT_FOUND, NOT_FOUND, NOT_FOUND, NOT_FOUND];
 
-fn answers_of(rt: &impl Abort, word: &str) -> Answers {
-    match word {
-        "reader" => READER,
-        "writer" => WRITER,
-        "maintainer" => MAINTAINER,
-        "stranger" => STRANGER,
-        "anonymous" => ANONYMOUS,
-        "unread-anonymous" => UNREAD_ANONYMOUS,
-        "outsider" => OUTSIDER,
-        "unread-member" => UNREAD_MEMBER,
-        "first-of-scope" => FIRST_OF_SCOPE,
-        "unread-operator" => UNREAD_OPERATOR,
-        "first" => FIRST,
-        "missing" => MISSING,
-        _ => panic!(rt; "{word} names no answers"),
-    }
-}
-
-fn level_of(rt: &impl Abort, word: &str) -> Level {
-    match word {
-        "nothing" => Level::Nothing,
-        "read" => Level::Read,
-        "write" => Level::Write,
-        _ => panic!(rt; "{word} names no level"),
-    }
-}
-
 /// A caller, a package, the caller's level on it, and the answers.
-const PACKAGES: &str = "operator @lab/kit nothing outsider
-ann @lab/kit write writer
-amy @lab/kit write writer
-bob @lab/kit write writer
-dan @lab/kit nothing unread-member
-eve @lab/kit nothing outsider
-anonymous @lab/kit nothing unread-anonymous
-operator @lab/app read stranger
-ann @lab/app write writer
-amy @lab/app write writer
-bob @lab/app write writer
-dan @lab/app read reader
-eve @lab/app read stranger
-anonymous @lab/app read anonymous
-operator tool read reader
-ann tool read reader
-bob tool write maintainer
-eve tool read reader
-anonymous tool read anonymous
-operator @lab/none nothing outsider
-ann @lab/none nothing first-of-scope
-dan @lab/none nothing first-of-scope
-eve @lab/none nothing outsider
-anonymous @lab/none nothing unread-anonymous
-operator none nothing unread-operator
-dan none nothing first
-eve none nothing first
-anonymous none nothing unread-anonymous
-operator @ghost/kit nothing missing
-ann @ghost/kit nothing missing
-anonymous @ghost/kit nothing unread-anonymous";
+type Case = (&'static str, &'static str, Level, Answers);
+
+static PACKAGES: [Case; 31] = [
+    ("operator", "@lab/kit", Level::Nothing, OUTSIDER),
+    ("ann", "@lab/kit", Level::Write, WRITER),
+    ("amy", "@lab/kit", Level::Write, WRITER),
+    ("bob", "@lab/kit", Level::Write, WRITER),
+    ("dan", "@lab/kit", Level::Nothing, UNREAD_MEMBER),
+    ("eve", "@lab/kit", Level::Nothing, OUTSIDER),
+    ("anonymous", "@lab/kit", Level::Nothing, UNREAD_ANONYMOUS),
+    ("operator", "@lab/app", Level::Read, STRANGER),
+    ("ann", "@lab/app", Level::Write, WRITER),
+    ("amy", "@lab/app", Level::Write, WRITER),
+    ("bob", "@lab/app", Level::Write, WRITER),
+    ("dan", "@lab/app", Level::Read, READER),
+    ("eve", "@lab/app", Level::Read, STRANGER),
+    ("anonymous", "@lab/app", Level::Read, ANONYMOUS),
+    ("operator", "tool", Level::Read, READER),
+    ("ann", "tool", Level::Read, READER),
+    ("bob", "tool", Level::Write, MAINTAINER),
+    ("eve", "tool", Level::Read, READER),
+    ("anonymous", "tool", Level::Read, ANONYMOUS),
+    ("operator", "@lab/none", Level::Nothing, OUTSIDER),
+    ("ann", "@lab/none", Level::Nothing, FIRST_OF_SCOPE),
+    ("dan", "@lab/none", Level::Nothing, FIRST_OF_SCOPE),
+    ("eve", "@lab/none", Level::Nothing, OUTSIDER),
+    ("anonymous", "@lab/none", Level::Nothing, UNREAD_ANONYMOUS),
+    ("operator", "none", Level::Nothing, UNREAD_OPERATOR),
+    ("dan", "none", Level::Nothing, FIRST),
+    ("eve", "none", Level::Nothing, FIRST),
+    ("anonymous", "none", Level::Nothing, UNREAD_ANONYMOUS),
+    ("operator", "@ghost/kit", Level::Nothing, MISSING),
+    ("ann", "@ghost/kit", Level::Nothing, MISSING),
+    ("anonymous", "@ghost/kit", Level::Nothing, UNREAD_ANONYMOUS),
+];
 
 fn rows_say(rows: &AccessRows, caller: &Caller, name: &Name) -> Answers {
     [
@@ -138,20 +115,19 @@ fn rows_say(rows: &AccessRows, caller: &Caller, name: &Name) -> Answers {
     ]
 }
 
-fn is_told(rt: &impl Abort, alloc: Global, rows: &AccessRows, line: &str) {
-    let mut words = line.split(' ');
-    let caller = caller(rt, alloc, words.next().unwrap_or(""));
-    let name = name(rt, alloc, words.next().unwrap_or(""));
-    let wanted = level_of(rt, words.next().unwrap_or(""));
-    let answers = answers_of(rt, words.next().unwrap_or(""));
-    same(rt, line, &level(rows, &caller, &name), &wanted);
-    same(rt, line, &rows_say(rows, &caller, &name), &answers);
+fn is_told(rt: &impl Abort, alloc: Global, rows: &AccessRows, case: &Case) {
+    let (who, package, wanted, answers) = case;
+    let caller = caller(rt, alloc, who);
+    let name = name(rt, alloc, package);
+    let shows = (*who, *package);
+    same(rt, &shows, &level(rows, &caller, &name), wanted);
+    same(rt, &shows, &rows_say(rows, &caller, &name), answers);
 }
 
 #[test]
 fn packages_by_rows(rt: HostRuntime) {
     let rows = registry(&rt, rt.alloc());
-    for line in PACKAGES.lines() {
-        is_told(&rt, rt.alloc(), &rows, line);
+    for case in &PACKAGES {
+        is_told(&rt, rt.alloc(), &rows, case);
     }
 }

@@ -327,14 +327,23 @@ fn a_shared_blob_outlives_the_others(rt: HostRuntime) {
 fn blobs_are_kept_as_texts_are(rt: HostRuntime) {
     let mut store = BlobCache::new(rt.alloc(), 2 * TWO).expect(&rt, "memory");
     for name in ["a", "b", "c"] {
-        let blob = shared_blob(&rt, rt.alloc(), name.as_bytes());
-        store.put(name, blob).expect(&rt, "memory");
+        put(&rt, rt.alloc(), &mut store, name);
     }
     store.forget("b");
-    same(&rt, "size", store.bytes_without_large(), TWO + 2);
-    same(&rt, "forgotten", store.peek("b").is_none(), true);
-    match store.get("c").expect(&rt, "few owners") {
-        Some(found) => same(&rt, "kept", found.as_slice() == b"c".as_slice(), true),
-        None => panic!(&rt; "nothing is kept under c"),
+    are_kept(&rt, &mut store);
+}
+
+fn put(rt: &impl Abort, alloc: Global, store: &mut BlobCache, name: &str) {
+    let blob = shared_blob(rt, alloc, name.as_bytes());
+    store.put(name, blob).expect(rt, "memory");
+}
+
+// Of three blobs the second was forgotten.
+fn are_kept(rt: &impl Abort, store: &mut BlobCache) {
+    same(rt, "size", store.bytes_without_large(), TWO + 2);
+    same(rt, "forgotten", store.peek("b").is_none(), true);
+    match store.get("c").expect(rt, "few owners") {
+        Some(found) => same(rt, "kept", found.as_slice() == b"c".as_slice(), true),
+        None => panic!(rt; "nothing is kept under c"),
     }
 }
