@@ -276,21 +276,25 @@ fn is_outcome(rt: &impl Abort, alloc: Global, wanted: &Wanted, outcome: &str) {
     let (asked, turned) = turned(rt, alloc, wanted);
     let status = turned.answer.status.as_u16();
     let body = body_of(rt, alloc, &turned);
-    let came_out = format!(in alloc; "{asked} => {status} {body}").expect(rt, "memory");
+    let came_out = format!(in alloc; "{asked}=> {status} {body}").expect(rt, "memory");
     same(rt, outcome, came_out.as_str(), outcome);
 }
 
-// What is asked for a request, or `nothing`, and what is answered.
+// What is asked for a request, or `nothing`, with a space behind it; and what is answered.
 fn turned(rt: &impl Abort, alloc: Global, wanted: &Wanted) -> (String, Turned) {
     let mut service = Fixed {
         asked: String::new(alloc),
     };
     let turned = npm_turn(alloc, &mut service, wanted, Moment::clamped(0), false);
-    let asked = match service.asked.trim_end() {
-        "" => "nothing",
-        words => words,
-    };
-    (string(rt, alloc, asked), turned)
+    let Fixed { asked } = service;
+    (told(rt, alloc, asked), turned)
+}
+
+fn told(rt: &impl Abort, alloc: Global, asked: String) -> String {
+    if asked.is_empty() {
+        return string(rt, alloc, "nothing ");
+    }
+    asked
 }
 
 fn body_of(rt: &impl Abort, alloc: Global, turned: &Turned) -> String {

@@ -302,7 +302,7 @@ fn edited(rt: &impl Abort, alloc: Global, whole: &str, line: &str) -> String {
     let (old, new) = line.split_once(" ->").expect(rt, line);
     let new = new.strip_prefix(' ').unwrap_or("");
     let (before, after) = whole.split_once(old).expect(rt, line);
-    concat(rt, alloc, &[before, new, after])
+    format!(in alloc; "{before}{new}{after}").expect(rt, "memory")
 }
 
 // What is shown of what a document asks for.
@@ -398,21 +398,25 @@ fn documents_that_differ_in_anything_else(rt: HostRuntime) {
 #[test]
 fn documents_of_maintainers(rt: HostRuntime) {
     let maintainers = texts(&rt, rt.alloc(), &OWNERS);
-    let revision = revision(&rt, rt.alloc(), &maintainers);
     for line in NAMED.lines() {
-        let (path, rest) = line.split_once(' ').expect(&rt, line);
-        let (names, wanted) = rest.split_once("=> ").expect(&rt, line);
-        let parts = [
-            r#"{"_id":"tool","_rev":""#,
-            revision.text(),
-            r#"","maintainers":["#,
-            names.trim_end(),
-            "]}",
-        ];
-        let body = concat(&rt, rt.alloc(), &parts);
-        let came_out = asked(&rt, rt.alloc(), body.as_str(), path, &maintainers);
-        same(&rt, line, came_out.as_str(), wanted);
+        asks_of(&rt, rt.alloc(), line, &maintainers);
     }
+}
+
+fn asks_of(rt: &impl Abort, alloc: Global, line: &str, maintainers: &[Text]) {
+    let (path, rest) = line.split_once(' ').expect(rt, line);
+    let (names, wanted) = rest.split_once("=> ").expect(rt, line);
+    let body = said(rt, alloc, r#""_id":"tool","#, names.trim_end(), maintainers);
+    let came_out = asked(rt, alloc, body.as_str(), path, maintainers);
+    same(rt, line, came_out.as_str(), wanted);
+}
+
+// A document that says this, the revision of the packument, and the names of maintainers.
+fn said(rt: &impl Abort, alloc: Global, front: &str, names: &str, maintainers: &[Text]) -> String {
+    let revision = revision(rt, alloc, maintainers);
+    let text = revision.text();
+    let said = format!(in alloc; "{{{front}\"_rev\":\"{text}\",\"maintainers\":[{names}]}}");
+    said.expect(rt, "memory")
 }
 
 // What a document of maintainers says beside them and its revision, and what it asks for.
@@ -424,19 +428,14 @@ static BESIDE: [(&str, &str); 5] = [
     ("", "+ dan"),
 ];
 
+// The maintainers, and one more.
+const THREE: &str = r#"{"name":"bob"},{"name":"eve"},{"name":"dan"}"#;
+
 #[test]
 fn documents_of_maintainers_that_say_more(rt: HostRuntime) {
     let maintainers = texts(&rt, rt.alloc(), &OWNERS);
-    let revision = revision(&rt, rt.alloc(), &maintainers);
     for (member, wanted) in &BESIDE {
-        let parts = [
-            "{",
-            *member,
-            r#""_rev":""#,
-            revision.text(),
-            r#"","maintainers":[{"name":"bob"},{"name":"eve"},{"name":"dan"}]}"#,
-        ];
-        let body = concat(&rt, rt.alloc(), &parts);
+        let body = said(&rt, rt.alloc(), member, THREE, &maintainers);
         let came_out = asked(&rt, rt.alloc(), body.as_str(), "Present", &maintainers);
         same(&rt, *member, came_out.as_str(), *wanted);
     }

@@ -337,7 +337,7 @@ fn is_accepted(rt: &impl Abort, alloc: Global, case: &Accepted) {
     wanted.accept = field_of(rt, alloc, accept);
     wanted.if_none_match = field_of(rt, alloc, value);
     let (asked, turned) = turned(rt, alloc, &wanted);
-    same(rt, *target, asked.as_str(), *words);
+    same(rt, *target, asked.as_str().trim_end(), *words);
     same(rt, *target, &turned.answer.status.as_u16(), status);
     same(rt, *target, tag_text(&turned.answer.labels.tag), *tag);
     same(rt, *target, &turned.answer.labels.form, form);
