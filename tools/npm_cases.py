@@ -87,9 +87,10 @@ class Reader:
         self.run = None
 
     def held(self, number, rest):
-        """What is asked before a request of npm's goes on: `METHOD TARGET: COMMAND`."""
+        """What is asked before a request of npm's goes on, or before it goes on for the second time:
+        `[second] METHOD TARGET: COMMAND`."""
         request, _, command = rest.partition(': ')
-        return request, run_of(number, command)
+        return request.removeprefix('second '), run_of(number, command), request.startswith('second ')
 
     def add(self, table, number, line):
         self.run = run_of(number, line)

@@ -64,7 +64,8 @@ def logged(folder):
 
 class Relay:
     """It passes requests on, one after the other on each connection. `meanwhile` is a request,
-    `METHOD TARGET`, and what is done before it is passed on; `lost` is one whose answer doesn't come
+    `METHOD TARGET`, what is done before it is passed on, and whether that is before the second one like
+    it; `lost` is one whose answer doesn't come
     back, though it is given. Each is used once."""
 
     def __init__(self, port):
@@ -87,8 +88,9 @@ class Relay:
         with self.lock:
             if self.meanwhile is None or not is_like(self.meanwhile[0], request):
                 return None
-            work, self.meanwhile = self.meanwhile[1], None
-            return work
+            request, work, is_second = self.meanwhile
+            self.meanwhile = (request, work, False) if is_second else None
+            return None if is_second else work
 
     def is_lost(self, request):
         with self.lock:

@@ -1,8 +1,10 @@
 -- Rows, and standings, that agree with a state.
-use Rattle.std.specs.Prelude.{◌≡◌, false, Option, Some, None}
+use Rattle.std.specs.Prelude.{◌≡◌, ◌||◌, Bool, true, false, Option, Some, None}
 use Rattle.registry_names.specs.Texts.{Text}
 use Rattle.registry_names.specs.Maps.{at}
 use Rattle.registry_names.specs.Names.{scope_of}
+use Rattle.registry_names.specs.declared.status.Status.{Status}
+use Rattle.registry_names.specs.declared.status.Status.TheVariants.{Public}
 use Rattle.registry_access.specs.Access.{Access}
 use Rattle.registry_access.specs.Agreement.{SamePackage, SameFor}
 use Rattle.registry_access.specs.Callers.{is_maintainer, granted}
@@ -29,16 +31,53 @@ RowsTell rows S caller ask = SameFor (state_of rows) S caller ask
 abbrev pub RowsTellOfPackage : AccessRows → Access → Caller → Text → Type 0
 RowsTellOfPackage rows S caller p = SamePackage (state_of rows) S caller p
 
--- A standing agrees with a state at a caller and a package. Its list of grants means nothing for an
--- owner or admin, whose role alone lets them write. In `grants` neither the order nor how often a
--- grant occurs counts.
+-- A standing agrees with a state at a caller and a package. Whether they are a maintainer means
+-- nothing for an owner or admin, whose role alone lets them write. Its list of grants means nothing
+-- for these and for a maintainer. In `grants` neither the order nor how often a grant occurs counts.
 pub record StandingTells (standing : Standing) (S : Access) (caller : Caller) (p : Text) : Type 0 where
   pub organisation : standing.organisation ≡ has_scope S (scope_of p)
   pub role : standing.role ≡ scope_role S caller (scope_of p)
   pub status : standing.status ≡ at S.statuses p
-  pub maintainer : standing.maintainer ≡ is_maintainer S caller p
-  pub grants : is_owner_or_admin standing.role ≡ false
+  pub maintainer : is_owner_or_admin standing.role ≡ false → standing.maintainer ≡ is_maintainer S caller p
+  pub grants : (is_owner_or_admin standing.role || standing.maintainer) ≡ false
       → (g : Grant) → is_listed standing.grants.items g ≡ granted S caller p g
+
+-- everybody reads a package of this status
+abbrev pub is_public : Option Status → Bool
+is_public (Some Public) = true
+is_public _ = false
+
+-- A standing tells whether a caller reads a package. Of a public one its status alone counts
+pub record TellsReader (standing : Standing) (S : Access) (caller : Caller) (p : Text) : Type 0 where
+  pub status : standing.status ≡ at S.statuses p
+  pub restricted : is_public standing.status ≡ false → StandingTells standing S caller p
+
+-- A standing tells whether a caller manages the maintainers of a package: whether they are one counts
+-- whatever their role
+pub record TellsMaintainer (standing : Standing) (S : Access) (caller : Caller) (p : Text) : Type 0 where
+  pub standing_tells : StandingTells standing S caller p
+  pub maintainer : standing.maintainer ≡ is_maintainer S caller p
+
+-- the ask is to see a package
+abbrev pub is_read : Ask → Bool
+is_read (Read q) = true
+is_read _ = false
+
+-- the ask is to manage maintainers
+abbrev pub is_owners : Ask → Bool
+is_owners (Owners q) = true
+is_owners _ = false
+
+-- what an ask about a package rests on
+abbrev pub TellsFor : Ask → Standing → Access → Caller → Text → Type 0
+TellsFor Operate standing S caller p = StandingTells standing S caller p
+TellsFor (OrgMembers o) standing S caller p = StandingTells standing S caller p
+TellsFor (OrgTeams o) standing S caller p = StandingTells standing S caller p
+TellsFor (Publish q) standing S caller p = StandingTells standing S caller p
+TellsFor (Write q) standing S caller p = StandingTells standing S caller p
+TellsFor (Owners q) standing S caller p = TellsMaintainer standing S caller p
+TellsFor (Read q) standing S caller p = TellsReader standing S caller p
+TellsFor (OrgRead o) standing S caller p = StandingTells standing S caller p
 
 -- the package that is asked about
 abbrev pub asked_package : Ask → Option Text

@@ -6,7 +6,7 @@ ghost use Rattle.registry_access.specs.Access.{Access};
 ghost use Rattle.registry_access.specs.Policy.{allowed_at, allowed_in};
 ghost use Rattle.registry_access.specs.Positions.{level_at, level_in};
 ghost use Rattle.registry_access.specs.RowMaps.{state_of};
-ghost use Rattle.registry_access.specs.RowsFor.{RowsTell, RowsTellOfPackage, StandingTells, asked_package};
+ghost use Rattle.registry_access.specs.RowsFor.{RowsTell, RowsTellOfPackage, StandingTells, TellsFor, asked_package};
 ghost use Rattle.registry_access.specs.Standings.{position_of};
 
 use crate::ask::Ask;
@@ -62,7 +62,7 @@ pub fn allowed_by(standing: &Standing, caller: &Caller, ask: &Ask) -> Result<Rul
     ensures of_standing { result
         ≡ allowed_at caller.now ask.now (position_of standing.now caller.now) }
     ensures of_state { (S : Access) (p : Text) → asked_package ask.now ≡ Some p
-        → StandingTells standing.now S caller.now p → result ≡ allowed_in S caller.now ask.now }
+        → TellsFor ask.now standing.now S caller.now p → result ≡ allowed_in S caller.now ask.now }
 {
     by_position(caller, ask, Position::in_standing(standing, caller))
 }

@@ -14,9 +14,10 @@ pub struct Standing {
     pub role: Option<Role>,
     /// The package's status. `None` where it was never published.
     pub status: Option<Status>,
-    /// Whether the caller is a maintainer of the package.
+    /// Whether the caller is a maintainer of the package. It means nothing for an owner or admin,
+    /// whose role alone lets them write, except where somebody asks about the maintainers.
     pub maintainer: bool,
     /// What the caller's teams are granted on the package, in any order. It means nothing for an
-    /// owner or admin, whose role alone lets them write.
+    /// owner or admin, and for a maintainer.
     pub grants: Vec<Grant>,
 }

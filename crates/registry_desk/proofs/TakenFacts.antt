@@ -7,7 +7,8 @@ use Rattle.registry_names.specs.Tags.{latest}
 use Rattle.registry_names.specs.Texts.{Text, is}
 use Rattle.registry_names.proofs.KeyFacts.{text_key}
 use Rattle.registry_names.proofs.PartFacts.{any-part}
-use Rattle.registry_rules.specs.State.{State, Release, has_live, is_empty, is_live, stands}
+use Rattle.registry_rules.specs.State.{State, Release, Withdrawal, has_live, is_empty, is_live, is_spent, stands}
+use Rattle.registry_rules.specs.Withdrawals.{last_of, last_withdrawal}
 use Rattle.registry_rows.specs.Ready.{IsReady}
 use Rattle.registry_tables.specs.Contents.{contents, registry_of}
 use Rattle.registry_tables.specs.Effects.{stored}
@@ -22,6 +23,14 @@ one_lives S p v lives = some_entry (of S.live p) (any-part text_key S.live p v �
     some_entry : (es : List (Text × Release)) → among is (keys es) v ≡ true → not (is_empty es) ≡ true
     some_entry [] h = absurd (true≢false (sym h))
     some_entry (e ∷ es) h = refl
+
+-- none was withdrawn where no version of the package was
+pub none_withdrawn : (S : State) (p v : Text) → is_some (last_withdrawal S p) ≡ false → is_spent S p v ≡ false
+none_withdrawn S p v h = sym (any-part text_key S.spent p v) ∙ none (of S.spent p) h
+  where
+    none : (es : List (Text × Withdrawal)) → is_some (last_of es) ≡ false → among is (keys es) v ≡ false
+    none [] h = refl
+    none (e ∷ es) h = absurd (true≢false h)
 
 module _ (s : Shown) (ready : IsReady schema s) where
   -- and where a tag is there, since that names one

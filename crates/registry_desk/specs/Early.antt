@@ -10,7 +10,7 @@ use Rattle.registry_access.specs.Access.{Access}
 use Rattle.registry_access.specs.Agreement.{SameOrganisation}
 use Rattle.registry_access.specs.Policy.{allowed_at, allowed_in, may_write}
 use Rattle.registry_access.specs.RowMaps.{state_of}
-use Rattle.registry_access.specs.RowsFor.{StandingTells}
+use Rattle.registry_access.specs.RowsFor.{TellsFor}
 use Rattle.registry_access.specs.Standings.{position_of}
 use Rattle.registry_access.specs.declared.ask.Ask.{Ask}
 use Rattle.registry_access.specs.declared.ask.Ask.TheVariants.{Operate, OrgMembers, OrgTeams, Publish as ToPublish, Write, Owners, Read, OrgRead}
@@ -75,7 +75,7 @@ EarlyRefusalsStand = (S : State) (now : ℕ) (who : Caller) (what : Action) (why
 
 -- a caller's standing to a package where the policy allows what they ask of it, or why it doesn't
 abbrev pub IsPlaced : Result Standing Refusal → Access → Caller → Ask → Text → Type 0
-IsPlaced (Ok standing) A who ask p = (unless_allowed (allowed_in A who ask) ≡ None) × StandingTells standing A who p
+IsPlaced (Ok standing) A who ask p = (unless_allowed (allowed_in A who ask) ≡ None) × TellsFor ask standing A who p
 IsPlaced (Err why) A who ask p = unless_allowed (allowed_in A who ask) ≡ Some why
 
 -- by this standing the policy allows the caller what they ask

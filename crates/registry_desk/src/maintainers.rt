@@ -31,7 +31,7 @@ pub(crate) fn facts_for_owner_add<S: Alter>(
     ensures loads { Loads S.Store tx.old tx.new result (λ about c. AreTeamsSound c
         → AboutTells about (registry_of c) caller.now (asked.OwnerAdd name.now user.now)) }
 {
-    let standing = load_standing(alloc, tx, caller, name)?;
+    let standing = load_standing(alloc, tx, caller, name, &Ask::Owners(name))?;
     let newcomer = find_newcomer(tx, name, user.text())?;
     Ok(About::OwnerAdd {
         standing,

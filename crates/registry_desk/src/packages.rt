@@ -1,6 +1,6 @@
 //! What decides an action about packages, their versions and their tags.
 
-ghost use Rattle.std.specs.Prelude.{◌≡◌, ◌||◌, ℕ, true};
+ghost use Rattle.std.specs.Prelude.{◌≡◌, ◌||◌, ℕ, false, true};
 ghost use Rattle.registry_names.specs.Tags.{latest};
 ghost use Rattle.registry_names.specs.declared.status.Status.{Status};
 ghost use Rattle.registry_rows.specs.Frames.{Stays};
@@ -39,7 +39,7 @@ pub(crate) fn facts_for_set_access<S: Alter>(
         → AboutTells about (registry_of c) caller.now (asked.SetAccess name.now status)) }
 {
     Ok(About::SetAccess {
-        standing: load_standing(alloc, tx, caller, name)?,
+        standing: load_standing(alloc, tx, caller, name, &Ask::Write(name))?,
     })
 }
 
@@ -56,7 +56,7 @@ pub(crate) fn facts_for_maintainers<S: Alter>(
         → AboutTells about (registry_of c) caller.now (asked.Maintainers name.now)) }
 {
     Ok(About::Maintainers {
-        standing: load_standing(alloc, tx, caller, name)?,
+        standing: load_standing(alloc, tx, caller, name, &Ask::Read(name))?,
     })
 }
 
@@ -109,11 +109,11 @@ fn find_taken<S: Alter>(tx: &mut Transaction<'_, S>, form: &PublishForm) -> Resu
 {
     let (name, version) = (form.name(), form.version().text());
     let version_lives = has_version(tx, name, version)?;
-    let version_spent = is_spent(tx, name, version)?;
     let tag_stands = has_tag(tx, name, form.tag().text())?;
     let latest_stands = has_latest(tx, form, tag_stands)?;
     let lives = has_some(tx, name, one_lives(version_lives, latest_stands))?;
     let last_withdrawal = load_last_withdrawal(tx, name)?;
+    let version_spent = was_withdrawn(tx, name, version, last_withdrawal.is_some())?;
     Ok(Taken {
         version_lives,
         version_spent,
@@ -169,6 +169,26 @@ fn has_some<S: Alter>(
     }
 }
 
+// Whether the version was withdrawn, as none was where no version of the package ever was.
+fn was_withdrawn<S: Alter>(
+    tx: &mut Transaction<'_, S>,
+    name: &Name,
+    version: &str,
+    any_was: bool,
+) -> Result<bool, Fault>
+    requires in_form { InForm S.Store tx.old }
+    ensures stays { Stays S.Store tx.old tx.new }
+    ensures knows { Knows S.Store tx.old tx.new result (λ was c.
+        (any_was ≡ false → state.is_spent (registry_of c) name.now version.now ≡ false)
+        → was ≡ state.is_spent (registry_of c) name.now version.now) }
+{
+    if any_was {
+        is_spent(tx, name, version)
+    } else {
+        Ok(false)
+    }
+}
+
 /// Loads what decides whether a tag is set.
 pub(crate) fn facts_for_tag_set<S: Alter>(
     alloc: Global,
@@ -185,7 +205,7 @@ pub(crate) fn facts_for_tag_set<S: Alter>(
         (asked.TagSet name.now tag.now version.now)) }
 {
     Ok(About::TagSet {
-        standing: load_standing(alloc, tx, caller, name)?,
+        standing: load_standing(alloc, tx, caller, name, &Ask::Write(name))?,
         version_lives: has_version(tx, name, version.text())?,
         tag_stands: has_tag(tx, name, tag.text())?,
     })
@@ -205,7 +225,7 @@ pub(crate) fn facts_for_tag_remove<S: Alter>(
         → AboutTells about (registry_of c) caller.now (asked.TagRemove name.now tag.now)) }
 {
     Ok(About::TagRemove {
-        standing: load_standing(alloc, tx, caller, name)?,
+        standing: load_standing(alloc, tx, caller, name, &Ask::Write(name))?,
         tag_stands: has_tag(tx, name, tag.text())?,
     })
 }
@@ -223,7 +243,7 @@ pub(crate) fn facts_about_package<S: Alter>(
         → AboutTells about (registry_of c) caller.now (asked.Tags name.now)) }
 {
     Ok(About::Package {
-        standing: load_standing(alloc, tx, caller, name)?,
+        standing: load_standing(alloc, tx, caller, name, &Ask::Read(name))?,
         lives: has_live(tx, name)?,
     })
 }
@@ -242,7 +262,7 @@ pub(crate) fn facts_about_document<S: Alter>(
         → AboutTells about (registry_of c) caller.now
         (asked.VersionDoc name.now version.now)) }
 {
-    let standing = load_standing(alloc, tx, caller, name)?;
+    let standing = load_standing(alloc, tx, caller, name, &Ask::Read(name))?;
     let lives = asked_lives(tx, name, version)?;
     Ok(About::Version { standing, lives })
 }
@@ -294,7 +314,7 @@ pub(crate) fn facts_about_archive<S: Alter>(
         → AboutTells about (registry_of c) caller.now (asked.Archive name.now version.now)) }
 {
     Ok(About::Version {
-        standing: load_standing(alloc, tx, caller, name)?,
+        standing: load_standing(alloc, tx, caller, name, &Ask::Read(name))?,
         lives: has_version(tx, name, version.text())?,
     })
 }

@@ -41,7 +41,7 @@ pub(crate) fn standing_if_allowed<S: Alter>(
     ensures allowed { IfOk result (λ placed. IfOk placed (λ standing.
         IsAllowedBy standing caller.now ask.now)) }
 {
-    let standing = load_standing(alloc, tx, caller, name)?;
+    let standing = load_standing(alloc, tx, caller, name, ask)?;
     match allowed_by(&standing, caller, ask) {
         Ok(_) => Ok(Ok(standing)),
         Err(refusal) => Ok(Err(refusal)),

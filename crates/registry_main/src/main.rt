@@ -3,8 +3,9 @@
 //! an empty registry in memory, and prints the packument of the package on standard output.
 #![tactic(auto)]
 
+use registry_files::{Ending, report};
 use registry_names::{Fault, FromRead, Text, ToWrite};
-use registry_program::{Ending, program, report};
+use registry_program::program;
 use std::alloc::AllocError;
 use std::env;
 use std::io::ErrorKind;

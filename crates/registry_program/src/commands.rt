@@ -3,15 +3,12 @@
 ghost use Rattle.std.specs.Prelude.{◌≡◌, false};
 ghost use Rattle.registry_cli.specs.Lines.{IsWhole, asks_to_serve};
 
-use crate::asking::{Answer, Question, answer_to};
-use crate::beside::print_sent;
-use crate::ending::{Ending, Failure};
 use crate::errands::run_errand;
 use crate::moment::read_moment;
-use crate::registries::Registries;
 use crate::run::MOST_READ;
 use crate::serving::serve;
 use registry_cli::{Line, Usage, action_of, errand_of, line, print_reply};
+use registry_files::{Answer, Ending, Failure, Question, Registries, answer_to, print_sent};
 use registry_names::{ByteIn, ByteOut, Fault, FromRead, Moment, ReadStop, Text, read_whole};
 use registry_rules::Request;
 use std::alloc::Global;

@@ -1,26 +1,15 @@
 //! What the program does for the people who run the registry, besides requests.
 
-ghost use Rattle.std.specs.Prelude.{◌≡◌, IfOk, OnErr, OnOk};
-ghost use Rattle.registry_names.specs.ByteStreams.{Writes, WritesPrefix};
-
-use crate::asking::Answer;
-use crate::beside::print_sent_token;
-use crate::checking::print_check;
 use crate::commands::{ask_line, given_alone};
-use crate::copying::back_up;
-use crate::ending::{Ending, Failure};
-use crate::lines::print_wrong;
-use crate::registries::Registries;
-use crate::restoring::restore;
 use crate::serving::serve_beside;
-use crate::stopping::stop;
 use registry_cli::{Errand, NewToken, TOKEN_BYTES, print_token, token_of};
-use registry_names::{ByteOut, Text, write_whole};
+use registry_files::{
+    Answer, DONE, Ending, Failure, Registries, back_up, print_check, print_done, print_sent_token,
+    print_wrong, restore, stop,
+};
+use registry_names::{ByteOut, Text};
 use std::alloc::Global;
 use std::random::RandomSource;
-
-/// What is printed for an errand that was done.
-pub const DONE: &str = "{\"ok\":true}\n";
 
 /// What is printed for a copy or a file that was made, and in which nothing is wrong.
 const CHECKED: &str = "{\"ok\":true,\"checked\":true}\n";
@@ -53,18 +42,6 @@ pub fn run_errand<R: Registries, O: ByteOut, E: ByteOut>(
         }
         Errand::Serve(serving) => serve_beside(rt, alloc, &serving, output, errors),
     }
-}
-
-/// Says on the output that an errand was done, and gives the exit status.
-pub fn print_done<O: ByteOut>(done: &str, output: &mut O) -> Result<u8, Ending>
-    ensures status { IfOk result (λ status. status ≡ 0) }
-    ensures done { OnOk result (Writes (O.bytes output.old) (O.bytes output.new)
-        (O.is_unknown output.new) done.now) }
-    ensures broken { OnErr result (WritesPrefix (O.bytes output.old) (O.bytes output.new)
-        (O.is_unknown output.new) done.now) }
-{
-    write_whole(output, done.as_bytes())?;
-    Ok(0)
 }
 
 // What is printed for a copy or a file that was made: whether it was checked, too.

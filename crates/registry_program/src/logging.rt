@@ -3,10 +3,10 @@
 ghost use Rattle.std.specs.Prelude.{◌≤◌, length, take};
 ghost use Rattle.std.specs.Io.KnownBytes.{Appends};
 
-use crate::ending::{Ending, Failure};
 use crate::log_output::LogOutput;
 use crate::log_place::{Named, Place, found_at, may_log};
 use crate::moment::read_moment;
+use registry_files::{Ending, Failure};
 use registry_log::{LineSink, Log, LogClock};
 use registry_names::{Moment, Text};
 use std::alloc::Global;

@@ -1,8 +1,8 @@
 //! A publish to an empty registry, and the packument after it.
 
-use crate::ending::Ending;
 use registry_cache::SharedText;
 use registry_desk::Registry;
+use registry_files::Ending;
 use registry_names::{Fault, Ident, Moment, Name, Stop};
 use registry_publish::PublishForm;
 use registry_rules::{Action, Credential, Reply, Request};

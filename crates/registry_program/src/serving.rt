@@ -1,11 +1,10 @@
 //! Serving the registry in a file over HTTP.
 
-use crate::ending::{Blockage, Ending, Failure};
 use crate::logging::{is_allowed, log_at};
 use crate::moment::read_moment;
-use crate::opening::{close_files, open_soon};
 use registry_cli::{Line, Serving};
 use registry_desk::Registry;
+use registry_files::{Blockage, Ending, Failure, close_files, open_soon};
 use registry_guests::CommandListener;
 use registry_http::RegistryService;
 use registry_log::{LineSink, Log, LogClock, LoggedService};

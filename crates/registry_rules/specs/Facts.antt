@@ -7,7 +7,7 @@ use Rattle.registry_names.specs.Texts.{Text}
 use Rattle.registry_access.specs.Agreement.{SameOrganisation}
 use Rattle.registry_access.specs.Positions.{has_organisation}
 use Rattle.registry_access.specs.RowMaps.{state_of}
-use Rattle.registry_access.specs.RowsFor.{StandingTells}
+use Rattle.registry_access.specs.RowsFor.{StandingTells, TellsMaintainer, TellsReader}
 use Rattle.registry_access.specs.declared.standing.Standing.{Standing}
 use Rattle.registry_access.specs.declared.caller.Caller.{Caller}
 use Rattle.registry_access.specs.declared.role.Role.{Role}
@@ -68,12 +68,12 @@ pub record AreGrantFacts (rows : AccessRows) (there published stood : Bool) (S :
   pub stands : stood ≡ has_grant S o t p
 
 pub record AreOwnerAddFacts (standing : Standing) (exists already : Bool) (S : State) (who : Caller) (p u : Text) : Type 0 where
-  pub standing_tells : StandingTells standing S.access who p
+  pub standing_tells : TellsMaintainer standing S.access who p
   pub user_exists : exists ≡ has_user S u
   pub is_maintainer : already ≡ has_maintainer S p u
 
 pub record AreOwnerRemoveFacts (standing : Standing) (maintainer other : Bool) (S : State) (who : Caller) (p u : Text) : Type 0 where
-  pub standing_tells : StandingTells standing S.access who p
+  pub standing_tells : TellsMaintainer standing S.access who p
   pub is_maintainer : maintainer ≡ has_maintainer S p u
   pub other_maintainer : other ≡ has_other_maintainer S p u
 
@@ -124,18 +124,18 @@ AboutTells (about.TagRemove standing tag_stands) S who (TagRemove p t) = Standin
 AboutTells (about.Withdraw standing published depended tags live) S who (Withdraw p v) = AreWithdrawFacts standing published depended tags.items live.items S who p v
 AboutTells (about.WithdrawAll standing depended tags live) S who (WithdrawAll p) = AreWithdrawAllFacts standing depended tags.items live.items S who p
 AboutTells (about.Deprecate standing live) S who (Deprecate p selector message) = StandingTells standing S.access who p × (map text_of_version live.items ≡ live_versions S p)
-AboutTells (about.Version standing found) S who (VersionDoc p asked) = StandingTells standing S.access who p × (found ≡ lives S p (asked_version S p asked))
-AboutTells (about.Version standing found) S who (Archive p v) = StandingTells standing S.access who p × (found ≡ is_live S p (text_of_version v))
-AboutTells (about.Package standing found) S who (Packument p) = StandingTells standing S.access who p × (found ≡ has_live S p)
-AboutTells (about.Package standing found) S who (AbbreviatedPackument p) = StandingTells standing S.access who p × (found ≡ has_live S p)
-AboutTells (about.Package standing found) S who (RevisedPackument p) = StandingTells standing S.access who p × (found ≡ has_live S p)
-AboutTells (about.Package standing found) S who (Tags p) = StandingTells standing S.access who p × (found ≡ has_live S p)
+AboutTells (about.Version standing found) S who (VersionDoc p asked) = TellsReader standing S.access who p × (found ≡ lives S p (asked_version S p asked))
+AboutTells (about.Version standing found) S who (Archive p v) = TellsReader standing S.access who p × (found ≡ is_live S p (text_of_version v))
+AboutTells (about.Package standing found) S who (Packument p) = TellsReader standing S.access who p × (found ≡ has_live S p)
+AboutTells (about.Package standing found) S who (AbbreviatedPackument p) = TellsReader standing S.access who p × (found ≡ has_live S p)
+AboutTells (about.Package standing found) S who (RevisedPackument p) = TellsReader standing S.access who p × (found ≡ has_live S p)
+AboutTells (about.Package standing found) S who (Tags p) = TellsReader standing S.access who p × (found ≡ has_live S p)
 AboutTells (about.Organisation rows) S who (Members o) = SayOf rows S who o
 AboutTells (about.Organisation rows) S who (Teams o) = SayOf rows S who o
 AboutTells (about.Organisation rows) S who (OrgPackages o) = SayOf rows S who o
 AboutTells (about.Team rows exists) S who (TeamMembers o t) = SayOf rows S who o × (exists ≡ has_team S o t)
 AboutTells (about.Team rows exists) S who (TeamPackages o t) = SayOf rows S who o × (exists ≡ has_team S o t)
-AboutTells (about.Maintainers standing) S who (Maintainers p) = StandingTells standing S.access who p
+AboutTells (about.Maintainers standing) S who (Maintainers p) = TellsReader standing S.access who p
 AboutTells about.Nothing S who WhoAmI = Unit {0}
 AboutTells about.Nothing S who MyPackages = Unit {0}
 AboutTells about.Nothing S who Users = Unit {0}

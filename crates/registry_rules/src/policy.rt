@@ -8,7 +8,7 @@ ghost use Rattle.registry_access.specs.Callers.{role_of};
 ghost use Rattle.registry_access.specs.Policy as policy;
 ghost use Rattle.registry_access.specs.Positions.{has_organisation, position_in};
 ghost use Rattle.registry_access.specs.RowMaps.{state_of};
-ghost use Rattle.registry_access.specs.RowsFor.{StandingTells};
+ghost use Rattle.registry_access.specs.RowsFor.{StandingTells, TellsMaintainer, TellsReader};
 ghost use Rattle.registry_rules.specs.Facts.{AboutTells};
 ghost use Rattle.registry_rules.specs.Permissions as spec;
 ghost use Rattle.registry_rules.specs.State.{State};
@@ -187,14 +187,14 @@ fn may_manage_maintainers(
     caller: &Caller,
     name: &Name,
 ) -> Result<Rule, Refusal>
-    ensures { (A : Access) → StandingTells standing.now A caller.now name.now
+    ensures { (A : Access) → TellsMaintainer standing.now A caller.now name.now
         → result ≡ policy.may_manage_maintainers caller.now (position_in A caller.now name.now) }
 {
     allowed_by(standing, caller, &Ask::Owners(name))
 }
 
 fn may_read(standing: &Standing, caller: &Caller, name: &Name) -> Result<Rule, Refusal>
-    ensures { (A : Access) → StandingTells standing.now A caller.now name.now
+    ensures { (A : Access) → TellsReader standing.now A caller.now name.now
         → result ≡ policy.may_read (position_in A caller.now name.now) }
 {
     allowed_by(standing, caller, &Ask::Read(name))

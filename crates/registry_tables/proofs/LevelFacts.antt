@@ -117,14 +117,14 @@ without_organisation s there (User u) = refl
 without_organisation s there Anonymous = refl
 
 pub standing_tells_level : (c : Contents) (who : Caller) (p : Text) (status : Status) (s : Standing) → AreTeamsSound c → IsListedFor c who s.role (record { name = p; status = status }) → s.status ≡ Some status → s.maintainer ≡ is_maintainer (access_of c) who p
-    → AreGrantedTo c who p s.role s.grants.items → level_at (position_of s who) ≡ level_in (access_of c) who p
+    → AreGrantedTo c who p s.role s.maintainer s.grants.items → level_at (position_of s who) ≡ level_in (access_of c) who p
 standing_tells_level c who p status s sound listed is maintainer granted =
     without_organisation s (has_scope (access_of c) (scope_of p)) who
     ∙ standing_level (record s { organisation = has_scope (access_of c) (scope_of p) }) (access_of c) who p (record {
       organisation = refl;
       role = listed.1;
       status = is ∙ sym listed.0;
-      maintainer = maintainer;
+      maintainer = λ other. maintainer;
       grants = granted sound listed.1;
     })
 

@@ -37,6 +37,7 @@ pub mod ReviseFacts
 pub mod SchemaFacts
 pub mod ScopeFacts
 pub mod SetRowFacts
+pub mod SomeFacts
 pub mod SortFacts
 pub mod SpentFacts
 pub mod StandingFacts

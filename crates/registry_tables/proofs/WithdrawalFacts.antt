@@ -1,6 +1,5 @@
 -- What the statements make that withdraw a version, and what goes with its row.
 use Rattle.std.proofs.Common.{◌≡◌, ◌==◌, ℕ, ℤ, List, [], ◌∷◌, pos, map, filter, length, not, ◌||◌, Bool, true, false, cond, arith, ne_eqb, true≢false, None, Some, is_some, Ok, refl, sym, ap, ◌∙◌, codes}
-use Rattle.std.specs.List.{list_any}
 use Rattle.std.specs.Ordering.{int_eq}
 use Rattle.sqlite.specs.declared.types.Value.TheVariants.{Null, Int, Text as Stored}
 use Rattle.sqlite.specs.Command.TheVariants.{Insert, Delete}
@@ -12,7 +11,7 @@ use Rattle.sqlite_tied.specs.Compute.{everything}
 use Rattle.sqlite_value.specs.Order.{Row, column}
 use Rattle.registry_names.specs.Texts.{Text}
 use Rattle.registry_names.specs.Keys.{Pair, pair_is}
-use Rattle.registry_names.specs.Maps.{at, put, erase, keep, entries, seen}
+use Rattle.registry_names.specs.Maps.{at, put, erase, keep}
 use Rattle.registry_names.proofs.ChangeFacts.{keep_but}
 use Rattle.registry_names.proofs.KeyFacts.{pair_key}
 use Rattle.registry_names.proofs.MapFacts.{at-erase_same}
@@ -20,9 +19,8 @@ use Rattle.registry_rows.specs.Columns.{text_in}
 use Rattle.registry_rows.specs.Frames.{Wrote}
 use Rattle.registry_rows.specs.KeyKinds.{numbers}
 use Rattle.registry_rows.specs.Ready.{Ready, Leaves}
-use Rattle.registry_rows.specs.Statements.{Means, MeansQuery, IsUncascaded, delete_where, select_where, scan, by_column, by_texts, in_order}
+use Rattle.registry_rows.specs.Statements.{Means, MeansQuery, IsUncascaded, delete_where, select_first, scan, by_column, by_texts}
 use Rattle.registry_rows.proofs.KeyedFacts.{by_number_given, by_texts_given}
-use Rattle.registry_rows.proofs.LookUpFacts.{select_has_by}
 use Rattle.registry_rows.proofs.StatementFacts.{insert_puts, insert_meets_none, delete_erases_by}
 use Rattle.registry_laws_sql.specs.Cascades.{Child, IsChild, HasChildren, links, link_of}
 use Rattle.registry_laws_sql.proofs.CascadeFacts.{mapped_child, delete_cascades}
@@ -35,6 +33,7 @@ use Rattle.registry_tables.specs.Withdrawals.{is_held, without_rows}
 use Rattle.registry_tables.specs.Queries.{ShowsWhether}
 use Rattle.registry_tables.proofs.MappedFacts.{archives_numbered, held_mapped, need_ranges_mapped, needs_mapped, spent_mapped, versions_mapped}
 use Rattle.registry_tables.proofs.ReferenceFacts.{named_lives}
+use Rattle.registry_tables.proofs.SomeFacts.{select_some_by}
 
 -- ---- what goes with a version: what it depends on, and its place among the archives
 
@@ -112,35 +111,14 @@ pub archive_dropped : (n : ℤ) (old new : Shown) → Ready schema old → Wrote
 archive_dropped n old new form call = delete_erases_by (by_number_given archives_numbered) archive_text archive_means nothing_goes n old new (Ok call.0) form call.1
 
 abbrev holders_text : List ℕ
-holders_text = codes "SELECT package, version FROM held WHERE archive = ?1 ORDER BY package, version"
+holders_text = codes "SELECT package FROM held WHERE archive = ?1 LIMIT 1"
 
-pub holders_means : MeansQuery schema holders_text (select_where table.held (col 1 1 ∷ col 1 2 ∷ []) (by_column 2) (in_order 1 1) (codes "package" ∷ codes "version" ∷ []))
+pub holders_means : MeansQuery schema holders_text (select_first 1 table.held (col 1 1 ∷ []) (by_column 2) [] (codes "package" ∷ []))
 unfolding understood everything
 holders_means = ((refl, (refl, refl)), refl)
 
--- rows that show what passes are some where something does
-some_passes : {A B : Type 0} (read : Row → B) (rows : List Row) (g : A → B) (test : A → Bool) (es : List A) → map read rows ≡ map g (filter test es) → not (length rows == 0) ≡ list_any test es
-some_passes read rows g test [] h = none rows h
-  where
-    none : (rows : List Row) → map read rows ≡ [] → not (length rows == 0) ≡ false
-    none [] h = refl
-    none (r ∷ rows) h = absurd cc
-some_passes read rows g test (e ∷ es) h = each (test e) rows h (some_passes read rows g test es)
-  where
-    each : (b : Bool) (rows : List Row) → map read rows ≡ map g (cond b (e ∷ filter test es) (filter test es)) → (map read rows ≡ map g (filter test es) → not (length rows == 0) ≡ list_any test es) → not (length rows == 0) ≡ (b || list_any test es)
-    each true [] h rest = absurd cc
-    each true (r ∷ rows) h rest = ap not (ne_eqb _ 0 (omega arith))
-    each false rows h rest = rest h
-
--- a version that has it
-abbrev holder : Row → Pair × Unit {0}
-holder r = ((text_in (column r 0), text_in (column r 1)), tt)
-
 pub archive_had : (n : ℤ) (old new : Shown) → ShowsWhether holders_text (Int n ∷ []) old new (is_held n (stored old))
-archive_had n old new rows form call clean =
-    let it = select_has_by (by_texts_given held_mapped) 2 (Int n) refl (λ (m : ℤ). int_eq n m) (λ vs. refl) holders_text (col 1 1 ∷ col 1 2 ∷ []) _ holders_means
-    holder (λ (m : ℤ). tt) (λ id vs. refl) old new rows form call clean in
-    (it.0, some_passes holder rows (seen (λ (m : ℤ). tt)) (λ (e : Pair × ℤ). int_eq n e.1) (entries (stored old).held) it.1)
+archive_had n = select_some_by (by_texts_given held_mapped) 2 (Int n) refl (λ (m : ℤ). int_eq n m) (λ vs. refl) holders_text (col 1 1 ∷ []) _ holders_means
 
 -- ---- among those that were withdrawn
 

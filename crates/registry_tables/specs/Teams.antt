@@ -1,6 +1,6 @@
 -- What goes with a member and with a team, the members of a team, and what they are granted by
 -- that.
-use Rattle.std.specs.Prelude.{◌≡◌, Bool, false, not, ◌&&◌, List, filter, Option, Some, IsSome}
+use Rattle.std.specs.Prelude.{◌≡◌, Bool, false, not, ◌&&◌, ◌||◌, List, filter, Option, Some, IsSome}
 use Rattle.std.specs.List.{list_any}
 use Rattle.sqlite_value.specs.Order.{Row, column}
 use Rattle.registry_names.specs.Texts.{Text}
@@ -67,10 +67,10 @@ pub record AreTeamsSound (c : Contents) : Type 0 where
   pub grants : GrantsInScope c
 
 -- the list has what the caller is granted on the package, where the role that it is given is right
--- in the organisation of its scope. Of an owner or admin nothing is said
-abbrev pub AreGrantedTo : Contents → Caller → Text → Option Role → List Grant → Type 0
-AreGrantedTo c who p role gs = AreTeamsSound c → role ≡ scope_role (access_of c) who (scope_of p)
-    → is_owner_or_admin role ≡ false → (g : Grant) → is_listed gs g ≡ granted (access_of c) who p g
+-- in the organisation of its scope. Of an owner or admin, and of a maintainer, nothing is said
+abbrev pub AreGrantedTo : Contents → Caller → Text → Option Role → Bool → List Grant → Type 0
+AreGrantedTo c who p role maintainer gs = AreTeamsSound c → role ≡ scope_role (access_of c) who (scope_of p)
+    → (is_owner_or_admin role || maintainer) ≡ false → (g : Grant) → is_listed gs g ≡ granted (access_of c) who p g
 
 -- what a team is granted, in byte order of the packages
 abbrev pub grants_of : Contents → Text → Text → List (Text × Grant)

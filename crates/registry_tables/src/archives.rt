@@ -223,7 +223,7 @@ fn is_held<S: Alter>(tx: &mut Transaction<'_, S>, number: i64) -> Result<bool, F
 {
     has(
         tx,
-        "SELECT package, version FROM held WHERE archive = ?1 ORDER BY package, version",
+        "SELECT package FROM held WHERE archive = ?1 LIMIT 1",
         params![number],
     )
 }

@@ -3,6 +3,7 @@
 ghost use Rattle.std.specs.Prelude.{◌≡◌, ◌++◌, IfOk, None, filter, is_none, map, not, true};
 ghost use Rattle.std.specs.List.{AllByRecursion};
 ghost use Rattle.registry_access.specs.Callers.{role_of};
+ghost use Rattle.registry_access.specs.Levels as levels;
 ghost use Rattle.registry_access.specs.Positions.{level_in};
 ghost use Rattle.registry_access.specs.declared.caller.Caller.TheVariants as asker;
 ghost use Rattle.registry_names.specs.Maps.{first_at, rises};
@@ -20,7 +21,6 @@ use crate::maintainers::load_maintained;
 use crate::members::{load_role, load_user_organisations};
 use crate::packages::{ListedPackage, load_scope_statuses};
 use crate::standing::{load_granted, maintains};
-use crate::team_packages::reads;
 use crate::texts::read_back;
 use registry_access::{Caller, Level, Role, Standing, level_of};
 use registry_names::{Fault, Ident, Name, Status, Text};
@@ -224,6 +224,13 @@ fn with_levels<S: Alter>(
     Ok(levels)
 }
 
+// Whether this level allows reading a package.
+fn reads(level: Level) -> bool
+    ensures { result ≡ levels.reads level }
+{
+    level >= Level::Read
+}
+
 // The caller's level on a package, where this is their role in the organisation of its scope. An
 // owner or admin writes it, so nothing else is asked of them.
 fn level_on<S: Alter>(
@@ -262,7 +269,7 @@ fn load_level<S: Alter>(
         → level ≡ level_in (access_of c) caller.now name.now) }
 {
     let maintainer = maintains(tx, caller, name)?;
-    let grants = load_granted(alloc, tx, caller, name, role)?;
+    let grants = load_granted(alloc, tx, caller, name, role, maintainer)?;
     // The level doesn't depend on whether the organisation is there.
     let standing = Standing {
         organisation: true,

@@ -22,7 +22,11 @@ use std::alloc::Global;
 
 /// Puts what a version depends on. A pair of a target and a range that is named twice is put once.
 ///
-/// No clause says so, but a version that doesn't live is a fault, except where nothing is listed.
+/// Whether a need is there already is asked only of one whose target isn't above all before it. A
+/// manifest names each kind in rising order, so it is asked of no need where there is one kind.
+///
+/// No clause says so, but a version that doesn't live is a fault, except where nothing is listed,
+/// and so may be a need that the version has already.
 pub fn put_needs<S: Alter>(
     tx: &mut Transaction<'_, S>,
     name: &str,
@@ -34,23 +38,34 @@ pub fn put_needs<S: Alter>(
     ensures makes { Makes S.Store tx.old tx.new result
         (λ c. record c { need_ranges = with_needs c.need_ranges name.now version.now needs.now }) }
 {
+    let mut last = "";
     for need in needs {
-        put_need(tx, name, version, need)?;
+        let target = need.target.as_str();
+        let may_repeat = target <= last;
+        put_need(tx, name, version, need, may_repeat)?;
+        if !may_repeat {
+            last = target;
+        }
     }
     Ok(())
 }
 
+// Puts a need, unless it may be there already and is.
 fn put_need<S: Alter>(
     tx: &mut Transaction<'_, S>,
     name: &str,
     version: &str,
     need: &Need,
+    may_repeat: bool,
 ) -> Result<(), Fault>
     requires under_way { IsUnderWay S.Store tx.old }
     ensures stays { Stays S.Store tx.old tx.new }
     ensures makes { Makes S.Store tx.old tx.new result
         (λ c. record c { need_ranges = with_need c.need_ranges name.now version.now need.now }) }
 {
+    if !may_repeat {
+        return insert_need(tx, name, version, need);
+    }
     if has_need(tx, name, version, need)? {
         return Ok(());
     }

@@ -1,9 +1,10 @@
 //! What a caller is to a package.
 
-ghost use Rattle.std.specs.Prelude.{◌≡◌, true};
+ghost use Rattle.std.specs.Prelude.{◌≡◌, ◌&&◌, ◌||◌, not, true};
 ghost use Rattle.registry_access.specs.Callers as callers;
+ghost use Rattle.registry_access.specs.Levels.{is_owner_or_admin};
 ghost use Rattle.registry_access.specs.Positions as positions;
-ghost use Rattle.registry_access.specs.RowsFor.{StandingTells};
+ghost use Rattle.registry_access.specs.RowsFor.{TellsFor, is_owners, is_public, is_read};
 ghost use Rattle.registry_names.specs.Names.{scope_of};
 ghost use Rattle.registry_rows.specs.Frames.{Stays};
 ghost use Rattle.registry_tables.specs.Contents.{access_of};
@@ -15,33 +16,45 @@ use crate::maintainers::is_maintainer;
 use crate::members::load_role;
 use crate::organisations::has_organisation;
 use crate::statuses::load_status;
-use registry_access::{Caller, Grant, Role, Standing};
-use registry_names::{Fault, Name};
+use registry_access::{Ask, Caller, Grant, Role, Standing};
+use registry_names::{Fault, Name, Status};
 use sqlite::{Alter, Transaction};
 use std::alloc::Global;
 
-/// What a caller is to a package: all that the policy asks of them and it.
+/// What a caller is to a package: all that the policy asks of them and it, for this ask.
 ///
-/// A package without a scope is in no organisation, and only a member of an organisation is in its
-/// teams. So grants are asked for only where the caller is a member, and not an owner or admin,
-/// whose role alone lets them write. An organisation in which the caller has a role is there, and
-/// isn't asked for.
+/// Everybody reads a public package, so to see one its status alone is asked for. A package without
+/// a scope is in no organisation, and only a member of an organisation is in its teams. So grants
+/// are asked for only where the caller is a member, and neither an owner, an admin nor a maintainer,
+/// who write the package without them. Whether an owner or admin is a maintainer is asked for only
+/// where somebody is to manage the maintainers. An organisation in which the caller has a role is
+/// there, and isn't asked for.
 pub fn load_standing<S: Alter>(
     alloc: Global,
     tx: &mut Transaction<'_, S>,
     caller: &Caller,
     name: &Name,
+    ask: &Ask<'_>,
 ) -> Result<Standing, Fault>
     requires in_form { InForm S.Store tx.old }
     ensures stays { Stays S.Store tx.old tx.new }
     ensures loads { Loads S.Store tx.old tx.new result (λ standing c. AreTeamsSound c
-        → StandingTells standing (access_of c) caller.now name.now) }
+        → TellsFor ask.now standing (access_of c) caller.now name.now) }
 {
     let status = load_status(tx, name)?;
+    if sees_public(ask, status) {
+        return Ok(Standing {
+            organisation: false,
+            role: None,
+            status,
+            maintainer: false,
+            grants: Vec::new(alloc),
+        });
+    }
     let role = load_scope_role(tx, caller, name)?;
     let organisation = has_scope(tx, name, role.is_some())?;
-    let maintainer = maintains(tx, caller, name)?;
-    let grants = load_granted(alloc, tx, caller, name, role)?;
+    let maintainer = maintains_for(tx, caller, name, ask, role)?;
+    let grants = load_granted(alloc, tx, caller, name, role, maintainer)?;
     Ok(Standing {
         organisation,
         role,
@@ -49,6 +62,13 @@ pub fn load_standing<S: Alter>(
         maintainer,
         grants,
     })
+}
+
+// Whether the ask is to see a package that everybody reads.
+fn sees_public(ask: &Ask<'_>, status: Option<Status>) -> bool
+    ensures { result ≡ (is_read ask.now && is_public status) }
+{
+    matches!(*ask, Ask::Read(_)) && matches!(status, Some(Status::Public))
 }
 
 // Whether the organisation of the package's scope is there, as it is where it has a member.
@@ -106,22 +126,52 @@ pub(crate) fn maintains<S: Alter>(
     }
 }
 
-/// What the caller's teams are granted on the package, where their role in the organisation of its
-/// scope alone doesn't let them write.
+// Whether the caller, who has this role in the organisation of the package's scope, is a maintainer
+// of it, where that counts for the ask.
+fn maintains_for<S: Alter>(
+    tx: &mut Transaction<'_, S>,
+    caller: &Caller,
+    name: &Name,
+    ask: &Ask<'_>,
+    role: Option<Role>,
+) -> Result<bool, Fault>
+    requires in_form { InForm S.Store tx.old }
+    ensures stays { Stays S.Store tx.old tx.new }
+    ensures knows { Knows S.Store tx.old tx.new result (λ is c.
+        (is_owners ask.now || not (is_owner_or_admin role)) ≡ true
+        → is ≡ callers.is_maintainer (access_of c) caller.now name.now) }
+{
+    if counts_maintainer(ask, role) {
+        maintains(tx, caller, name)
+    } else {
+        Ok(false)
+    }
+}
+
+// Whether it counts that somebody with this role in the scope is a maintainer.
+fn counts_maintainer(ask: &Ask<'_>, role: Option<Role>) -> bool
+    ensures { result ≡ (is_owners ask.now || not (is_owner_or_admin role)) }
+{
+    matches!(*ask, Ask::Owners(_)) || !matches!(role, Some(Role::Owner | Role::Admin))
+}
+
+/// What the caller's teams are granted on the package, where neither their role in the organisation
+/// of its scope nor that they are a maintainer lets them write.
 pub(crate) fn load_granted<S: Alter>(
     alloc: Global,
     tx: &mut Transaction<'_, S>,
     caller: &Caller,
     name: &Name,
     role: Option<Role>,
+    maintainer: bool,
 ) -> Result<Vec<Grant>, Fault>
     requires in_form { InForm S.Store tx.old }
     ensures stays { Stays S.Store tx.old tx.new }
     ensures knows { Knows S.Store tx.old tx.new result (λ grants c.
-        AreGrantedTo c caller.now name.now role grants.items) }
+        AreGrantedTo c caller.now name.now role maintainer grants.items) }
 {
-    match (caller, role, name.scope()) {
-        (Caller::User(user), Some(Role::Developer), Some(organisation)) => {
+    match (caller, role, maintainer, name.scope()) {
+        (Caller::User(user), Some(Role::Developer), false, Some(organisation)) => {
             load_grants(alloc, tx, organisation, user.text(), name)
         }
         _ => Ok(Vec::new(alloc)),

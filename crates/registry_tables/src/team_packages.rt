@@ -11,7 +11,7 @@ ghost use Rattle.registry_tables.specs.Teams.{AreTeamsSound, granted_entry, gran
 use crate::grants::load_team_grants;
 use crate::standing::load_standing;
 use crate::texts::read_back;
-use registry_access::{Caller, Level, level_of};
+use registry_access::{Ask, Caller, allowed_by};
 use registry_names::{Fault, Name, Text};
 use registry_packument::Granted;
 use sqlite::{Alter, Transaction};
@@ -68,13 +68,7 @@ fn is_read<S: Alter>(
         → is ≡ levels.reads (level_in (access_of c) caller.now name.now)) }
 {
     let name = read_back(Name::parse(alloc, name.as_str()))?;
-    let standing = load_standing(alloc, tx, caller, &name)?;
-    Ok(reads(level_of(&standing, caller)))
-}
-
-/// Whether this level allows reading a package.
-pub(crate) fn reads(level: Level) -> bool
-    ensures { result ≡ levels.reads level }
-{
-    level >= Level::Read
+    let ask = Ask::Read(&name);
+    let standing = load_standing(alloc, tx, caller, &name, &ask)?;
+    Ok(allowed_by(&standing, caller, &ask).is_ok())
 }

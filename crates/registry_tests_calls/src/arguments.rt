@@ -2,91 +2,55 @@
 //! which the program reads standard input instead.
 
 use crate::outcome::same;
-use crate::parts::texts;
+use crate::parts::{text, texts};
 use registry_cli::{Line, Usage, Who, line};
 use registry_names::{Moment, Text};
 use std::alloc::Global;
 use std::process::Abort;
 
-/// A command line, and what it means.
-#[derive(Drop)]
-struct Case {
-    arguments: &'static [&'static str],
-    db: &'static str,
-    who: &'static str,
-    at: Option<i64>,
-    what: &'static [&'static str],
-}
+// Arguments; ` => ` and what they mean: the file, who asks, when, and what.
+const LINES: &str = "serve => registry.db; nobody; None; serve 8080 1000000
+serve --port 1 => registry.db; nobody; None; serve 1 1000000
+serve --connections 1000000 --port 65535 => registry.db; nobody; None; serve 65535 1000000
+serve --connections=1 => registry.db; nobody; None; serve 8080 1
+--operator --at 5 serve => registry.db; the operator; Some(5); serve 8080 1000000";
 
-fn is_meant(rt: &impl Abort, alloc: Global, case: &Case) {
-    match line(alloc, &texts(rt, alloc, case.arguments)) {
-        Ok(line) => means(rt, &line, case),
-        Err(_) => panic!(rt; "{:?} means nothing", case.arguments),
+fn is_meant(rt: &impl Abort, alloc: Global, told: &str) {
+    let (arguments, wanted) = told.split_once(" => ").expect(rt, told);
+    match line(alloc, &words(rt, alloc, arguments)) {
+        Ok(line) => means(rt, alloc, &line, wanted),
+        Err(_) => panic!(rt; "{arguments:?} means nothing"),
     }
 }
 
-fn means(rt: &impl Abort, line: &Line, case: &Case) {
+fn words(rt: &impl Abort, alloc: Global, line: &str) -> Vec<Text> {
+    let mut words = Vec::new(alloc);
+    for word in line.split(' ') {
+        words.push(text(rt, alloc, word)).expect(rt, "memory");
+    }
+    words
+}
+
+fn means(rt: &impl Abort, alloc: Global, line: &Line, wanted: &str) {
     let who = match &line.who {
         Who::Operator => "the operator",
         Who::User(name) => name.as_str(),
         Who::Anonymous => "nobody",
     };
-    same(rt, case.arguments, &line.asks_to_serve(), &true);
-    same(rt, case.arguments, line.db.as_str(), case.db);
-    same(rt, case.arguments, who, case.who);
-    same(rt, case.arguments, &line.at.map(Moment::seconds), &case.at);
-    are_arguments(rt, line.what.as_slice(), case);
-}
-
-fn are_arguments(rt: &impl Abort, arguments: &[Text], case: &Case) {
-    same(rt, case.arguments, &arguments.len(), &case.what.len());
-    for (argument, wanted) in arguments.iter().zip(case.what) {
-        same(rt, case.arguments, argument.as_str(), *wanted);
+    let (db, at) = (line.db.as_str(), line.at.map(Moment::seconds));
+    let mut meant = format!(in alloc; "{db}; {who}; {at:?};").expect(rt, "memory");
+    for argument in line.what.as_slice() {
+        meant.push(' ').expect(rt, "memory");
+        meant.push_str(argument.as_str()).expect(rt, "memory");
     }
+    same(rt, wanted, meant.as_str(), wanted);
+    same(rt, wanted, line.asks_to_serve(), true);
 }
-
-static LINES: [Case; 5] = [
-    Case {
-        arguments: &["serve"],
-        db: "registry.db",
-        who: "nobody",
-        at: None,
-        what: &["serve", "8080", "1000000"],
-    },
-    Case {
-        arguments: &["serve", "--port", "1"],
-        db: "registry.db",
-        who: "nobody",
-        at: None,
-        what: &["serve", "1", "1000000"],
-    },
-    Case {
-        arguments: &["serve", "--connections", "1000000", "--port", "65535"],
-        db: "registry.db",
-        who: "nobody",
-        at: None,
-        what: &["serve", "65535", "1000000"],
-    },
-    Case {
-        arguments: &["serve", "--connections=1"],
-        db: "registry.db",
-        who: "nobody",
-        at: None,
-        what: &["serve", "8080", "1"],
-    },
-    Case {
-        arguments: &["--operator", "--at", "5", "serve"],
-        db: "registry.db",
-        who: "the operator",
-        at: Some(5),
-        what: &["serve", "8080", "1000000"],
-    },
-];
 
 #[test]
 fn lines_that_ask_to_serve(rt: HostRuntime) {
-    for case in &LINES {
-        is_meant(&rt, rt.alloc(), case);
+    for line in LINES.lines() {
+        is_meant(&rt, rt.alloc(), line);
     }
 }
 

@@ -3,7 +3,8 @@
 ghost use Rattle.std.specs.Prelude.{◌≤◌, ◌++◌, length};
 
 use registry_cache::{SharedBlob, SharedText};
-use registry_names::{Blob, Ident, Name, Text, Ver};
+use registry_names::Method::{Delete, Get, Other, Post, Put};
+use registry_names::{Blob, Ident, Method, Name, Text, Ver};
 use std::alloc::Global;
 use std::fmt::Debug;
 use std::process::Abort;
@@ -97,4 +98,15 @@ pub fn ident(rt: &impl Abort, alloc: Global, text: &str) -> Ident {
 
 pub fn version(rt: &impl Abort, alloc: Global, text: &str) -> Ver {
     Ver::parse(alloc, text).expect(rt, "a version")
+}
+
+/// The method of this name.
+pub fn method_of(name: &str) -> Method {
+    match name {
+        "GET" => Get,
+        "PUT" => Put,
+        "POST" => Post,
+        "DELETE" => Delete,
+        _ => Other,
+    }
 }

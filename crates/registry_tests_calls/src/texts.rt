@@ -1,20 +1,17 @@
 //! A store of texts, step by step, and what is shared.
 
 use crate::outcome::same;
-use crate::parts::{shared, shared_blob, text};
+use crate::parts::{concat, repeated, shared, shared_blob, string, text};
 use registry_cache::{BlobCache, ENTRY_COST, Shared, SharedText, TextCache};
 use std::alloc::Global;
 use std::process::Abort;
 
-/// What is asked of a store. A look-up has what it should find.
-enum Step {
-    Put(&'static str, &'static str),
-    Get(&'static str, Option<&'static str>),
-    Peek(&'static str, Option<&'static str>),
-    Forget(&'static str),
-    /// How many bytes the text has that alone takes more than the limit.
-    LargeSize(usize),
-}
+// What is asked of a store that keeps nothing yet, step by step: what the steps show, the limit, and the
+// steps. `put`, `get` and `peek` have a name and how many bytes the text has, or `nothing` where none is
+// found; `forget` has a name, and `large` how many bytes the text has that alone takes more than the
+// limit. Behind ` => ` stands what the kept texts take, without that one: how many empty texts would take
+// as much, and the bytes beyond. A text begins with its name, followed by 2, 3, 4 and so on, up to the
+// last digit of its length.
 
 /// What an empty text takes: each has a name of one byte.
 const ONE: usize = ENTRY_COST + 1;
@@ -22,329 +19,290 @@ const ONE: usize = ENTRY_COST + 1;
 /// What two of them take.
 const TWO: usize = 2 * ONE;
 
-/// A text that alone takes just more than `TWO` and ten bytes.
-const LONG: &str =
-    "long567890123456789012345678901234567890123456789012345678901234567890123456789012345678901234567890123456789012345678901234567890123456789012345678901234567890123456789012345678901234567890123456789012345678901234567890123456789012345678901234567890123456789012345678";
-
-/// A step, and what the kept texts take after it, without one that alone takes more than the limit.
-type Stage = (Step, usize);
-
-/// What is asked of a store that keeps nothing yet. The texts tell how long they are: each begins
-/// with its name, followed by 2, 3, 4 and so on, up to the last digit of its length.
-struct Case {
-    /// What it shows.
-    shows: &'static str,
-    /// What the texts that are kept take at most.
-    limit: usize,
-    /// The steps, in their order.
-    stages: &'static [Stage],
-}
-
 // Texts about as long as the limit.
-static LIMITS: [Case; 4] = [
-    Case {
-        shows: "a text of just the limit is kept, and no other beside it",
-        limit: ONE + 10,
-        stages: &[
-            (Step::Put("a", "a234"), ONE + 4),
-            (Step::Put("b", "b234567890"), ONE + 10),
-            (Step::Peek("b", Some("b234567890")), ONE + 10),
-            (Step::Peek("a", None), ONE + 10),
-        ],
-    },
-    Case {
-        shows: "a text of a byte more is kept apart, and no other goes",
-        limit: ONE + 10,
-        stages: &[
-            (Step::Put("a", "a234"), ONE + 4),
-            (Step::Put("b", "b2345678901"), ONE + 4),
-            (Step::Get("b", Some("b2345678901")), ONE + 4),
-            (Step::Peek("a", Some("a234")), ONE + 4),
-            (Step::LargeSize(11), ONE + 4),
-        ],
-    },
-    Case {
-        shows: "a text that is too long takes the old one of its name with it",
-        limit: TWO + 10,
-        stages: &[
-            (Step::Put("a", "a234"), ONE + 4),
-            (Step::Put("b", "b2345"), TWO + 9),
-            (Step::Put("a", LONG), ONE + 5),
-            (Step::Get("a", Some(LONG)), ONE + 5),
-            (Step::LargeSize(268), ONE + 5),
-        ],
-    },
-    Case {
-        shows: "under a limit of 0 each text is kept apart, an empty one, too",
-        limit: 0,
-        stages: &[
-            (Step::Put("a", ""), 0),
-            (Step::Get("a", Some("")), 0),
-            (Step::LargeSize(0), 0),
-            (Step::Put("b", "b"), 0),
-            (Step::Get("b", Some("b")), 0),
-            (Step::Get("a", None), 0),
-            (Step::LargeSize(1), 0),
-        ],
-    },
-];
+const LIMITS: &str = "a text of just the limit is kept, and no other beside it
+limit => 1 and 10
+put a 4 => 1 and 4
+put b 10 => 1 and 10
+peek b 10 => 1 and 10
+peek a nothing => 1 and 10
+
+a text of a byte more is kept apart, and no other goes
+limit => 1 and 10
+put a 4 => 1 and 4
+put b 11 => 1 and 4
+get b 11 => 1 and 4
+peek a 4 => 1 and 4
+large 11 => 1 and 4
+
+a text that is too long takes the old one of its name with it
+limit => 2 and 10
+put a 4 => 1 and 4
+put b 5 => 2 and 9
+put a 268 => 1 and 5
+get a 268 => 1 and 5
+large 268 => 1 and 5
+
+under a limit of 0 each text is kept apart, an empty one, too
+limit => 0 and 0
+put a 0 => 0 and 0
+get a 0 => 0 and 0
+large 0 => 0 and 0
+put b 1 => 0 and 0
+get b 1 => 0 and 0
+get a nothing => 0 and 0
+large 1 => 0 and 0";
 
 // What is kept beside a new text.
-static ROOM: [Case; 5] = [
-    Case {
-        shows: "an empty text that was asked last stays beside one of just the limit",
-        limit: TWO + 10,
-        stages: &[
-            (Step::Put("b", "b2345"), ONE + 5),
-            (Step::Put("a", ""), TWO + 5),
-            (Step::Put("c", "c234567890"), TWO + 10),
-            (Step::Peek("a", Some("")), TWO + 10),
-        ],
-    },
-    Case {
-        shows: "one that was asked before a text that has no room goes with it",
-        limit: TWO + 10,
-        stages: &[
-            (Step::Put("a", ""), ONE),
-            (Step::Put("b", "b2345"), TWO + 5),
-            (Step::Put("c", "c234567890"), ONE + 10),
-            (Step::Peek("a", None), ONE + 10),
-        ],
-    },
-    Case {
-        shows: "a small text goes with a larger one that was asked later and has no room",
-        limit: TWO + 10,
-        stages: &[
-            (Step::Put("b", "b"), ONE + 1),
-            (Step::Put("a", "a2345678"), TWO + 9),
-            (Step::Put("c", "c23"), ONE + 3),
-            (Step::Peek("b", None), ONE + 3),
-        ],
-    },
-    Case {
-        shows: "where a name is put again, the bytes of its old text are room",
-        limit: TWO + 10,
-        stages: &[
-            (Step::Put("a", "a234"), ONE + 4),
-            (Step::Put("b", "b2345"), TWO + 9),
-            (Step::Put("a", "a2345"), TWO + 10),
-            (Step::Peek("a", Some("a2345")), TWO + 10),
-        ],
-    },
-    Case {
-        shows: "what is forgotten leaves its room, and to forget it again changes nothing",
-        limit: TWO + 10,
-        stages: &[
-            (Step::Put("a", "a234"), ONE + 4),
-            (Step::Put("b", "b2345"), TWO + 9),
-            (Step::Forget("b"), ONE + 4),
-            (Step::Forget("b"), ONE + 4),
-            (Step::Get("b", None), ONE + 4),
-            (Step::Put("c", "c23456"), TWO + 10),
-            (Step::Peek("a", Some("a234")), TWO + 10),
-        ],
-    },
-];
+const ROOM: &str = "an empty text that was asked last stays beside one of just the limit
+limit => 2 and 10
+put b 5 => 1 and 5
+put a 0 => 2 and 5
+put c 10 => 2 and 10
+peek a 0 => 2 and 10
+
+one that was asked before a text that has no room goes with it
+limit => 2 and 10
+put a 0 => 1 and 0
+put b 5 => 2 and 5
+put c 10 => 1 and 10
+peek a nothing => 1 and 10
+
+a small text goes with a larger one that was asked later and has no room
+limit => 2 and 10
+put b 1 => 1 and 1
+put a 8 => 2 and 9
+put c 3 => 1 and 3
+peek b nothing => 1 and 3
+
+where a name is put again, the bytes of its old text are room
+limit => 2 and 10
+put a 4 => 1 and 4
+put b 5 => 2 and 9
+put a 5 => 2 and 10
+peek a 5 => 2 and 10
+
+what is forgotten leaves its room, and to forget it again changes nothing
+limit => 2 and 10
+put a 4 => 1 and 4
+put b 5 => 2 and 9
+forget b => 1 and 4
+forget b => 1 and 4
+get b nothing => 1 and 4
+put c 6 => 2 and 10
+peek a 4 => 2 and 10";
 
 // What goes first.
-static ORDER: [Case; 5] = [
-    Case {
-        shows: "the text that was put first goes first",
-        limit: TWO + 10,
-        stages: &[
-            (Step::Put("a", "a234"), ONE + 4),
-            (Step::Put("b", "b2345"), TWO + 9),
-            (Step::Put("c", "c2"), TWO + 7),
-            (Step::Peek("a", None), TWO + 7),
-        ],
-    },
-    Case {
-        shows: "but not where it was asked for since",
-        limit: TWO + 10,
-        stages: &[
-            (Step::Put("a", "a234"), ONE + 4),
-            (Step::Put("b", "b2345"), TWO + 9),
-            (Step::Get("a", Some("a234")), TWO + 9),
-            (Step::Put("c", "c2"), TWO + 6),
-            (Step::Peek("b", None), TWO + 6),
-        ],
-    },
-    Case {
-        shows: "a look at a text leaves the order",
-        limit: TWO + 10,
-        stages: &[
-            (Step::Put("a", "a234"), ONE + 4),
-            (Step::Put("b", "b2345"), TWO + 9),
-            (Step::Peek("a", Some("a234")), TWO + 9),
-            (Step::Put("c", "c2"), TWO + 7),
-            (Step::Peek("a", None), TWO + 7),
-        ],
-    },
-    Case {
-        shows: "and so does who asks for a name that isn't there",
-        limit: TWO + 10,
-        stages: &[
-            (Step::Put("a", "a234"), ONE + 4),
-            (Step::Put("b", "b2345"), TWO + 9),
-            (Step::Get("c", None), TWO + 9),
-            (Step::Put("c", "c2"), TWO + 7),
-            (Step::Peek("a", None), TWO + 7),
-        ],
-    },
-    Case {
-        shows: "who puts a name again asks for it",
-        limit: TWO + 10,
-        stages: &[
-            (Step::Put("a", "a234"), ONE + 4),
-            (Step::Put("b", "b2345"), TWO + 9),
-            (Step::Put("a", "a2345"), TWO + 10),
-            (Step::Put("c", "c"), TWO + 6),
-            (Step::Peek("b", None), TWO + 6),
-        ],
-    },
-];
+const ORDER: &str = "the text that was put first goes first
+limit => 2 and 10
+put a 4 => 1 and 4
+put b 5 => 2 and 9
+put c 2 => 2 and 7
+peek a nothing => 2 and 7
+
+but not where it was asked for since
+limit => 2 and 10
+put a 4 => 1 and 4
+put b 5 => 2 and 9
+get a 4 => 2 and 9
+put c 2 => 2 and 6
+peek b nothing => 2 and 6
+
+a look at a text leaves the order
+limit => 2 and 10
+put a 4 => 1 and 4
+put b 5 => 2 and 9
+peek a 4 => 2 and 9
+put c 2 => 2 and 7
+peek a nothing => 2 and 7
+
+and so does who asks for a name that isn't there
+limit => 2 and 10
+put a 4 => 1 and 4
+put b 5 => 2 and 9
+get c nothing => 2 and 9
+put c 2 => 2 and 7
+peek a nothing => 2 and 7
+
+who puts a name again asks for it
+limit => 2 and 10
+put a 4 => 1 and 4
+put b 5 => 2 and 9
+put a 5 => 2 and 10
+put c 1 => 2 and 6
+peek b nothing => 2 and 6";
 
 // A text that alone takes more than the limit.
-static LARGE: [Case; 6] = [
-    Case {
-        shows: "it takes the place of the one before",
-        limit: ONE + 4,
-        stages: &[
-            (Step::Put("a", "a2345"), 0),
-            (Step::LargeSize(5), 0),
-            (Step::Put("b", "b23456"), 0),
-            (Step::LargeSize(6), 0),
-            (Step::Get("a", None), 0),
-            (Step::Get("b", Some("b23456")), 0),
-        ],
-    },
-    Case {
-        shows: "others come and go beside it",
-        limit: ONE + 4,
-        stages: &[
-            (Step::Put("a", "a2345"), 0),
-            (Step::Put("b", "b23"), ONE + 3),
-            (Step::Put("c", "c2"), ONE + 2),
-            (Step::Peek("b", None), ONE + 2),
-            (Step::Peek("a", Some("a2345")), ONE + 2),
-            (Step::LargeSize(5), ONE + 2),
-        ],
-    },
-    Case {
-        shows: "who asks for it leaves the order of the others",
-        limit: TWO + 10,
-        stages: &[
-            (Step::Put("a", "a234"), ONE + 4),
-            (Step::Put("b", "b2345"), TWO + 9),
-            (Step::Put("c", LONG), TWO + 9),
-            (Step::Get("c", Some(LONG)), TWO + 9),
-            (Step::Put("d", "d2"), TWO + 7),
-            (Step::Peek("a", None), TWO + 7),
-            (Step::Peek("c", Some(LONG)), TWO + 7),
-        ],
-    },
-    Case {
-        shows: "it is forgotten with its name, and with no other",
-        limit: ONE + 4,
-        stages: &[
-            (Step::Put("a", "a2345"), 0),
-            (Step::Put("b", "b23"), ONE + 3),
-            (Step::Forget("b"), 0),
-            (Step::Peek("a", Some("a2345")), 0),
-            (Step::Forget("a"), 0),
-            (Step::Peek("a", None), 0),
-            (Step::LargeSize(0), 0),
-        ],
-    },
-    Case {
-        shows: "a short text under its name takes its place",
-        limit: ONE + 4,
-        stages: &[
-            (Step::Put("a", "a2345"), 0),
-            (Step::Put("a", "a23"), ONE + 3),
-            (Step::Get("a", Some("a23")), ONE + 3),
-            (Step::LargeSize(0), ONE + 3),
-        ],
-    },
-    Case {
-        shows: "another large one under its name takes its place",
-        limit: ONE + 4,
-        stages: &[
-            (Step::Put("a", "a2345"), 0),
-            (Step::Put("a", "a23456"), 0),
-            (Step::Get("a", Some("a23456")), 0),
-            (Step::LargeSize(6), 0),
-        ],
-    },
-];
+const LARGE: &str = "it takes the place of the one before
+limit => 1 and 4
+put a 5 => 0 and 0
+large 5 => 0 and 0
+put b 6 => 0 and 0
+large 6 => 0 and 0
+get a nothing => 0 and 0
+get b 6 => 0 and 0
 
-// Checks that a store with the case's limit keeps what it should keep.
-fn keeps(rt: &impl Abort, alloc: Global, case: &Case) {
-    let mut store = TextCache::new(alloc, case.limit).expect(rt, "memory");
-    for stage in case.stages {
-        goes_on(rt, alloc, &mut store, case.shows, stage);
+others come and go beside it
+limit => 1 and 4
+put a 5 => 0 and 0
+put b 3 => 1 and 3
+put c 2 => 1 and 2
+peek b nothing => 1 and 2
+peek a 5 => 1 and 2
+large 5 => 1 and 2
+
+who asks for it leaves the order of the others
+limit => 2 and 10
+put a 4 => 1 and 4
+put b 5 => 2 and 9
+put c 268 => 2 and 9
+get c 268 => 2 and 9
+put d 2 => 2 and 7
+peek a nothing => 2 and 7
+peek c 268 => 2 and 7
+
+it is forgotten with its name, and with no other
+limit => 1 and 4
+put a 5 => 0 and 0
+put b 3 => 1 and 3
+forget b => 0 and 0
+peek a 5 => 0 and 0
+forget a => 0 and 0
+peek a nothing => 0 and 0
+large 0 => 0 and 0
+
+a short text under its name takes its place
+limit => 1 and 4
+put a 5 => 0 and 0
+put a 3 => 1 and 3
+get a 3 => 1 and 3
+large 0 => 1 and 3
+
+another large one under its name takes its place
+limit => 1 and 4
+put a 5 => 0 and 0
+put a 6 => 0 and 0
+get a 6 => 0 and 0
+large 6 => 0 and 0";
+
+// Checks that stores keep what they should keep.
+fn all_keep(rt: &impl Abort, alloc: Global, cases: &str) {
+    for case in cases.split("\n\n") {
+        keeps(rt, alloc, case);
     }
-    same(rt, case.shows, store.limit(), case.limit);
 }
 
-// Takes a step, and sees what is taken after it.
-fn goes_on(rt: &impl Abort, alloc: Global, store: &mut TextCache, shows: &str, stage: &Stage) {
-    let (step, size) = stage;
-    take(rt, alloc, store, shows, step);
-    same(rt, shows, store.bytes_without_large(), *size);
+fn keeps(rt: &impl Abort, alloc: Global, case: &str) {
+    let (shows, rest) = case.split_once('\n').expect(rt, case);
+    let (limit, steps) = rest.split_once('\n').expect(rt, case);
+    let limit = size_of(rt, limit.strip_prefix("limit => ").expect(rt, limit));
+    let mut store = TextCache::new(alloc, limit).expect(rt, "memory");
+    for line in steps.lines() {
+        goes_on(rt, alloc, &mut store, shows, line);
+    }
+    same(rt, shows, store.limit(), limit);
+}
+
+// Takes the step of a line, and sees what is taken after it.
+fn goes_on(rt: &impl Abort, alloc: Global, store: &mut TextCache, shows: &str, line: &str) {
+    let (step, size) = line.split_once(" => ").expect(rt, line);
+    let (asked, rest) = step.split_once(' ').expect(rt, line);
+    let (name, told) = rest.split_once(' ').unwrap_or((rest, rest));
+    take(rt, alloc, store, (shows, line), asked, name, told);
+    same(
+        rt,
+        (shows, line),
+        store.bytes_without_large(),
+        size_of(rt, size),
+    );
 }
 
 // Takes a step, and checks that a look-up finds what it should find.
-fn take(rt: &impl Abort, alloc: Global, store: &mut TextCache, shows: &str, step: &Step) {
-    match *step {
-        Step::Put(name, text) => {
-            let text = shared(rt, alloc, text);
+fn take(
+    rt: &impl Abort,
+    alloc: Global,
+    store: &mut TextCache,
+    shows: (&str, &str),
+    asked: &str,
+    name: &str,
+    told: &str,
+) {
+    match asked {
+        "put" => {
+            let text = shared(rt, alloc, told_text(rt, alloc, name, told).as_str());
             store.put(name, text).expect(rt, "memory");
         }
-        Step::Get(name, wanted) => {
+        "get" => {
             let found = store.get(name).expect(rt, "few owners");
-            is_found(rt, shows, found.as_ref(), wanted);
+            is_found(rt, alloc, shows, found.as_ref(), name, told);
         }
-        Step::Peek(name, wanted) => is_found(rt, shows, store.peek(name), wanted),
-        Step::Forget(name) => store.forget(name),
-        Step::LargeSize(wanted) => same(rt, shows, store.large_size(), wanted),
+        "peek" => is_found(rt, alloc, shows, store.peek(name), name, told),
+        "forget" => store.forget(name),
+        "large" => same(rt, shows, store.large_size(), number(rt, told)),
+        _ => panic!(rt; "{asked} is no step"),
     }
 }
 
-fn is_found(rt: &impl Abort, shows: &str, found: Option<&SharedText>, wanted: Option<&str>) {
-    let found = match found {
-        Some(text) => Some(text.as_str()),
-        None => None,
-    };
-    same(rt, shows, found, wanted);
+fn is_found(
+    rt: &impl Abort,
+    alloc: Global,
+    shows: (&str, &str),
+    found: Option<&SharedText>,
+    name: &str,
+    told: &str,
+) {
+    match found {
+        Some(text) => same(
+            rt,
+            shows,
+            text.as_str(),
+            told_text(rt, alloc, name, told).as_str(),
+        ),
+        None => same(rt, shows, "nothing", told),
+    }
+}
+
+// The text of this name that has as many bytes as are told.
+fn told_text(rt: &impl Abort, alloc: Global, name: &str, told: &str) -> String {
+    let digits = repeated(rt, alloc, "2345678901", 30);
+    let text = concat(rt, alloc, &[name, digits.as_str()]);
+    string(
+        rt,
+        alloc,
+        text.get(..number(rt, told)).expect(rt, "a shorter text"),
+    )
+}
+
+// What as many empty texts take as are told, and some bytes beyond.
+fn size_of(rt: &impl Abort, told: &str) -> usize {
+    let (texts, bytes) = told.split_once(" and ").expect(rt, told);
+    number(rt, texts)
+        .saturating_mul(ONE)
+        .saturating_add(number(rt, bytes))
+}
+
+fn number(rt: &impl Abort, told: &str) -> usize {
+    told.parse::<usize>().expect(rt, told)
 }
 
 #[test]
 fn no_more_bytes_are_kept_than_the_limit(rt: HostRuntime) {
-    for case in &LIMITS {
-        keeps(&rt, rt.alloc(), case);
-    }
+    all_keep(&rt, rt.alloc(), LIMITS);
 }
 
 #[test]
 fn others_are_kept_where_they_have_room(rt: HostRuntime) {
-    for case in &ROOM {
-        keeps(&rt, rt.alloc(), case);
-    }
+    all_keep(&rt, rt.alloc(), ROOM);
 }
 
 #[test]
 fn the_latest_asked_are_kept(rt: HostRuntime) {
-    for case in &ORDER {
-        keeps(&rt, rt.alloc(), case);
-    }
+    all_keep(&rt, rt.alloc(), ORDER);
 }
 
 #[test]
 fn one_large_text_is_kept_beside_the_others(rt: HostRuntime) {
-    for case in &LARGE {
-        keeps(&rt, rt.alloc(), case);
-    }
+    all_keep(&rt, rt.alloc(), LARGE);
 }
 
 #[test]
@@ -369,14 +327,23 @@ fn a_shared_blob_outlives_the_others(rt: HostRuntime) {
 fn blobs_are_kept_as_texts_are(rt: HostRuntime) {
     let mut store = BlobCache::new(rt.alloc(), 2 * TWO).expect(&rt, "memory");
     for name in ["a", "b", "c"] {
-        let blob = shared_blob(&rt, rt.alloc(), name.as_bytes());
-        store.put(name, blob).expect(&rt, "memory");
+        put(&rt, rt.alloc(), &mut store, name);
     }
     store.forget("b");
-    same(&rt, "size", store.bytes_without_large(), TWO + 2);
-    same(&rt, "forgotten", store.peek("b").is_none(), true);
-    match store.get("c").expect(&rt, "few owners") {
-        Some(found) => same(&rt, "kept", found.as_slice() == b"c".as_slice(), true),
-        None => panic!(&rt; "nothing is kept under c"),
+    are_kept(&rt, &mut store);
+}
+
+fn put(rt: &impl Abort, alloc: Global, store: &mut BlobCache, name: &str) {
+    let blob = shared_blob(rt, alloc, name.as_bytes());
+    store.put(name, blob).expect(rt, "memory");
+}
+
+// Of three blobs the second was forgotten.
+fn are_kept(rt: &impl Abort, store: &mut BlobCache) {
+    same(rt, "size", store.bytes_without_large(), TWO + 2);
+    same(rt, "forgotten", store.peek("b").is_none(), true);
+    match store.get("c").expect(rt, "few owners") {
+        Some(found) => same(rt, "kept", found.as_slice() == b"c".as_slice(), true),
+        None => panic!(rt; "nothing is kept under c"),
     }
 }

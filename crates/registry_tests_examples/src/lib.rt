@@ -6,4 +6,6 @@
 #![tactic(auto)]
 
 #[cfg(test)]
+mod outcome;
+#[cfg(test)]
 mod tests;

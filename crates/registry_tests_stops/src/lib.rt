@@ -1,6 +1,6 @@
 //! Registries in files in memory and on disks made for tests: a disk that stops at each of its
-//! calls, one after another; a disk that gives back other bytes than it was given; and connections
-//! that are taken over.
+//! calls, one after another, also while an older schema is migrated; a disk that gives back other
+//! bytes than it was given; and connections that are taken over.
 //!
 //! After each stop the files are opened again. No row of the tables breaks a rule of
 //! [`registry_check`]; what was answered is there; the request that was stopped was done whole or
@@ -23,5 +23,7 @@ mod disks;
 mod outcome;
 #[cfg(test)]
 mod requests;
+#[cfg(test)]
+mod sql;
 #[cfg(test)]
 mod tests;

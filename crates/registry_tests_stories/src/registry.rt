@@ -2,9 +2,10 @@
 
 use crate::failure::{Stop, failed_with};
 use registry_desk::Registry;
+use registry_files::{Ending, Registries};
 use registry_http::RegistryService;
 use registry_names::Fault;
-use registry_program::{Ending, InFiles, Registries, reply_of};
+use registry_program::{InFiles, reply_of};
 use registry_rules::{Reply, Request};
 use sqlite::MemStore;
 use std::alloc::Global;

@@ -15,6 +15,10 @@ use std::marker::Model;
 /// A buffer of more bytes is given back once no more than these are held in it.
 const KEPT_LIMIT: usize = 16_384;
 
+/// Once this part of a request has come, memory is taken for all of it. So few bytes are copied
+/// while it grows, and nobody gets memory for a body that they only announce.
+const ROOM_PART: usize = 16;
+
 /// The bytes that came on a connection and aren't used yet. However few come at once, a head among
 /// them is parsed at most twice before its body, and once more when that is whole: in between each
 /// byte of the head is looked at once, and none of the body.
@@ -61,6 +65,7 @@ impl Incoming {
     pub fn came(&mut self, bytes: &[u8]) -> Result<(), AllocError>
         ensures { self.new ≡ (if is_ok result then self.old ++ bytes.now else self.old) }
     {
+        make_room(&mut self.bytes, self.known);
         self.bytes.extend_from_slice(bytes)?;
         Ok(())
     }
@@ -88,12 +93,35 @@ impl Incoming {
         ensures { self.new ≡ drop used self.old }
     {
         self.known = Known::Nothing;
-        self.bytes.drain(..used);
+        drop_front(&mut self.bytes, used);
         let is_grown = self.bytes.capacity() > KEPT_LIMIT;
         if is_grown && self.bytes.len() <= KEPT_LIMIT {
             shrink(alloc, &mut self.bytes);
         }
     }
+}
+
+// Makes room for a whole request, where enough of it has come and there is memory for it.
+fn make_room(bytes: &mut Vec<u8>, known: Known)
+    ensures { bytes.new.items ≡ bytes.old.items }
+{
+    let Known::Body(whole) = known else {
+        return;
+    };
+    let len = bytes.len();
+    if whole / ROOM_PART <= len && len < whole {
+        let _made = bytes.reserve_exact(whole - len);
+    }
+}
+
+// Drops this many of the first bytes. The others move once, where there are any.
+fn drop_front(bytes: &mut Vec<u8>, used: usize)
+    requires { used ≤ length bytes.old.items }
+    ensures { bytes.new.items ≡ drop used bytes.old.items }
+{
+    let left = bytes.len() - used;
+    bytes.copy_within(used.., 0);
+    bytes.truncate(left);
 }
 
 // Moves bytes to a buffer of their own size, where there is memory for one.

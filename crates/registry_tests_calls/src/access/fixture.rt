@@ -45,77 +45,100 @@ static FACTS: [Fact; 18] = [
     Fact::Maintainer("tool", "bob"),
 ];
 
-fn member(rt: &impl Abort, alloc: Global, organisation: &str, user: &str, role: Role) -> MemberRow {
-    MemberRow {
+// Each of these adds a row in a function of its own, so that `add` owns none.
+fn add_organisation(rt: &impl Abort, alloc: Global, rows: &mut AccessRows, name: &str) {
+    let row = text(rt, alloc, name);
+    rows.organisations.push(row).expect(rt, "memory");
+}
+
+fn add_member(
+    rt: &impl Abort,
+    alloc: Global,
+    rows: &mut AccessRows,
+    organisation: &str,
+    user: &str,
+    role: Role,
+) {
+    let row = MemberRow {
         organisation: text(rt, alloc, organisation),
         user: text(rt, alloc, user),
         role,
-    }
+    };
+    rows.members.push(row).expect(rt, "memory");
 }
 
-fn team_member(
+fn add_team_member(
     rt: &impl Abort,
     alloc: Global,
+    rows: &mut AccessRows,
     organisation: &str,
     team: &str,
     user: &str,
-) -> TeamMemberRow {
-    TeamMemberRow {
+) {
+    let row = TeamMemberRow {
         organisation: text(rt, alloc, organisation),
         team: text(rt, alloc, team),
         user: text(rt, alloc, user),
-    }
+    };
+    rows.team_members.push(row).expect(rt, "memory");
 }
 
-fn grant(rt: &impl Abort, alloc: Global, team: &str, package: &str, grant: Grant) -> GrantRow {
-    GrantRow {
+fn add_grant(
+    rt: &impl Abort,
+    alloc: Global,
+    rows: &mut AccessRows,
+    team: &str,
+    package: &str,
+    grant: Grant,
+) {
+    let row = GrantRow {
         organisation: text(rt, alloc, "lab"),
         team: text(rt, alloc, team),
         package: text(rt, alloc, package),
         grant,
-    }
+    };
+    rows.grants.push(row).expect(rt, "memory");
 }
 
-fn package(rt: &impl Abort, alloc: Global, package: &str, status: Status) -> PackageRow {
-    PackageRow {
-        package: text(rt, alloc, package),
-        status,
-    }
+fn add_package(
+    rt: &impl Abort,
+    alloc: Global,
+    rows: &mut AccessRows,
+    package: &str,
+    status: Status,
+) {
+    let package = text(rt, alloc, package);
+    rows.packages
+        .push(PackageRow { package, status })
+        .expect(rt, "memory");
 }
 
-fn maintainer(rt: &impl Abort, alloc: Global, package: &str, user: &str) -> MaintainerRow {
-    MaintainerRow {
+fn add_maintainer(
+    rt: &impl Abort,
+    alloc: Global,
+    rows: &mut AccessRows,
+    package: &str,
+    user: &str,
+) {
+    let row = MaintainerRow {
         package: text(rt, alloc, package),
         user: text(rt, alloc, user),
-    }
+    };
+    rows.maintainers.push(row).expect(rt, "memory");
 }
 
 fn add(rt: &impl Abort, alloc: Global, rows: &mut AccessRows, fact: &Fact) {
     match *fact {
-        Fact::Organisation(name) => {
-            let row = text(rt, alloc, name);
-            rows.organisations.push(row).expect(rt, "memory")
-        }
+        Fact::Organisation(name) => add_organisation(rt, alloc, rows, name),
         Fact::Member(organisation, user, role) => {
-            let row = member(rt, alloc, organisation, user, role);
-            rows.members.push(row).expect(rt, "memory")
+            add_member(rt, alloc, rows, organisation, user, role)
         }
         Fact::TeamMember(organisation, team, user) => {
-            let row = team_member(rt, alloc, organisation, team, user);
-            rows.team_members.push(row).expect(rt, "memory")
+            add_team_member(rt, alloc, rows, organisation, team, user)
         }
-        Fact::Granted(team, package, level) => {
-            let row = grant(rt, alloc, team, package, level);
-            rows.grants.push(row).expect(rt, "memory")
-        }
-        Fact::Package(name, status) => {
-            let row = package(rt, alloc, name, status);
-            rows.packages.push(row).expect(rt, "memory")
-        }
-        Fact::Maintainer(package, user) => {
-            let row = maintainer(rt, alloc, package, user);
-            rows.maintainers.push(row).expect(rt, "memory")
-        }
+        Fact::Granted(team, package, grant) => add_grant(rt, alloc, rows, team, package, grant),
+        Fact::Package(name, status) => add_package(rt, alloc, rows, name, status),
+        Fact::Maintainer(package, user) => add_maintainer(rt, alloc, rows, package, user),
     }
 }
 

@@ -1,11 +1,9 @@
 //! What responses say to those who keep documents, and what is answered to those who have one.
 
-use super::{BOB, Fixed, NOT_FOUND, bearer, wanted};
+use super::{BOB, body_of, field, turned, wanted};
 use crate::outcome::same;
-use crate::parts::{as_text, blob, concat};
+use crate::parts::as_text;
 use registry_names::Method::{Get, Put};
-use registry_names::Moment;
-use registry_npm::npm_turn;
 use registry_wire::Caching::{Checked, Kept, Shared, Unsaid};
 use registry_wire::DocumentForm::{Abbreviated, Full, Only};
 use registry_wire::{Caching, DocumentForm, EntityTag, FieldValue};
@@ -32,6 +30,8 @@ const REVISION: &str = "a19ad3ca0a750021e752d6f385405e7e46a195a2a4b27f058a11b887
 const DIGEST: &str = "b8a4e15dfcecbabb6a8a16bcca50eb7c9f62c1afeb2bcc91c68617a7ab90264a";
 
 const ARCHIVE: &str = "0eb3e36bfb24dcd9bb1d1bece1531216b59539a8fde17ee80224af0653c92aa3";
+
+const NOT_FOUND: &str = "{\"error\":\"NotFound\"}";
 
 /// The abbreviated packument of `tool`.
 pub(super) const ABBREVIATED: &str =
@@ -173,19 +173,12 @@ static CASES: [Case; 19] = [
     ),
 ];
 
-fn field(rt: &impl Abort, alloc: Global, value: &str) -> FieldValue {
+// The field of this value, which is absent where it is empty.
+fn field_of(rt: &impl Abort, alloc: Global, value: &str) -> FieldValue {
     if value.is_empty() {
         FieldValue::Absent
     } else {
-        FieldValue::Once(blob(rt, alloc, value.as_bytes()))
-    }
-}
-
-fn caller(rt: &impl Abort, alloc: Global, is_bob: bool) -> FieldValue {
-    if is_bob {
-        bearer(rt, alloc, BOB)
-    } else {
-        FieldValue::Absent
+        field(rt, alloc, &[value])
     }
 }
 
@@ -198,18 +191,14 @@ fn tag_text(tag: &Option<EntityTag>) -> &str {
 
 fn is_labelled(rt: &impl Abort, alloc: Global, case: &Case) {
     let (target, is_bob, value, status, tag, caching, text) = case;
-    let mut wanted = wanted(rt, alloc, Get, target, "", caller(rt, alloc, *is_bob));
-    wanted.if_none_match = field(rt, alloc, value);
-    let mut service = Fixed {
-        asked: String::new(alloc),
-    };
-    let turned = npm_turn(alloc, &mut service, &wanted, Moment::clamped(0), false);
+    let token = if *is_bob { Some(BOB) } else { None };
+    let mut wanted = wanted(rt, alloc, Get, target, "", token);
+    wanted.if_none_match = field_of(rt, alloc, value);
+    let (_asked, turned) = turned(rt, alloc, &wanted);
     same(rt, *target, &turned.answer.status.as_u16(), status);
     same(rt, *target, tag_text(&turned.answer.labels.tag), *tag);
     same(rt, *target, &turned.answer.labels.caching, caching);
-    let (front, rest) = turned.answer.body.as_slices();
-    let body = concat(rt, alloc, &[as_text(front), as_text(rest)]);
-    same(rt, *target, body.as_str(), *text);
+    same(rt, *target, body_of(rt, alloc, &turned).as_str(), *text);
 }
 
 #[test]
@@ -237,9 +226,9 @@ type Accepted = (
     &'static str,
 );
 
-const ONE: &str = "AbbreviatedPackument ";
+const ONE: &str = "AbbreviatedPackument";
 
-const WHOLE: &str = "RevisedPackument ";
+const WHOLE: &str = "RevisedPackument";
 
 static ACCEPTED: [Accepted; 14] = [
     (
@@ -314,7 +303,7 @@ static ACCEPTED: [Accepted; 14] = [
         OF_NPM,
         "/-/whoami",
         "*",
-        "WhoAmI ",
+        "WhoAmI",
         200,
         "",
         Only,
@@ -324,7 +313,7 @@ static ACCEPTED: [Accepted; 14] = [
         OF_NPM,
         "/tool/1.0.0",
         "*",
-        "VersionDoc ",
+        "VersionDoc",
         200,
         "",
         Only,
@@ -334,7 +323,7 @@ static ACCEPTED: [Accepted; 14] = [
         OF_NPM,
         "/tool/-/tool-1.0.0.tgz",
         "",
-        "Archive ",
+        "Archive",
         200,
         ARCHIVE,
         Only,
@@ -343,21 +332,16 @@ static ACCEPTED: [Accepted; 14] = [
 ];
 
 fn is_accepted(rt: &impl Abort, alloc: Global, case: &Accepted) {
-    let (accept, target, value, asked, status, tag, form, text) = case;
-    let mut wanted = wanted(rt, alloc, Get, target, "", bearer(rt, alloc, BOB));
-    wanted.accept = field(rt, alloc, accept);
-    wanted.if_none_match = field(rt, alloc, value);
-    let mut service = Fixed {
-        asked: String::new(alloc),
-    };
-    let turned = npm_turn(alloc, &mut service, &wanted, Moment::clamped(0), false);
-    same(rt, *target, service.asked.as_str(), *asked);
+    let (accept, target, value, words, status, tag, form, text) = case;
+    let mut wanted = wanted(rt, alloc, Get, target, "", Some(BOB));
+    wanted.accept = field_of(rt, alloc, accept);
+    wanted.if_none_match = field_of(rt, alloc, value);
+    let (asked, turned) = turned(rt, alloc, &wanted);
+    same(rt, *target, asked.as_str().trim_end(), *words);
     same(rt, *target, &turned.answer.status.as_u16(), status);
     same(rt, *target, tag_text(&turned.answer.labels.tag), *tag);
     same(rt, *target, &turned.answer.labels.form, form);
-    let (front, rest) = turned.answer.body.as_slices();
-    let body = concat(rt, alloc, &[as_text(front), as_text(rest)]);
-    same(rt, *target, body.as_str(), *text);
+    same(rt, *target, body_of(rt, alloc, &turned).as_str(), *text);
 }
 
 #[test]
@@ -371,20 +355,11 @@ fn what_is_accepted_is_shown(rt: HostRuntime) {
 #[test]
 fn changes_accept_what_they_like(rt: HostRuntime) {
     let alloc = rt.alloc();
-    let mut wanted = wanted(
-        &rt,
-        alloc,
-        Put,
-        "/-/package/tool/dist-tags/next",
-        "\"1.0.0\"",
-        bearer(&rt, alloc, BOB),
-    );
-    wanted.accept = field(&rt, alloc, OF_NPM);
-    wanted.if_none_match = field(&rt, alloc, "*");
-    let mut service = Fixed {
-        asked: String::new(alloc),
-    };
-    let turned = npm_turn(alloc, &mut service, &wanted, Moment::clamped(0), false);
+    let target = "/-/package/tool/dist-tags/next";
+    let mut wanted = wanted(&rt, alloc, Put, target, "\"1.0.0\"", Some(BOB));
+    wanted.accept = field_of(&rt, alloc, OF_NPM);
+    wanted.if_none_match = field_of(&rt, alloc, "*");
+    let (_asked, turned) = turned(&rt, alloc, &wanted);
     same(&rt, "labels", tag_text(&turned.answer.labels.tag), "");
     same(&rt, "form", &turned.answer.labels.form, &Only);
 }

@@ -48,118 +48,107 @@ fn tags_have_64_bytes_at_most(rt: HostRuntime) {
     same(&rt, "65", EntityTag::of(&text).is_some(), false);
 }
 
-// The value of `if-none-match`, a tag, and whether the value names it.
-type Case = (&'static [u8], &'static [u8], bool);
+// Each line says whether a value of `if-none-match`, which stands behind the colon, names a tag.
 
 // Examples of RFC 9110: of 13.1.2, of the comparison in 8.8.3.2, and of lists in 5.6.1.2.
-static EXAMPLES: [Case; 21] = [
-    (b"\"xyzzy\"", b"xyzzy", true),
-    (b"W/\"xyzzy\"", b"xyzzy", true),
-    (b"\"xyzzy\", \"r2d2xxxx\", \"c3piozzzz\"", b"xyzzy", true),
-    (b"\"xyzzy\", \"r2d2xxxx\", \"c3piozzzz\"", b"r2d2xxxx", true),
-    (
-        b"\"xyzzy\", \"r2d2xxxx\", \"c3piozzzz\"",
-        b"c3piozzzz",
-        true,
-    ),
-    (b"\"xyzzy\", \"r2d2xxxx\", \"c3piozzzz\"", b"r2d2", false),
-    (
-        b"W/\"xyzzy\", W/\"r2d2xxxx\", W/\"c3piozzzz\"",
-        b"xyzzy",
-        true,
-    ),
-    (
-        b"W/\"xyzzy\", W/\"r2d2xxxx\", W/\"c3piozzzz\"",
-        b"c3piozzzz",
-        true,
-    ),
-    (b"*", b"xyzzy", true),
-    (b"W/\"1\"", b"1", true),
-    (b"W/\"2\"", b"1", false),
-    (b"\"1\"", b"1", true),
-    (b"\"2\"", b"1", false),
-    (b"\"\"", b"1", false),
-    (b"", b"1", false),
-    (b",", b"1", false),
-    (b",   ,", b"1", false),
-    (b"\"foo\",\"bar\"", b"bar", true),
-    (b"\"foo\" ,\"bar\",", b"bar", true),
-    (b"\"foo\" , ,\"bar\",\"charlie\"", b"charlie", true),
-    (b"\"foo\" , ,\"bar\",\"charlie\"", b"foo", true),
-];
+const EXAMPLES: &str = r#"names xyzzy: "xyzzy"
+names xyzzy: W/"xyzzy"
+names xyzzy: "xyzzy", "r2d2xxxx", "c3piozzzz"
+names r2d2xxxx: "xyzzy", "r2d2xxxx", "c3piozzzz"
+names c3piozzzz: "xyzzy", "r2d2xxxx", "c3piozzzz"
+lacks r2d2: "xyzzy", "r2d2xxxx", "c3piozzzz"
+names xyzzy: W/"xyzzy", W/"r2d2xxxx", W/"c3piozzzz"
+names c3piozzzz: W/"xyzzy", W/"r2d2xxxx", W/"c3piozzzz"
+names xyzzy: *
+names 1: W/"1"
+lacks 1: W/"2"
+names 1: "1"
+lacks 1: "2"
+lacks 1: ""
+lacks 1:
+lacks 1: ,
+lacks 1: ,   ,
+names bar: "foo","bar"
+names bar: "foo" ,"bar",
+names charlie: "foo" , ,"bar","charlie"
+names foo: "foo" , ,"bar","charlie""#;
 
 // Lists with commas and white space where they may be, and bytes that may stand in a tag.
-static LISTS: [Case; 17] = [
-    (b",\"1\"", b"1", true),
-    (b"\"1\",", b"1", true),
-    (b",,,\"2\",,W/\"1\",,", b"1", true),
-    (b"\"2\"\t \t,\t \t\"1\"", b"1", true),
-    (b"\"2\",\t\"1\"\t,\t", b"1", true),
-    (b"\"\", \"1\"", b"1", true),
-    (b"W/\"\", W/\"1\"", b"1", true),
-    (b"\"a,b\"", b"a,b", true),
-    (b"\"a,b\"", b"a", false),
-    (b"\"a,b\"", b"b", false),
-    (b"\"2,\", \",1\", \"1\"", b"1", true),
-    (b"\"*\"", b"*", true),
-    (b"\"*\"", b"1", false),
-    (b"\"a\\\"", b"a\\", true),
-    (b"\"!#~\"", b"!#~", true),
-    (b"\"\x80\xff\"", b"\x80\xff", true),
-    (b"\"XYZZY\"", b"xyzzy", false),
-];
+const LISTS: &str = "names 1: ,\"1\"
+names 1: \"1\",
+names 1: ,,,\"2\",,W/\"1\",,
+names 1: \"2\"\t \t,\t \t\"1\"
+names 1: \"2\",\t\"1\"\t,\t
+names 1: \"\", \"1\"
+names 1: W/\"\", W/\"1\"
+names a,b: \"a,b\"
+lacks a: \"a,b\"
+lacks b: \"a,b\"
+names 1: \"2,\", \",1\", \"1\"
+names *: \"*\"
+lacks 1: \"*\"
+names a\\: \"a\\\"
+names !#~: \"!#~\"
+lacks xyzzy: \"XYZZY\"";
 
 // Values that are neither `*` nor a list of tags. Each of them has the tag's text in it.
-static OTHERS: [Case; 26] = [
-    (b"1", b"1", false),
-    (b"\"1", b"1", false),
-    (b"1\"", b"1", false),
-    (b"'1'", b"1", false),
-    (b"\"1\", \"2", b"1", false),
-    (b"\"1\", 2", b"1", false),
-    (b"2, \"1\"", b"1", false),
-    (b"\"1\" \"2\"", b"1", false),
-    (b"\"2\"\"1\"", b"1", false),
-    (b"\"1\"; \"2\"", b"1", false),
-    (b"\"1\", \"2\"3", b"1", false),
-    (b"\"1\", \"2 3\"", b"1", false),
-    (b"\"1\", \"2\t3\"", b"1", false),
-    (b"\"1\", \"\x7f\"", b"1", false),
-    (b"\"1\", \"\x1f\"", b"1", false),
-    (b"\"1\\\"2\"", b"1\\", false),
-    (b"w/\"1\"", b"1", false),
-    (b"W\"1\"", b"1", false),
-    (b"/\"1\"", b"1", false),
-    (b"W /\"1\"", b"1", false),
-    (b"W/ \"1\"", b"1", false),
-    (b"W/W/\"1\"", b"1", false),
-    (b"W/1", b"1", false),
-    (b"\"1\", W/", b"1", false),
-    (b"*, \"1\"", b"1", false),
-    (b"\"1\", *", b"1", false),
-];
+const OTHERS: &str = "lacks 1: 1
+lacks 1: \"1
+lacks 1: 1\"
+lacks 1: '1'
+lacks 1: \"1\", \"2
+lacks 1: \"1\", 2
+lacks 1: 2, \"1\"
+lacks 1: \"1\" \"2\"
+lacks 1: \"2\"\"1\"
+lacks 1: \"1\"; \"2\"
+lacks 1: \"1\", \"2\"3
+lacks 1: \"1\", \"2 3\"
+lacks 1: \"1\", \"2\t3\"
+lacks 1: \"1\", \"\x7f\"
+lacks 1: \"1\", \"\x1f\"
+lacks 1\\: \"1\\\"2\"
+lacks 1: w/\"1\"
+lacks 1: W\"1\"
+lacks 1: /\"1\"
+lacks 1: W /\"1\"
+lacks 1: W/ \"1\"
+lacks 1: W/W/\"1\"
+lacks 1: W/1
+lacks 1: \"1\", W/
+lacks 1: *, \"1\"
+lacks 1: \"1\", *";
 
-fn are_named(rt: &impl Abort, alloc: Global, cases: &[Case]) {
-    for (value, text, wanted) in cases {
-        let field = FieldValue::Once(blob(rt, alloc, value));
-        let tag = EntityTag::of(text).expect(rt, "a tag");
-        same(rt, (*value, *text), &names_tag(&field, &tag), wanted);
+fn are_named(rt: &impl Abort, alloc: Global, lines: &str) {
+    for line in lines.lines() {
+        let (told, value) = line.split_once(':').expect(rt, line);
+        let (told, tag) = told.split_once(' ').expect(rt, line);
+        let value = value.strip_prefix(' ').unwrap_or("");
+        let is_named = is_named(rt, alloc, value.as_bytes(), tag.as_bytes());
+        same(rt, line, is_named, told == "names");
     }
+}
+
+fn is_named(rt: &impl Abort, alloc: Global, value: &[u8], tag: &[u8]) -> bool {
+    let field = FieldValue::Once(blob(rt, alloc, value));
+    names_tag(&field, &EntityTag::of(tag).expect(rt, "a tag"))
 }
 
 #[test]
 fn examples_name_tags(rt: HostRuntime) {
-    are_named(&rt, rt.alloc(), &EXAMPLES);
+    are_named(&rt, rt.alloc(), EXAMPLES);
 }
 
 #[test]
 fn lists_name_tags(rt: HostRuntime) {
-    are_named(&rt, rt.alloc(), &LISTS);
+    are_named(&rt, rt.alloc(), LISTS);
+    let is_named = is_named(&rt, rt.alloc(), b"\"\x80\xff\"", b"\x80\xff");
+    same(&rt, "no UTF-8", is_named, true);
 }
 
 #[test]
 fn other_values_name_nothing(rt: HostRuntime) {
-    are_named(&rt, rt.alloc(), &OTHERS);
+    are_named(&rt, rt.alloc(), OTHERS);
 }
 
 #[test]

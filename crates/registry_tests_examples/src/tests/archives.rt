@@ -1,63 +1,30 @@
 //! How many archives are stored.
 
+use crate::outcome::same;
+use crate::tests::asking::{are_done, push, requests};
 use crate::tests::both_ways::ran;
 use crate::tests::lists::LAB_KIT;
-use registry_desk::Registry;
-use registry_rules::Reply;
-use registry_tests_requests::{Outcome, push_requests, requests_of};
-use registry_tests_support::same;
-use sqlite::{Alter, Error};
-use std::alloc::Global;
-use std::test::Fail;
 
 /// What is asked after `@lab/kit` 1.0.0 is published, and how many archives are stored then. The
-/// second version has the same archive.
-static STORED: [(&str, &str, usize); 3] = [
+/// second version has the same archive: both share it, one version is left, and none is.
+static STORED: [(&str, usize); 3] = [
+    ("--at 101 --as bob publish @lab/kit 1.1.0", 1),
     (
-        "two versions share it",
-        "--at 101 --as bob publish @lab/kit 1.1.0",
-        1,
-    ),
-    (
-        "one version is left",
         "--at 101 --as bob publish @lab/kit 1.1.0\n--at 102 --as bob withdraw @lab/kit 1.0.0",
         1,
     ),
     (
-        "none is left",
         "--at 101 --as bob publish @lab/kit 1.1.0\n--at 102 --as bob withdraw @lab/kit 1.0.0\n--at 102 --as bob withdraw @lab/kit 1.1.0",
         0,
     ),
 ];
 
 #[test]
-fn archives_are_stored_once(rt: HostRuntime) -> Result<(), Fail> {
-    for (shows, text, count) in &STORED {
-        same(*shows, archives_after(rt.alloc(), text)?, *count)?;
+fn archives_are_stored_once(rt: HostRuntime) {
+    for (text, stored) in &STORED {
+        let mut requests = requests(&rt, rt.alloc(), LAB_KIT);
+        push(&rt, rt.alloc(), &mut requests, text);
+        let (outcomes, rows) = ran(&rt, rt.alloc(), &requests, "SELECT id FROM archives");
+        same(&rt, *text, (are_done(&outcomes), rows), (true, *stored));
     }
-    Ok(())
-}
-
-fn archives_after(alloc: Global, text: &str) -> Result<usize, Fail> {
-    let mut requests = requests_of(alloc, LAB_KIT)?;
-    push_requests(alloc, &mut requests, text)?;
-    let (outcomes, count) = ran(alloc, &requests, "SELECT id FROM archives")?;
-    are_done(&outcomes)?;
-    Ok(count)
-}
-
-// Whether each request was done.
-fn are_done(outcomes: &[Outcome]) -> Result<(), Fail> {
-    for (place, outcome) in outcomes.iter().enumerate() {
-        let is_done = matches!(outcome, Ok(Reply::Done | Reply::Created));
-        same(("a request", place), is_done, true)?;
-    }
-    Ok(())
-}
-
-/// How many rows a query of a registry's tables gives. The registry ends afterwards.
-pub(crate) fn rows_in<S: Alter + Drop>(registry: Registry<S>, query: &str) -> Result<usize, Error> {
-    let mut conn = registry.release();
-    let rows = conn.query_all(query, &[])?;
-    Ok(rows.len())
 }

@@ -1,81 +1,55 @@
-//! The file at a path, opened as a registry and as any database.
+//! The file at a path, opened as any database.
 
-use registry_desk::Registry;
-use registry_names::Fault;
-use registry_rules::Request;
-use registry_tests_requests::{Outcome, outcome_of};
-use sqlite::{Alter, Connection, Error, ErrorCode, FileStore};
+use sqlite::{Alter, Connection, FileStore, Files};
 use sqlite_disk::Disk;
-use std::alloc::Global;
+use std::process::Abort;
 
-/// What the registry in the file at the path answers to a request. It is closed afterwards, so that
-/// the file holds everything. A fault is returned where no registry opens.
-pub(crate) fn outcome_at(rt: &HostRuntime, path: &str, request: &Request) -> Outcome {
-    match Registry::open(rt, path) {
-        Ok(registry) => outcome_in(rt.alloc(), registry, request),
-        Err(fault) => Err(fault),
-    }
+/// Runs statements on the database in the file at the path.
+pub(crate) fn change(rt: &HostRuntime, ends: &impl Abort, path: &str, statements: &str) {
+    let _one = number_at(rt, ends, path, statements, "SELECT 1");
 }
 
-fn outcome_in<D: Disk + Drop>(
-    alloc: Global,
-    registry: Registry<FileStore<D>>,
-    request: &Request,
-) -> Outcome {
-    let mut registry = registry;
-    let outcome = outcome_of(alloc, &mut registry, request);
-    if is_closed(registry.release()) {
-        outcome
-    } else {
-        Err(Fault::Database)
-    }
-}
-
-/// Runs statements on the database in the file at the path, and then a query, and returns the first
-/// number of its answer.
+/// Runs statements on the database in the file at the path, and then a query: the first number of
+/// its answer.
 pub(crate) fn number_at(
     rt: &HostRuntime,
+    ends: &impl Abort,
     path: &str,
     statements: &str,
     query: &str,
-) -> Result<u64, Error> {
+) -> u64 {
     match Connection::open(rt, path) {
-        Ok(conn) => number_in(conn, statements, query),
-        Err(error) => Err(error),
+        Ok(conn) => {
+            let (number, _files) = number_in(ends, conn, statements, query);
+            number
+        }
+        Err(error) => panic!(ends; "{path} isn't opened: {error:?}"),
     }
 }
 
-fn number_in<D: Disk + Drop>(
+/// The same of a connection, which is closed afterwards, so that the file holds everything; and its
+/// files.
+pub(crate) fn number_in<D: Disk + Drop>(
+    ends: &impl Abort,
     conn: Connection<FileStore<D>>,
     statements: &str,
     query: &str,
-) -> Result<u64, Error> {
+) -> (u64, Files<D>) {
     let mut conn = conn;
-    let number = number_of(&mut conn, statements, query);
-    if is_closed(conn) {
-        number
-    } else {
-        Err(Error::SqliteFailure(ErrorCode::SystemIoFailure))
+    let number = number_of(ends, &mut conn, statements, query);
+    match conn.close_files() {
+        Ok(files) => (number, files),
+        Err((error, _)) => panic!(ends; "the file isn't closed: {error:?}"),
     }
 }
 
 fn number_of<S: Alter>(
+    ends: &impl Abort,
     conn: &mut Connection<S>,
     statements: &str,
     query: &str,
-) -> Result<u64, Error> {
-    conn.execute_batch(statements)?;
-    let row = conn.query_row(query, &[])?;
-    row.get(0)
-}
-
-// Closes a connection. Returns whether its log was copied into its file.
-fn is_closed<D: Disk + Drop>(conn: Connection<FileStore<D>>) -> bool {
-    match conn.close_files() {
-        Ok(_files) => true,
-        Err((_, store)) => {
-            drop(store.close());
-            false
-        }
-    }
+) -> u64 {
+    conn.execute_batch(statements).expect(ends, statements);
+    let row = conn.query_row(query, &[]).expect(ends, query);
+    row.get(0).expect(ends, query)
 }

@@ -1,17 +1,14 @@
 //! Lists of requests that have the same outcomes by `run` and by `apply` one by one.
 
-use crate::tests::archives::rows_in;
-use crate::tests::lists::{
-    CALLERS, CALLERS_BACKWARDS, LAB, LAB_KIT, ON_PACKAGES, ON_TEAMS, PEOPLE, RIGHTS, VERSIONS,
-    WITHDRAWALS,
-};
+use crate::outcome::same;
+use crate::tests::asking::{push, requests};
+use crate::tests::lists::{ACTIONS, LAB, LAB_KIT, PEOPLE, RIGHTS, VERSIONS, WITHDRAWALS};
 use registry_desk::Registry;
-use registry_names::{Fault, Refusal};
+use registry_names::Refusal;
 use registry_rules::{Reply, Request};
-use registry_tests_requests::{Outcome, outcomes_of, push_requests, request_of, requests_of};
-use registry_tests_support::{otherwise, same};
-use std::alloc::{AllocError, Global};
-use std::test::Fail;
+use registry_tests_requests::{Outcome, outcomes_of};
+use std::alloc::Global;
+use std::process::Abort;
 
 /// A query that gives a row where the tables have this program's schema number.
 const NUMBER: &str = "SELECT name FROM meta WHERE name = 'schema' AND value = 3";
@@ -31,65 +28,75 @@ token npm_ann_999_000000001 whoami
 token npm_bob_000000001 whoami
 ";
 
-/// Requests, and the outcome of each.
-struct Told<'a> {
-    requests: Vec<Request>,
-    wanted: Vec<&'a str>,
-}
-
-// Written out, so that dropping it is one call, not one for each part.
-impl Drop for Told<'_> {
-    fn drop(self) {
-        let Told {
-            requests: _,
-            wanted: _,
-        } = self;
+// Each caller asks for each action at one moment, after a package was published; and then all of
+// this backwards.
+#[test]
+fn no_request_ends_in_a_fault(rt: HostRuntime) {
+    let mut there = String::from_str(rt.alloc(), LAB_KIT).expect(&rt, "memory");
+    let mut back = String::new(rt.alloc());
+    for action in ACTIONS.lines() {
+        push_there(&rt, rt.alloc(), &mut there, action);
+        back = once_back(&rt, rt.alloc(), action, back.as_str());
     }
+    let mut requests = requests(&rt, rt.alloc(), there.as_str());
+    push(&rt, rt.alloc(), &mut requests, back.as_str());
+    let _outcomes = both_ways(&rt, rt.alloc(), &requests);
+}
+
+// Adds the lines by which each caller asks for an action.
+fn push_there(ends: &impl Abort, alloc: Global, text: &mut String, action: &str) {
+    let lines = format!(in alloc;
+        "--at 300 --operator {action}\n--at 300 --as ann {action}\n--at 300 --as bob {action}\n--at 300 --as eve {action}\n--at 300 {action}\n"
+    );
+    text.push_str(lines.expect(ends, "memory").as_str())
+        .expect(ends, "memory");
+}
+
+// The same lines backwards, and then the text.
+fn once_back(ends: &impl Abort, alloc: Global, action: &str, text: &str) -> String {
+    let lines = format!(in alloc;
+        "--at 300 {action}\n--at 300 --as eve {action}\n--at 300 --as bob {action}\n--at 300 --as ann {action}\n--at 300 --operator {action}\n{text}"
+    );
+    lines.expect(ends, "memory")
 }
 
 #[test]
-fn no_request_ends_in_a_fault(rt: HostRuntime) -> Result<(), Fail> {
-    let requests = requests_there_and_back(rt.alloc())?;
-    let outcomes = both_ways(rt.alloc(), "every request", &requests)?;
-    same("how many", outcomes.len(), requests.len())
+fn every_reply_is_given_both_ways(rt: HostRuntime) {
+    let mut requests = requests(&rt, rt.alloc(), LAB_KIT);
+    let mut wanted = Vec::new(rt.alloc());
+    for text in [PEOPLE, RIGHTS, VERSIONS, WITHDRAWALS] {
+        push_told(&rt, rt.alloc(), &mut requests, &mut wanted, text);
+    }
+    let outcomes = both_ways(&rt, rt.alloc(), &requests);
+    are_wanted(&rt, &outcomes, &wanted);
 }
 
 #[test]
-fn every_reply_is_given_both_ways(rt: HostRuntime) -> Result<(), Fail> {
-    let told = every_reply(rt.alloc())?;
-    let outcomes = both_ways(rt.alloc(), "every reply", &told.requests)?;
-    are_wanted(&outcomes, &told.wanted)
-}
-
-#[test]
-fn fifty_rounds_are_the_same_both_ways(rt: HostRuntime) -> Result<(), Fail> {
-    let requests = fifty_rounds(rt.alloc())?;
-    let outcomes = both_ways(rt.alloc(), "fifty rounds", &requests)?;
-    same("how many", outcomes.len(), requests.len())?;
-    are_rounds(outcomes.get(6..).unwrap_or(&[]))
-}
-
-#[test]
-fn a_thousand_tokens_of_a_user_end_at_once(rt: HostRuntime) -> Result<(), Fail> {
-    let requests = thousand_tokens(rt.alloc())?;
-    let (outcomes, rows) = ran(rt.alloc(), &requests, "SELECT digest FROM tokens")?;
-    same("how many are left", rows, 1)?;
-    same(
-        "they ended",
-        have_ended(outcomes.get(1_003..).unwrap_or(&[])),
-        true,
-    )
+fn fifty_rounds_are_the_same_both_ways(rt: HostRuntime) {
+    let mut requests = requests(&rt, rt.alloc(), LAB);
+    for round in 0..50u64 {
+        push_round(&rt, rt.alloc(), &mut requests, round);
+    }
+    let outcomes = both_ways(&rt, rt.alloc(), &requests);
+    for (place, round) in outcomes.get(6..).unwrap_or(&[]).chunks(4).enumerate() {
+        same(&rt, ("a round", place), is_round(round), true);
+    }
 }
 
 // Two users: one has a token, and the other a thousand, which end. Then some are shown.
-fn thousand_tokens(alloc: Global) -> Result<Vec<Request>, Fail> {
-    let mut requests = requests_of(alloc, TWO_USERS)?;
+#[test]
+fn a_thousand_tokens_of_a_user_end_at_once(rt: HostRuntime) {
+    let mut requests = requests(&rt, rt.alloc(), TWO_USERS);
     for number in 0..1_000u64 {
-        let line = format!(in alloc; "--operator token-add ann npm_ann_{number}_000000001")?;
-        requests.push(request_of(alloc, &line)?)?;
+        let line = format!(in rt.alloc(); "--operator token-add ann npm_ann_{number}_000000001");
+        let line = line.expect(&rt, "memory");
+        push(&rt, rt.alloc(), &mut requests, line.as_str());
     }
-    push_requests(alloc, &mut requests, ENDED)?;
-    Ok(requests)
+    push(&rt, rt.alloc(), &mut requests, ENDED);
+    let (outcomes, rows) = ran(&rt, rt.alloc(), &requests, "SELECT digest FROM tokens");
+    same(&rt, "how many are left", rows, 1);
+    let have_ended = have_ended(outcomes.get(1_003..).unwrap_or(&[]));
+    same(&rt, "they ended", have_ended, true);
 }
 
 fn have_ended(outcomes: &[Outcome]) -> bool {
@@ -105,110 +112,62 @@ fn have_ended(outcomes: &[Outcome]) -> bool {
 }
 
 // The outcomes of requests, which are the same all at once and one by one, and without faults.
-fn both_ways(alloc: Global, shows: &str, requests: &[Request]) -> Result<Vec<Outcome>, Fail> {
-    let (outcomes, rows) = ran(alloc, requests, NUMBER)?;
-    same((shows, "the schema's number"), rows, 1)?;
-    let others = one_by_one(alloc, requests)?;
-    are_the_same(shows, &others, &outcomes)?;
-    Ok(outcomes)
+fn both_ways(ends: &impl Abort, alloc: Global, requests: &[Request]) -> Vec<Outcome> {
+    let (outcomes, rows) = ran(ends, alloc, requests, NUMBER);
+    same(ends, "the schema's number", rows, 1);
+    same(ends, "how many", outcomes.len(), requests.len());
+    let mut registry = Registry::in_memory(alloc).expect(ends, "a registry");
+    let others = outcomes_of(alloc, &mut registry, requests).expect(ends, "memory");
+    for (place, (other, outcome)) in others.iter().zip(&outcomes).enumerate() {
+        same(ends, place, other, outcome);
+        same(ends, place, outcome.is_err(), false);
+    }
+    same(ends, "how many one by one", others.len(), requests.len());
+    outcomes
 }
 
 /// The outcomes of requests that are run on a new registry, and how many rows a query gives then.
 pub(crate) fn ran(
+    ends: &impl Abort,
     alloc: Global,
     requests: &[Request],
     query: &str,
-) -> Result<(Vec<Outcome>, usize), Fail> {
-    let (registry, outcomes) = Registry::run_in_memory(alloc, requests)?;
-    let rows = rows_in(registry, query)?;
-    Ok((outcomes, rows))
-}
-
-fn one_by_one(alloc: Global, requests: &[Request]) -> Result<Vec<Outcome>, Fault> {
-    let mut registry = Registry::in_memory(alloc)?;
-    Ok(outcomes_of(alloc, &mut registry, requests)?)
-}
-
-// Whether both have the same replies.
-fn are_the_same(shows: &str, others: &[Outcome], outcomes: &[Outcome]) -> Result<(), Fail> {
-    same(shows, others.len(), outcomes.len())?;
-    for (place, (other, outcome)) in others.iter().zip(outcomes).enumerate() {
-        same((shows, place), other, outcome)?;
-        same((shows, place), outcome.is_err(), false)?;
-    }
-    Ok(())
-}
-
-// Each caller asks for each action at one moment, after a package was published; and then all of
-// this backwards.
-fn requests_there_and_back(alloc: Global) -> Result<Vec<Request>, Fail> {
-    let mut actions = Vec::new(alloc);
-    push_lines(&mut actions, ON_TEAMS)?;
-    push_lines(&mut actions, ON_PACKAGES)?;
-    let mut requests = requests_of(alloc, LAB_KIT)?;
-    for action in &actions {
-        push_by(alloc, &mut requests, &CALLERS, action)?;
-    }
-    for action in actions.iter().rev() {
-        push_by(alloc, &mut requests, &CALLERS_BACKWARDS, action)?;
-    }
-    Ok(requests)
-}
-
-fn push_lines<'a>(lines: &mut Vec<&'a str>, text: &'a str) -> Result<(), AllocError> {
-    for line in text.lines() {
-        if !line.is_empty() {
-            lines.push(line)?;
-        }
-    }
-    Ok(())
-}
-
-fn push_by(
-    alloc: Global,
-    requests: &mut Vec<Request>,
-    callers: &[&str],
-    action: &str,
-) -> Result<(), Fail> {
-    for caller in callers {
-        let line = format!(in alloc; "--at 300 {caller}{action}")?;
-        requests.push(request_of(alloc, &line)?)?;
-    }
-    Ok(())
-}
-
-fn every_reply(alloc: Global) -> Result<Told<'static>, Fail> {
-    let mut told = Told {
-        requests: requests_of(alloc, LAB_KIT)?,
-        wanted: Vec::new(alloc),
-    };
-    for text in [PEOPLE, RIGHTS, VERSIONS, WITHDRAWALS] {
-        push_told(alloc, &mut told, text)?;
-    }
-    Ok(told)
+) -> (Vec<Outcome>, usize) {
+    let (registry, outcomes) = Registry::run_in_memory(alloc, requests).expect(ends, "memory");
+    let mut conn = registry.release();
+    let rows = conn.query_all(query, &[]).expect(ends, query);
+    (outcomes, rows.len())
 }
 
 // Adds the requests of a text, and the outcome of each, which is the line after it.
-fn push_told<'a>(alloc: Global, told: &mut Told<'a>, text: &'a str) -> Result<(), Fail> {
+fn push_told(
+    ends: &impl Abort,
+    alloc: Global,
+    requests: &mut Vec<Request>,
+    wanted: &mut Vec<&'static str>,
+    text: &'static str,
+) {
     for line in text.lines() {
         match line.strip_prefix("= ") {
-            Some(wanted) => told.wanted.push(wanted)?,
-            None => push_requests(alloc, &mut told.requests, line)?,
+            Some(told) => wanted.push(told).expect(ends, "memory"),
+            None => push(ends, alloc, requests, line),
         }
     }
-    Ok(())
 }
 
-// Whether the last outcomes are as wanted.
-fn are_wanted(outcomes: &[Outcome], wanted: &[&str]) -> Result<(), Fail> {
-    let first = outcomes.len().saturating_sub(wanted.len());
-    same("how many come before", first, 7)?;
-    for (place, (outcome, wanted)) in outcomes.iter().skip(first).zip(wanted).enumerate() {
+// Checks that the outcomes after the first seven are as wanted.
+fn are_wanted(ends: &impl Abort, outcomes: &[Outcome], wanted: &[&str]) {
+    same(
+        ends,
+        "how many",
+        outcomes.len(),
+        wanted.len().saturating_add(7),
+    );
+    for (outcome, wanted) in outcomes.iter().skip(7).zip(wanted) {
         if !is_wanted(outcome, *wanted) {
-            return Err(otherwise(place, outcome, *wanted));
+            panic!(ends; "{outcome:?} comes out, and not {wanted:?}");
         }
     }
-    Ok(())
 }
 
 // Whether an outcome is the one that a line tells.
@@ -224,33 +183,15 @@ fn is_wanted(outcome: &Outcome, wanted: &str) -> bool {
     }
 }
 
-// Rounds over seven packages in turn, each with its next version.
-fn fifty_rounds(alloc: Global) -> Result<Vec<Request>, Fail> {
-    let mut requests = requests_of(alloc, LAB)?;
-    for round in 0..50u64 {
-        push_round(alloc, &mut requests, round)?;
-    }
-    Ok(requests)
-}
-
-// A version is published twice; then its package is asked for, and one that is unknown.
-fn push_round(alloc: Global, requests: &mut Vec<Request>, round: u64) -> Result<(), Fail> {
+// Adds a round over seven packages in turn, each with its next version: it is published twice; then
+// its package is asked for, and one that is unknown.
+fn push_round(ends: &impl Abort, alloc: Global, requests: &mut Vec<Request>, round: u64) {
     let (kit, version) = (round % 7, round / 7);
-    let publish = format!(in alloc; "--at {round} --as bob publish kit-{kit} 1.{version}.0")?;
-    let asks = format!(in alloc;
-        "--at {round} --as bob packument kit-{kit}\n--at {round} --as bob packument kid-{kit}"
-    )?;
-    push_requests(alloc, requests, &publish)?;
-    push_requests(alloc, requests, &publish)?;
-    push_requests(alloc, requests, &asks)
-}
-
-// Whether these are the outcomes of rounds.
-fn are_rounds(outcomes: &[Outcome]) -> Result<(), Fail> {
-    for (place, round) in outcomes.chunks(4).enumerate() {
-        same(("a round", place), is_round(round), true)?;
-    }
-    Ok(())
+    let lines = format!(in alloc;
+        "--at {round} --as bob publish kit-{kit} 1.{version}.0\n--at {round} --as bob publish kit-{kit} 1.{version}.0\n--at {round} --as bob packument kit-{kit}\n--at {round} --as bob packument kid-{kit}"
+    );
+    let lines = lines.expect(ends, "memory");
+    push(ends, alloc, requests, lines.as_str());
 }
 
 fn is_round(outcomes: &[Outcome]) -> bool {

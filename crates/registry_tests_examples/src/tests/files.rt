@@ -1,16 +1,20 @@
 //! Registries in the machine's files: which files become one, and from which none opens. Such a
 //! file isn't changed, and the program reports why.
 
-use crate::tests::lies::{FOLDER, LOG, Lies, PATH, added, lay};
-use crate::tests::program::{Case, Failing, leaves_it, with_db};
+use crate::outcome::same;
+use crate::tests::at_path::number_in;
+use crate::tests::in_files::released;
+use crate::tests::lies::{ADD_ANN, FOLDER, LOG, Lies, PATH, lay};
+use crate::tests::program::{DONE, Left, end, leaves};
 use registry_desk::Registry;
-use registry_names::{Fault, Refusal};
-use registry_rules::Reply;
-use registry_tests_support::same;
-use sqlite::Alter;
-use std::fs;
+use sqlite::FileStore;
+use sqlite_disk::Disk;
 use std::os::unix::fs::PermissionsExt;
-use std::test::Fail;
+use std::process::Abort;
+use std::{fs, io};
+
+/// The file has the user `ann`.
+const THERE: Left<'static> = (1, "", "refused: Exists\n");
 
 const FOREIGN: &str =
     "fault: Database\nthe file holds no registry, or was changed by another hand\n";
@@ -24,231 +28,140 @@ const UNREACHABLE: &str = "fault: Database\nthe registry's file can't be opened 
 
 const BUSY: &str = "fault: Database\nanother process has the registry's file\n";
 
-/// A query, a command and a server, each of which opens the registry's file.
-static LINES: [&'static [&'static str]; 3] = [
-    &["tags", "kit"],
-    &["--operator", "user-add", "ann"],
-    &["serve"],
+/// A command, a query and a server, each of which opens the registry's file.
+static LINES: [&str; 3] = [
+    ADD_ANN,
+    "--db files_of_registries/registry.db tags kit",
+    "--db files_of_registries/registry.db serve",
 ];
 
-/// What each case shows, what is in the file, and why the user isn't added, if it isn't.
-static OPENED: [(&str, Lies, Option<Refusal>); 6] = [
-    (
-        "a file that isn't there becomes a registry",
-        Lies::Nothing,
-        None,
-    ),
-    ("an empty file becomes a registry", Lies::Text(""), None),
-    (
-        "a file of one byte becomes a registry",
-        Lies::Text("S"),
-        None,
-    ),
-    (
-        "a database without tables becomes a registry",
-        Lies::Program("CREATE TABLE gone (a TEXT); DROP TABLE gone"),
-        None,
-    ),
-    (
-        "a registry holds what it held",
-        Lies::Registry,
-        Some(Refusal::Exists),
-    ),
-    (
-        "a registry counts for its archives",
-        Lies::Changed("INSERT INTO sqlite_sequence VALUES ('archives', 5)"),
-        Some(Refusal::Exists),
-    ),
+/// Where a registry opens: nothing, an empty file, one of one byte, and a database without tables
+/// become one.
+static NEW: [Lies; 4] = [
+    Lies::Nothing,
+    Lies::Text(""),
+    Lies::Text("S"),
+    Lies::Program("CREATE TABLE gone (a TEXT); DROP TABLE gone"),
 ];
 
-/// Files that aren't a registry: what each case shows, what is in the file, and what the program
-/// prints on the errors, where that is tried.
-static DAMAGED: [(&str, Lies, &str); 9] = [
-    (
-        "a text is no registry",
-        Lies::Text("no registry, but some text"),
-        FOREIGN,
-    ),
-    (
-        "the first words of a database are none",
-        Lies::Text("SQLite format 3\0 and then something else"),
-        "",
-    ),
-    ("a folder is none", Lies::Folder, UNREACHABLE),
-    (
-        "nothing is none, where there is no folder for it",
-        Lies::Nowhere,
-        UNREACHABLE,
-    ),
-    (
-        "a registry that has a second name is none",
-        Lies::Linked,
-        UNREACHABLE,
-    ),
-    ("half of a registry is none", Lies::Cut(100_000), FOREIGN),
-    ("a first page alone is none", Lies::Cut(4096), ""),
-    (
-        "a registry with a byte changed in its head is none",
-        Lies::Spoiled(24),
-        FOREIGN,
-    ),
-    (
-        "a registry with a byte changed in a row is none",
-        Lies::Spoiled(100_000),
-        FOREIGN,
-    ),
+/// Registries, which hold what they held. One counts for its archives.
+static OLD: [Lies; 2] = [
+    Lies::Registry,
+    Lies::Changed("INSERT INTO sqlite_sequence VALUES ('archives', 5)"),
 ];
 
-/// Databases that aren't a registry of this schema, in the same form.
-static OTHERS: [(&str, Lies, &str); 12] = [
+/// Files that aren't a registry. Spoiled is a byte of the file's head, and one of a row.
+static DAMAGED: [Lies; 6] = [
+    Lies::Text("no registry, but some text"),
+    Lies::Text("SQLite format 3\0 and then something else"),
+    Lies::Cut(100_000),
+    Lies::Cut(4096),
+    Lies::Spoiled(24),
+    Lies::Spoiled(100_000),
+];
+
+/// Where there is no file of a registry alone.
+static MISPLACED: [Lies; 3] = [Lies::Folder, Lies::Nowhere, Lies::Linked];
+
+/// Databases that aren't a registry of this schema, and what is printed: another program's tables, a
+/// number of no schema, the last index less, a greater number, and tables of an older schema without a
+/// number.
+static OTHERS: [(Lies, &str); 5] = [
     (
-        "another program's tables are none",
         Lies::Program("CREATE TABLE note (id INTEGER PRIMARY KEY, title TEXT)"),
         FOREIGN,
     ),
-    (
-        "a table more is another schema",
-        Lies::Changed("CREATE TABLE more (a TEXT)"),
-        "",
-    ),
-    (
-        "a table less is another schema",
-        Lies::Changed("DROP TABLE tags"),
-        "",
-    ),
-    (
-        "a greater number is another schema",
-        Lies::Changed("UPDATE meta SET value = 4"),
-        NEWER,
-    ),
-    (
-        "a number of no schema is another one",
-        Lies::Changed("UPDATE meta SET value = 0"),
-        FOREIGN,
-    ),
-    (
-        "tables without a number are none",
-        Lies::Changed("DELETE FROM meta"),
-        "",
-    ),
-    (
-        "tables of an older schema without a number are none",
-        Lies::Older,
-        OLDER,
-    ),
-    (
-        "an index less is another schema",
-        Lies::Changed("DROP INDEX need_ranges_by_target"),
-        "",
-    ),
-    (
-        "the last index less is another schema",
-        Lies::Changed("DROP INDEX owners_by_user"),
-        FOREIGN,
-    ),
-    (
-        "tables that count for something else are none",
-        Lies::Changed("INSERT INTO sqlite_sequence VALUES ('ann', 1)"),
-        "",
-    ),
-    (
-        "tables that count for archives twice are none",
-        Lies::Changed("INSERT INTO sqlite_sequence VALUES ('archives', 1), ('archives', 2)"),
-        "",
-    ),
-    (
-        "tables that count for no name are none",
-        Lies::Changed("INSERT INTO sqlite_sequence VALUES (NULL, 'ann')"),
-        "",
-    ),
+    (Lies::Changed("UPDATE meta SET value = 0"), FOREIGN),
+    (Lies::Changed("DROP INDEX owners_by_user"), FOREIGN),
+    (Lies::Changed("UPDATE meta SET value = 4"), NEWER),
+    (Lies::Older, OLDER),
 ];
 
+/// What else makes a registry one of another schema: a table more and one less, no number, an index
+/// less, and tables that count for something else, for archives twice, and for no name.
+const CHANGES: &str = "CREATE TABLE more (a TEXT)
+DROP TABLE tags
+DELETE FROM meta
+DROP INDEX need_ranges_by_target
+INSERT INTO sqlite_sequence VALUES ('ann', 1)
+INSERT INTO sqlite_sequence VALUES ('archives', 1), ('archives', 2)
+INSERT INTO sqlite_sequence VALUES (NULL, 'ann')";
+
 #[test]
-fn files_become_registries(rt: HostRuntime) -> Result<(), Fail> {
-    for (shows, lies, refusal) in &OPENED {
-        lay(&rt, *lies)?;
-        same(shows, added(&rt)?, Ok(reply_of(*refusal)))?;
+fn files_become_registries(rt: HostRuntime) {
+    for lies in &NEW {
+        lay(&rt, &rt, *lies);
+        leaves(&rt, &rt, ADD_ANN, DONE);
     }
-    Ok(fs::remove_dir_all(&rt, FOLDER)?)
+    for lies in &OLD {
+        lay(&rt, &rt, *lies);
+        leaves(&rt, &rt, ADD_ANN, THERE);
+    }
+    end(&rt, FOLDER);
 }
 
 #[test]
-fn damaged_files_are_kept(rt: HostRuntime) -> Result<(), Fail> {
-    all_are_kept(&rt, &DAMAGED)
+fn damaged_files_are_kept(rt: HostRuntime) {
+    for lies in &DAMAGED {
+        is_kept(&rt, &rt, *lies, &LINES, FOREIGN);
+    }
+    for lies in &MISPLACED {
+        is_kept(&rt, &rt, *lies, &LINES, UNREACHABLE);
+    }
+    end(&rt, FOLDER);
 }
 
 #[test]
-fn databases_of_others_are_kept(rt: HostRuntime) -> Result<(), Fail> {
-    all_are_kept(&rt, &OTHERS)
+fn databases_of_others_are_kept(rt: HostRuntime) {
+    for (lies, errors) in &OTHERS {
+        is_kept(&rt, &rt, *lies, &LINES, errors);
+    }
+    for change in CHANGES.lines() {
+        is_kept(&rt, &rt, Lies::Changed(change), &[ADD_ANN], FOREIGN);
+    }
+    end(&rt, FOLDER);
 }
 
 #[test]
-fn a_registry_is_its_owners_alone_and_held_by_one(rt: HostRuntime) -> Result<(), Fail> {
-    lay(&rt, Lies::Registry)?;
+fn a_registry_is_its_owners_alone_and_held_by_one(rt: HostRuntime) {
+    lay(&rt, &rt, Lies::Registry);
     match Registry::open(&rt, PATH) {
-        Ok(held) => is_held(&rt, held)?,
-        Err(_) => return Err(Fail::new(format_args!("the registry doesn't open"))),
+        Ok(held) => is_held(&rt, &rt, held),
+        Err(_) => panic!(rt; "the registry doesn't open"),
     }
-    let later = added(&rt)?;
-    same("a later one", later, Ok(reply_of(Some(Refusal::Exists))))?;
-    Ok(fs::remove_dir_all(&rt, FOLDER)?)
+    leaves(&rt, &rt, ADD_ANN, THERE);
+    end(&rt, FOLDER);
 }
 
-fn reply_of(refusal: Option<Refusal>) -> Reply {
-    match refusal {
-        Some(refusal) => Reply::Refused(refusal),
-        None => Reply::Done,
-    }
+// No registry opens from this, and it isn't changed. Each line prints these errors.
+fn is_kept(rt: &HostRuntime, ends: &impl Abort, lies: Lies, lines: &[&str], errors: &str) {
+    lay(rt, ends, lies);
+    stays(rt, ends, lies, lines, errors);
 }
 
-// No registry opens from any of these, and none of them is changed.
-fn all_are_kept(rt: &HostRuntime, cases: &[(&str, Lies, &'static str)]) -> Result<(), Fail> {
-    for (shows, lies, errors) in cases {
-        lay(rt, *lies)?;
-        is_kept(rt, shows, errors)?;
-    }
-    Ok(fs::remove_dir_all(rt, FOLDER)?)
-}
-
-// No registry opens from the file, which isn't changed. Each line prints this, where it is given.
-fn is_kept(rt: &HostRuntime, shows: &str, errors: &'static str) -> Result<(), Fail> {
+fn stays(rt: &HostRuntime, ends: &impl Abort, lies: Lies, lines: &[&str], errors: &str) {
     let before = fs::read(rt, PATH).ok();
-    same(shows, added(rt)?, Err(Fault::Database))?;
-    if !errors.is_empty() {
-        all_print(rt, errors)?;
+    for line in lines {
+        leaves(rt, ends, line, (3, "", errors));
     }
-    same((shows, "kept"), fs::read(rt, PATH).ok() == before, true)
-}
-
-// Each line ends with the fault, and prints this.
-fn all_print(rt: &HostRuntime, errors: &'static str) -> Result<(), Fail> {
-    for given in &LINES {
-        let case = Case {
-            shows: "a file that doesn't open",
-            arguments: given,
-            text: "",
-            failing: Failing::None,
-            status: 3,
-            output: "",
-            errors,
-        };
-        let arguments = with_db(rt.alloc(), PATH, given)?;
-        leaves_it(rt, rt.alloc(), &arguments, &case)?;
-    }
-    Ok(())
+    let is_kept = fs::read(rt, PATH).ok() == before;
+    same(ends, (lies, "kept"), is_kept, true);
 }
 
 // While a registry is held, its file and its log are only its owner's, and no other registry opens.
-fn is_held<S: Alter + Drop>(rt: &HostRuntime, held: Registry<S>) -> Result<(), Fail> {
-    let seen = is_seen_held(rt);
-    drop(held);
-    seen
+fn is_held<D: Disk + Drop>(rt: &HostRuntime, ends: &impl Abort, held: Registry<FileStore<D>>) {
+    is_seen_held(rt, ends);
+    let (_one, _files) = number_in(ends, released(held), "", "SELECT 1");
 }
 
-fn is_seen_held(rt: &HostRuntime) -> Result<(), Fail> {
+fn is_seen_held(rt: &HostRuntime, ends: &impl Abort) {
     for path in [PATH, LOG] {
-        let mode = fs::metadata(rt, path)?.permissions().mode();
-        same(path, mode & 0o777, 0o600)?;
+        let mode = mode_of(rt, path).expect(ends, "a file");
+        same(ends, path, mode & 0o777, 0o600);
     }
-    is_kept(rt, "a second one", BUSY)
+    stays(rt, ends, Lies::Registry, &LINES, BUSY);
+}
+
+fn mode_of(rt: &HostRuntime, path: &str) -> io::Result<u32> {
+    Ok(fs::metadata(rt, path)?.permissions().mode())
 }

@@ -1,12 +1,10 @@
 //! What may lie at the path of a registry's file.
 
-use crate::tests::at_path::{number_at, outcome_at};
-use registry_rules::Reply;
+use crate::tests::at_path::change;
+use crate::tests::program::{DONE, begin, end, leaves};
 use registry_tables::TABLES;
-use registry_tests_requests::{Outcome, request_of};
-use registry_tests_support::same;
 use std::fs;
-use std::test::Fail;
+use std::process::Abort;
 
 /// The folder of the file.
 pub(crate) const FOLDER: &str = "files_of_registries";
@@ -16,6 +14,9 @@ pub(crate) const PATH: &str = "files_of_registries/registry.db";
 
 /// The path of its log.
 pub(crate) const LOG: &str = "files_of_registries/registry.db-wal";
+
+/// A command on the registry in the file.
+pub(crate) const ADD_ANN: &str = "--db files_of_registries/registry.db --operator user-add ann";
 
 /// How many of a registry's tables the first schema has.
 const OLDEST_COUNT: usize = 14;
@@ -48,73 +49,60 @@ pub(crate) enum Lies {
 }
 
 /// Puts this at the path, in a new folder.
-pub(crate) fn lay(rt: &HostRuntime, lies: Lies) -> Result<(), Fail> {
-    let _ = fs::remove_dir_all(rt, FOLDER);
+pub(crate) fn lay(rt: &HostRuntime, ends: &impl Abort, lies: Lies) {
+    if let Lies::Nowhere = lies {
+        return end(rt, FOLDER);
+    }
+    begin(rt, ends, FOLDER);
     match lies {
-        Lies::Nowhere => Ok(()),
-        _ => lay_in_folder(rt, lies),
+        Lies::Nowhere | Lies::Nothing => {}
+        Lies::Text(text) => write(rt, ends, text.as_bytes()),
+        Lies::Folder => fs::create_dir(rt, PATH).expect(ends, "a folder"),
+        Lies::Program(text) => change(rt, ends, PATH, text),
+        Lies::Older => change_all(rt, ends, &TABLES[..OLDEST_COUNT]),
+        _ => lay_registry(rt, ends, lies),
     }
 }
 
-fn lay_in_folder(rt: &HostRuntime, lies: Lies) -> Result<(), Fail> {
-    fs::create_dir(rt, FOLDER)?;
+// Puts a registry there, whose file holds everything, and then does to it what is said.
+fn lay_registry(rt: &HostRuntime, ends: &impl Abort, lies: Lies) {
+    leaves(rt, ends, ADD_ANN, DONE);
+    let text = match lies {
+        Lies::Changed(text) => text,
+        _ => "",
+    };
+    change(rt, ends, PATH, text);
     match lies {
-        Lies::Nowhere | Lies::Nothing => Ok(()),
-        Lies::Text(text) => Ok(fs::write(rt, PATH, text.as_bytes())?),
-        Lies::Folder => Ok(fs::create_dir(rt, PATH)?),
-        Lies::Program(text) => run(rt, text),
-        Lies::Older => run_all(rt, &TABLES[..OLDEST_COUNT]),
-        _ => lay_registry(rt, lies),
+        Lies::Linked => {
+            let linked = fs::hard_link(rt, PATH, "files_of_registries/other.db");
+            linked.expect(ends, "a second name");
+        }
+        Lies::Cut(length) => cut(rt, ends, length),
+        Lies::Spoiled(place) => spoil(rt, ends, place),
+        _ => {}
     }
 }
 
-// Puts a registry there, and then does to it what is said.
-fn lay_registry(rt: &HostRuntime, lies: Lies) -> Result<(), Fail> {
-    same("a registry", added(rt)?, Ok(Reply::Done))?;
-    match lies {
-        Lies::Linked => link(rt),
-        Lies::Cut(length) => cut(rt, length),
-        Lies::Spoiled(place) => spoil(rt, place),
-        Lies::Changed(text) => run(rt, text),
-        _ => Ok(()),
-    }
-}
-
-/// The outcome of a request to add the user `ann`. A fault where no registry opens.
-pub(crate) fn added(rt: &HostRuntime) -> Result<Outcome, Fail> {
-    let request = request_of(rt.alloc(), "--operator user-add ann")?;
-    Ok(outcome_at(rt, PATH, &request))
-}
-
-fn run_all(rt: &HostRuntime, texts: &[&str]) -> Result<(), Fail> {
+fn change_all(rt: &HostRuntime, ends: &impl Abort, texts: &[&str]) {
     for text in texts {
-        run(rt, text)?;
+        change(rt, ends, PATH, text);
     }
-    Ok(())
 }
 
-fn run(rt: &HostRuntime, text: &str) -> Result<(), Fail> {
-    let _one = number_at(rt, PATH, text, "SELECT 1")?;
-    Ok(())
+fn write(rt: &HostRuntime, ends: &impl Abort, bytes: &[u8]) {
+    fs::write(rt, PATH, bytes).expect(ends, "a file");
 }
 
-fn link(rt: &HostRuntime) -> Result<(), Fail> {
-    Ok(fs::hard_link(rt, PATH, "files_of_registries/other.db")?)
+fn cut(rt: &HostRuntime, ends: &impl Abort, length: usize) {
+    let bytes = fs::read(rt, PATH).expect(ends, "a file");
+    write(rt, ends, bytes.get(..length).expect(ends, "enough bytes"));
 }
 
-fn cut(rt: &HostRuntime, length: usize) -> Result<(), Fail> {
-    let bytes = fs::read(rt, PATH)?;
-    let Some(begin) = bytes.get(..length) else {
-        return Err(Fail::new(format_args!("the file has {} bytes", bytes.len())));
-    };
-    Ok(fs::write(rt, PATH, begin)?)
-}
-
-fn spoil(rt: &HostRuntime, place: usize) -> Result<(), Fail> {
-    let mut bytes = fs::read(rt, PATH)?;
-    let Some(byte) = bytes.get_mut(place) else {
-        return Err(Fail::new(format_args!("the file ends before byte {place}")));
-    };
-    *byte ^= 0x5a;
-    Ok(fs::write(rt, PATH, bytes.as_slice())?)
+fn spoil(rt: &HostRuntime, ends: &impl Abort, place: usize) {
+    let mut bytes = fs::read(rt, PATH).expect(ends, "a file");
+    match bytes.get_mut(place) {
+        Some(byte) => *byte ^= 0x5a,
+        None => panic!(ends; "the file ends before byte {place}"),
+    }
+    write(rt, ends, &bytes);
 }

@@ -23,21 +23,21 @@ pub(crate) const LAB_KIT: &str = r#"
 --at 100 --as bob publish @lab/kit 1.0.0
 "#;
 
-/// Every kind of caller.
-pub(crate) static CALLERS: [&str; 5] = ["--operator ", "--as ann ", "--as bob ", "--as eve ", ""];
+/// The same, and `@lab/kit` 1.1.0.
+pub(crate) const TWO_KITS: &str = r#"
+--operator user-add ann
+--operator user-add bob
+--operator user-add eve
+--operator token-add bob npm_bob_000000001
+--operator org-create lab ann
+--as ann org-set lab bob developer
+--at 100 --as bob publish @lab/kit 1.0.0
+--at 101 --as bob publish @lab/kit 1.1.0
+"#;
 
-/// The same backwards.
-pub(crate) static CALLERS_BACKWARDS: [&str; 5] = [
-    "",
-    "--as eve ",
-    "--as bob ",
-    "--as ann ",
-    "--operator ",
-];
-
-/// Every action on users, organisations and teams, over two users, teams and packages.
-pub(crate) const ON_TEAMS: &str = r#"
-whoami
+/// Every action: on users, organisations and teams, over two users, teams and packages; and on
+/// packages, over two users, packages, versions and tags.
+pub(crate) const ACTIONS: &str = r#"whoami
 my-packages
 users
 organisations
@@ -89,10 +89,6 @@ revoke lab ops @lab/kit
 grant lab ops tool read-only
 grant lab ops tool read-write
 revoke lab ops tool
-"#;
-
-/// Every action on packages, over two users, packages, versions and tags.
-pub(crate) const ON_PACKAGES: &str = r#"
 publish @lab/kit 1.0.0 YWJj latest
 tag-set @lab/kit latest 1.0.0
 publish @lab/kit 1.1.0-beta YWJj latest
@@ -155,8 +151,7 @@ withdraw tool 1.0.0
 version-doc tool 1.1.0-beta
 archive tool 1.1.0-beta
 withdraw tool 1.1.0-beta
-withdraw-all tool
-"#;
+withdraw-all tool"#;
 
 /// Users and organisations.
 pub(crate) const PEOPLE: &str = r#"

@@ -8,22 +8,29 @@ mod restores;
 mod serving;
 mod tokens;
 
+use crate::outcome::same;
+use registry_files::{Ending, Failure, report};
 use registry_names::{FromRead, Text, ToWrite};
-use registry_program::{Ending, Failure, program, report};
-use registry_tests_support::same;
+use registry_program::program;
 use std::alloc::Global;
 use std::io::{ErrorKind, Read, Write};
-use std::test::Fail;
-use std::{env, fs, io, process, str};
+use std::process::Abort;
+use std::{fs, io, str};
 
 const BODY: &str =
     r#"{"name":"kit","versions":{"1.0.0":{"name":"kit","version":"1.0.0"}},"_attachments":{"kit-1.0.0.tgz":{"data":"YWJj"}}}"#;
 
 const FAILED: &str = "fault: Database\nthe disk failed while the registry was served\n";
 
+/// What a call of the program leaves: its status, what it prints, and the errors.
+pub(crate) type Left<'a> = (u8, &'a str, &'a str);
+
+/// What a command leaves that is done.
+pub(crate) const DONE: Left<'static> = (0, "{\"ok\":true}\n", "");
+
 /// Which stream fails.
-#[derive(Clone, Copy)]
-pub(crate) enum Failing {
+#[derive(Clone, Copy, Debug)]
+enum Failing {
     None,
     /// The input, where its text ends.
     Input,
@@ -31,163 +38,130 @@ pub(crate) enum Failing {
     Output,
 }
 
-/// How the program is called, and what it leaves.
-#[derive(Clone, Copy)]
-pub(crate) struct Case {
-    pub(crate) shows: &'static str,
-    pub(crate) arguments: &'static [&'static str],
-    /// The text of the input.
-    pub(crate) text: &'static str,
-    pub(crate) failing: Failing,
-    pub(crate) status: u8,
-    pub(crate) output: &'static str,
-    pub(crate) errors: &'static str,
-}
-
-static CASES: [Case; 4] = [
-    Case {
-        shows: "an input that breaks is a fault",
-        arguments: &[],
-        text: BODY,
-        failing: Failing::Input,
-        status: 3,
-        output: "",
-        errors: "fault: Read\n",
-    },
-    Case {
-        shows: "an output that takes nothing is a fault",
-        arguments: &[],
-        text: BODY,
-        failing: Failing::Output,
-        status: 3,
-        output: "",
-        errors: "fault: Write\n",
-    },
-    Case {
-        shows: "an answer of the registry that can't be written is a fault",
-        arguments: &["--operator", "user-add", "cid"],
-        text: "",
-        failing: Failing::Output,
-        status: 3,
-        output: "",
-        errors: "fault: Write\n",
-    },
-    Case {
-        shows: "a refusal needs no output",
-        arguments: &["tags", "kit"],
-        text: "",
-        failing: Failing::Output,
-        status: 1,
-        output: "",
-        errors: "refused: NotFound\n",
-    },
+/// The words with which the program is called, the stream that fails, and what is left: an input
+/// that breaks is a fault, as is an output that takes nothing, also that of an answer of the
+/// registry; and a refusal needs no output.
+static FAILURES: [(&str, Failing, Left<'static>); 4] = [
+    ("", Failing::Input, (3, "", "fault: Read\n")),
+    ("", Failing::Output, (3, "", "fault: Write\n")),
+    (
+        "--db files_of_ends/registry.db --operator user-add cid",
+        Failing::Output,
+        (3, "", "fault: Write\n"),
+    ),
+    (
+        "--db files_of_ends/registry.db tags kit",
+        Failing::Output,
+        (1, "", "refused: NotFound\n"),
+    ),
 ];
 
 #[test]
-fn ends_that_fail_are_faults(rt: HostRuntime) -> Result<(), Fail> {
-    let db = path(&rt, "-ends.db")?;
-    for case in &CASES {
-        let arguments = if case.arguments.is_empty() {
-            Vec::new(rt.alloc())
-        } else {
-            with_db(rt.alloc(), db.as_str(), case.arguments)?
-        };
-        leaves_it(&rt, rt.alloc(), &arguments, case)?;
+fn ends_that_fail_are_faults(rt: HostRuntime) {
+    begin(&rt, &rt, "files_of_ends");
+    for (line, failing, left) in &FAILURES {
+        let called = call(&rt, &rt, line, *failing);
+        same(&rt, (*line, *failing), called.left(), *left);
     }
-    forget(&rt, db.as_str())
+    end(&rt, "files_of_ends");
 }
 
 #[test]
-fn a_disk_that_failed_under_a_server_is_reported(rt: HostRuntime) -> Result<(), Fail> {
+fn a_disk_that_failed_under_a_server_is_reported(rt: HostRuntime) {
     let mut errors = Vec::new(rt.alloc());
     let ending = Ending::Fault(Failure::Shut);
     let status = report(&mut ToWrite::new(&mut errors), &ending);
-    same("the status", status, 3)?;
-    same("the errors", str::from_utf8(&errors).unwrap_or("?"), FAILED)
+    same(&rt, "shut", (status, text_of(&errors)), (3, FAILED));
 }
 
-// The path of a file that no other process has.
-fn path(rt: &HostRuntime, end: &str) -> Result<String, Fail> {
-    let folder = env::temp_dir(rt)?;
-    let id = process::id(rt.process());
-    Ok(format!(in rt.alloc(); "{}/registry-{id}{end}", folder.as_str())?)
+/// Makes a new folder for the files of a test.
+pub(crate) fn begin(rt: &HostRuntime, ends: &impl Abort, folder: &str) {
+    end(rt, folder);
+    fs::create_dir(rt, folder).expect(ends, "a folder");
 }
 
-// Removes the registry's file and its log.
-fn forget(rt: &HostRuntime, db: &str) -> Result<(), Fail> {
-    let log = format!(in rt.alloc(); "{db}-wal")?;
-    fs::remove_file(rt, db)?;
-    Ok(fs::remove_file(rt, log.as_str())?)
+/// Removes that folder, if it is there.
+pub(crate) fn end(rt: &HostRuntime, folder: &str) {
+    let _ = fs::remove_dir_all(rt, folder);
 }
 
-/// The arguments, after those that name the registry's file.
-pub(crate) fn with_db(alloc: Global, db: &str, given: &[&str]) -> Result<Vec<Text>, Fail> {
-    let mut arguments = Vec::new(alloc);
-    for argument in ["--db", db] {
-        arguments.push(Text::from_str(alloc, argument)?)?;
+/// Checks what the program leaves that is called with the words of a line.
+pub(crate) fn leaves(rt: &HostRuntime, ends: &impl Abort, line: &str, left: Left<'_>) {
+    let called = call(rt, ends, line, Failing::None);
+    same(ends, line, called.left(), left);
+}
+
+/// A call of the program.
+#[derive(Drop)]
+struct Called {
+    status: u8,
+    output: Output,
+    errors: Vec<u8>,
+}
+
+impl Called {
+    fn left(&self) -> Left<'_> {
+        (
+            self.status,
+            text_of(&self.output.taken),
+            text_of(&self.errors),
+        )
     }
-    for argument in given {
-        arguments.push(Text::from_str(alloc, argument)?)?;
-    }
-    Ok(arguments)
 }
 
-/// Whether the program, with these arguments, leaves what the case says.
-pub(crate) fn leaves_it(
-    rt: &HostRuntime,
-    alloc: Global,
-    arguments: &[Text],
-    case: &Case,
-) -> Result<(), Fail> {
-    let input = Input::new(case.text.as_bytes(), case.failing);
-    let mut output = Output::new(alloc, case.failing);
-    let mut errors = Output::new(alloc, Failing::None);
+// Calls the program with the words of a line. Its input is a body.
+fn call(rt: &HostRuntime, ends: &impl Abort, line: &str, failing: Failing) -> Called {
+    let input = Input {
+        left: BODY.as_bytes(),
+        is_read: false,
+        breaks: matches!(failing, Failing::Input),
+    };
+    let mut output = Output {
+        taken: Vec::new(rt.alloc()),
+        is_full: matches!(failing, Failing::Output),
+    };
+    let mut errors = Vec::new(rt.alloc());
     let status = program(
         rt,
-        alloc,
-        arguments,
+        rt.alloc(),
+        &words(ends, rt.alloc(), line),
         &mut FromRead::new(input),
         &mut ToWrite::new(&mut output),
         &mut ToWrite::new(&mut errors),
     );
-    is_left(
-        case,
-        (status, output.text(), errors.text()),
-        (case.status, case.output, case.errors),
-    )
+    Called {
+        status,
+        output,
+        errors,
+    }
 }
 
-// What a call leaves: its status, what is printed, and the line on the errors.
-type Left<'a> = (u8, &'a str, &'a str);
-
-// Whether this is left. Otherwise the test fails, and shows both.
-fn is_left(case: &Case, left: Left, wanted: Left) -> Result<(), Fail> {
-    if left == wanted {
-        return Ok(());
+// The words of a line.
+fn words(ends: &impl Abort, alloc: Global, line: &str) -> Vec<Text> {
+    let mut words = Vec::new(alloc);
+    for word in line.split(' ') {
+        if !word.is_empty() {
+            let word = Text::from_str(alloc, word).expect(ends, "memory");
+            words.push(word).expect(ends, "memory");
+        }
     }
-    let shows = case.shows;
-    Err(Fail::new(format_args!("{shows:?} leaves {left:?}, and not {wanted:?}")))
+    words
+}
+
+// The text of what is printed.
+fn text_of(bytes: &[u8]) -> &str {
+    str::from_utf8(bytes).unwrap_or("no UTF-8")
 }
 
 /// A reader of a text. Its first read is interrupted, and it may break where the text ends.
 #[derive(Drop)]
-struct Input<'a> {
-    left: &'a [u8],
+struct Input {
+    left: &'static [u8],
     is_read: bool,
     breaks: bool,
 }
 
-impl Input<'_> {
-    fn new(text: &[u8], failing: Failing) -> Input<'_> {
-        Input {
-            left: text,
-            is_read: false,
-            breaks: matches!(failing, Failing::Input),
-        }
-    }
-}
-
-impl Read for Input<'_> {
+impl Read for Input {
     fn read(&mut self, buf: &mut [u8]) -> io::Result<usize> {
         if !self.is_read {
             self.is_read = true;
@@ -205,19 +179,6 @@ impl Read for Input<'_> {
 struct Output {
     taken: Vec<u8>,
     is_full: bool,
-}
-
-impl Output {
-    fn new(alloc: Global, failing: Failing) -> Output {
-        Output {
-            taken: Vec::new(alloc),
-            is_full: matches!(failing, Failing::Output),
-        }
-    }
-
-    fn text(&self) -> &str {
-        str::from_utf8(&self.taken).unwrap_or("no UTF-8")
-    }
 }
 
 impl Write for Output {

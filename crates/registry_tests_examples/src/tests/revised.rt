@@ -1,17 +1,15 @@
 //! Packuments as npm reads them: what makes another text of one, and who is shown none.
 
+use crate::outcome::same;
+use crate::tests::asking::does;
 use crate::tests::lists::LAB_KIT;
 use registry_desk::Registry;
-use registry_names::{Name, Refusal};
-use registry_rules::{Action, Reply, Request};
-use registry_tests_requests::{outcome_of, request_of, requests_of};
-use registry_tests_support::{otherwise, same};
+use registry_names::{Ident, Moment, Name};
+use registry_rules::{Action, Credential, Reply, Request};
+use registry_tests_requests::outcome_of;
 use sqlite::Alter;
 use std::alloc::Global;
-use std::test::Fail;
-
-/// What `bob` publishes beside `@lab/kit`.
-const TOOL: &str = "--at 100 --as bob publish tool 1.0.0";
+use std::process::Abort;
 
 // The revisions are what `sha256sum` told: the digest of the packument's digest in hexadecimal and of
 // the maintainers, each with a line feed.
@@ -25,88 +23,76 @@ const ANNS_TOO: &str =
 const KIT: &str =
     r#"{"_rev":"6e671f7ff65b390beba850ab0c4a0441df3bbd0a03c9d2ea26a067f75c225bb2","_id":"@lab/kit","dist-tags":{"latest":"1.0.0"},"name":"@lab/kit","time":{"1.0.0":"1970-01-01T00:01:40.000Z","created":"1970-01-01T00:01:40.000Z","modified":"1970-01-01T00:01:40.000Z"},"versions":{"1.0.0":{"dependencies":{},"name":"@lab/kit","version":"1.0.0"}}}"#;
 
-/// A request that is done, or a query for a packument, and the packument as npm reads it; `None` is
-/// `NotFound`. Each is asked of what those before it left.
-enum Step {
-    Done(&'static str),
-    Reads(&'static str, Option<&'static str>),
-}
-
-static STEPS: [Step; 12] = [
-    Step::Reads("--at 200 --as bob packument tool", Some(BOBS)),
-    Step::Reads("--at 200 --as eve packument tool", Some(BOBS)),
-    Step::Done("--at 200 --as bob owner-add tool ann"),
-    Step::Reads("--at 200 --as bob packument tool", Some(ANNS_TOO)),
-    // Who becomes a member of an organisation changes nothing of it.
-    Step::Done("--at 200 --as ann org-set lab eve developer"),
-    Step::Reads("--at 200 --as bob packument tool", Some(ANNS_TOO)),
-    Step::Done("--at 200 --as bob owner-rm tool ann"),
-    Step::Reads("--at 200 --as bob packument tool", Some(BOBS)),
-    Step::Reads("--at 200 --as bob packument @lab/kit", Some(KIT)),
-    // Who reads nothing of it isn't shown what is kept.
-    Step::Reads("--at 200 packument @lab/kit", None),
-    Step::Done("--at 200 --as bob withdraw tool 1.0.0"),
-    Step::Reads("--at 200 --as bob packument tool", None),
-];
+/// Requests that are done; and who reads a package as npm does, with what they read. Who becomes a
+/// member of an organisation changes nothing of `tool`, and nobody is shown what is kept of a package
+/// that they may not read.
+const STEPS: &str = "--at 100 --as bob publish tool 1.0.0
+bob reads tool => bob's
+eve reads tool => bob's
+--at 200 --as bob owner-add tool ann
+bob reads tool => ann's, too
+--at 200 --as ann org-set lab eve developer
+bob reads tool => ann's, too
+--at 200 --as bob owner-rm tool ann
+bob reads tool => bob's
+bob reads @lab/kit => lab's
+nobody reads @lab/kit => NotFound
+--at 200 --as bob withdraw tool 1.0.0
+bob reads tool => NotFound";
 
 #[test]
-fn packuments_are_revised_as_they_change(rt: HostRuntime) -> Result<(), Fail> {
-    are_revised(rt.alloc(), Registry::in_memory(rt.alloc())?)
+fn packuments_are_revised_as_they_change(rt: HostRuntime) {
+    let registry = Registry::in_memory(rt.alloc()).expect(&rt, "a registry");
+    are_revised(&rt, rt.alloc(), registry);
 }
 
-fn are_revised<S: Alter + Drop>(alloc: Global, registry: Registry<S>) -> Result<(), Fail> {
+fn are_revised<S: Alter + Drop>(ends: &impl Abort, alloc: Global, registry: Registry<S>) {
     let mut registry = registry;
-    for request in &requests_of(alloc, LAB_KIT)? {
-        is_done(alloc, &mut registry, request)?;
-    }
-    is_done(alloc, &mut registry, &request_of(alloc, TOOL)?)?;
-    for step in &STEPS {
-        is_taken(alloc, &mut registry, step)?;
-    }
-    Ok(())
-}
-
-fn is_taken<S: Alter>(alloc: Global, registry: &mut Registry<S>, step: &Step) -> Result<(), Fail> {
-    match step {
-        Step::Done(line) => is_done(alloc, registry, &request_of(alloc, line)?),
-        Step::Reads(line, shown) => is_shown(alloc, registry, line, shown),
+    does(ends, alloc, &mut registry, LAB_KIT);
+    for line in STEPS.lines() {
+        match line.split_once(" reads ") {
+            Some((caller, rest)) => reads(ends, alloc, &mut registry, caller, rest),
+            None => does(ends, alloc, &mut registry, line),
+        }
     }
 }
 
-fn is_done<S: Alter>(
+// Checks what a caller reads of a package.
+fn reads<S: Alter>(
+    ends: &impl Abort,
     alloc: Global,
     registry: &mut Registry<S>,
-    request: &Request,
-) -> Result<(), Fail> {
-    let outcome = outcome_of(alloc, registry, request);
-    let is_done = matches!(outcome, Ok(Reply::Done | Reply::Created));
-    same("a request", is_done, true)
-}
-
-fn is_shown<S: Alter>(
-    alloc: Global,
-    registry: &mut Registry<S>,
-    line: &str,
-    shown: &Option<&'static str>,
-) -> Result<(), Fail> {
-    let query = as_npm_reads(alloc, line)?;
-    match (outcome_of(alloc, registry, &query), shown) {
-        (Ok(Reply::Doc(text)), Some(shown)) => same(line, text.as_str(), *shown),
-        (Ok(Reply::Refused(Refusal::NotFound)), None) => Ok(()),
-        (outcome, _) => Err(otherwise(line, outcome, "what npm reads")),
+    caller: &str,
+    rest: &str,
+) {
+    let (package, read) = rest.split_once(" => ").expect(ends, rest);
+    let query = query_of(ends, alloc, caller, package);
+    match outcome_of(alloc, registry, &query) {
+        Ok(Reply::Doc(text)) => same(ends, rest, text.as_str(), text_of(read)),
+        Ok(Reply::Refused(refusal)) => same(ends, rest, refusal.text(), text_of(read)),
+        outcome => panic!(ends; "{rest} comes out as {outcome:?}"),
     }
 }
 
-// The query for the same packument as npm reads it.
-fn as_npm_reads(alloc: Global, line: &str) -> Result<Request, Fail> {
-    let mut query = request_of(alloc, line)?;
-    let package = match &query.what {
-        Action::Packument { package } => Name::parse(alloc, package.text()),
-        _ => return Err(Fail::new(format_args!("{line}: another query"))),
+// What npm reads, or the refusal.
+fn text_of(read: &str) -> &str {
+    match read {
+        "bob's" => BOBS,
+        "ann's, too" => ANNS_TOO,
+        "lab's" => KIT,
+        refusal => refusal,
+    }
+}
+
+fn query_of(ends: &impl Abort, alloc: Global, caller: &str, package: &str) -> Request {
+    let who = match caller {
+        "nobody" => Credential::Anonymous,
+        user => Credential::User(Ident::parse(alloc, user).expect(ends, user)),
     };
-    let Ok(package) = package else {
-        return Err(Fail::new(format_args!("{line}: no name")));
-    };
-    query.what = Action::RevisedPackument { package };
-    Ok(query)
+    let package = Name::parse(alloc, package).expect(ends, package);
+    Request {
+        at: Moment::clamped(200),
+        who,
+        what: Action::RevisedPackument { package },
+    }
 }

@@ -13,6 +13,7 @@ use crate::disks::{
 };
 use crate::outcome::same;
 use crate::requests::{COMMANDS, QUERIES};
+use crate::sql::ran;
 use registry_desk::Registry;
 use registry_names::Fault;
 use sqlite::{Alter, Connection, FileStore, Files};
@@ -124,7 +125,9 @@ fn a_connection_inside_a_transaction_is_handed_back(rt: HostRuntime) {
 
 fn is_back_inside<S: Alter + Drop>(ends: &impl Abort, alloc: Global, connection: Connection<S>) {
     let mut connection = connection;
-    run(ends, &mut connection, "BEGIN");
+    connection
+        .execute_batch("BEGIN")
+        .expect(ends, "a transaction");
     if connection.is_autocommit() {
         panic!(ends; "no transaction is open");
     }
@@ -250,17 +253,6 @@ fn changed<D: StoppingDisk>(
     files: Files<D>,
     change: &str,
 ) -> Files<D> {
-    match connected(alloc, files) {
-        Ok(connection) => {
-            let mut connection = connection;
-            run(ends, &mut connection, change);
-            let Closed { files, .. } = close(connection);
-            left_of(ends, alloc, files, Leaves::Written)
-        }
-        Err(_files) => panic!(ends; "nothing opens before {change}"),
-    }
-}
-
-fn run<S: Alter>(ends: &impl Abort, connection: &mut Connection<S>, text: &str) {
-    connection.execute_batch(text).expect(ends, text);
+    let (files, _) = ran(ends, alloc, files, &[change], "");
+    files
 }

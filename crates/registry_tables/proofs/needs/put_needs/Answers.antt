@@ -1,4 +1,4 @@
-use Rattle.std.proofs.Common.{◌∙◌, ap, arith, refl, take_all}
+use Rattle.std.proofs.Common.{◌∙◌, ap, arith, refl, rules, take_all}
 use Rattle.registry_rows.proofs.QuietFacts.{stays_then}
 use Rattle.registry_tables.specs.Effects.{stored_in}
 use Rattle.registry_tables.specs.Needs.{with_needs}
@@ -10,6 +10,7 @@ put_need-requires g c = record { under_way = λ clean. let it = c.loop-need.inva
 
 pub loop-need-preserved : goal.loop-need-preserved
 loop-need-preserved g c = record {
+  text = search rules;
   stays = stays_then g.S.Store c.args.tx.now c.loop-need.tx c.put_need.new.tx c.loop-need.invariant.stays c.put_need.ensures.stays;
   made = λ clean.
       let before = c.loop-need.invariant.made (omega (arith, c.put_need.ensures.stays.survives.clean, clean)) in

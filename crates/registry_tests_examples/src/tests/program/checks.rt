@@ -1,86 +1,44 @@
 //! A check of a registry whose rows something else changed.
 
-use super::{Case, Failing, forget, leaves_it, path, with_db};
-use crate::tests::at_path::number_at;
-use std::test::Fail;
+use super::{DONE, begin, end, leaves};
+use crate::tests::at_path::change;
 
 /// An organisation that nobody owns, and that has no team.
 const CHANGE: &str = "INSERT INTO orgs (name) VALUES ('lab')";
 
 /// The team `developers` of lab is granted reading on a package without a scope, so that the file
 /// doesn't open any more.
-const GRANTED: [&str; 3] = [
-    "INSERT INTO teams (org, team) VALUES ('lab', 'developers')",
-    "INSERT INTO packages (name, status) VALUES ('kit', 1)",
-    "INSERT INTO grants (org, team, package, level) VALUES ('lab', 'developers', 'kit', 1)",
-];
+const GRANTED: &str =
+    "INSERT INTO teams (org, team) VALUES ('lab', 'developers'); INSERT INTO packages (name, status) VALUES ('kit', 1); INSERT INTO grants (org, team, package, level) VALUES ('lab', 'developers', 'kit', 1)";
 
-const MADE: Case = Case {
-    shows: "a registry is made",
-    arguments: &["--operator", "user-add", "ann"],
-    text: "",
-    failing: Failing::None,
-    status: 0,
-    output: "{\"ok\":true}\n",
-    errors: "",
-};
+/// What a check prints of the first.
+const BROKEN: &str =
+    "wrong: organisation lab has no owner\nwrong: organisation lab has no team developers\n";
 
-const SOUND: Case = Case {
-    shows: "nothing is wrong with it",
-    arguments: &["check"],
-    text: "",
-    failing: Failing::None,
-    status: 0,
-    output: "{\"ok\":true}\n",
-    errors: "",
-};
+/// What it prints of both.
+const EXPLAINED: &str =
+    "wrong: organisation lab has no owner\nwrong: package kit has no scope and no maintainer\nwrong: grant of kit to team developers of lab is on a package of another scope\n";
 
-const BROKEN: Case = Case {
-    shows: "each thing that is wrong has its line",
-    arguments: &["check"],
-    text: "",
-    failing: Failing::None,
-    status: 1,
-    output: "",
-    errors: "wrong: organisation lab has no owner\nwrong: organisation lab has no team developers\n",
-};
+const FOREIGN: &str =
+    "fault: Database\nthe file holds no registry, or was changed by another hand\n";
 
-const CLOSED: Case = Case {
-    shows: "with a grant out of scope it isn't opened",
-    arguments: &["--operator", "user-add", "bob"],
-    text: "",
-    failing: Failing::None,
-    status: 3,
-    output: "",
-    errors: "fault: Database\nthe file holds no registry, or was changed by another hand\n",
-};
+const PATH: &str = "files_of_checks/registry.db";
 
-const EXPLAINED: Case = Case {
-    shows: "but its grant has a line",
-    arguments: &["check"],
-    text: "",
-    failing: Failing::None,
-    status: 1,
-    output: "",
-    errors: "wrong: organisation lab has no owner\nwrong: package kit has no scope and no maintainer\nwrong: grant of kit to team developers of lab is on a package of another scope\n",
-};
+const CHECK: &str = "--db files_of_checks/registry.db check";
+
+const ADD_ANN: &str = "--db files_of_checks/registry.db --operator user-add ann";
+
+const ADD_BOB: &str = "--db files_of_checks/registry.db --operator user-add bob";
 
 #[test]
-fn what_is_wrong_has_a_line(rt: HostRuntime) -> Result<(), Fail> {
-    let db = path(&rt, "-checks.db")?;
-    leaves_at(&rt, db.as_str(), &MADE)?;
-    leaves_at(&rt, db.as_str(), &SOUND)?;
-    let _one = number_at(&rt, db.as_str(), CHANGE, "SELECT 1")?;
-    leaves_at(&rt, db.as_str(), &BROKEN)?;
-    for change in GRANTED {
-        let _one = number_at(&rt, db.as_str(), change, "SELECT 1")?;
-    }
-    leaves_at(&rt, db.as_str(), &CLOSED)?;
-    leaves_at(&rt, db.as_str(), &EXPLAINED)?;
-    forget(&rt, db.as_str())
-}
-
-fn leaves_at(rt: &HostRuntime, db: &str, case: &Case) -> Result<(), Fail> {
-    let arguments = with_db(rt.alloc(), db, case.arguments)?;
-    leaves_it(rt, rt.alloc(), &arguments, case)
+fn what_is_wrong_has_a_line(rt: HostRuntime) {
+    begin(&rt, &rt, "files_of_checks");
+    leaves(&rt, &rt, ADD_ANN, DONE);
+    leaves(&rt, &rt, CHECK, DONE);
+    change(&rt, &rt, PATH, CHANGE);
+    leaves(&rt, &rt, CHECK, (1, "", BROKEN));
+    change(&rt, &rt, PATH, GRANTED);
+    leaves(&rt, &rt, ADD_BOB, (3, "", FOREIGN));
+    leaves(&rt, &rt, CHECK, (1, "", EXPLAINED));
+    end(&rt, "files_of_checks");
 }

@@ -1,13 +1,13 @@
 //! `serve` over loopback: a client that connects where the program says that it listens.
 
-use super::{forget, path, with_db};
+use super::{begin, end, text_of, words};
+use crate::outcome::same;
 use registry_names::{FromRead, ToWrite};
 use registry_program::program;
-use std::alloc::Global;
+use std::io;
 use std::io::{Read, Write};
 use std::net::{Ipv4Addr, Net, OpenListener, OpenStream, Shutdown, SocketAddr};
-use std::test::Fail;
-use std::{io, str};
+use std::process::Abort;
 
 const ASKS: &str = "GET /kit HTTP/1.1\r\nhost: localhost\r\n\r\n";
 
@@ -37,14 +37,6 @@ impl<R: Net> Caller<'_, R> {
         Ok(client)
     }
 
-    // Whether the output was given the address at which the program listens, and the client this
-    // answer.
-    fn is_answered(&mut self, alloc: Global, answer: &str) -> Result<(), Fail> {
-        let wanted = format!(in alloc; "listening 127.0.0.1:{}\n{answer}", self.port)?;
-        self.hear()?;
-        same_text(&self.taken, wanted.as_str())
-    }
-
     // Adds what the client is sent to what the output was given.
     fn hear(&mut self) -> io::Result<()> {
         if let Some(mut client) = self.client.take() {
@@ -68,77 +60,54 @@ impl<R: Net> Write for Caller<'_, R> {
 }
 
 #[test]
-fn a_registry_in_a_file_is_served(rt: HostRuntime) -> Result<(), Fail> {
-    let db = path(&rt, "-served.db")?;
-    answers_client(&rt, db.as_str(), ASKS, ANSWER)?;
-    forget(&rt, db.as_str())
+fn a_registry_in_a_file_is_served(rt: HostRuntime) {
+    begin(&rt, &rt, "files_of_serving");
+    answers_client(&rt, &rt, "files_of_serving/registry.db", ASKS, ANSWER);
+    end(&rt, "files_of_serving");
 }
 
-/// Whether the program, while it serves the registry in this file, answers this to a client.
+/// Checks that the program, while it serves the registry in this file, answers this to a client.
 pub(super) fn answers_client(
     rt: &HostRuntime,
+    ends: &impl Abort,
     db: &str,
     asks: &str,
     answer: &str,
-) -> Result<(), Fail> {
+) {
+    let port = free_port(rt).expect(ends, "a port");
     let mut caller = Caller {
         rt,
-        port: free_port(rt)?,
+        port,
         asks,
         taken: Vec::new(rt.alloc()),
         client: None,
     };
-    is_served(rt, db, &mut caller, answer)
+    is_served(rt, ends, db, &mut caller);
+    let wanted = format!(in rt.alloc(); "listening 127.0.0.1:{port}\n{answer}");
+    let wanted = wanted.expect(ends, "memory");
+    same(ends, asks, text_of(&caller.taken), wanted.as_str());
 }
 
-// Whether the caller is served and given this answer, and the program says why it ends.
-fn is_served<R: Net>(
-    rt: &HostRuntime,
-    db: &str,
-    caller: &mut Caller<R>,
-    answer: &str,
-) -> Result<(), Fail> {
+// The caller is served, and the program says why it ends.
+fn is_served<R: Net>(rt: &HostRuntime, ends: &impl Abort, db: &str, caller: &mut Caller<R>) {
+    let port = caller.port;
+    let line = format!(in rt.alloc(); "--db {db} serve --port {port} --connections 1");
+    let line = line.expect(ends, "memory");
     let mut errors = Vec::new(rt.alloc());
-    let status = serve(rt, db, caller, &mut errors)?;
-    caller.is_answered(rt.alloc(), answer)?;
-    same_text(&errors, ENOUGH)?;
-    if status != 0 {
-        return Err(Fail::new(format_args!("the status is {status}")));
-    }
-    Ok(())
-}
-
-// Serves one connection, which is that of the caller, and returns the exit status.
-fn serve<R: Net>(
-    rt: &HostRuntime,
-    db: &str,
-    caller: &mut Caller<R>,
-    errors: &mut Vec<u8>,
-) -> Result<u8, Fail> {
-    let alloc = rt.alloc();
-    let port = format!(in alloc; "{}", caller.port)?;
-    let arguments = ["serve", "--port", port.as_str(), "--connections", "1"];
-    let arguments = with_db(alloc, db, &arguments)?;
-    Ok(program(
+    let status = program(
         rt,
-        alloc,
-        &arguments,
+        rt.alloc(),
+        &words(ends, rt.alloc(), line.as_str()),
         &mut FromRead::new(io::empty()),
-        &mut ToWrite::new(caller),
-        &mut ToWrite::new(errors),
-    ))
+        &mut ToWrite::new(&mut *caller),
+        &mut ToWrite::new(&mut errors),
+    );
+    caller.hear().expect(ends, "an answer");
+    same(ends, "its end", (status, text_of(&errors)), (0, ENOUGH));
 }
 
 // A port at which nobody listens.
-fn free_port<R: Net>(rt: &R) -> Result<u16, Fail> {
+fn free_port<R: Net>(rt: &R) -> io::Result<u16> {
     let listener = rt.bind(SocketAddr::from((Ipv4Addr::LOCALHOST, 0)))?;
     Ok(listener.local_addr()?.port())
-}
-
-fn same_text(bytes: &[u8], wanted: &str) -> Result<(), Fail> {
-    let text = str::from_utf8(bytes).unwrap_or("no UTF-8");
-    if text == wanted {
-        return Ok(());
-    }
-    Err(Fail::new(format_args!("printed {text:?}, and not {wanted:?}")))
 }

@@ -5,7 +5,7 @@ ghost use Rattle.registry_tables.specs.Effects.{InForm};
 
 use super::call::made;
 use super::text::{bool_text, granted_text, standing_text, word_text};
-use registry_access::{Caller, Grant};
+use registry_access::{Ask, Caller, Grant};
 use registry_names::{Fault, Ident, Name};
 use registry_rules::Change;
 use registry_tables::{
@@ -225,7 +225,7 @@ fn standing_of<S: Alter>(
     ensures same_reference { tx.new.conn.ghost_name ≡ tx.old.conn.ghost_name }
     ensures in_form { OnOk result (InForm S.Store tx.new) }
 {
-    let standing = load_standing(alloc, tx, caller, name)?;
+    let standing = load_standing(alloc, tx, caller, name, &Ask::Write(name))?;
     Ok(standing_text(rt, alloc, &standing))
 }
 

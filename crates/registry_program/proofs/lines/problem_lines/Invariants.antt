@@ -1,8 +1,0 @@
-use Rattle.std.proofs.Common.{◌≡◌, map, take}
-use Rattle.std.specs.Prelude.{string_bytes}
-use Rattle.registry_program.specs.Lines.{problem_line}
-use Rattle.registry_program.proofs.lines.problem_lines.Given as goal
-
--- the lines so far are those of the problems so far
-abbrev pub invariant-loop-problem : goal.invariant-loop-problem
-invariant-loop-problem l = map string_bytes l.lines.items ≡ map problem_line (take l.problem-index l.problems)

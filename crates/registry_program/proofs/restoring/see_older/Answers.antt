@@ -1,8 +1,0 @@
-use Rattle.std.proofs.Common.{rules}
-use Rattle.registry_program.proofs.CopyFacts.{same_seen}
-use Rattle.registry_program.proofs.restoring.see_older.Goals as goal
-
-pub returns-in-Ok : goal.returns-in-Ok
-returns-in-Ok g c = record {
-  seen = λ clean. same_seen {g = g.D.Disk} c.args.conn c.in-Ok.files c.args.checks _ (search rules) (search rules) (search rules) (c.in-Ok.ensures.copied clean);
-}
