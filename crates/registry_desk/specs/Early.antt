@@ -15,6 +15,7 @@ use Rattle.registry_access.specs.Standings.{position_of}
 use Rattle.registry_access.specs.declared.ask.Ask.{Ask}
 use Rattle.registry_access.specs.declared.ask.Ask.TheVariants.{Operate, OrgMembers, OrgTeams, Publish as ToPublish, Write, Owners, Read, OrgRead}
 use Rattle.registry_access.specs.declared.caller.Caller.{Caller}
+use Rattle.registry_access.specs.declared.role.Role.{Role}
 use Rattle.registry_access.specs.declared.rows.AccessRows.{AccessRows}
 use Rattle.registry_access.specs.declared.standing.Standing.{Standing}
 use Rattle.registry_rules.specs.Facts.{AboutTells}
@@ -53,6 +54,11 @@ early_refusal S now who _ = None
 abbrev pub FoundTells : Found → State → ℕ → Caller → Action → Type 0
 FoundTells (found.Refused why) S now who what = early_refusal S now who what ≡ Some why
 FoundTells (found.About about) S now who what = (early_refusal S now who what ≡ None) × AboutTells about S who what
+
+-- what was found of a user and an organisation says both what decides their role there and whether
+-- they leave
+abbrev pub TellsOfMember : Found → State → ℕ → Caller → Text → Text → Type 0
+TellsOfMember found S now who o u = ((role : Role) → FoundTells found S now who (OrgSet o u role)) × FoundTells found S now who (OrgRemove o u)
 
 -- what was found of an action that isn't refused early decides it in some state in which everybody
 -- has the same rights

@@ -14,11 +14,13 @@ use Rattle.registry_packument.specs.declared.times.PackTimes.{PackTimes}
 use Rattle.registry_publish.specs.Form.{FormParts}
 use Rattle.registry_rules.specs.Actions.{is_command, version_of}
 use Rattle.registry_rules.specs.Callers.{caller_of}
+use Rattle.registry_rules.specs.Facts.{AboutTells}
 use Rattle.registry_rules.specs.Refusals.{is_scope}
 use Rattle.registry_rules.specs.State.{State, Release, has_grant, has_live, has_maintainer, has_other_maintainer, has_other_owner, has_team, has_user, is_in_team, is_live, is_member, is_own, is_published, is_spent, stands, tokens_of}
 use Rattle.registry_rules.specs.Withdrawals.{last_withdrawal, live_versions}
+use Rattle.registry_rules.specs.declared.facts.About.{About}
 use Rattle.registry_rules.specs.declared.request.Action.{Action}
-use Rattle.registry_rules.specs.declared.request.Action.TheVariants.{TokensRemove, Deprecate, VersionDoc, Archive, Tags, Members, Teams, TeamMembers, TeamPackages, Withdraw, WithdrawAll, WhoAmI, Maintainers, OrgPackages, MyPackages, Users, Organisations, Packages}
+use Rattle.registry_rules.specs.declared.request.Action.TheVariants.{TeamCreate, TeamDestroy, TeamAdd, TeamRemove, Grant as ToGrant, Revoke, TokensRemove, Deprecate, VersionDoc, Archive, Tags, Members, Teams, TeamMembers, TeamPackages, Withdraw, WithdrawAll, WhoAmI, Maintainers, OrgPackages, MyPackages, Users, Organisations, Packages}
 use Rattle.registry_rules.specs.declared.request.Request.{Request}
 use Rattle.registry_tables.specs.Contents.{Contents, registry_of}
 use Rattle.registry_tables.specs.Needs.{HoldsNeeds}
@@ -113,6 +115,18 @@ pub record AreTaken (taken : Taken) (S : State) (f : FormParts) : Type 0 where
   pub latest_stands : taken.latest_stands ≡ stands S f.name latest
   pub lives : taken.lives ≡ has_live S f.name
   pub last_withdrawal : taken.last_withdrawal ≡ last_withdrawal S f.name
+
+-- ---- facts that decide each action about one subject
+
+abbrev pub TellsOfTeam : About → State → Caller → Text → Text → Type 0
+TellsOfTeam about S who o t =
+    AboutTells about S who (TeamCreate o t) × (AboutTells about S who (TeamDestroy o t) × (AboutTells about S who (TeamMembers o t) × AboutTells about S who (TeamPackages o t)))
+
+abbrev pub TellsOfTeamMember : About → State → Caller → Text → Text → Text → Type 0
+TellsOfTeamMember about S who o t u = AboutTells about S who (TeamAdd o t u) × AboutTells about S who (TeamRemove o t u)
+
+abbrev pub TellsOfGrant : About → State → Caller → Text → Text → Text → Type 0
+TellsOfGrant about S who o t p = ((grant : Grant) → AboutTells about S who (ToGrant o t p grant)) × AboutTells about S who (Revoke o t p)
 
 -- it says whether the user is there, and whether they are a maintainer already
 pub record IsNewcomer (newcomer : Newcomer) (S : State) (p u : Text) : Type 0 where

@@ -6,10 +6,10 @@ ghost use Rattle.registry_tables.specs.Teams.{AreTeamsSound};
 ghost use Rattle.registry_desk.specs.Early.{IsFound};
 ghost use Rattle.registry_desk.specs.Sending.{IsAnyPackument};
 
-use crate::grants::{facts_for_grant, facts_for_revoke};
+use crate::grants::facts_about_grant;
 use crate::maintainers::{facts_for_owner_add, facts_for_owner_remove};
 use crate::organisations::{
-    facts_about_organisation, facts_for_org_create, facts_for_org_remove, facts_for_org_set,
+    facts_about_member, facts_about_organisation, facts_for_org_create,
 };
 use crate::packages::{
     facts_about_archive, facts_about_document, facts_about_package, facts_for_maintainers,
@@ -20,10 +20,7 @@ use crate::people::{
     facts_of_caller,
 };
 use crate::policy::Found;
-use crate::teams::{
-    facts_about_team, facts_for_team_add, facts_for_team_create, facts_for_team_destroy,
-    facts_for_team_remove,
-};
+use crate::teams::{facts_about_team, facts_about_team_member};
 use crate::withdrawals::{facts_for_deprecate, facts_for_withdraw, facts_for_withdraw_all};
 use registry_access::Caller;
 use registry_names::Fault;
@@ -64,37 +61,37 @@ pub(crate) fn load_facts<S: Alter>(
             organisation,
             user,
             ..
-        } => facts_for_org_set(alloc, tx, caller, organisation, user),
+        } => facts_about_member(alloc, tx, caller, organisation, user),
         Action::OrgRemove { organisation, user } => {
-            facts_for_org_remove(alloc, tx, caller, organisation, user)
+            facts_about_member(alloc, tx, caller, organisation, user)
         }
         Action::TeamCreate { organisation, team } => {
-            facts_for_team_create(alloc, tx, caller, organisation, team).map(Found::About)
+            facts_about_team(alloc, tx, caller, organisation, team).map(Found::About)
         }
         Action::TeamDestroy { organisation, team } => {
-            facts_for_team_destroy(alloc, tx, caller, organisation, team).map(Found::About)
+            facts_about_team(alloc, tx, caller, organisation, team).map(Found::About)
         }
         Action::TeamAdd {
             organisation,
             team,
             user,
-        } => facts_for_team_add(alloc, tx, caller, organisation, team, user).map(Found::About),
+        } => facts_about_team_member(alloc, tx, caller, organisation, team, user).map(Found::About),
         Action::TeamRemove {
             organisation,
             team,
             user,
-        } => facts_for_team_remove(alloc, tx, caller, organisation, team, user).map(Found::About),
+        } => facts_about_team_member(alloc, tx, caller, organisation, team, user).map(Found::About),
         Action::Grant {
             organisation,
             team,
             package,
             ..
-        } => facts_for_grant(alloc, tx, caller, organisation, team, package).map(Found::About),
+        } => facts_about_grant(alloc, tx, caller, organisation, team, package).map(Found::About),
         Action::Revoke {
             organisation,
             team,
             package,
-        } => facts_for_revoke(alloc, tx, caller, organisation, team, package).map(Found::About),
+        } => facts_about_grant(alloc, tx, caller, organisation, team, package).map(Found::About),
         Action::SetAccess { package, .. } => {
             facts_for_set_access(alloc, tx, caller, package).map(Found::About)
         }

@@ -1,12 +1,9 @@
 //! What decides an action about what a team is granted on a package.
 
-ghost use Rattle.registry_access.specs.declared.grant.Grant.{Grant};
 ghost use Rattle.registry_rows.specs.Frames.{Stays};
 ghost use Rattle.registry_tables.specs.Contents.{registry_of};
 ghost use Rattle.registry_tables.specs.Effects.{InForm, Loads};
-ghost use Rattle.registry_desk.specs.Found.{IsGrantable};
-ghost use Rattle.registry_rules.specs.Facts.{AboutTells};
-ghost use Rattle.registry_rules.specs.declared.request.Action.TheVariants as asked;
+ghost use Rattle.registry_desk.specs.Found.{IsGrantable, TellsOfGrant};
 
 use registry_access::Caller;
 use registry_names::{Fault, Ident, Name};
@@ -15,8 +12,8 @@ use registry_tables::{has_grant, has_team, load_access, load_status};
 use sqlite::{Alter, Transaction};
 use std::alloc::Global;
 
-/// Loads what decides whether a team is granted a package.
-pub(crate) fn facts_for_grant<S: Alter>(
+/// Loads what decides whether a team is granted a package, or a grant is taken back.
+pub(crate) fn facts_about_grant<S: Alter>(
     alloc: Global,
     tx: &mut Transaction<'_, S>,
     caller: &Caller,
@@ -26,9 +23,8 @@ pub(crate) fn facts_for_grant<S: Alter>(
 ) -> Result<About, Fault>
     requires in_form { InForm S.Store tx.old }
     ensures stays { Stays S.Store tx.old tx.new }
-    ensures loads { Loads S.Store tx.old tx.new result (λ about c. (grant : Grant)
-        → AboutTells about (registry_of c) caller.now
-        (asked.Grant organisation.now team.now name.now grant)) }
+    ensures loads { Loads S.Store tx.old tx.new result (λ about c. TellsOfGrant about
+        (registry_of c) caller.now organisation.now team.now name.now) }
 {
     let rows = load_access(alloc, tx, caller, organisation.text())?;
     let grantable = find_grantable(tx, organisation.text(), team.text(), name)?;
@@ -63,25 +59,5 @@ fn find_grantable<S: Alter>(
         team_exists: has_team(tx, organisation, team)?,
         is_published: load_status(tx, name)?.is_some(),
         stands: has_grant(tx, organisation, team, name)?,
-    })
-}
-
-/// Loads what decides whether a grant is taken back.
-pub(crate) fn facts_for_revoke<S: Alter>(
-    alloc: Global,
-    tx: &mut Transaction<'_, S>,
-    caller: &Caller,
-    organisation: &Ident,
-    team: &Ident,
-    name: &Name,
-) -> Result<About, Fault>
-    requires in_form { InForm S.Store tx.old }
-    ensures stays { Stays S.Store tx.old tx.new }
-    ensures loads { Loads S.Store tx.old tx.new result (λ about c. AboutTells about
-        (registry_of c) caller.now (asked.Revoke organisation.now team.now name.now)) }
-{
-    Ok(About::Revoke {
-        rows: load_access(alloc, tx, caller, organisation.text())?,
-        stands: has_grant(tx, organisation.text(), team.text(), name)?,
     })
 }

@@ -1,13 +1,12 @@
 //! What decides an action about organisations and their members.
 
 ghost use Rattle.registry_access.specs.declared.caller.Caller.{Caller};
-ghost use Rattle.registry_access.specs.declared.role.Role.{Role as Rank};
 ghost use Rattle.registry_rows.specs.Frames.{Stays};
 ghost use Rattle.registry_tables.specs.Contents.{registry_of};
 ghost use Rattle.registry_tables.specs.Effects.{InForm, Loads};
 ghost use Rattle.registry_desk.specs.Found.{IsCandidate};
 ghost use Rattle.registry_rules.specs.Facts.{AboutTells};
-ghost use Rattle.registry_desk.specs.Early.{FoundTells};
+ghost use Rattle.registry_desk.specs.Early.{TellsOfMember};
 ghost use Rattle.std.specs.Prelude.{ℕ};
 ghost use Rattle.registry_rules.specs.declared.request.Action.TheVariants as asked;
 
@@ -36,8 +35,9 @@ pub(crate) fn facts_for_org_create<S: Alter>(
     })
 }
 
-/// Loads what decides whether a user gets a role in an organisation, if the policy allows it.
-pub(crate) fn facts_for_org_set<S: Alter>(
+/// Loads what decides whether a user gets a role in an organisation, or leaves it, if the policy
+/// allows it.
+pub(crate) fn facts_about_member<S: Alter>(
     alloc: Global,
     tx: &mut Transaction<'_, S>,
     caller: &Caller,
@@ -46,9 +46,8 @@ pub(crate) fn facts_for_org_set<S: Alter>(
 ) -> Result<Found, Fault>
     requires in_form { InForm S.Store tx.old }
     ensures stays { Stays S.Store tx.old tx.new }
-    ensures loads { Loads S.Store tx.old tx.new result (λ found c. (role : Rank) (at : ℕ)
-        → FoundTells found (registry_of c) at caller.now
-        (asked.OrgSet organisation.now user.now role)) }
+    ensures loads { Loads S.Store tx.old tx.new result (λ found c. (at : ℕ)
+        → TellsOfMember found (registry_of c) at caller.now organisation.now user.now) }
 {
     let ask = Ask::OrgMembers(organisation);
     let rows = match rows_if_allowed(alloc, tx, caller, organisation, &ask)? {
@@ -56,7 +55,7 @@ pub(crate) fn facts_for_org_set<S: Alter>(
         Err(refusal) => return Ok(Found::Refused(refusal)),
     };
     let candidate = find_candidate(alloc, tx, organisation.text(), user.text())?;
-    Ok(Found::About(About::OrgSet {
+    Ok(Found::About(About::Member {
         rows,
         user_exists: candidate.user_exists,
         role: candidate.role,
@@ -64,7 +63,7 @@ pub(crate) fn facts_for_org_set<S: Alter>(
     }))
 }
 
-// What is asked of a user who is to have a role in an organisation.
+// What a user is in an organisation.
 #[derive(Drop)]
 struct Candidate {
     user_exists: bool,
@@ -88,34 +87,6 @@ fn find_candidate<S: Alter>(
         role: load_role(tx, organisation, user)?,
         other_owner: has_other_owner(alloc, tx, organisation, user)?,
     })
-}
-
-/// Loads what decides whether a member is removed from an organisation, if the policy allows it.
-pub(crate) fn facts_for_org_remove<S: Alter>(
-    alloc: Global,
-    tx: &mut Transaction<'_, S>,
-    caller: &Caller,
-    organisation: &Ident,
-    user: &Ident,
-) -> Result<Found, Fault>
-    requires in_form { InForm S.Store tx.old }
-    ensures stays { Stays S.Store tx.old tx.new }
-    ensures loads { Loads S.Store tx.old tx.new result (λ found c. (at : ℕ)
-        → FoundTells found (registry_of c) at caller.now
-        (asked.OrgRemove organisation.now user.now)) }
-{
-    let ask = Ask::OrgMembers(organisation);
-    let rows = match rows_if_allowed(alloc, tx, caller, organisation, &ask)? {
-        Ok(rows) => rows,
-        Err(refusal) => return Ok(Found::Refused(refusal)),
-    };
-    let role = load_role(tx, organisation.text(), user.text())?;
-    let other_owner = has_other_owner(alloc, tx, organisation.text(), user.text())?;
-    Ok(Found::About(About::OrgRemove {
-        rows,
-        role,
-        other_owner,
-    }))
 }
 
 /// Loads what decides a query about an organisation.

@@ -38,7 +38,7 @@ pub(crate) fn facts_for_set_access<S: Alter>(
         → AreTeamsSound c
         → AboutTells about (registry_of c) caller.now (asked.SetAccess name.now status)) }
 {
-    Ok(About::SetAccess {
+    Ok(About::Rights {
         standing: load_standing(alloc, tx, caller, name, &Ask::Write(name))?,
     })
 }
@@ -55,7 +55,7 @@ pub(crate) fn facts_for_maintainers<S: Alter>(
     ensures loads { Loads S.Store tx.old tx.new result (λ about c. AreTeamsSound c
         → AboutTells about (registry_of c) caller.now (asked.Maintainers name.now)) }
 {
-    Ok(About::Maintainers {
+    Ok(About::Rights {
         standing: load_standing(alloc, tx, caller, name, &Ask::Read(name))?,
     })
 }

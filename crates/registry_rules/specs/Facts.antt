@@ -39,27 +39,19 @@ pub record ArePublishFacts (facts : PublishFacts) (S : State) (who : Caller) (f 
 abbrev pub SayOf : AccessRows → State → Caller → Text → Type 0
 SayOf rows S who o = SameOrganisation (state_of rows) S.access who o
 
-pub record AreOrgSetFacts (rows : AccessRows) (exists : Bool) (old : Option Role) (other : Bool) (S : State) (who : Caller) (o u : Text) : Type 0 where
+-- of a user and an organisation
+pub record AreMemberFacts (rows : AccessRows) (exists : Bool) (old : Option Role) (other : Bool) (S : State) (who : Caller) (o u : Text) : Type 0 where
   pub rows_say : SayOf rows S who o
   pub user_exists : exists ≡ has_user S u
   pub role : old ≡ at S.access.roles (o, u)
   pub other_owner : other ≡ has_other_owner S o u
 
-pub record AreOrgRemoveFacts (rows : AccessRows) (old : Option Role) (other : Bool) (S : State) (who : Caller) (o u : Text) : Type 0 where
-  pub rows_say : SayOf rows S who o
-  pub role : old ≡ at S.access.roles (o, u)
-  pub other_owner : other ≡ has_other_owner S o u
-
-pub record AreTeamAddFacts (rows : AccessRows) (there member already : Bool) (S : State) (who : Caller) (o t u : Text) : Type 0 where
+-- of a user and a team
+pub record AreTeamMemberFacts (rows : AccessRows) (there member already : Bool) (S : State) (who : Caller) (o t u : Text) : Type 0 where
   pub rows_say : SayOf rows S who o
   pub team_exists : there ≡ has_team S o t
   pub is_member : member ≡ is_member S o u
   pub is_in_team : already ≡ is_in_team S o t u
-
-pub record AreTeamRemoveFacts (rows : AccessRows) (there inside : Bool) (S : State) (who : Caller) (o t u : Text) : Type 0 where
-  pub rows_say : SayOf rows S who o
-  pub team_exists : there ≡ has_team S o t
-  pub is_in_team : inside ≡ is_in_team S o t u
 
 pub record AreGrantFacts (rows : AccessRows) (there published stood : Bool) (S : State) (who : Caller) (o t p : Text) : Type 0 where
   pub rows_say : SayOf rows S who o
@@ -107,15 +99,15 @@ AboutTells (about.TokenAdd user_exists exists) S who (TokenAdd u digest) = (user
 AboutTells (about.TokenRemove user) S who (TokenRemove digest) = user ≡ at S.access.tokens digest
 AboutTells (about.TokensRemove user_exists digests) S who (TokensRemove u) = (user_exists ≡ has_user S u) × (digests.items ≡ tokens_of S u)
 AboutTells (about.OrgCreate owner_exists exists) S who (OrgCreate o u) = (owner_exists ≡ has_user S u) × (exists ≡ has_organisation S.access o)
-AboutTells (about.OrgSet rows user_exists role other_owner) S who (OrgSet o u new) = AreOrgSetFacts rows user_exists role other_owner S who o u
-AboutTells (about.OrgRemove rows role other_owner) S who (OrgRemove o u) = AreOrgRemoveFacts rows role other_owner S who o u
-AboutTells (about.TeamCreate rows exists) S who (TeamCreate o t) = SayOf rows S who o × (exists ≡ has_team S o t)
-AboutTells (about.TeamDestroy rows exists) S who (TeamDestroy o t) = SayOf rows S who o × (exists ≡ has_team S o t)
-AboutTells (about.TeamAdd rows team_exists member already) S who (TeamAdd o t u) = AreTeamAddFacts rows team_exists member already S who o t u
-AboutTells (about.TeamRemove rows team_exists inside) S who (TeamRemove o t u) = AreTeamRemoveFacts rows team_exists inside S who o t u
+AboutTells (about.Member rows user_exists role other_owner) S who (OrgSet o u new) = AreMemberFacts rows user_exists role other_owner S who o u
+AboutTells (about.Member rows user_exists role other_owner) S who (OrgRemove o u) = AreMemberFacts rows user_exists role other_owner S who o u
+AboutTells (about.Team rows exists) S who (TeamCreate o t) = SayOf rows S who o × (exists ≡ has_team S o t)
+AboutTells (about.Team rows exists) S who (TeamDestroy o t) = SayOf rows S who o × (exists ≡ has_team S o t)
+AboutTells (about.TeamMember rows team_exists member already) S who (TeamAdd o t u) = AreTeamMemberFacts rows team_exists member already S who o t u
+AboutTells (about.TeamMember rows team_exists member already) S who (TeamRemove o t u) = AreTeamMemberFacts rows team_exists member already S who o t u
 AboutTells (about.Grant rows team_exists published stood) S who (Grant o t p grant) = AreGrantFacts rows team_exists published stood S who o t p
-AboutTells (about.Revoke rows stood) S who (Revoke o t p) = SayOf rows S who o × (stood ≡ has_grant S o t p)
-AboutTells (about.SetAccess standing) S who (SetAccess p status) = StandingTells standing S.access who p
+AboutTells (about.Grant rows team_exists published stood) S who (Revoke o t p) = AreGrantFacts rows team_exists published stood S who o t p
+AboutTells (about.Rights standing) S who (SetAccess p status) = StandingTells standing S.access who p
 AboutTells (about.OwnerAdd standing user_exists already) S who (OwnerAdd p u) = AreOwnerAddFacts standing user_exists already S who p u
 AboutTells (about.OwnerRemove standing maintainer other) S who (OwnerRemove p u) = AreOwnerRemoveFacts standing maintainer other S who p u
 AboutTells (about.Publish facts) S who (Publish f) = ArePublishFacts facts S who f
@@ -135,7 +127,7 @@ AboutTells (about.Organisation rows) S who (Teams o) = SayOf rows S who o
 AboutTells (about.Organisation rows) S who (OrgPackages o) = SayOf rows S who o
 AboutTells (about.Team rows exists) S who (TeamMembers o t) = SayOf rows S who o × (exists ≡ has_team S o t)
 AboutTells (about.Team rows exists) S who (TeamPackages o t) = SayOf rows S who o × (exists ≡ has_team S o t)
-AboutTells (about.Maintainers standing) S who (Maintainers p) = TellsReader standing S.access who p
+AboutTells (about.Rights standing) S who (Maintainers p) = TellsReader standing S.access who p
 AboutTells about.Nothing S who WhoAmI = Unit {0}
 AboutTells about.Nothing S who MyPackages = Unit {0}
 AboutTells about.Nothing S who Users = Unit {0}

@@ -117,7 +117,7 @@ fn state_refusal(about: &About, action: &Action, now: &Moment) -> Option<Refusal
             Action::OrgCreate { .. },
         ) => { added_to_refusal(*owner_exists, *exists) }
         (
-            About::OrgSet {
+            About::Member {
                 user_exists,
                 role: old,
                 other_owner,
@@ -126,19 +126,19 @@ fn state_refusal(about: &About, action: &Action, now: &Moment) -> Option<Refusal
             Action::OrgSet { role, .. },
         ) => org_set_refusal(*user_exists, *old, *other_owner, *role),
         (
-            About::OrgRemove {
+            About::Member {
                 role,
                 other_owner,
                 ..
             },
             Action::OrgRemove { .. },
         ) => { org_remove_refusal(*role, *other_owner) }
-        (About::TeamCreate { exists, .. }, Action::TeamCreate { .. }) => unless_new(*exists),
-        (About::TeamDestroy { exists, .. }, Action::TeamDestroy { team, .. }) => {
+        (About::Team { exists, .. }, Action::TeamCreate { .. }) => unless_new(*exists),
+        (About::Team { exists, .. }, Action::TeamDestroy { team, .. }) => {
             team_destroy_refusal(*exists, team)
         }
         (
-            About::TeamAdd {
+            About::TeamMember {
                 team_exists,
                 is_member,
                 ..
@@ -146,7 +146,7 @@ fn state_refusal(about: &About, action: &Action, now: &Moment) -> Option<Refusal
             Action::TeamAdd { .. },
         ) => { unless_there(*team_exists && *is_member) }
         (
-            About::TeamRemove {
+            About::TeamMember {
                 team_exists,
                 is_in_team,
                 ..
@@ -157,7 +157,7 @@ fn state_refusal(about: &About, action: &Action, now: &Moment) -> Option<Refusal
             About::Organisation { .. },
             Action::Members { .. } | Action::Teams { .. } | Action::OrgPackages { .. },
         )
-        | (About::Maintainers { .. }, Action::Maintainers { .. })
+        | (About::Rights { .. }, Action::Maintainers { .. })
         | (
             About::Nothing,
             Action::WhoAmI
@@ -181,8 +181,8 @@ fn state_refusal(about: &About, action: &Action, now: &Moment) -> Option<Refusal
                 ..
             },
         ) => grant_refusal(*team_exists, *is_published, organisation, package),
-        (About::Revoke { stands, .. }, Action::Revoke { .. }) => unless_there(*stands),
-        (About::SetAccess { .. }, Action::SetAccess { package, status }) => {
+        (About::Grant { stands, .. }, Action::Revoke { .. }) => unless_there(*stands),
+        (About::Rights { .. }, Action::SetAccess { package, status }) => {
             status_refusal(Some(*status), package)
         }
         (About::OwnerAdd { user_exists, .. }, Action::OwnerAdd { .. }) => {
@@ -285,27 +285,27 @@ fn changes<'a>(
             },
         ) => { creation(alloc, organisation, owner) }
         (
-            About::OrgSet { role: old, .. },
+            About::Member { role: old, .. },
             Action::OrgSet {
                 organisation,
                 user,
                 role,
             },
         ) => { membership(alloc, organisation, user, *role, *old) }
-        (About::OrgRemove { .. }, Action::OrgRemove { organisation, user }) => {
+        (About::Member { .. }, Action::OrgRemove { organisation, user }) => {
             let organisation = organisation.text();
             only(alloc, Change::DropMember { organisation, user })
         }
-        (About::TeamCreate { .. }, Action::TeamCreate { organisation, team }) => {
+        (About::Team { .. }, Action::TeamCreate { organisation, team }) => {
             let (organisation, team) = (organisation.text(), team.text());
             only(alloc, Change::AddTeam { organisation, team })
         }
-        (About::TeamDestroy { .. }, Action::TeamDestroy { organisation, team }) => {
+        (About::Team { .. }, Action::TeamDestroy { organisation, team }) => {
             let (organisation, team) = (organisation.text(), team.text());
             only(alloc, Change::DropTeam { organisation, team })
         }
         (
-            About::TeamAdd { is_in_team, .. },
+            About::TeamMember { is_in_team, .. },
             Action::TeamAdd {
                 organisation,
                 team,
@@ -313,7 +313,7 @@ fn changes<'a>(
             },
         ) => { team_joined(alloc, organisation, team, user, *is_in_team) }
         (
-            About::TeamRemove { .. },
+            About::TeamMember { .. },
             Action::TeamRemove {
                 organisation,
                 team,
@@ -349,7 +349,7 @@ fn changes<'a>(
             only(alloc, change)
         }
         (
-            About::Revoke { .. },
+            About::Grant { .. },
             Action::Revoke {
                 organisation,
                 team,
@@ -366,7 +366,7 @@ fn changes<'a>(
                 },
             )
         }
-        (About::SetAccess { standing }, Action::SetAccess { package, status }) => {
+        (About::Rights { standing }, Action::SetAccess { package, status }) => {
             let change = Change::PutStatus {
                 package,
                 status: *status,

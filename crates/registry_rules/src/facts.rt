@@ -58,8 +58,8 @@ pub enum About {
         /// Whether the organisation is there already.
         exists: bool,
     },
-    /// Of a role that a user is to have in an organisation.
-    OrgSet {
+    /// Of an organisation, and a user who is a member of it, or is to be one.
+    Member {
         /// The organisation, and the caller in it.
         rows: AccessRows,
         /// Whether the user is there.
@@ -69,50 +69,25 @@ pub enum About {
         /// Whether another member of it is an owner.
         other_owner: bool,
     },
-    /// Of a member who is to be removed from an organisation.
-    OrgRemove {
-        /// The organisation, and the caller in it.
-        rows: AccessRows,
-        /// What the user is in it, if they are a member of it.
-        role: Option<Role>,
-        /// Whether another member of it is an owner.
-        other_owner: bool,
-    },
-    /// Of a team that is to be created.
-    TeamCreate {
-        /// The organisation, and the caller in it.
-        rows: AccessRows,
-        /// Whether the team is there already.
-        exists: bool,
-    },
-    /// Of a team that is to be destroyed.
-    TeamDestroy {
+    /// Of a team.
+    Team {
         /// The organisation, and the caller in it.
         rows: AccessRows,
         /// Whether the team is there.
         exists: bool,
     },
-    /// Of a member who is to be put into a team.
-    TeamAdd {
+    /// Of a team, and a user who is in it, or is to be.
+    TeamMember {
         /// The organisation, and the caller in it.
         rows: AccessRows,
         /// Whether the team is there.
         team_exists: bool,
         /// Whether the user is a member of the organisation.
         is_member: bool,
-        /// Whether they are in the team already.
+        /// Whether they are in the team.
         is_in_team: bool,
     },
-    /// Of a member who is to be taken out of a team.
-    TeamRemove {
-        /// The organisation, and the caller in it.
-        rows: AccessRows,
-        /// Whether the team is there.
-        team_exists: bool,
-        /// Whether the user is in the team.
-        is_in_team: bool,
-    },
-    /// Of a grant that is to be given.
+    /// Of what a team is granted on a package, or is to be.
     Grant {
         /// The organisation, and the caller in it.
         rows: AccessRows,
@@ -120,18 +95,11 @@ pub enum About {
         team_exists: bool,
         /// Whether the package was ever published.
         is_published: bool,
-        /// Whether the team is granted something on it already.
+        /// Whether the team is granted something on it.
         stands: bool,
     },
-    /// Of a grant that is to be revoked.
-    Revoke {
-        /// The organisation, and the caller in it.
-        rows: AccessRows,
-        /// Whether the team is granted something on the package.
-        stands: bool,
-    },
-    /// Of a status that is to be set.
-    SetAccess {
+    /// Of a package, where the rights of the caller alone decide.
+    Rights {
         /// The caller and the package.
         standing: Standing,
     },
@@ -152,13 +120,6 @@ pub enum About {
         is_maintainer: bool,
         /// Whether another user is.
         other_maintainer: bool,
-    },
-    /// Of a query about a team.
-    Team {
-        /// The organisation, and the caller in it.
-        rows: AccessRows,
-        /// Whether the team is there.
-        exists: bool,
     },
     /// Of a query about an organisation.
     Organisation {
@@ -223,11 +184,6 @@ pub enum About {
         standing: Standing,
         /// Whether it lives.
         lives: bool,
-    },
-    /// Of a query for the maintainers of a package.
-    Maintainers {
-        /// The caller and the package.
-        standing: Standing,
     },
     /// Of a query about a package.
     Package {

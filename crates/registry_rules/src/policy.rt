@@ -38,28 +38,28 @@ pub(crate) fn permission(caller: &Caller, about: &About, action: &Action) -> Res
         ) => may_operate(caller),
         (_, Action::WhoAmI | Action::MyPackages) => may_be_named(caller),
         (About::TokenRemove { user }, Action::TokenRemove { .. }) => may_end_token(caller, user),
-        (About::OrgSet { rows, .. }, Action::OrgSet { organisation, .. }) => {
+        (About::Member { rows, .. }, Action::OrgSet { organisation, .. }) => {
             may_manage_members(rows, caller, organisation)
         }
-        (About::OrgRemove { rows, .. }, Action::OrgRemove { organisation, .. }) => {
+        (About::Member { rows, .. }, Action::OrgRemove { organisation, .. }) => {
             may_manage_members(rows, caller, organisation)
         }
-        (About::TeamCreate { rows, .. }, Action::TeamCreate { organisation, .. }) => {
+        (About::Team { rows, .. }, Action::TeamCreate { organisation, .. }) => {
             may_manage_teams(rows, caller, organisation)
         }
-        (About::TeamDestroy { rows, .. }, Action::TeamDestroy { organisation, .. }) => {
+        (About::Team { rows, .. }, Action::TeamDestroy { organisation, .. }) => {
             may_manage_teams(rows, caller, organisation)
         }
-        (About::TeamAdd { rows, .. }, Action::TeamAdd { organisation, .. }) => {
+        (About::TeamMember { rows, .. }, Action::TeamAdd { organisation, .. }) => {
             may_manage_teams(rows, caller, organisation)
         }
-        (About::TeamRemove { rows, .. }, Action::TeamRemove { organisation, .. }) => {
+        (About::TeamMember { rows, .. }, Action::TeamRemove { organisation, .. }) => {
             may_manage_teams(rows, caller, organisation)
         }
         (About::Grant { rows, .. }, Action::Grant { organisation, .. }) => {
             may_manage_teams(rows, caller, organisation)
         }
-        (About::Revoke { rows, .. }, Action::Revoke { organisation, .. }) => {
+        (About::Grant { rows, .. }, Action::Revoke { organisation, .. }) => {
             may_manage_teams(rows, caller, organisation)
         }
         (About::Organisation { rows }, Action::Members { organisation }) => {
@@ -77,7 +77,7 @@ pub(crate) fn permission(caller: &Caller, about: &About, action: &Action) -> Res
         (About::Team { rows, .. }, Action::TeamPackages { organisation, .. }) => {
             may_see_organisation(rows, caller, organisation)
         }
-        (About::SetAccess { standing }, Action::SetAccess { package, .. }) => {
+        (About::Rights { standing }, Action::SetAccess { package, .. }) => {
             may_write(standing, caller, package)
         }
         (About::OwnerAdd { standing, .. }, Action::OwnerAdd { package, .. }) => {
@@ -122,7 +122,7 @@ pub(crate) fn permission(caller: &Caller, about: &About, action: &Action) -> Res
         (About::Package { standing, .. }, Action::Tags { package }) => {
             may_read(standing, caller, package)
         }
-        (About::Maintainers { standing }, Action::Maintainers { package }) => {
+        (About::Rights { standing }, Action::Maintainers { package }) => {
             may_read(standing, caller, package)
         }
         _ => Err(Refusal::NotFound),

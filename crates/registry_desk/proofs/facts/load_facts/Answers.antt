@@ -31,35 +31,35 @@ returns-in-OrgCreate-clause-loads g c clean =
 
 pub returns-in-OrgSet-clause-loads : goal.returns-in-OrgSet-clause-loads
 returns-in-OrgSet-clause-loads g c clean =
-    found_so (Reads schema (shown g.S.Store c.args.tx.now) (shown g.S.Store c.facts_for_org_set.new.tx)) (stored_in g.S.Store c.args.tx.now) c.args.request.now.at c.args.caller.now c.args.request.now.what (asked.OrgSet c.in-OrgSet.organisation c.in-OrgSet.user c.in-OrgSet.role) c.facts_for_org_set.result c.in-OrgSet.is (λ y told sound. told c.in-OrgSet.role c.args.request.now.at) (c.facts_for_org_set.ensures.loads clean)
+    found_so (Reads schema (shown g.S.Store c.args.tx.now) (shown g.S.Store c.facts_about_member.new.tx)) (stored_in g.S.Store c.args.tx.now) c.args.request.now.at c.args.caller.now c.args.request.now.what (asked.OrgSet c.in-OrgSet.organisation c.in-OrgSet.user c.in-OrgSet.role) c.facts_about_member.result c.in-OrgSet.is (λ y told sound. (told c.args.request.now.at).0 c.in-OrgSet.role) (c.facts_about_member.ensures.loads clean)
 
 pub returns-in-OrgRemove-clause-loads : goal.returns-in-OrgRemove-clause-loads
 returns-in-OrgRemove-clause-loads g c clean =
-    found_so (Reads schema (shown g.S.Store c.args.tx.now) (shown g.S.Store c.facts_for_org_remove.new.tx)) (stored_in g.S.Store c.args.tx.now) c.args.request.now.at c.args.caller.now c.args.request.now.what (asked.OrgRemove c.in-OrgRemove.organisation c.in-OrgRemove.user) c.facts_for_org_remove.result c.in-OrgRemove.is (λ y told sound. told c.args.request.now.at) (c.facts_for_org_remove.ensures.loads clean)
+    found_so (Reads schema (shown g.S.Store c.args.tx.now) (shown g.S.Store c.facts_about_member-in-OrgRemove.new.tx)) (stored_in g.S.Store c.args.tx.now) c.args.request.now.at c.args.caller.now c.args.request.now.what (asked.OrgRemove c.in-OrgRemove.organisation c.in-OrgRemove.user) c.facts_about_member-in-OrgRemove.result c.in-OrgRemove.is (λ y told sound. (told c.args.request.now.at).1) (c.facts_about_member-in-OrgRemove.ensures.loads clean)
 
 pub returns-in-TeamCreate-clause-loads : goal.returns-in-TeamCreate-clause-loads
 returns-in-TeamCreate-clause-loads g c clean =
-    found_about (Reads schema (shown g.S.Store c.args.tx.now) (shown g.S.Store c.facts_for_team_create.new.tx)) (stored_in g.S.Store c.args.tx.now) c.args.request.now.at c.args.caller.now c.args.request.now.what (asked.TeamCreate c.in-TeamCreate.organisation c.in-TeamCreate.team) c.facts_for_team_create.result c.map-in-TeamCreate.result c.in-TeamCreate.is refl c.map-in-TeamCreate.ensures.cases (λ x told sound. told) (c.facts_for_team_create.ensures.loads clean)
+    found_about (Reads schema (shown g.S.Store c.args.tx.now) (shown g.S.Store c.facts_about_team.new.tx)) (stored_in g.S.Store c.args.tx.now) c.args.request.now.at c.args.caller.now c.args.request.now.what (asked.TeamCreate c.in-TeamCreate.organisation c.in-TeamCreate.team) c.facts_about_team.result c.map-in-TeamCreate.result c.in-TeamCreate.is refl c.map-in-TeamCreate.ensures.cases (λ x told sound. told.0) (c.facts_about_team.ensures.loads clean)
 
 pub returns-in-TeamDestroy-clause-loads : goal.returns-in-TeamDestroy-clause-loads
 returns-in-TeamDestroy-clause-loads g c clean =
-    found_about (Reads schema (shown g.S.Store c.args.tx.now) (shown g.S.Store c.facts_for_team_destroy.new.tx)) (stored_in g.S.Store c.args.tx.now) c.args.request.now.at c.args.caller.now c.args.request.now.what (asked.TeamDestroy c.in-TeamDestroy.organisation c.in-TeamDestroy.team) c.facts_for_team_destroy.result c.map-in-TeamDestroy.result c.in-TeamDestroy.is refl c.map-in-TeamDestroy.ensures.cases (λ x told sound. told) (c.facts_for_team_destroy.ensures.loads clean)
+    found_about (Reads schema (shown g.S.Store c.args.tx.now) (shown g.S.Store c.facts_about_team-in-TeamDestroy.new.tx)) (stored_in g.S.Store c.args.tx.now) c.args.request.now.at c.args.caller.now c.args.request.now.what (asked.TeamDestroy c.in-TeamDestroy.organisation c.in-TeamDestroy.team) c.facts_about_team-in-TeamDestroy.result c.map-in-TeamDestroy.result c.in-TeamDestroy.is refl c.map-in-TeamDestroy.ensures.cases (λ x told sound. told.1.0) (c.facts_about_team-in-TeamDestroy.ensures.loads clean)
 
 pub returns-in-TeamAdd-clause-loads : goal.returns-in-TeamAdd-clause-loads
 returns-in-TeamAdd-clause-loads g c clean =
-    found_about (Reads schema (shown g.S.Store c.args.tx.now) (shown g.S.Store c.facts_for_team_add.new.tx)) (stored_in g.S.Store c.args.tx.now) c.args.request.now.at c.args.caller.now c.args.request.now.what (asked.TeamAdd c.in-TeamAdd.organisation c.in-TeamAdd.team c.in-TeamAdd.user) c.facts_for_team_add.result c.map-in-TeamAdd.result c.in-TeamAdd.is refl c.map-in-TeamAdd.ensures.cases (λ x told sound. told) (c.facts_for_team_add.ensures.loads clean)
+    found_about (Reads schema (shown g.S.Store c.args.tx.now) (shown g.S.Store c.facts_about_team_member.new.tx)) (stored_in g.S.Store c.args.tx.now) c.args.request.now.at c.args.caller.now c.args.request.now.what (asked.TeamAdd c.in-TeamAdd.organisation c.in-TeamAdd.team c.in-TeamAdd.user) c.facts_about_team_member.result c.map-in-TeamAdd.result c.in-TeamAdd.is refl c.map-in-TeamAdd.ensures.cases (λ x told sound. told.0) (c.facts_about_team_member.ensures.loads clean)
 
 pub returns-in-TeamRemove-clause-loads : goal.returns-in-TeamRemove-clause-loads
 returns-in-TeamRemove-clause-loads g c clean =
-    found_about (Reads schema (shown g.S.Store c.args.tx.now) (shown g.S.Store c.facts_for_team_remove.new.tx)) (stored_in g.S.Store c.args.tx.now) c.args.request.now.at c.args.caller.now c.args.request.now.what (asked.TeamRemove c.in-TeamRemove.organisation c.in-TeamRemove.team c.in-TeamRemove.user) c.facts_for_team_remove.result c.map-in-TeamRemove.result c.in-TeamRemove.is refl c.map-in-TeamRemove.ensures.cases (λ x told sound. told) (c.facts_for_team_remove.ensures.loads clean)
+    found_about (Reads schema (shown g.S.Store c.args.tx.now) (shown g.S.Store c.facts_about_team_member-in-TeamRemove.new.tx)) (stored_in g.S.Store c.args.tx.now) c.args.request.now.at c.args.caller.now c.args.request.now.what (asked.TeamRemove c.in-TeamRemove.organisation c.in-TeamRemove.team c.in-TeamRemove.user) c.facts_about_team_member-in-TeamRemove.result c.map-in-TeamRemove.result c.in-TeamRemove.is refl c.map-in-TeamRemove.ensures.cases (λ x told sound. told.1) (c.facts_about_team_member-in-TeamRemove.ensures.loads clean)
 
 pub returns-in-Grant-clause-loads : goal.returns-in-Grant-clause-loads
 returns-in-Grant-clause-loads g c clean =
-    found_about (Reads schema (shown g.S.Store c.args.tx.now) (shown g.S.Store c.facts_for_grant.new.tx)) (stored_in g.S.Store c.args.tx.now) c.args.request.now.at c.args.caller.now c.args.request.now.what (asked.Grant c.in-Grant.organisation c.in-Grant.team c.in-Grant.package c.in-Grant.grant) c.facts_for_grant.result c.map-in-Grant.result c.in-Grant.is refl c.map-in-Grant.ensures.cases (λ x told sound. told c.in-Grant.grant) (c.facts_for_grant.ensures.loads clean)
+    found_about (Reads schema (shown g.S.Store c.args.tx.now) (shown g.S.Store c.facts_about_grant.new.tx)) (stored_in g.S.Store c.args.tx.now) c.args.request.now.at c.args.caller.now c.args.request.now.what (asked.Grant c.in-Grant.organisation c.in-Grant.team c.in-Grant.package c.in-Grant.grant) c.facts_about_grant.result c.map-in-Grant.result c.in-Grant.is refl c.map-in-Grant.ensures.cases (λ x told sound. told.0 c.in-Grant.grant) (c.facts_about_grant.ensures.loads clean)
 
 pub returns-in-Revoke-clause-loads : goal.returns-in-Revoke-clause-loads
 returns-in-Revoke-clause-loads g c clean =
-    found_about (Reads schema (shown g.S.Store c.args.tx.now) (shown g.S.Store c.facts_for_revoke.new.tx)) (stored_in g.S.Store c.args.tx.now) c.args.request.now.at c.args.caller.now c.args.request.now.what (asked.Revoke c.in-Revoke.organisation c.in-Revoke.team c.in-Revoke.package) c.facts_for_revoke.result c.map-in-Revoke.result c.in-Revoke.is refl c.map-in-Revoke.ensures.cases (λ x told sound. told) (c.facts_for_revoke.ensures.loads clean)
+    found_about (Reads schema (shown g.S.Store c.args.tx.now) (shown g.S.Store c.facts_about_grant-in-Revoke.new.tx)) (stored_in g.S.Store c.args.tx.now) c.args.request.now.at c.args.caller.now c.args.request.now.what (asked.Revoke c.in-Revoke.organisation c.in-Revoke.team c.in-Revoke.package) c.facts_about_grant-in-Revoke.result c.map-in-Revoke.result c.in-Revoke.is refl c.map-in-Revoke.ensures.cases (λ x told sound. told.1) (c.facts_about_grant-in-Revoke.ensures.loads clean)
 
 pub returns-in-SetAccess-clause-loads : goal.returns-in-SetAccess-clause-loads
 returns-in-SetAccess-clause-loads g c clean =
@@ -115,7 +115,7 @@ returns-in-Members-clause-loads g c clean =
 
 pub returns-in-TeamMembers-clause-loads : goal.returns-in-TeamMembers-clause-loads
 returns-in-TeamMembers-clause-loads g c clean =
-    found_either (Reads schema (shown g.S.Store c.args.tx.now) (shown g.S.Store c.facts_about_team.new.tx)) (stored_in g.S.Store c.args.tx.now) c.args.request.now.at c.args.caller.now c.args.request.now.what (asked.TeamMembers c.in-TeamMembers.organisation c.in-TeamMembers.team) (asked.TeamPackages c.in-TeamMembers.organisation c.in-TeamMembers.team) c.facts_about_team.result c.map-in-TeamMembers.result c.in-TeamMembers.is refl refl c.map-in-TeamMembers.ensures.cases (λ x told sound. told) (λ x told sound. told) (c.facts_about_team.ensures.members clean) (c.facts_about_team.ensures.packages clean)
+    found_either (Reads schema (shown g.S.Store c.args.tx.now) (shown g.S.Store c.facts_about_team-in-TeamMembers.new.tx)) (stored_in g.S.Store c.args.tx.now) c.args.request.now.at c.args.caller.now c.args.request.now.what (asked.TeamMembers c.in-TeamMembers.organisation c.in-TeamMembers.team) (asked.TeamPackages c.in-TeamMembers.organisation c.in-TeamMembers.team) c.facts_about_team-in-TeamMembers.result c.map-in-TeamMembers.result c.in-TeamMembers.is refl refl c.map-in-TeamMembers.ensures.cases (λ x told sound. told.1.1.0) (λ x told sound. told.1.1.1) (c.facts_about_team-in-TeamMembers.ensures.loads clean) (c.facts_about_team-in-TeamMembers.ensures.loads clean)
 
 pub returns-in-Maintainers-clause-loads : goal.returns-in-Maintainers-clause-loads
 returns-in-Maintainers-clause-loads g c clean =

@@ -3,11 +3,12 @@ use Rattle.sqlite.specs.Effect.{Database}
 use Rattle.sqlite.specs.State.{HasCleanDisk}
 use Rattle.registry_names.specs.Texts.{Text}
 use Rattle.registry_rows.proofs.QuietFacts.{stays_then, reads_then}
+use Rattle.registry_rules.specs.Facts.{AreGrantFacts}
 use Rattle.registry_tables.specs.Contents.{contents, registry_of}
 use Rattle.registry_tables.specs.Effects.{shown}
 use Rattle.registry_tables.specs.Schema.{schema}
 use Rattle.registry_desk.specs.Found.{IsGrantable}
-use Rattle.registry_desk.proofs.grants.facts_for_grant.Goals as goal
+use Rattle.registry_desk.proofs.grants.facts_about_grant.Goals as goal
 
 pub find_grantable-requires : goal.find_grantable-requires
 find_grantable-requires g c = record { in_form = λ clean on. (c.in_ok-rows.ensures.loads clean).0.ready }
@@ -26,12 +27,11 @@ returns-clause-loads g c clean =
     let rows = c.in_ok-rows.ensures.loads clean_one in
     let found = c.in_ok-grantable.ensures.loads clean in
     let named = subst₂ (λ (a b : Text). IsGrantable c.in_ok-grantable.grantable (registry_of (contents one.now.trees)) a b c.args.name.now) c.text-2.ensures.text c.text-3.ensures.text found.1 in
-    let grantable = subst (λ (d : Database). IsGrantable c.in_ok-grantable.grantable (registry_of (contents d.trees)) c.args.organisation.now c.args.team.now c.args.name.now) rows.0.same named in (
-      reads_then schema was one (shown g.S.Store c.find_grantable.new.tx) rows.0 found.0,
-      λ grant. record {
-        rows_say = rw c.text.ensures.text at rows.1;
-        team_exists = grantable.team_exists;
-        is_published = grantable.is_published;
-        stands = grantable.stands;
-      },
-    )
+    let grantable = subst (λ (d : Database). IsGrantable c.in_ok-grantable.grantable (registry_of (contents d.trees)) c.args.organisation.now c.args.team.now c.args.name.now) rows.0.same named in
+    let told : AreGrantFacts c.in_ok-rows.rows c.in_ok-grantable.grantable.team_exists c.in_ok-grantable.grantable.is_published c.in_ok-grantable.grantable.stands (registry_of (contents was.now.trees)) c.args.caller.now c.args.organisation.now c.args.team.now c.args.name.now = record {
+      rows_say = rw c.text.ensures.text at rows.1;
+      team_exists = grantable.team_exists;
+      is_published = grantable.is_published;
+      stands = grantable.stands;
+    } in
+    (reads_then schema was one (shown g.S.Store c.find_grantable.new.tx) rows.0 found.0, (λ grant. told, told))

@@ -3,11 +3,12 @@ use Rattle.sqlite.specs.Effect.{Database}
 use Rattle.sqlite.specs.State.{HasCleanDisk}
 use Rattle.registry_names.specs.Texts.{Text}
 use Rattle.registry_rows.proofs.QuietFacts.{stays_then, reads_then}
+use Rattle.registry_rules.specs.Facts.{AreTeamMemberFacts}
 use Rattle.registry_tables.specs.Contents.{contents, registry_of}
 use Rattle.registry_tables.specs.Effects.{shown}
 use Rattle.registry_tables.specs.Schema.{schema}
 use Rattle.registry_desk.specs.Found.{IsPlace}
-use Rattle.registry_desk.proofs.teams.facts_for_team_remove.Goals as goal
+use Rattle.registry_desk.proofs.teams.facts_about_team_member.Goals as goal
 
 pub find_place-requires : goal.find_place-requires
 find_place-requires g c = record { in_form = λ clean on. (c.in_ok-rows.ensures.loads clean).0.ready }
@@ -27,11 +28,11 @@ returns-clause-loads g c clean =
     let found = c.in_ok-place.ensures.loads clean in
     let named = subst₂ (λ (a b : Text). IsPlace c.in_ok-place.place (registry_of (contents one.now.trees)) a b c.text-4.result.now) c.text-2.ensures.text c.text-3.ensures.text found.1 in
     let named_all = subst (λ (a : Text). IsPlace c.in_ok-place.place (registry_of (contents one.now.trees)) c.args.organisation.now c.args.team.now a) c.text-4.ensures.text named in
-    let place = subst (λ (d : Database). IsPlace c.in_ok-place.place (registry_of (contents d.trees)) c.args.organisation.now c.args.team.now c.args.user.now) rows.0.same named_all in (
-      reads_then schema was one (shown g.S.Store c.find_place.new.tx) rows.0 found.0,
-      record {
-        rows_say = rw c.text.ensures.text at rows.1;
-        team_exists = place.team_exists;
-        is_in_team = place.is_in_team;
-      },
-    )
+    let place = subst (λ (d : Database). IsPlace c.in_ok-place.place (registry_of (contents d.trees)) c.args.organisation.now c.args.team.now c.args.user.now) rows.0.same named_all in
+    let told : AreTeamMemberFacts c.in_ok-rows.rows c.in_ok-place.place.team_exists c.in_ok-place.place.is_member c.in_ok-place.place.is_in_team (registry_of (contents was.now.trees)) c.args.caller.now c.args.organisation.now c.args.team.now c.args.user.now = record {
+      rows_say = rw c.text.ensures.text at rows.1;
+      team_exists = place.team_exists;
+      is_member = place.is_member;
+      is_in_team = place.is_in_team;
+    } in
+    (reads_then schema was one (shown g.S.Store c.find_place.new.tx) rows.0 found.0, (told, told))

@@ -3,11 +3,12 @@ use Rattle.sqlite.specs.Effect.{Database}
 use Rattle.sqlite.specs.State.{HasCleanDisk}
 use Rattle.registry_names.specs.Texts.{Text}
 use Rattle.registry_rows.proofs.QuietFacts.{stays_then, reads_then}
+use Rattle.registry_rules.specs.Facts.{AreMemberFacts}
 use Rattle.registry_tables.specs.Contents.{contents, registry_of}
 use Rattle.registry_tables.specs.Effects.{shown}
 use Rattle.registry_tables.specs.Schema.{schema}
 use Rattle.registry_desk.specs.Found.{IsCandidate}
-use Rattle.registry_desk.proofs.organisations.facts_for_org_set.Goals as goal
+use Rattle.registry_desk.proofs.organisations.facts_about_member.Goals as goal
 
 pub find_candidate-requires : goal.find_candidate-requires
 find_candidate-requires g c = record { in_form = λ clean on. (c.in_ok-rows.ensures.loads clean).0.ready }
@@ -28,19 +29,18 @@ returns-clause-loads g c clean =
     let named = subst₂ (λ (a b : Text). IsCandidate c.in_ok-candidate.candidate (registry_of (contents one.now.trees)) a b) c.text.ensures.text c.text-2.ensures.text found.1 in
     let candidate = subst (λ (d : Database). IsCandidate c.in_ok-candidate.candidate (registry_of (contents d.trees)) c.args.organisation.now c.args.user.now) rows.0.same named in (
       reads_then schema was one (shown g.S.Store c.find_candidate.new.tx) rows.0 found.0,
-      λ rank at.
-          let allowed = rw c.in-Ok.is at rows.1 in (
-            allowed.0,
-            record {
-              rows_say = allowed.1;
-              user_exists = candidate.user_exists;
-              role = candidate.role;
-              other_owner = candidate.other_owner;
-            },
-          ),
+      λ at.
+          let allowed = rw c.in-Ok.is at rows.1 in
+          let told : AreMemberFacts c.in-Ok.rows c.in_ok-candidate.candidate.user_exists c.in_ok-candidate.candidate.role c.in_ok-candidate.candidate.other_owner (registry_of (contents was.now.trees)) c.args.caller.now c.args.organisation.now c.args.user.now = record {
+            rows_say = allowed.1;
+            user_exists = candidate.user_exists;
+            role = candidate.role;
+            other_owner = candidate.other_owner;
+          } in
+          (λ rank. (allowed.0, told), (allowed.0, told)),
     )
 
 pub returns-in-Err-clause-loads : goal.returns-in-Err-clause-loads
 returns-in-Err-clause-loads g c clean =
     let placed = c.in_ok-rows.ensures.loads clean in
-    (placed.0, λ rank at. rw c.in-Err.is at placed.1)
+    (placed.0, λ at. (λ rank. rw c.in-Err.is at placed.1, rw c.in-Err.is at placed.1))
