@@ -8,9 +8,7 @@ ghost use Rattle.registry_desk.specs.Sending.{IsAnyPackument};
 
 use crate::grants::facts_about_grant;
 use crate::maintainers::{facts_for_owner_add, facts_for_owner_remove};
-use crate::organisations::{
-    facts_about_member, facts_about_organisation, facts_for_org_create,
-};
+use crate::organisations::{facts_about_member, facts_about_organisation, facts_for_org_create};
 use crate::packages::{
     facts_about_archive, facts_about_document, facts_about_package, facts_for_maintainers,
     facts_for_publish, facts_for_set_access, facts_for_tag_remove, facts_for_tag_set,
