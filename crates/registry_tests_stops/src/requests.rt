@@ -35,7 +35,8 @@ token npm_bob_000000001 --at 100 tag-set @lab/kit beta 2.0.0-rc.1
 --at 108 --as eve withdraw-all tool
 "#;
 
-/// Queries of each kind, by several callers. They ask for the archive of each version.
+/// Queries of each kind that has a subcommand, by several callers. They ask for the archive of each
+/// version.
 pub(crate) const QUERIES: &str = "
 --at 200 --as bob packument @lab/kit
 --at 200 --as bob abbreviated-packument @lab/kit
