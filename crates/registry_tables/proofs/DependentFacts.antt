@@ -59,7 +59,8 @@ use Rattle.registry_tables.specs.Withdrawals.{is_foreign_need, ranges_on, versio
 use Rattle.registry_tables.specs.Queries.{ShowsAll}
 use Rattle.registry_tables.proofs.MappedFacts.{need_ranges_mapped}
 use Rattle.registry_tables.proofs.ReadFacts.{at-read}
-use Rattle.registry_tables.proofs.RetiredFacts.{any_where, where_any}
+use Rattle.registry_tables.proofs.SomeFacts.{any_where, where_any}
+use Rattle.registry_tables.proofs.FoundFacts.{some_at}
 
 -- ---- SELECT by target, except a package's own needs
 
@@ -124,10 +125,6 @@ one_truth : (a b : Bool) → (a ≡ true → b ≡ true) → (b ≡ true → a �
 one_truth true b to from = sym (to refl)
 one_truth false true to from = from refl
 one_truth false false to from = refl
-
-some_there : {X : Type 0} (o : Option X) → is_some o ≡ true → (x : X) × (o ≡ Some x)
-some_there None h = absurd (true≢false (sym h))
-some_there (Some x) h = (x, refl)
 
 -- a live version whose manifest has these needs, of which one passes
 record IsNeeding (c : Contents) (k : Pair) (test : Need → Bool) : Type 0 where
@@ -214,7 +211,7 @@ module _ (c : Contents) (h : HoldsNeeds c) (p : Text) (v : VersionParts) where
         any = any_where (λ n. is n.target p && is n.range need.0.range) needing.needs need.0 need.1 (and_from _ _ names.0 (is_self need.0.range));
       }) in
       let q : Texts 3 = (k.0, (k.1, (p, need.0.range))) in
-      let there = some_there (at c.need_ranges q) (h.stored k.0 k.1 p need.0.range ∙ needed) in
+      let there = some_at (at c.need_ranges q) (h.stored k.0 k.1 p need.0.range ∙ needed) in
       let entry = found_has (texts_key 3) q there.0 (entries c.need_ranges) (sym (at-entries (texts_key 3) c.need_ranges q) ∙ there.1) in
       let kept = has_kept (foreign p) (entries c.need_ranges) (q, there.0) entry (and_from _ _ (is_self p) (ap not (is_sym p k.0) ∙ both.0)) in
       any_where binding (ranges_on c p) need.0.range (map_has range_of (filter (foreign p) (entries c.need_ranges)) (q, there.0) kept) names.1

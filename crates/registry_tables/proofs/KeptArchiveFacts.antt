@@ -26,6 +26,7 @@ use Rattle.registry_tables.specs.Archives.{AreArchivesSound, is_archive, number_
 use Rattle.registry_tables.specs.Changes.{row_of, version_put}
 use Rattle.registry_tables.specs.Contents.{Archive, Contents, LiveVersion, as_release, bytes_held, live_of, with_bytes}
 use Rattle.registry_tables.specs.Fresh.{fresh}
+use Rattle.registry_tables.proofs.FoundFacts.{none_at, some_at}
 use Rattle.registry_tables.proofs.ReadFacts.{at-read}
 
 -- ---- looking an archive up
@@ -153,14 +154,6 @@ module _ (integrity : Text) (bytes : List ℕ) (c : Contents) (right : integrity
   }
 
 -- ---- a version is put
-
-some_at : {X : Type 0} (o : Option X) → is_some o ≡ true → (x : X) × (o ≡ Some x)
-some_at None h = absurd (true≢false (sym h))
-some_at (Some x) h = (x, refl)
-
-none_at : {X : Type 0} (o : Option X) → is_some o ≡ false → o ≡ None
-none_at None h = refl
-none_at (Some x) h = absurd (true≢false h)
 
 module _ (f : FormParts) (now : ℕ) (c : Contents) where
   abbrev key : Pair

@@ -2,13 +2,12 @@
 use Rattle.std.proofs.Common.{◌≡◌, ℕ, List, [], ◌∷◌, ◌++◌, Bool, true, false, cond, Option, Some, None, is_some, take, get_or, length, ◌+◌, ◌<◌, Ok, refl, sym, ap, ◌∙◌, codes}
 use Rattle.std.proofs.lemmas.List.{take_more}
 use Rattle.std.proofs.lemmas.Iterator.Adapters.{option_map_id}
-use Rattle.sqlite.specs.declared.types.Value.TheVariants.{Null, Text as Stored}
-use Rattle.sqlite.specs.Command.TheVariants.{Insert, Select}
-use Rattle.sqlite.specs.Source.TheVariants.{Values}
+use Rattle.sqlite.specs.declared.types.Value.TheVariants.{Text as Stored}
+use Rattle.sqlite.specs.Command.TheVariants.{Select}
 use Rattle.sqlite.specs.Listing.{understood}
 use Rattle.sqlite.specs.State.{State as Shown, HasCleanDisk}
 use Rattle.sqlite_tied.specs.Compute.{everything}
-use Rattle.sqlite_sql.specs.Term.{Term, lit, col}
+use Rattle.sqlite_sql.specs.Term.{col}
 use Rattle.registry_names.specs.Texts.{Text}
 use Rattle.registry_rows.specs.Frames.{Wrote}
 use Rattle.registry_rows.specs.Ready.{Ready, Leaves}
@@ -19,7 +18,7 @@ use Rattle.registry_names.specs.Maps.{at, put}
 use Rattle.registry_names.proofs.KeyFacts.{same_true}
 use Rattle.registry_names.proofs.MapFacts.{at-put, same_map}
 use Rattle.registry_publish.specs.declared.need.Need.{Need}
-use Rattle.registry_rows.specs.Statements.{Means, MeansQuery, scan, by_texts}
+use Rattle.registry_rows.specs.Statements.{Means, MeansQuery, scan, by_texts, insert_values}
 use Rattle.registry_rows.specs.TextKeys.{Texts, TextsMap, texts_are}
 use Rattle.registry_rows.proofs.TextKeyFacts.{texts_key}
 use Rattle.registry_rows.proofs.StatementFacts.{insert_puts}
@@ -35,16 +34,13 @@ use Rattle.registry_tables.proofs.MappedFacts.{need_ranges_mapped}
 abbrev put_text : List ℕ
 put_text = codes "INSERT INTO need_ranges VALUES (?1, ?2, ?3, ?4)"
 
-abbrev put_cells : List Term
-put_cells = col 0 0 ∷ col 0 1 ∷ col 0 2 ∷ col 0 3 ∷ []
-
-put_means : Means schema put_text (Insert 17 (Values (lit Null ∷ put_cells) 5))
+put_means : Means schema put_text (insert_values 17 (col 0 0 ∷ col 0 1 ∷ col 0 2 ∷ col 0 3 ∷ []))
 unfolding understood everything
 put_means = (refl, (refl, refl))
 
 pub need_put : (p v : Text) (need : Need) (old new : Shown) → Ready schema old → Wrote put_text (Stored p ∷ Stored v ∷ Stored need.target ∷ Stored need.range ∷ []) old new → HasCleanDisk new
     → Leaves schema contents (record (stored old) { need_ranges = with_need (stored old).need_ranges p v need }) new
-need_put p v need old new form call = insert_puts need_ranges_mapped put_text put_cells put_means (Stored p ∷ Stored v ∷ Stored need.target ∷ Stored need.range ∷ []) refl old new (Ok call.0) form call.1
+need_put p v need old new form call = insert_puts need_ranges_mapped put_text _ put_means (Stored p ∷ Stored v ∷ Stored need.target ∷ Stored need.range ∷ []) refl old new (Ok call.0) form call.1
 
 -- ---- SELECT
 

@@ -332,10 +332,7 @@ live_listed old new rows form call clean =
 abbrev spent_text : List ℕ
 spent_text = codes "SELECT package, version, published, withdrawn FROM spent ORDER BY package, version"
 
-abbrev spent_columns : List Term
-spent_columns = col 1 1 ∷ col 1 2 ∷ col 1 3 ∷ col 1 4 ∷ []
-
-pub spent_means : MeansQuery schema spent_text (select_where table.spent spent_columns [] (in_order 1 1) (codes "package" ∷ codes "version" ∷ codes "published" ∷ codes "withdrawn" ∷ []))
+pub spent_means : MeansQuery schema spent_text (select_where table.spent (col 1 1 ∷ col 1 2 ∷ col 1 3 ∷ col 1 4 ∷ []) [] (in_order 1 1) (codes "package" ∷ codes "version" ∷ codes "published" ∷ codes "withdrawn" ∷ []))
 unfolding understood everything
 spent_means = ((refl, (refl, refl)), refl)
 
@@ -347,7 +344,7 @@ moments_of v = (v.published, v.withdrawn)
 
 pub spent_listed : (old new : Shown) → ShowsAll spent_text [] old new moments_spelled (map (λ e. moments_of e.1) (entries (stored old).spent))
 spent_listed old new rows form call clean =
-    let it = select_all spent_mapped spent_text spent_columns _ spent_means pair_moments moments_of (λ id vs. refl) old new rows form call clean in
+    let it = select_all spent_mapped spent_text _ _ spent_means pair_moments moments_of (λ id vs. refl) old new rows form call clean in
     (it.0, shown_values moments_of pair_moments rows (entries (stored old).spent) it.1)
 
 -- ---- one query after another

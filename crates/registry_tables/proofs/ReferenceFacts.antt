@@ -50,17 +50,17 @@ held_values id (a ∷ b ∷ c ∷ []) r e h =
     (id, h.0.0, h.1.0.0, h.1.1.0.0, e ∙ ap (λ v. id ∷ v ∷ b ∷ c ∷ []) h.0.1 ∙ ap (λ v. id ∷ Stored h.0.0 ∷ v ∷ c ∷ []) h.1.0.1 ∙ ap (λ v. id ∷ Stored h.0.0 ∷ Stored h.1.0.0 ∷ v ∷ []) h.1.1.0.1)
 held_values id (a ∷ b ∷ c ∷ d ∷ vs) r e h = absurd h.1.1.1
 
--- the values of a row of `tags`
-abbrev TagRow : Row → Type 0
-TagRow r = (id : Value) × (p : Text) × (t : Text) × (v : Text) × (r ≡ id ∷ Stored p ∷ Stored t ∷ Stored v ∷ [])
+-- the values of a row of three texts, as those of `tags` and `team_members`
+abbrev TextsRow : Row → Type 0
+TextsRow r = (id : Value) × (p : Text) × (t : Text) × (v : Text) × (r ≡ id ∷ Stored p ∷ Stored t ∷ Stored v ∷ [])
 
-tag_values : (id : Value) (vs r : Row) → r ≡ id ∷ vs → AreOf table.tags.columns vs → TagRow r
-tag_values id [] r e h = absurd h
-tag_values id (a ∷ []) r e h = absurd h.1
-tag_values id (a ∷ b ∷ []) r e h = absurd h.1.1
-tag_values id (a ∷ b ∷ c ∷ []) r e h =
+pub three_texts : (id : Value) (vs r : Row) → r ≡ id ∷ vs → AreOf table.tags.columns vs → TextsRow r
+three_texts id [] r e h = absurd h
+three_texts id (a ∷ []) r e h = absurd h.1
+three_texts id (a ∷ b ∷ []) r e h = absurd h.1.1
+three_texts id (a ∷ b ∷ c ∷ []) r e h =
     (id, h.0.0, h.1.0.0, h.1.1.0.0, e ∙ ap (λ v. id ∷ v ∷ b ∷ c ∷ []) h.0.1 ∙ ap (λ v. id ∷ Stored h.0.0 ∷ v ∷ c ∷ []) h.1.0.1 ∙ ap (λ v. id ∷ Stored h.0.0 ∷ Stored h.1.0.0 ∷ v ∷ []) h.1.1.0.1)
-tag_values id (a ∷ b ∷ c ∷ d ∷ vs) r e h = absurd h.1.1.1
+three_texts id (a ∷ b ∷ c ∷ d ∷ vs) r e h = absurd h.1.1.1
 
 -- SQL's = of texts
 pub told : (t : Text) (x : Value) → x ≡ Stored (text_in x) → is_true (binary (Compare Eq Binary) x (Stored t)) ≡ true → t ≡ text_in x
@@ -147,7 +147,7 @@ module _ (s : State) (ready : IsReady schema s) where
       let row = (rows_tell_by (by_texts_given tags_mapped) s ready (p, t) v).0 e in
       let r = row.0 in
       let begins = row_parts r (all_has _ (s.now.trees table.tags.tree) r (table_rowids schema s 11 table.tags ready refl).1 row.1) in
-      let values = tag_values begins.0 (drop 1 r) r begins.1 (types_of tags_mapped s ready r row.1) in
+      let values = three_texts begins.0 (drop 1 r) r begins.1 (types_of tags_mapped s ready r row.1) in
       let whole = values.4 in
       let a = values.1 in
       let b = values.3 in

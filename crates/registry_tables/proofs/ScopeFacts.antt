@@ -13,6 +13,7 @@ use Rattle.registry_names.specs.Texts.{Text}
 use Rattle.registry_names.proofs.KeyFacts.{same_self, same_true, text_key, triple_key}
 use Rattle.registry_names.proofs.MapFacts.{at-entries}
 use Rattle.registry_rules.specs.Refusals.{is_scope}
+use Rattle.registry_rules.proofs.AllowedFacts.{scope_is}
 use Rattle.registry_rows.specs.Columns.{text_in}
 use Rattle.registry_rows.proofs.LookUpFacts.{select_all}
 use Rattle.registry_tables.specs.Contents.{Contents}
@@ -76,10 +77,6 @@ module _ {K X : Type 0} {cmp : K → K → Ordering} {same : K → K → Bool} (
       (all_pass es (λ k h. f k (more_found e es k h)))
 
 -- ---- the test of a scope
-
-scope_is : (o : Text) (s : Option Text) → is_scope o s ≡ true → s ≡ Some o
-scope_is o None h = absurd (true≢false (sym h))
-scope_is o (Some s) h = ap (λ (t : Text). Some t) (same_true text_key s o h)
 
 is_its_scope : (o : Text) (s : Option Text) → s ≡ Some o → is_scope o s ≡ true
 is_its_scope o s e = ap (is_scope o) e ∙ same_self text_key o

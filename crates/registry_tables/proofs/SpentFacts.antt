@@ -8,7 +8,7 @@ use Rattle.sqlite.specs.Listing.{understood}
 use Rattle.sqlite.specs.State.{State as Shown, HasCleanDisk}
 use Rattle.sqlite_tied.specs.Compute.{everything}
 use Rattle.sqlite_value.specs.Order.{Row, column}
-use Rattle.sqlite_sql.specs.Term.{Term, col}
+use Rattle.sqlite_sql.specs.Term.{col}
 use Rattle.registry_names.specs.Texts.{Text}
 use Rattle.registry_names.specs.Maps.{at, of, seen}
 use Rattle.registry_rules.specs.State.{Withdrawal}
@@ -49,10 +49,7 @@ withdrawal_found p v old new rows form call clean =
 abbrev last_text : List ℕ
 last_text = codes "SELECT withdrawn, published, version FROM spent WHERE package = ?1 ORDER BY version"
 
-abbrev last_columns : List Term
-last_columns = col 1 4 ∷ col 1 3 ∷ col 1 2 ∷ []
-
-pub last_means : MeansQuery schema last_text (Select (record { lets = []; body = scan 20 (by_texts 0 1 0) last_columns (in_order 0 2) }) (codes "withdrawn" ∷ codes "published" ∷ codes "version" ∷ []))
+pub last_means : MeansQuery schema last_text (Select (record { lets = []; body = scan 20 (by_texts 0 1 0) (col 1 4 ∷ col 1 3 ∷ col 1 2 ∷ []) (in_order 0 2) }) (codes "withdrawn" ∷ codes "published" ∷ codes "version" ∷ []))
 unfolding understood everything
 last_means = ((refl, (refl, refl)), refl)
 
@@ -73,7 +70,7 @@ pub last_found : (p : Text) (old new : Shown) (rows : List Row) → Ready schema
     → Reads schema old new × (last_number (map number_spelled rows) ≡ last_withdrawal (registry_of (stored old)) p)
 last_found p old new rows form call clean =
     let es = of (stored old).spent p in
-    let it = select_lists spent_mapped last_text last_columns _ last_means p withdrawn_entry (λ (w : SpentVersion). seconds_of w.withdrawn) (λ id vs. ap (λ (n : ℕ). (text_in (column vs 1), n)) (as_seconds (column vs 3))) old new rows form call clean in (
+    let it = select_lists spent_mapped last_text _ _ last_means p withdrawn_entry (λ (w : SpentVersion). seconds_of w.withdrawn) (λ id vs. ap (λ (n : ℕ). (text_in (column vs 1), n)) (as_seconds (column vs 3))) old new rows form call clean in (
       it.0,
       ap last_number (sym (map-map (λ (e : Text × ℕ). e.1) withdrawn_entry rows) ∙ ap (map (λ (e : Text × ℕ). e.1)) (it.1 ∙ sym (map-map (seen (λ (w : Withdrawal). w.withdrawn)) (seen as_withdrawal) es)))
           ∙ last_as_number (map (seen as_withdrawal) es) ∙ ap last_of (sym (spent_as_rows (stored old) p)),
@@ -86,7 +83,7 @@ published_entry r = (text_in (column r 2), second_spelled r)
 pub publications_found : (p : Text) (old new : Shown) → ShowsAll last_text (Stored p ∷ []) old new second_spelled (spent_publications (of (registry_of (stored old)).spent p))
 publications_found p old new rows form call clean =
     let es = of (stored old).spent p in
-    let it = select_lists spent_mapped last_text last_columns _ last_means p published_entry (λ (w : SpentVersion). seconds_of w.published) (λ id vs. ap (λ (n : ℕ). (text_in (column vs 1), n)) (as_seconds (column vs 2))) old new rows form call clean in (
+    let it = select_lists spent_mapped last_text _ _ last_means p published_entry (λ (w : SpentVersion). seconds_of w.published) (λ id vs. ap (λ (n : ℕ). (text_in (column vs 1), n)) (as_seconds (column vs 2))) old new rows form call clean in (
       it.0,
       sym (map-map (λ (e : Text × ℕ). e.1) published_entry rows) ∙ ap (map (λ (e : Text × ℕ). e.1)) it.1
           ∙ map-map (λ (e : Text × ℕ). e.1) (seen (λ (w : SpentVersion). seconds_of w.published)) es

@@ -31,9 +31,6 @@ entries_set = Coded-set (coded_list (coded× (coded_list coded_ℕ) (coded× (co
 same_documents : (p : Text) (d e : Database) → e ≡ d → map (seen document) (of (live_of (contents e.trees)) p) ≡ map (seen document) (of (live_of (contents d.trees)) p)
 same_documents p d e same = ap (λ (d : Database). map (seen document) (of (live_of (contents d.trees)) p)) same
 
-pub same_rows : {S : Type 0} (g : Ghosts S) (p : Text) (old new : Held S) (n : ℕ) → IsUnchanged (state g old) (state g new) → rows_after (state g new) p n ≡ rows_after (state g old) p n
-same_rows g p old new n same = ap (λ es. map row_of_entry (drop n es)) (same_documents p (state g old).now (state g new).now same.0.now_is)
-
 -- a walk begins before the first version
 starts : {S : Type 0} (g : Ghosts S) (p : Text) (old new : Held S) → Ready schema (state g old) → (HasCleanDisk (state g old) → IsTrue (state g old).is_open)
     → Survives (state g old) (state g new) (CommitsShowing walk_text (Stored p ∷ []) (state g old)) → (HasCleanDisk (state g new) → HasBegun g walk_text (Stored p ∷ []) old new)
