@@ -1,21 +1,12 @@
 -- The names of a scope are those after it: not below `@o/`, and below `@o0`.
-use Rattle.std.proofs.Common.{◌≡◌, ◌==◌, ◌∙◌, ◌<◌, ℕ, suc, ◌+◌, Bool, true, false, not, ◌&&◌, cond, filter, is_some, List, [], ◌∷◌, ◌++◌, take, Option, Some, None, Ordering, Less, Equal, Greater, is_lt, refl, sym, ap, subst, true≢false, T, inl, inr, arith, if◌then◌else◌}
+use Rattle.registry_tables.proofs.Words.{◌≡◌, ◌==◌, ◌∙◌, ◌<◌, ℕ, suc, ◌+◌, Bool, true, false, not, ◌&&◌, cond, filter, is_some, List, [], ◌∷◌, ◌++◌, take, Option, Some, None, Ordering, Less, Equal}
+use Rattle.registry_tables.proofs.Words.{Greater, is_lt, refl, sym, ap, subst, true≢false, T, inl, inr, arith, if◌then◌else◌, nat_cmp, ordering_then, before_first, list_all, position_or_len}
+use Rattle.registry_tables.proofs.Words.{and_parts, cases_Bool, cases_lt, eqb-true, false_from_ne_true, scope_of, Text, text_cmp, at, entries, first_at, text_key, at-entries, Status, is_scope}
+use Rattle.registry_tables.proofs.Words.{never_some, is_after_scope, scope_statuses, Contents, access_of}
 use Rattle.std.specs.Cmp.{nat_cmp_is}
-use Rattle.std.specs.Ordering.{nat_cmp, ordering_then}
-use Rattle.std.specs.List.{before_first, list_all, position_or_len}
 use Rattle.std.proofs.Math.Dec.{eqb_refl}
-use Rattle.std.proofs.lemmas.Bool.{and_parts, cases_Bool, cases_lt, eqb-true, false_from_ne_true}
 use Rattle.registry_names.specs.Idents.{is_ident, is_ident_char}
-use Rattle.registry_names.specs.Names.{scope_of}
-use Rattle.registry_names.specs.Texts.{Text, text_cmp, is}
-use Rattle.registry_names.specs.Maps.{at, entries, first_at}
-use Rattle.registry_names.proofs.KeyFacts.{text_key}
-use Rattle.registry_names.proofs.MapFacts.{at-entries}
-use Rattle.registry_names.specs.declared.status.Status.{Status}
-use Rattle.registry_rules.specs.Refusals.{is_scope}
-use Rattle.registry_rows.proofs.RowFacts.{never_some}
-use Rattle.registry_tables.specs.Overviews.{is_after_scope, scope_statuses}
-use Rattle.registry_tables.specs.Contents.{Contents, access_of}
+use Rattle.registry_names.specs.Texts.{is}
 use Rattle.registry_tables.proofs.FoundFacts.{none_at}
 
 from_T : (b : Bool) → T b → b ≡ true

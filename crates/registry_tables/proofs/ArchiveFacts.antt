@@ -1,33 +1,13 @@
 -- What the statements on archives make and show.
-use Rattle.std.proofs.Common.{◌≡◌, ℕ, ℤ, ◌+◌, ◌<◌, List, [], ◌∷◌, length, drop, get_or, map, filter, Bool, true, false, cond, ◌&&◌, Some, None, option_map, Ok, refl, sym, ap, ◌∙◌, codes}
-use Rattle.std.specs.List.{find}
-use Rattle.std.proofs.lemmas.List.{drop_more}
-use Rattle.std.proofs.lemmas.Iterator.Adapters.{option_map_id}
-use Rattle.sqlite.specs.declared.types.Value.TheVariants.{Null, Int, Blob, Text as Stored}
+use Rattle.registry_tables.proofs.Words.{◌≡◌, ℕ, ℤ, ◌+◌, ◌<◌, List, [], ◌∷◌, length, drop, get_or, map, filter, Bool, true, false, cond, ◌&&◌, Some, None, option_map, Ok, refl, sym, ap, ◌∙◌, codes}
+use Rattle.registry_tables.proofs.Words.{find, drop_more, option_map_id, Null, Int, Blob, Stored, Shown, HasCleanDisk, Row, column, lit, col, Text, is, at, put, entries, seen, blob_in, TakesNext}
+use Rattle.registry_tables.proofs.Words.{Wrote, numbers, Ready, Leaves, Reads, Queried, Means, MeansQuery, insert_values, select_where, by_column, by_texts, by_number_given, first_listed}
+use Rattle.registry_tables.proofs.Words.{select_finds, select_finds_by, select_has_by, insert_puts, insert_meets_none, is_archive, number_of, Archive, contents, archive_in, stored, schema}
+use Rattle.registry_tables.proofs.Words.{archive_spelled, blob_of_row, held_spelled, number_among, ShowsFirst}
 use Rattle.sqlite.specs.Listing.{understood}
-use Rattle.sqlite.specs.State.{State as Shown, HasCleanDisk}
 use Rattle.sqlite_tied.specs.Compute.{everything}
-use Rattle.sqlite_value.specs.Order.{Row, column}
-use Rattle.sqlite_sql.specs.Term.{lit, col}
-use Rattle.registry_names.specs.Texts.{Text, is}
-use Rattle.registry_names.specs.Maps.{at, put, entries, seen}
-use Rattle.registry_rows.specs.Columns.{blob_in}
-use Rattle.registry_rows.specs.Counting.{TakesNext}
-use Rattle.registry_rows.specs.Frames.{Wrote}
-use Rattle.registry_rows.specs.KeyKinds.{numbers}
-use Rattle.registry_rows.specs.Ready.{Ready, Leaves, Reads, Queried}
-use Rattle.registry_rows.specs.Statements.{Means, MeansQuery, insert_values, select_where, by_column, by_texts}
 use Rattle.registry_rows.proofs.CountFacts.{insert_numbers}
-use Rattle.registry_rows.proofs.KeyedFacts.{by_number_given}
-use Rattle.registry_rows.proofs.LookUpFacts.{first_listed, select_finds, select_finds_by, select_has_by}
-use Rattle.registry_rows.proofs.StatementFacts.{insert_puts, insert_meets_none}
-use Rattle.registry_tables.specs.Archives.{is_archive, number_of}
-use Rattle.registry_tables.specs.Contents.{Archive, contents, archive_in}
-use Rattle.registry_tables.specs.Effects.{stored}
 use Rattle.registry_tables.specs.Schema as table
-use Rattle.registry_tables.specs.Schema.{schema}
-use Rattle.registry_tables.specs.Spelled.{archive_spelled, blob_of_row, held_spelled, number_among}
-use Rattle.registry_tables.specs.Queries.{ShowsFirst}
 use Rattle.registry_tables.proofs.MappedFacts.{archives_counted, archives_numbered, held_mapped}
 
 -- ---- INSERT of an archive

@@ -1,20 +1,7 @@
 -- What a query by key says of its map: whether something is there.
-use Rattle.std.proofs.Common.{◌≡◌, ◌==◌, ℕ, true, false, List, [], ◌∷◌, map, length, not, Option, None, Some, is_some, option_map, arith, ne_eqb, refl, sym, ap, ◌∙◌}
-use Rattle.sqlite_value.specs.Order.{Row}
-use Rattle.sqlite_trees.specs.Tree.{Trees}
-use Rattle.sqlite_sql.specs.Term.{Term}
-use Rattle.sqlite_schema.specs.declared.schema.Schema.{Schema}
-use Rattle.sqlite_schema.specs.declared.schema.Table.{Table}
-use Rattle.sqlite.specs.State.{State as Shown, HasCleanDisk}
-use Rattle.registry_names.specs.Maps.{at, keys, seen}
-use Rattle.registry_names.specs.Texts.{Text}
-use Rattle.std.proofs.lemmas.Simd.{map-map}
-use Rattle.registry_rows.specs.Ready.{Ready, Reads, Queried, IsMapped}
-use Rattle.registry_rows.specs.Rows.{listed, map_of}
-use Rattle.registry_rows.specs.Statements.{MeansQuery, select_where, by_texts}
-use Rattle.registry_rows.specs.TextKeys.{Texts, TextsMap, texts_row}
-use Rattle.registry_rows.proofs.LookUpFacts.{seen_as_is, select_finds}
-use Rattle.registry_tables.specs.Teams.{text_spelled}
+use Rattle.registry_tables.proofs.Words.{◌≡◌, ◌==◌, ℕ, true, false, List, [], ◌∷◌, map, length, not, Option, None, Some, is_some, option_map, arith, ne_eqb, refl, sym, ap, ◌∙◌, Row, Trees, Term}
+use Rattle.registry_tables.proofs.Words.{Schema, Table, Shown, HasCleanDisk, at, keys, seen, Text, map-map, Ready, Reads, Queried, IsMapped, listed, map_of, MeansQuery, select_where, by_texts, Texts}
+use Rattle.registry_tables.proofs.Words.{TextsMap, texts_row, seen_as_is, select_finds, text_spelled}
 
 -- rows that give a value that may be there are some where it is
 pub some_found : {Y : Type 0} (read : Row → Y) (rows : List Row) (o : Option Y) → map read rows ≡ listed o → not (length rows == 0) ≡ is_some o

@@ -1,28 +1,11 @@
 -- What the statements on grants make and show.
-use Rattle.std.proofs.Common.{ℕ, List, [], ◌∷◌, Some, None, is_some, Ok, refl, sym, ap, ◌∙◌, codes, Bool, if◌then◌else◌}
-use Rattle.sqlite.specs.declared.types.Value.TheVariants.{Int, Text as Stored}
-use Rattle.sqlite.specs.Command.TheVariants.{Delete, Select}
+use Rattle.registry_tables.proofs.Words.{ℕ, List, [], ◌∷◌, Some, None, is_some, Ok, refl, sym, ap, ◌∙◌, codes, Bool, if◌then◌else◌, Int, Stored, Delete, Select, Shown, HasCleanDisk, col, Text, at}
+use Rattle.registry_tables.proofs.Words.{erase, pairs_of, parts, pair_key, triple_key, Grant, Wrote, Ready, Leaves, Means, MeansQuery, scan, by_texts, in_order, insert_values, update_where}
+use Rattle.registry_tables.proofs.Words.{select_lists_two, delete_erases, schema, IsFreeUnless, with_row, access_of, contents, stored, grant_number, grant_of, granted_spelled, grants_of, ShowsAll}
+use Rattle.registry_tables.proofs.Words.{ShowsWhether}
 use Rattle.sqlite.specs.Listing.{understood}
-use Rattle.sqlite.specs.State.{State as Shown, HasCleanDisk}
 use Rattle.sqlite_tied.specs.Compute.{everything}
-use Rattle.sqlite_sql.specs.Term.{col}
-use Rattle.registry_names.specs.Texts.{Text}
-use Rattle.registry_names.specs.Maps.{at, erase, pairs_of, parts}
-use Rattle.registry_names.proofs.KeyFacts.{pair_key, triple_key}
-use Rattle.registry_access.specs.declared.grant.Grant.{Grant}
-use Rattle.registry_rows.specs.Frames.{Wrote}
-use Rattle.registry_rows.specs.Ready.{Ready, Leaves}
-use Rattle.registry_rows.specs.Statements.{Means, MeansQuery, scan, by_texts, in_order, insert_values, update_where}
-use Rattle.registry_rows.proofs.LookUpFacts.{select_lists_two}
-use Rattle.registry_rows.proofs.StatementFacts.{delete_erases}
-use Rattle.registry_tables.specs.Schema.{schema}
 use Rattle.registry_tables.specs.Schema as table
-use Rattle.registry_tables.specs.Changes.{IsFreeUnless, with_row}
-use Rattle.registry_tables.specs.Contents.{access_of, contents}
-use Rattle.registry_tables.specs.Effects.{stored}
-use Rattle.registry_tables.specs.Numbers.{grant_number, grant_of}
-use Rattle.registry_tables.specs.Teams.{granted_spelled, grants_of}
-use Rattle.registry_tables.specs.Queries.{ShowsAll, ShowsWhether}
 use Rattle.registry_tables.proofs.FoundFacts.{there_found}
 use Rattle.registry_tables.proofs.MappedFacts.{grants_mapped}
 use Rattle.registry_tables.proofs.ReadFacts.{part-read, parts-read, some-read}

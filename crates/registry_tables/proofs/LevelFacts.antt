@@ -1,49 +1,19 @@
 -- Packages with a caller's level on each: those of a scope, and those that are the caller's own.
-use Rattle.std.proofs.Common.{◌≡◌, ◌⊎◌, ◌∙◌, ◌&&◌, ◌||◌, Bool, true, false, cond, List, [], ◌∷◌, ◌++◌, filter, map, Option, Some, None, is_some, is_none, refl, sym, ap, ap₂, subst, append_assoc, inl, inr}
-use Rattle.std.specs.List.{AllByRecursion, flat_map, list_any}
-use Rattle.std.proofs.lemmas.Bool.{and_parts}
-use Rattle.std.proofs.lemmas.List.{map-append}
-use Rattle.std.proofs.lemmas.Simd.{map-map}
-use Rattle.sqlite.specs.State.{State as Shown}
-use Rattle.sqlite_rules.specs.Lists.{Has}
-use Rattle.sqlite_rules.proofs.ListLemmas.{all_from, has_filtered}
-use Rattle.registry_names.specs.Maps.{among, at, entries, first_at, keys, rises}
-use Rattle.registry_names.specs.Names.{scope_of}
-use Rattle.registry_names.specs.Texts.{Text, text_cmp, is}
-use Rattle.registry_names.specs.declared.status.Status.{Status}
-use Rattle.registry_names.proofs.EntryFacts.{among_keys, entries_rise, rises_kept, rises_mapped, same_rows}
-use Rattle.registry_names.proofs.KeyFacts.{text_key}
-use Rattle.registry_names.proofs.MapFacts.{at-entries}
-use Rattle.registry_names.proofs.TextFacts.{is_self, is_sym, is_true as text_is}
+use Rattle.registry_tables.proofs.Words.{◌≡◌, ◌⊎◌, ◌∙◌, ◌&&◌, ◌||◌, Bool, true, false, cond, List, [], ◌∷◌, ◌++◌, filter, map, Option, Some, None, is_some, is_none, refl, sym, ap, ap₂, subst}
+use Rattle.registry_tables.proofs.Words.{append_assoc, inl, inr, AllByRecursion, flat_map, list_any, and_parts, map-append, map-map, Shown, Has, all_from, has_filtered, among, at, entries, first_at}
+use Rattle.registry_tables.proofs.Words.{keys, rises, scope_of, Text, text_cmp, is, Status, among_keys, entries_rise, rises_kept, rises_mapped, same_rows, text_key, at-entries, is_self, is_sym}
+use Rattle.registry_tables.proofs.Words.{text_is, is_owner_or_admin, reads, level_in, scope_role, Caller, Operator, User, Anonymous, Level, Role, PackageLevel, filter_twice, map_has, first_risen}
+use Rattle.registry_tables.proofs.Words.{is_scope, is_own, IsReady, Contents, access_of, stored, IsListedFor, firsts_of, last_at, level_entry, leveled, levels_in, levels_on, listed_name}
+use Rattle.registry_tables.proofs.Words.{scopes_levels, unscoped_levels, writable, role_numbered, status_of, package_entry, scope_statuses, schema, ListedPackage, pair_key}
 use Rattle.registry_access.specs.Callers.{role_of}
-use Rattle.registry_access.specs.Levels.{is_owner_or_admin, reads}
-use Rattle.registry_access.specs.Positions.{level_in, scope_role}
-use Rattle.registry_access.specs.declared.caller.Caller.{Caller}
-use Rattle.registry_access.specs.declared.caller.Caller.TheVariants.{Operator, User, Anonymous}
-use Rattle.registry_access.specs.declared.levels.Level.{Level}
 use Rattle.registry_access.specs.declared.levels.Level.TheVariants.{Write}
-use Rattle.registry_access.specs.declared.role.Role.{Role}
-use Rattle.registry_packument.specs.declared.list.PackageLevel.{PackageLevel}
-use Rattle.registry_rows.proofs.ListFacts.{filter_twice, map_has}
-use Rattle.registry_rows.proofs.ListingFacts.{first_risen}
-use Rattle.registry_rules.specs.Refusals.{is_scope}
 use Rattle.registry_rules.proofs.AllowedFacts.{scope_is}
 use Rattle.registry_rules.proofs.WithdrawnFacts.{among_passing}
-use Rattle.registry_rules.specs.State.{is_own}
-use Rattle.registry_rows.specs.Ready.{IsReady}
-use Rattle.registry_tables.specs.Contents.{Contents, access_of}
-use Rattle.registry_tables.specs.Effects.{stored}
-use Rattle.registry_tables.specs.Levels.{IsListedFor, firsts_of, last_at, level_entry, leveled, levels_in, levels_on, listed_name, scopes_levels, unscoped_levels, writable}
-use Rattle.registry_tables.specs.Numbers.{role_of as role_numbered, status_of}
-use Rattle.registry_tables.specs.Overviews.{package_entry, scope_statuses}
-use Rattle.registry_tables.specs.Schema.{schema}
-use Rattle.registry_tables.specs.declared.packages.ListedPackage.{ListedPackage}
 use Rattle.registry_tables.proofs.FirstsFacts.{among_firsts}
 use Rattle.registry_tables.proofs.FoundFacts.{some_at}
 use Rattle.registry_tables.proofs.ParentFacts.{owned_there}
 use Rattle.registry_tables.proofs.ReadFacts.{some-read}
 use Rattle.registry_tables.proofs.SomeFacts.{or_true}
-use Rattle.registry_names.proofs.KeyFacts.{pair_key}
 
 -- ---- filters
 

@@ -1,24 +1,9 @@
 -- What the statements on maintainers make and show.
-use Rattle.std.proofs.Common.{◌≡◌, ℕ, List, [], ◌∷◌, Bool, ◌||◌, is_some, None, Ok, refl, ap, codes}
-use Rattle.std.specs.List.{list_any}
-use Rattle.sqlite.specs.declared.types.Value.TheVariants.{Text as Stored}
-use Rattle.sqlite.specs.Command.TheVariants.{Delete, Select}
+use Rattle.registry_tables.proofs.Words.{◌≡◌, ℕ, List, [], ◌∷◌, Bool, ◌||◌, is_some, None, Ok, refl, ap, codes, list_any, Stored, Delete, Select, Shown, HasCleanDisk, col, Text, at, erase, keys, of}
+use Rattle.registry_tables.proofs.Words.{put, Wrote, Ready, Leaves, Means, MeansQuery, scan, by_texts, in_order, insert_values, select_lists, insert_puts, insert_meets_none, delete_erases, schema}
+use Rattle.registry_tables.proofs.Words.{contents, stored, text_spelled, ShowsAll, ShowsWhether}
 use Rattle.sqlite.specs.Listing.{understood}
-use Rattle.sqlite.specs.State.{State as Shown, HasCleanDisk}
 use Rattle.sqlite_tied.specs.Compute.{everything}
-use Rattle.sqlite_sql.specs.Term.{col}
-use Rattle.registry_names.specs.Texts.{Text}
-use Rattle.registry_names.specs.Maps.{at, erase, keys, of, put}
-use Rattle.registry_rows.specs.Frames.{Wrote}
-use Rattle.registry_rows.specs.Ready.{Ready, Leaves}
-use Rattle.registry_rows.specs.Statements.{Means, MeansQuery, scan, by_texts, in_order, insert_values}
-use Rattle.registry_rows.proofs.LookUpFacts.{select_lists}
-use Rattle.registry_rows.proofs.StatementFacts.{insert_puts, insert_meets_none, delete_erases}
-use Rattle.registry_tables.specs.Schema.{schema}
-use Rattle.registry_tables.specs.Contents.{contents}
-use Rattle.registry_tables.specs.Effects.{stored}
-use Rattle.registry_tables.specs.Teams.{text_spelled}
-use Rattle.registry_tables.specs.Queries.{ShowsAll, ShowsWhether}
 use Rattle.registry_tables.proofs.FoundFacts.{key_entry, keys_seen, there_found}
 use Rattle.registry_tables.proofs.MappedFacts.{owners_mapped}
 

@@ -1,29 +1,12 @@
 -- What the statements on members make and show.
-use Rattle.std.proofs.Common.{◌≡◌, ℕ, Bool, ◌||◌, List, [], ◌∷◌, map, ap, Some, None, refl, sym, ◌∙◌, codes, if◌then◌else◌}
-use Rattle.std.specs.List.{list_any}
-use Rattle.sqlite.specs.declared.types.Value.TheVariants.{Int, Text as Stored}
-use Rattle.sqlite.specs.Command.TheVariants.{Select}
+use Rattle.registry_tables.proofs.Words.{◌≡◌, ℕ, Bool, ◌||◌, List, [], ◌∷◌, map, ap, Some, None, refl, sym, ◌∙◌, codes, if◌then◌else◌, list_any, Int, Stored, Select, Shown, HasCleanDisk, col, Text}
+use Rattle.registry_tables.proofs.Words.{at, of, pair_key, text_key, Role, Wrote, Ready, Leaves, Means, MeansQuery, scan, by_texts, in_order, insert_values, update_where, select_finds, select_lists}
+use Rattle.registry_tables.proofs.Words.{first_listed, schema, IsFreeUnless, with_row, access_of, contents, stored, role_number, role_of, member_entry, member_spelled, role_spelled, ShowsAll}
+use Rattle.registry_tables.proofs.Words.{ShowsFirst}
 use Rattle.sqlite.specs.Listing.{understood}
-use Rattle.sqlite.specs.State.{State as Shown, HasCleanDisk}
 use Rattle.sqlite_tied.specs.Compute.{everything}
-use Rattle.sqlite_sql.specs.Term.{col}
-use Rattle.registry_names.specs.Texts.{Text}
-use Rattle.registry_names.specs.Maps.{at, of}
-use Rattle.registry_names.proofs.KeyFacts.{pair_key, text_key}
-use Rattle.registry_access.specs.declared.role.Role.{Role}
 use Rattle.registry_packument.specs.declared.list.Member.{Member}
-use Rattle.registry_rows.specs.Frames.{Wrote}
-use Rattle.registry_rows.specs.Ready.{Ready, Leaves}
-use Rattle.registry_rows.specs.Statements.{Means, MeansQuery, scan, by_texts, in_order, insert_values, update_where}
-use Rattle.registry_rows.proofs.LookUpFacts.{select_finds, select_lists, first_listed}
-use Rattle.registry_tables.specs.Schema.{schema}
 use Rattle.registry_tables.specs.Schema as table
-use Rattle.registry_tables.specs.Changes.{IsFreeUnless, with_row}
-use Rattle.registry_tables.specs.Contents.{access_of, contents}
-use Rattle.registry_tables.specs.Effects.{stored}
-use Rattle.registry_tables.specs.Numbers.{role_number, role_of}
-use Rattle.registry_tables.specs.Spelled.{member_entry, member_spelled, role_spelled}
-use Rattle.registry_tables.specs.Queries.{ShowsAll, ShowsFirst}
 use Rattle.registry_tables.proofs.MappedFacts.{members_mapped}
 use Rattle.registry_tables.proofs.ReadFacts.{at-read, part-read}
 use Rattle.registry_tables.proofs.SetRowFacts.{row_set}

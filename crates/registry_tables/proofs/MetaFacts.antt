@@ -1,25 +1,11 @@
 -- The table `meta`.
 use Rattle.std.specs.Prelude.{codes}
-use Rattle.std.proofs.Common.{◌≡◌, ℕ, ℤ, List, [], ◌∷◌, Option, None, Some, option_map, slice_get, Ok, pos, refl, ◌∙◌}
-use Rattle.sqlite.specs.declared.types.Value.TheVariants.{Int, Text as Stored}
-use Rattle.sqlite_value.specs.Order.{Row, column}
-use Rattle.sqlite_sql.specs.Term.{lit, col}
-use Rattle.sqlite.specs.Command.TheVariants.{Select}
+use Rattle.registry_tables.proofs.Words.{◌≡◌, ℕ, ℤ, List, [], ◌∷◌, Option, None, Some, option_map, slice_get, Ok, pos, refl, ◌∙◌, Int, Stored, Row, column, lit, col, Select, State, HasCleanDisk, at}
+use Rattle.registry_tables.proofs.Words.{int_in, Means, MeansQuery, scan, by_texts, insert_values, Wrote, Ready, Leaves, Reads, Queried, IsMapped, first_listed, select_finds, insert_puts, schema}
+use Rattle.registry_tables.proofs.Words.{contents, number_named_in, stored, schema_key, with_number}
 use Rattle.sqlite.specs.Listing.{understood}
-use Rattle.sqlite.specs.State.{State, HasCleanDisk}
 use Rattle.sqlite_tied.specs.Compute.{everything}
-use Rattle.registry_names.specs.Maps.{at}
-use Rattle.registry_rows.specs.Columns.{int_in}
-use Rattle.registry_rows.specs.Statements.{Means, MeansQuery, scan, by_texts, insert_values}
-use Rattle.registry_rows.specs.Frames.{Wrote}
-use Rattle.registry_rows.specs.Ready.{Ready, Leaves, Reads, Queried, IsMapped}
-use Rattle.registry_rows.proofs.LookUpFacts.{first_listed, select_finds}
-use Rattle.registry_rows.proofs.StatementFacts.{insert_puts}
 use Rattle.registry_tables.specs.Schema as table
-use Rattle.registry_tables.specs.Schema.{schema}
-use Rattle.registry_tables.specs.Contents.{contents, number_named_in}
-use Rattle.registry_tables.specs.Effects.{stored}
-use Rattle.registry_tables.specs.Fresh.{schema_key, with_number}
 use Rattle.registry_tables.proofs.ContentsFacts.{contents_depend}
 
 pub meta_mapped : IsMapped schema contents 13 table.meta 0 number_named_in (λ c m. record c { meta = m })

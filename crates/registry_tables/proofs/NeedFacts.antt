@@ -1,31 +1,10 @@
 -- What the statements on needs make and show.
-use Rattle.std.proofs.Common.{◌≡◌, ℕ, List, [], ◌∷◌, ◌++◌, Bool, true, false, cond, Option, Some, None, is_some, take, get_or, length, ◌+◌, ◌<◌, Ok, refl, sym, ap, ◌∙◌, codes}
-use Rattle.std.proofs.lemmas.List.{take_more}
-use Rattle.std.proofs.lemmas.Iterator.Adapters.{option_map_id}
-use Rattle.sqlite.specs.declared.types.Value.TheVariants.{Text as Stored}
-use Rattle.sqlite.specs.Command.TheVariants.{Select}
+use Rattle.registry_tables.proofs.Words.{◌≡◌, ℕ, List, [], ◌∷◌, ◌++◌, Bool, true, false, cond, Option, Some, None, is_some, take, get_or, length, ◌+◌, ◌<◌, Ok, refl, sym, ap, ◌∙◌, codes, take_more}
+use Rattle.registry_tables.proofs.Words.{option_map_id, Stored, Select, Shown, HasCleanDisk, col, Text, Wrote, Ready, Leaves, schema, contents, stored, at, put, same_true, at-put, same_map, Need}
+use Rattle.registry_tables.proofs.Words.{Means, MeansQuery, scan, by_texts, insert_values, Texts, TextsMap, texts_are, texts_key, insert_puts, select_finds, Contents, nothing_in, need_key, with_need}
+use Rattle.registry_tables.proofs.Words.{with_needs, ShowsWhether}
 use Rattle.sqlite.specs.Listing.{understood}
-use Rattle.sqlite.specs.State.{State as Shown, HasCleanDisk}
 use Rattle.sqlite_tied.specs.Compute.{everything}
-use Rattle.sqlite_sql.specs.Term.{col}
-use Rattle.registry_names.specs.Texts.{Text}
-use Rattle.registry_rows.specs.Frames.{Wrote}
-use Rattle.registry_rows.specs.Ready.{Ready, Leaves}
-use Rattle.registry_tables.specs.Schema.{schema}
-use Rattle.registry_tables.specs.Contents.{contents}
-use Rattle.registry_tables.specs.Effects.{stored}
-use Rattle.registry_names.specs.Maps.{at, put}
-use Rattle.registry_names.proofs.KeyFacts.{same_true}
-use Rattle.registry_names.proofs.MapFacts.{at-put, same_map}
-use Rattle.registry_publish.specs.declared.need.Need.{Need}
-use Rattle.registry_rows.specs.Statements.{Means, MeansQuery, scan, by_texts, insert_values}
-use Rattle.registry_rows.specs.TextKeys.{Texts, TextsMap, texts_are}
-use Rattle.registry_rows.proofs.TextKeyFacts.{texts_key}
-use Rattle.registry_rows.proofs.StatementFacts.{insert_puts}
-use Rattle.registry_rows.proofs.LookUpFacts.{select_finds}
-use Rattle.registry_tables.specs.Contents.{Contents, nothing_in}
-use Rattle.registry_tables.specs.Needs.{need_key, with_need, with_needs}
-use Rattle.registry_tables.specs.Queries.{ShowsWhether}
 use Rattle.registry_tables.proofs.FoundFacts.{some_found}
 use Rattle.registry_tables.proofs.MappedFacts.{need_ranges_mapped}
 

@@ -1,41 +1,12 @@
 -- Which rows the rows of `held` and of `tags` refer to.
-use Rattle.std.proofs.Common.{◌≡◌, ℤ, [], ◌∷◌, drop, inl, inr, true, false, Some, is_some, refl, sym, ap, ap₂, subst, ◌∙◌, codes}
-use Rattle.std.proofs.lemmas.Bool.{and_parts}
-use Rattle.sqlite.specs.declared.types.Value.{Value}
-use Rattle.sqlite.specs.declared.types.Value.TheVariants.{Int, Text as Stored}
-use Rattle.sqlite.specs.State.{State}
-use Rattle.sqlite_value.specs.Order.{Row, column}
-use Rattle.sqlite_value.specs.declared.keys.Collation.TheVariants.{Binary}
-use Rattle.sqlite_value.specs.Keys.{plain, first_key}
-use Rattle.sqlite_trees.specs.Tree.{rowid}
-use Rattle.sqlite_sql.specs.declared.ops.BinaryOp.TheVariants.{Compare}
-use Rattle.sqlite_sql.specs.declared.ops.CompareOp.TheVariants.{Eq}
-use Rattle.sqlite_sql.specs.Ops.{binary, is_true}
-use Rattle.sqlite_schema.specs.declared.schema.Action.TheVariants.{NoAction, Cascade}
-use Rattle.sqlite_schema.specs.Rules.{agree, has_null, parent_key}
+use Rattle.registry_tables.proofs.Words.{◌≡◌, ℤ, [], ◌∷◌, drop, inl, inr, true, false, Some, is_some, refl, sym, ap, ap₂, subst, ◌∙◌, codes, and_parts, Value, Int, Stored, State, Row, column, Binary}
+use Rattle.registry_tables.proofs.Words.{plain, rowid, Compare, Eq, binary, is_true, NoAction, Cascade, agree, has_null, parent_key, Has, all_has, has_got, Pair, Text, at, text_key, same_true}
+use Rattle.registry_tables.proofs.Words.{text_in, int_in, AreOf, numbers, key_of, IsReady, reference, by_number_given, by_texts_given, number_is, number_key, texts_of, types_of, table_rowids}
+use Rattle.registry_tables.proofs.Words.{parent_of, rows_tell_by, row_parts, HeldAreStored, archive_in, version_row, stored, schema}
+use Rattle.sqlite_value.specs.Keys.{first_key}
 use Rattle.sqlite_tied.specs.Compute.{everything}
-use Rattle.sqlite_rules.specs.Lists.{Has}
-use Rattle.sqlite_rules.proofs.ListLemmas.{all_has, has_got}
-use Rattle.registry_names.specs.Keys.{Pair}
-use Rattle.registry_names.specs.Texts.{Text}
-use Rattle.registry_names.specs.Maps.{at}
-use Rattle.registry_names.proofs.KeyFacts.{text_key, same_true}
-use Rattle.registry_rows.specs.Columns.{text_in, int_in, AreOf}
-use Rattle.registry_rows.specs.KeyKinds.{numbers}
-use Rattle.registry_rows.specs.Rows.{key_of}
-use Rattle.registry_rows.specs.Ready.{IsReady}
-use Rattle.registry_rows.specs.Tables.{reference}
-use Rattle.registry_rows.proofs.KeyedFacts.{by_number_given, by_texts_given, number_is, number_key, texts_of, types_of}
-use Rattle.registry_rows.proofs.OneRowFacts.{table_rowids}
-use Rattle.registry_rows.proofs.ReferenceFacts.{parent_of}
-use Rattle.registry_rows.proofs.StatementFacts.{rows_tell_by}
-use Rattle.registry_rows.proofs.TextKeyFacts.{row_parts}
 use Rattle.registry_rows.proofs.TypeFacts.{number_test, text_test}
-use Rattle.registry_tables.specs.Archives.{HeldAreStored}
-use Rattle.registry_tables.specs.Contents.{archive_in, version_in as version_row}
-use Rattle.registry_tables.specs.Effects.{stored}
 use Rattle.registry_tables.specs.Schema as table
-use Rattle.registry_tables.specs.Schema.{schema}
 use Rattle.registry_tables.proofs.MappedFacts.{archives_numbered, held_mapped, tags_mapped, versions_mapped}
 
 -- the values of a row of `held`

@@ -1,26 +1,10 @@
 -- The archives and the needs that are stored stay those of live versions, when one is withdrawn or
 -- deprecated.
-use Rattle.std.proofs.Common.{◌≡◌, inl, inr, ℕ, ℤ, Bool, true, false, not, cond, true≢false, List, [], Option, Some, None, is_some, option_map, refl, sym, ap, ◌∙◌, if◌then◌else◌}
-use Rattle.std.specs.Prelude.{option_and_then, unwrap_or}
-use Rattle.std.specs.Ordering.{int_eq}
-use Rattle.std.proofs.lemmas.Bool.{cases_Bool}
-use Rattle.registry_names.specs.Keys.{Pair, pair_is}
-use Rattle.registry_names.specs.Texts.{Text}
-use Rattle.registry_names.specs.Maps.{at, erase, entries, revise}
-use Rattle.registry_names.proofs.KeyFacts.{pair_key, same_true, same_self}
-use Rattle.registry_names.proofs.MapFacts.{at-entries, at-erase, at-erase_same, at-erase_other, at-keep, at-revise, same_map}
-use Rattle.registry_names.proofs.EntryFacts.{entries_rise}
-use Rattle.registry_publish.specs.Needs.{needs_of}
-use Rattle.registry_rules.specs.State.{Release}
-use Rattle.registry_rows.specs.TextKeys.{Texts}
-use Rattle.registry_rows.proofs.KeyedFacts.{number_key}
-use Rattle.registry_rows.proofs.ListingFacts.{first_risen}
-use Rattle.registry_rows.proofs.OrderFacts.{found_has}
-use Rattle.registry_rows.proofs.TextKeyFacts.{texts_key}
-use Rattle.registry_tables.specs.Archives.{HeldAreStored, HoldsArchives}
-use Rattle.registry_tables.specs.Contents.{Archive, Contents, LiveVersion, as_release, bytes_held, live_of, with_bytes}
-use Rattle.registry_tables.specs.Needs.{HoldsNeeds, names_if_any}
-use Rattle.registry_tables.specs.Withdrawals.{archives_left, is_held, version_retired, with_message, without_rows}
+use Rattle.registry_tables.proofs.Words.{◌≡◌, inl, inr, ℕ, ℤ, Bool, true, false, not, cond, true≢false, List, [], Option, Some, None, is_some, option_map, refl, sym, ap, ◌∙◌, if◌then◌else◌}
+use Rattle.registry_tables.proofs.Words.{option_and_then, unwrap_or, int_eq, cases_Bool, Pair, pair_is, Text, at, erase, entries, revise, pair_key, same_true, same_self, at-entries, at-erase}
+use Rattle.registry_tables.proofs.Words.{at-erase_same, at-erase_other, at-keep, at-revise, same_map, entries_rise, needs_of, Release, Texts, number_key, first_risen, found_has, texts_key}
+use Rattle.registry_tables.proofs.Words.{HeldAreStored, HoldsArchives, Archive, Contents, LiveVersion, as_release, bytes_held, live_of, with_bytes, HoldsNeeds, names_if_any, archives_left, is_held}
+use Rattle.registry_tables.proofs.Words.{version_retired, with_message, without_rows}
 use Rattle.registry_tables.proofs.FoundFacts.{some_seen}
 use Rattle.registry_tables.proofs.ReadFacts.{at-read}
 use Rattle.registry_tables.proofs.SomeFacts.{any_where, where_any}

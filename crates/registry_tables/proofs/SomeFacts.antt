@@ -1,33 +1,8 @@
 -- A query for one row that passes: it shows one exactly where an entry of the table's map passes.
-use Rattle.std.proofs.Common.{◌≡◌, ◌==◌, inl, inr, ℕ, suc, List, [], ◌∷◌, length, not, ◌||◌, take, drop, Bool, true, false, arith, ne_eqb, true≢false, refl, sym, ap, ◌∙◌}
-use Rattle.std.specs.List.{list_any}
-use Rattle.sqlite.specs.declared.types.Value.{Value}
-use Rattle.sqlite.specs.State.{State, HasCleanDisk}
-use Rattle.sqlite_value.specs.Order.{Row, column}
-use Rattle.sqlite_value.specs.declared.keys.Collation.TheVariants.{Binary}
-use Rattle.sqlite_sql.specs.declared.ops.BinaryOp.TheVariants.{Compare}
-use Rattle.sqlite_sql.specs.declared.ops.CompareOp.TheVariants.{Eq}
-use Rattle.sqlite_sql.specs.Ops.{binary, is_true}
-use Rattle.sqlite_sql.specs.Term.{Term}
-use Rattle.sqlite_schema.specs.declared.schema.Schema.{Schema}
-use Rattle.sqlite_schema.specs.declared.schema.Table.{Table}
-use Rattle.sqlite_trees.specs.Tree.{Trees}
-use Rattle.sqlite_rules.specs.Lists.{Has}
-use Rattle.sqlite_rules.proofs.ListLemmas.{all_has}
-use Rattle.registry_names.specs.Maps.{MapBy, entries}
-use Rattle.registry_names.proofs.EntryFacts.{entries_rise}
-use Rattle.registry_names.proofs.MapFacts.{at-entries}
-use Rattle.registry_rows.specs.Columns.{takes, equals}
-use Rattle.registry_rows.specs.KeyKinds.{KeyKind, map_by}
-use Rattle.registry_rows.specs.Ready.{IsReady, Ready, Reads, Queried}
-use Rattle.registry_rows.specs.Statements.{Finds, MeansQuery, by_column, is_wanted, select_first}
-use Rattle.registry_rows.proofs.KeyedFacts.{Gives}
-use Rattle.registry_rows.proofs.ListingFacts.{first_risen}
-use Rattle.registry_rows.proofs.OrderFacts.{found_has}
-use Rattle.registry_rows.proofs.QueryFacts.{query_starts}
-use Rattle.registry_rows.proofs.RowFacts.{at_row, row_at}
-use Rattle.registry_rows.proofs.SelectFacts.{finds}
-use Rattle.registry_rows.proofs.TextKeyFacts.{and_true, row_parts}
+use Rattle.registry_tables.proofs.Words.{◌≡◌, ◌==◌, inl, inr, ℕ, suc, List, [], ◌∷◌, length, not, ◌||◌, take, drop, Bool, true, false, arith, ne_eqb, true≢false, refl, sym, ap, ◌∙◌, list_any, Value}
+use Rattle.registry_tables.proofs.Words.{State, HasCleanDisk, Row, column, Binary, Compare, Eq, binary, is_true, Term, Schema, Table, Trees, Has, all_has, MapBy, entries, entries_rise, at-entries}
+use Rattle.registry_tables.proofs.Words.{takes, equals, KeyKind, map_by, IsReady, Ready, Reads, Queried, Finds, MeansQuery, by_column, is_wanted, select_first, Gives, first_risen, found_has}
+use Rattle.registry_tables.proofs.Words.{query_starts, at_row, row_at, finds, and_true, row_parts}
 
 -- ---- lists
 

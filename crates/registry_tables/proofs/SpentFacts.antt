@@ -1,32 +1,12 @@
 -- What the statements on withdrawn versions show.
-use Rattle.std.proofs.Common.{◌≡◌, ◌+◌, ◌<◌, List, [], ◌∷◌, ◌++◌, map, take, Option, Some, is_some, length, arith, refl, sym, ap, ◌∙◌, codes, ℕ}
-use Rattle.std.specs.Prelude.{max, slice_index_or, unwrap_or}
-use Rattle.std.proofs.lemmas.Simd.{map-map}
-use Rattle.sqlite.specs.declared.types.Value.TheVariants.{Text as Stored}
-use Rattle.sqlite.specs.Command.TheVariants.{Select}
+use Rattle.registry_tables.proofs.Words.{◌≡◌, ◌+◌, ◌<◌, List, [], ◌∷◌, ◌++◌, map, take, Option, Some, is_some, length, arith, refl, sym, ap, ◌∙◌, codes, ℕ, max, slice_index_or, unwrap_or, map-map}
+use Rattle.registry_tables.proofs.Words.{Stored, Select, Shown, HasCleanDisk, Row, column, col, Text, at, of, seen, Withdrawal, last_of, last_withdrawal, text_in, Ready, Reads, Queried, MeansQuery}
+use Rattle.registry_tables.proofs.Words.{scan, by_texts, in_order, select_finds, select_lists, schema, Contents, SpentVersion, as_withdrawal, registry_of, stored, seconds_of, held_spelled}
+use Rattle.registry_tables.proofs.Words.{number_spelled, second_spelled, last_number, ShowsAll, ShowsWhether, text_key}
 use Rattle.sqlite.specs.Listing.{understood}
-use Rattle.sqlite.specs.State.{State as Shown, HasCleanDisk}
 use Rattle.sqlite_tied.specs.Compute.{everything}
-use Rattle.sqlite_value.specs.Order.{Row, column}
-use Rattle.sqlite_sql.specs.Term.{col}
-use Rattle.registry_names.specs.Texts.{Text}
-use Rattle.registry_names.specs.Maps.{at, of, seen}
-use Rattle.registry_rules.specs.State.{Withdrawal}
 use Rattle.registry_rules.specs.Moments.{spent_publications}
-use Rattle.registry_rules.specs.Withdrawals.{last_of, last_withdrawal}
 use Rattle.registry_rules.proofs.ListedFacts.{mapped_more}
-use Rattle.registry_rows.specs.Columns.{text_in}
-use Rattle.registry_rows.specs.Ready.{Ready, Reads, Queried}
-use Rattle.registry_rows.specs.Statements.{MeansQuery, scan, by_texts, in_order}
-use Rattle.registry_rows.proofs.LookUpFacts.{select_finds, select_lists}
-use Rattle.registry_tables.specs.Schema.{schema}
-use Rattle.registry_tables.specs.Contents.{Contents, SpentVersion, as_withdrawal, registry_of}
-use Rattle.registry_tables.specs.Effects.{stored}
-use Rattle.registry_tables.specs.Numbers.{seconds_of}
-use Rattle.registry_tables.specs.Spelled.{held_spelled, number_spelled, second_spelled}
-use Rattle.registry_tables.specs.Withdrawals.{last_number}
-use Rattle.registry_tables.specs.Queries.{ShowsAll, ShowsWhether}
-use Rattle.registry_names.proofs.KeyFacts.{text_key}
 use Rattle.registry_tables.proofs.FoundFacts.{some_found, some_seen}
 use Rattle.registry_tables.proofs.MappedFacts.{spent_mapped}
 use Rattle.registry_tables.proofs.NumberFacts.{as_seconds}

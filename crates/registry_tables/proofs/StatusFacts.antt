@@ -1,42 +1,14 @@
 -- What the statements on statuses make and show.
-use Rattle.std.proofs.Common.{◌≡◌, ℕ, Bool, true, false, not, ◌&&◌, cond, drop, filter, Ordering, Less, Equal, Greater, is_lt, ap, ap₂, List, [], ◌∷◌, map, Some, None, refl, sym, ◌∙◌, codes, if◌then◌else◌}
-use Rattle.sqlite.specs.declared.types.Value.TheVariants.{Int, Text as Stored}
-use Rattle.sqlite.specs.Command.TheVariants.{Select}
+use Rattle.registry_tables.proofs.Words.{◌≡◌, ℕ, Bool, true, false, not, ◌&&◌, cond, drop, filter, Ordering, Less, Equal, Greater, is_lt, ap, ap₂, List, [], ◌∷◌, map, Some, None, refl, sym, ◌∙◌}
+use Rattle.registry_tables.proofs.Words.{codes, if◌then◌else◌, Int, Stored, Select, Shown, HasCleanDisk, Value, Row, column, value_cmp, Binary, value_cmp-Text, Compare, Ge, Lt, is_true, Has, all_has}
+use Rattle.registry_tables.proofs.Words.{is_ge, Term, col, op2, Text, text_cmp, Wrote, IsReady, Ready, Leaves, package_spelled, schema, access_of, contents, stored, at, entries, seen, Status}
+use Rattle.registry_tables.proofs.Words.{text_key, Means, MeansQuery, scan, by_texts, in_order, is_wanted, select_where, insert_values, update_where, text_in, key_of, by_texts_given, texts_of}
+use Rattle.registry_tables.proofs.Words.{select_all, select_finds, select_passes_by, first_listed, and_true, row_parts, IsFreeUnless, with_row, status_number, status_of, status_spelled, ShowsAll}
+use Rattle.registry_tables.proofs.Words.{ShowsFirst}
 use Rattle.sqlite.specs.Listing.{understood}
-use Rattle.sqlite.specs.State.{State as Shown, HasCleanDisk}
 use Rattle.sqlite_tied.specs.Compute.{everything}
-use Rattle.sqlite.specs.declared.types.Value.{Value}
-use Rattle.sqlite_value.specs.Order.{Row, column, value_cmp}
-use Rattle.sqlite_value.specs.declared.keys.Collation.TheVariants.{Binary}
-use Rattle.sqlite_value.proofs.OrderLemmas.{value_cmp-Text}
-use Rattle.sqlite_sql.specs.declared.ops.BinaryOp.TheVariants.{Compare}
-use Rattle.sqlite_sql.specs.declared.ops.CompareOp.TheVariants.{Ge, Lt}
-use Rattle.sqlite_sql.specs.Ops.{binary, is_true}
-use Rattle.sqlite_rules.specs.Lists.{Has}
-use Rattle.sqlite_rules.proofs.ListLemmas.{all_has}
-use Rattle.std.specs.Ordering.{is_ge}
-use Rattle.sqlite_sql.specs.Term.{Term, col, op2}
-use Rattle.registry_names.specs.Texts.{Text, text_cmp}
-use Rattle.registry_rows.specs.Frames.{Wrote}
-use Rattle.registry_rows.specs.Ready.{IsReady, Ready, Leaves}
-use Rattle.registry_tables.specs.Overviews.{package_spelled}
+use Rattle.sqlite_sql.specs.Ops.{binary}
 use Rattle.registry_tables.specs.Schema as table
-use Rattle.registry_tables.specs.Schema.{schema}
-use Rattle.registry_tables.specs.Contents.{access_of, contents}
-use Rattle.registry_tables.specs.Effects.{stored}
-use Rattle.registry_names.specs.Maps.{at, entries, seen}
-use Rattle.registry_names.specs.declared.status.Status.{Status}
-use Rattle.registry_names.proofs.KeyFacts.{text_key}
-use Rattle.registry_rows.specs.Statements.{Means, MeansQuery, scan, by_texts, in_order, is_wanted, select_where, insert_values, update_where}
-use Rattle.registry_rows.specs.Columns.{text_in}
-use Rattle.registry_rows.specs.Rows.{key_of}
-use Rattle.registry_rows.proofs.KeyedFacts.{by_texts_given, texts_of}
-use Rattle.registry_rows.proofs.LookUpFacts.{select_all, select_finds, select_passes_by, first_listed}
-use Rattle.registry_rows.proofs.TextKeyFacts.{and_true, row_parts}
-use Rattle.registry_tables.specs.Changes.{IsFreeUnless, with_row}
-use Rattle.registry_tables.specs.Numbers.{status_number, status_of}
-use Rattle.registry_tables.specs.Spelled.{status_spelled}
-use Rattle.registry_tables.specs.Queries.{ShowsAll, ShowsFirst}
 use Rattle.registry_tables.proofs.AfterScopeFacts.{is_between}
 use Rattle.registry_tables.proofs.DependentFacts.{truth_is}
 use Rattle.registry_tables.proofs.MappedFacts.{packages_mapped}

@@ -1,26 +1,10 @@
 -- What the statements on tags make and show.
-use Rattle.std.proofs.Common.{ℕ, List, [], ◌∷◌, Some, None, is_some, Ok, refl, ◌∙◌, codes, Bool, if◌then◌else◌}
-use Rattle.std.proofs.lemmas.Iterator.Adapters.{option_map_id}
-use Rattle.sqlite.specs.declared.types.Value.TheVariants.{Text as Stored}
-use Rattle.sqlite_sql.specs.Term.{col}
-use Rattle.sqlite.specs.Command.TheVariants.{Delete, Select}
+use Rattle.registry_tables.proofs.Words.{ℕ, List, [], ◌∷◌, Some, None, is_some, Ok, refl, ◌∙◌, codes, Bool, if◌then◌else◌, option_map_id, Stored, col, Delete, Select, Shown, HasCleanDisk, Text, at}
+use Rattle.registry_tables.proofs.Words.{erase, of, Wrote, Means, MeansQuery, scan, by_texts, in_order, insert_values, update_where, Ready, Leaves, delete_erases, select_finds, select_lists}
+use Rattle.registry_tables.proofs.Words.{first_listed, seen_as_is, schema, IsFreeUnless, with_row, contents, stored, tag_spelled, named_spelled, ShowsAll, ShowsFirst, ShowsWhether}
 use Rattle.sqlite.specs.Listing.{understood}
-use Rattle.sqlite.specs.State.{State as Shown, HasCleanDisk}
 use Rattle.sqlite_tied.specs.Compute.{everything}
-use Rattle.registry_names.specs.Texts.{Text}
-use Rattle.registry_names.specs.Maps.{at, erase, of}
-use Rattle.registry_rows.specs.Frames.{Wrote}
-use Rattle.registry_rows.specs.Statements.{Means, MeansQuery, scan, by_texts, in_order, insert_values, update_where}
-use Rattle.registry_rows.specs.Ready.{Ready, Leaves}
-use Rattle.registry_rows.proofs.StatementFacts.{delete_erases}
-use Rattle.registry_rows.proofs.LookUpFacts.{select_finds, select_lists, first_listed, seen_as_is}
-use Rattle.registry_tables.specs.Schema.{schema}
 use Rattle.registry_tables.specs.Schema as table
-use Rattle.registry_tables.specs.Changes.{IsFreeUnless, with_row}
-use Rattle.registry_tables.specs.Contents.{contents}
-use Rattle.registry_tables.specs.Effects.{stored}
-use Rattle.registry_tables.specs.Spelled.{tag_spelled, named_spelled}
-use Rattle.registry_tables.specs.Queries.{ShowsAll, ShowsFirst, ShowsWhether}
 use Rattle.registry_tables.proofs.FoundFacts.{there_found}
 use Rattle.registry_tables.proofs.MappedFacts.{tags_mapped}
 use Rattle.registry_tables.proofs.SetRowFacts.{row_set}

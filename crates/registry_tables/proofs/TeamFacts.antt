@@ -1,27 +1,11 @@
 -- What the statements on teams make and show.
-use Rattle.std.proofs.Common.{◌≡◌, ℕ, List, [], ◌∷◌, is_some, None, Ok, refl, sym, ◌∙◌, codes}
-use Rattle.sqlite.specs.declared.types.Value.TheVariants.{Text as Stored}
-use Rattle.sqlite.specs.Command.TheVariants.{Select}
+use Rattle.registry_tables.proofs.Words.{◌≡◌, ℕ, List, [], ◌∷◌, is_some, None, Ok, refl, sym, ◌∙◌, codes, Stored, Select, Shown, HasCleanDisk, col, Text, at, keys, of, put, Wrote, Ready, Leaves}
+use Rattle.registry_tables.proofs.Words.{Means, MeansQuery, scan, by_texts, in_order, insert_values, insert_puts, insert_meets_none, select_lists, schema, Contents, access_of, contents, grant_of}
+use Rattle.registry_tables.proofs.Words.{role_of, pair_key, triple_key, stored, AreTeamsSound, text_spelled, ShowsAll, ShowsWhether}
 use Rattle.sqlite.specs.Listing.{understood}
-use Rattle.sqlite.specs.State.{State as Shown, HasCleanDisk}
 use Rattle.sqlite_tied.specs.Compute.{everything}
-use Rattle.sqlite_sql.specs.Term.{col}
-use Rattle.registry_names.specs.Texts.{Text}
-use Rattle.registry_names.specs.Maps.{at, keys, of, put}
-use Rattle.registry_rows.specs.Frames.{Wrote}
-use Rattle.registry_rows.specs.Ready.{Ready, Leaves}
-use Rattle.registry_rows.specs.Statements.{Means, MeansQuery, scan, by_texts, in_order, insert_values}
-use Rattle.registry_rows.proofs.StatementFacts.{insert_puts, insert_meets_none}
-use Rattle.registry_rows.proofs.LookUpFacts.{select_lists}
-use Rattle.registry_tables.specs.Schema.{schema}
 use Rattle.registry_rules.specs.Kept.{IsSound}
-use Rattle.registry_tables.specs.Contents.{Contents, access_of, contents}
-use Rattle.registry_tables.specs.Numbers.{grant_of, role_of}
 use Rattle.registry_tables.proofs.ReadFacts.{some-read}
-use Rattle.registry_names.proofs.KeyFacts.{pair_key, triple_key}
-use Rattle.registry_tables.specs.Effects.{stored}
-use Rattle.registry_tables.specs.Teams.{AreTeamsSound, text_spelled}
-use Rattle.registry_tables.specs.Queries.{ShowsAll, ShowsWhether}
 use Rattle.registry_tables.proofs.FoundFacts.{key_entry, keys_seen, there_found}
 use Rattle.registry_tables.proofs.MappedFacts.{teams_mapped}
 

@@ -1,19 +1,8 @@
 -- What the list of a team's users shows.
-use Rattle.std.proofs.Common.{ℕ, List, [], ◌∷◌, refl, codes}
-use Rattle.sqlite.specs.declared.types.Value.TheVariants.{Text as Stored}
-use Rattle.sqlite_sql.specs.Term.{col}
-use Rattle.sqlite.specs.Command.TheVariants.{Select}
+use Rattle.registry_tables.proofs.Words.{ℕ, List, [], ◌∷◌, refl, codes, Stored, col, Select, Shown, Text, pairs_of, parts, MeansQuery, scan, by_texts, in_order, select_lists_two, schema, stored}
+use Rattle.registry_tables.proofs.Words.{text_spelled, users_of, ShowsAll}
 use Rattle.sqlite.specs.Listing.{understood}
-use Rattle.sqlite.specs.State.{State as Shown}
 use Rattle.sqlite_tied.specs.Compute.{everything}
-use Rattle.registry_names.specs.Texts.{Text}
-use Rattle.registry_names.specs.Maps.{pairs_of, parts}
-use Rattle.registry_rows.specs.Statements.{MeansQuery, scan, by_texts, in_order}
-use Rattle.registry_rows.proofs.LookUpFacts.{select_lists_two}
-use Rattle.registry_tables.specs.Schema.{schema}
-use Rattle.registry_tables.specs.Effects.{stored}
-use Rattle.registry_tables.specs.Teams.{text_spelled, users_of}
-use Rattle.registry_tables.specs.Queries.{ShowsAll}
 use Rattle.registry_tables.proofs.FoundFacts.{key_entry, keys_seen}
 use Rattle.registry_tables.proofs.MappedFacts.{team_members_mapped}
 

@@ -1,32 +1,10 @@
 -- Who is in a team is a member: the rows of `team_members` refer to those of `members`.
-use Rattle.std.proofs.Common.{◌≡◌, [], ◌∷◌, drop, inl, inr, true, false, Option, Some, None, is_some, refl, sym, ap, ap₂, subst, ◌∙◌, codes, true≢false}
-use Rattle.std.proofs.lemmas.Bool.{and_parts}
-use Rattle.std.specs.Prelude.{IsSome}
-use Rattle.sqlite.specs.declared.types.Value.TheVariants.{Text as Stored}
-use Rattle.sqlite.specs.State.{State}
-use Rattle.sqlite_value.specs.Order.{Row, column}
-use Rattle.sqlite_value.specs.Keys.{plain, first_key}
-use Rattle.sqlite_schema.specs.declared.schema.Action.TheVariants.{Cascade}
-use Rattle.sqlite_schema.specs.Rules.{agree, has_null, parent_key}
+use Rattle.registry_tables.proofs.Words.{◌≡◌, [], ◌∷◌, drop, inl, inr, true, false, Option, Some, None, is_some, refl, sym, ap, ap₂, subst, ◌∙◌, codes, true≢false, and_parts, IsSome, Stored, State}
+use Rattle.registry_tables.proofs.Words.{Row, column, plain, Cascade, agree, has_null, parent_key, all_has, has_got, Pair, Triple, Text, at, text_in, key_of, IsReady, reference, by_texts_given}
+use Rattle.registry_tables.proofs.Words.{texts_of, types_of, table_rowids, parent_of, rows_tell_by, row_parts, role_in, stored, schema, AreTeamsSound, GrantsInScope, TeamsAreOfMembers}
+use Rattle.sqlite_value.specs.Keys.{first_key}
 use Rattle.sqlite_tied.specs.Compute.{everything}
-use Rattle.sqlite_rules.proofs.ListLemmas.{all_has, has_got}
-use Rattle.registry_names.specs.Keys.{Pair, Triple}
-use Rattle.registry_names.specs.Texts.{Text}
-use Rattle.registry_names.specs.Maps.{at}
-use Rattle.registry_rows.specs.Columns.{text_in}
-use Rattle.registry_rows.specs.Rows.{key_of}
-use Rattle.registry_rows.specs.Ready.{IsReady}
-use Rattle.registry_rows.specs.Tables.{reference}
-use Rattle.registry_rows.proofs.KeyedFacts.{by_texts_given, texts_of, types_of}
-use Rattle.registry_rows.proofs.OneRowFacts.{table_rowids}
-use Rattle.registry_rows.proofs.ReferenceFacts.{parent_of}
-use Rattle.registry_rows.proofs.StatementFacts.{rows_tell_by}
-use Rattle.registry_rows.proofs.TextKeyFacts.{row_parts}
-use Rattle.registry_tables.specs.Contents.{role_in}
-use Rattle.registry_tables.specs.Effects.{stored}
 use Rattle.registry_tables.specs.Schema as table
-use Rattle.registry_tables.specs.Schema.{schema}
-use Rattle.registry_tables.specs.Teams.{AreTeamsSound, GrantsInScope, TeamsAreOfMembers}
 use Rattle.registry_tables.proofs.MappedFacts.{members_mapped, team_members_mapped}
 use Rattle.registry_tables.proofs.ReferenceFacts.{three_texts, told}
 

@@ -1,31 +1,11 @@
 -- What the statements on tokens make and show.
-use Rattle.std.proofs.Common.{◌≡◌, ℕ, List, [], ◌∷◌, filter, None, Ok, refl, sym, ap, ◌∙◌, codes}
-use Rattle.std.proofs.lemmas.Iterator.Adapters.{option_map_id}
-use Rattle.std.proofs.lemmas.Simd.{map-map}
-use Rattle.sqlite.specs.declared.types.Value.TheVariants.{Blob, Text as Stored}
-use Rattle.sqlite.specs.Command.TheVariants.{Delete, Select}
+use Rattle.registry_tables.proofs.Words.{◌≡◌, ℕ, List, [], ◌∷◌, filter, None, Ok, refl, sym, ap, ◌∙◌, codes, option_map_id, map-map, Blob, Stored, Delete, Select, Shown, HasCleanDisk, Row, col, Text}
+use Rattle.registry_tables.proofs.Words.{is, at, put, erase, entries, keys, seen, is_sym, tokens_of, Wrote, Ready, Leaves, bytes, Means, MeansQuery, scan, select_where, by_column, by_texts}
+use Rattle.registry_tables.proofs.Words.{insert_values, by_bytes_given, insert_puts_bytes, insert_meets_none_bytes, delete_erases_by, select_finds_by, select_has_by, first_listed, schema, contents}
+use Rattle.registry_tables.proofs.Words.{registry_of, stored, blob_of_row, named_spelled, ShowsAll, ShowsFirst}
 use Rattle.sqlite.specs.Listing.{understood}
-use Rattle.sqlite.specs.State.{State as Shown, HasCleanDisk}
 use Rattle.sqlite_tied.specs.Compute.{everything}
-use Rattle.sqlite_value.specs.Order.{Row}
-use Rattle.sqlite_sql.specs.Term.{col}
-use Rattle.registry_names.specs.Texts.{Text, is}
-use Rattle.registry_names.specs.Maps.{at, put, erase, entries, keys, seen}
-use Rattle.registry_names.proofs.TextFacts.{is_sym}
-use Rattle.registry_rules.specs.State.{tokens_of}
-use Rattle.registry_rows.specs.Frames.{Wrote}
-use Rattle.registry_rows.specs.Ready.{Ready, Leaves}
-use Rattle.registry_rows.specs.KeyKinds.{bytes}
-use Rattle.registry_rows.specs.Statements.{Means, MeansQuery, scan, select_where, by_column, by_texts, insert_values}
-use Rattle.registry_rows.proofs.KeyedFacts.{by_bytes_given}
-use Rattle.registry_rows.proofs.StatementFacts.{insert_puts_bytes, insert_meets_none_bytes, delete_erases_by}
-use Rattle.registry_rows.proofs.LookUpFacts.{select_finds_by, select_has_by, first_listed}
 use Rattle.registry_tables.specs.Schema as table
-use Rattle.registry_tables.specs.Schema.{schema}
-use Rattle.registry_tables.specs.Contents.{contents, registry_of}
-use Rattle.registry_tables.specs.Effects.{stored}
-use Rattle.registry_tables.specs.Spelled.{blob_of_row, named_spelled}
-use Rattle.registry_tables.specs.Queries.{ShowsAll, ShowsFirst}
 use Rattle.registry_tables.proofs.MappedFacts.{tokens_mapped}
 
 -- ---- INSERT

@@ -1,24 +1,10 @@
 -- What the statements on users make and show.
-use Rattle.std.proofs.Common.{◌≡◌, ℕ, List, [], ◌∷◌, is_some, None, Ok, refl, codes}
-use Rattle.sqlite.specs.declared.types.Value.TheVariants.{Text as Stored}
-use Rattle.sqlite.specs.Command.TheVariants.{Select}
+use Rattle.registry_tables.proofs.Words.{◌≡◌, ℕ, List, [], ◌∷◌, is_some, None, Ok, refl, codes, Stored, Select, Shown, HasCleanDisk, col, Text, at, entries, keys, put, Wrote, Ready, Leaves, Means}
+use Rattle.registry_tables.proofs.Words.{MeansQuery, scan, by_texts, in_order, select_where, insert_values, insert_puts, insert_meets_none, select_all, schema, text_spelled, contents, stored}
+use Rattle.registry_tables.proofs.Words.{ShowsAll, ShowsWhether}
 use Rattle.sqlite.specs.Listing.{understood}
-use Rattle.sqlite.specs.State.{State as Shown, HasCleanDisk}
 use Rattle.sqlite_tied.specs.Compute.{everything}
-use Rattle.sqlite_sql.specs.Term.{col}
-use Rattle.registry_names.specs.Texts.{Text}
-use Rattle.registry_names.specs.Maps.{at, entries, keys, put}
-use Rattle.registry_rows.specs.Frames.{Wrote}
-use Rattle.registry_rows.specs.Ready.{Ready, Leaves}
-use Rattle.registry_rows.specs.Statements.{Means, MeansQuery, scan, by_texts, in_order, select_where, insert_values}
-use Rattle.registry_rows.proofs.StatementFacts.{insert_puts, insert_meets_none}
-use Rattle.registry_rows.proofs.LookUpFacts.{select_all}
 use Rattle.registry_tables.specs.Schema as table
-use Rattle.registry_tables.specs.Schema.{schema}
-use Rattle.registry_tables.specs.Teams.{text_spelled}
-use Rattle.registry_tables.specs.Contents.{contents}
-use Rattle.registry_tables.specs.Effects.{stored}
-use Rattle.registry_tables.specs.Queries.{ShowsAll, ShowsWhether}
 use Rattle.registry_tables.proofs.FoundFacts.{key_entry, keys_seen, there_found}
 use Rattle.registry_tables.proofs.MappedFacts.{users_mapped}
 

@@ -1,32 +1,12 @@
 -- What the statements on versions make and show.
-use Rattle.std.proofs.Common.{◌≡◌, ℕ, List, [], ◌∷◌, pos, map, is_some, option_map, None, Some, Ok, refl, sym, ap, ◌∙◌, codes}
-use Rattle.std.proofs.lemmas.Simd.{map-map}
-use Rattle.sqlite.specs.declared.types.Value.TheVariants.{Int, Text as Stored, Blob}
-use Rattle.sqlite.specs.Command.TheVariants.{Select}
+use Rattle.registry_tables.proofs.Words.{◌≡◌, ℕ, List, [], ◌∷◌, pos, map, is_some, option_map, None, Some, Ok, refl, sym, ap, ◌∙◌, codes, map-map, Int, Stored, Blob, Select, Shown, HasCleanDisk}
+use Rattle.registry_tables.proofs.Words.{column, Term, lit, col, Text, text_in, Wrote, Ready, Leaves, schema, LiveVersion, as_release, contents, live_of, registry_of, stored, at, keys, of, put, seen}
+use Rattle.registry_tables.proofs.Words.{has_live, live_versions, published_at, Means, MeansQuery, scan, first_of, by_texts, in_order, insert_values, update_where, insert_puts, insert_meets_none}
+use Rattle.registry_tables.proofs.Words.{update_revises, select_finds, select_lists, select_lists_first, first_listed, text_spelled, with_message, seconds_of, held_spelled, number_spelled, document}
+use Rattle.registry_tables.proofs.Words.{document_spelled, published, row_spelled, time_spelled, version_spelled, ShowsAll, ShowsFirst, ShowsWhether}
 use Rattle.sqlite.specs.Listing.{understood}
-use Rattle.sqlite.specs.State.{State as Shown, HasCleanDisk}
 use Rattle.sqlite_tied.specs.Compute.{everything}
-use Rattle.sqlite_value.specs.Order.{column}
-use Rattle.sqlite_sql.specs.Term.{Term, lit, col}
-use Rattle.registry_names.specs.Texts.{Text}
-use Rattle.registry_rows.specs.Columns.{text_in}
-use Rattle.registry_rows.specs.Frames.{Wrote}
-use Rattle.registry_rows.specs.Ready.{Ready, Leaves}
-use Rattle.registry_tables.specs.Schema.{schema}
 use Rattle.registry_tables.specs.Schema as table
-use Rattle.registry_tables.specs.Contents.{LiveVersion, as_release, contents, live_of, registry_of}
-use Rattle.registry_tables.specs.Effects.{stored}
-use Rattle.registry_names.specs.Maps.{at, keys, of, put, seen}
-use Rattle.registry_rules.specs.State.{has_live}
-use Rattle.registry_rules.specs.Withdrawals.{live_versions, published_at}
-use Rattle.registry_rows.specs.Statements.{Means, MeansQuery, scan, first_of, by_texts, in_order, insert_values, update_where}
-use Rattle.registry_rows.proofs.StatementFacts.{insert_puts, insert_meets_none, update_revises}
-use Rattle.registry_rows.proofs.LookUpFacts.{select_finds, select_lists, select_lists_first, first_listed}
-use Rattle.registry_tables.specs.Teams.{text_spelled}
-use Rattle.registry_tables.specs.Withdrawals.{with_message}
-use Rattle.registry_tables.specs.Numbers.{seconds_of}
-use Rattle.registry_tables.specs.Spelled.{held_spelled, number_spelled, document, document_spelled, published, row_spelled, time_spelled, version_spelled}
-use Rattle.registry_tables.specs.Queries.{ShowsAll, ShowsFirst, ShowsWhether}
 use Rattle.registry_tables.proofs.FoundFacts.{some_found, some_seen}
 use Rattle.registry_tables.proofs.LiveFacts.{document_as_row, documents_as_rows, lives_as_row, lives_as_rows, published_as_row, first_shown, times_as_rows, versions_as_rows}
 use Rattle.registry_tables.proofs.MappedFacts.{versions_mapped}

@@ -1,26 +1,17 @@
 -- What a walk has left.
-use Rattle.std.proofs.Common.{◌≡◌, ◌≤◌, ◌∙◌, ℕ, ◌+◌, List, [], ◌∷◌, ◌++◌, map, length, drop, refl, sym, ap, IsTrue, arith, false, inl, Some, None, Result, Ok, Err, IfOk, OnErr}
+use Rattle.registry_tables.proofs.Words.{◌≡◌, ◌≤◌, ◌∙◌, ℕ, ◌+◌, List, [], ◌∷◌, ◌++◌, map, length, drop, refl, sym, ap, IsTrue, arith, false, inl, Some, None, Result, Ok, Err, IfOk, OnErr, map-append}
+use Rattle.registry_tables.proofs.Words.{drop_all, length-append, length-map, Database, HasCleanDisk, IsUnchanged, Survives, CommitsShowing, Stored, Ghosts, of, seen, Text, Ready, contents, live_of}
+use Rattle.registry_tables.proofs.Words.{schema, document, row_entry, row_spelled, walk_text, documents_of, row_of_entry, rows_after, Begins, IsAt, IsGoing, IsLeftAlone, Steps, shown_by}
 use Rattle.std.proofs.Math.Logic.{∥∥₁_elim, ∥∥₁_map}
-use Rattle.std.proofs.lemmas.List.{map-append, append_assoc, drop_all, length-append, length-map}
+use Rattle.std.proofs.lemmas.List.{append_assoc}
 use lib.Seq.{drop_at}
 use base.Stored.{Coded-set}
 use Rattle.std.specs.Coded.{coded×, coded_ℕ, coded_list}
-use Rattle.sqlite.specs.Effect.{Database}
 use Rattle.sqlite.specs.Given.{HasBegun, IsRefused}
 use Rattle.sqlite.specs.Held.{Held, state}
-use Rattle.sqlite.specs.State.{HasCleanDisk, IsUnchanged, Survives, CommitsShowing}
 use Rattle.sqlite.specs.declared.error.Error.{Error}
 use Rattle.sqlite.specs.declared.rows.stream.Rows.{Rows}
-use Rattle.sqlite.specs.declared.types.Value.TheVariants.{Text as Stored}
-use Rattle.sqlite_trees.specs.declared.store.Store.{Ghosts}
-use Rattle.registry_names.specs.Maps.{of, seen}
-use Rattle.registry_names.specs.Texts.{Text}
 use Rattle.registry_packument.specs.declared.packument.VersionRow.{VersionRow}
-use Rattle.registry_rows.specs.Ready.{Ready}
-use Rattle.registry_tables.specs.Contents.{contents, live_of}
-use Rattle.registry_tables.specs.Schema.{schema}
-use Rattle.registry_tables.specs.Spelled.{document, row_entry, row_spelled}
-use Rattle.registry_tables.specs.Walks.{walk_text, documents_of, row_of_entry, rows_after, Begins, IsAt, IsGoing, IsLeftAlone, Steps, shown_by}
 use Rattle.registry_tables.specs.declared.walk.stage.Stage.TheVariants.{Goes, Over}
 use Rattle.registry_tables.proofs.WalkFacts.{begun_walk, commits_nothing, left_by, ready_still, refused_leaves, walked_first, shown_all}
 

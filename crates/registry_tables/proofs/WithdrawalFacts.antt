@@ -1,33 +1,14 @@
 -- What the statements make that withdraw a version, and what goes with its row.
-use Rattle.std.proofs.Common.{◌≡◌, ℕ, ℤ, List, [], ◌∷◌, pos, not, true, false, true≢false, None, Some, is_some, Ok, refl, sym, ap, ◌∙◌, codes}
-use Rattle.std.specs.Ordering.{int_eq}
-use Rattle.sqlite.specs.declared.types.Value.TheVariants.{Int, Text as Stored}
-use Rattle.sqlite.specs.Command.TheVariants.{Delete}
+use Rattle.registry_tables.proofs.Words.{◌≡◌, ℕ, ℤ, List, [], ◌∷◌, pos, not, true, false, true≢false, None, Some, is_some, Ok, refl, sym, ap, ◌∙◌, codes, int_eq, Int, Stored, Delete, Shown}
+use Rattle.registry_tables.proofs.Words.{HasCleanDisk, col, Text, pair_is, at, put, erase, keep, pair_key, at-erase_same, Wrote, numbers, Ready, Leaves, Means, MeansQuery, delete_where, select_first}
+use Rattle.registry_tables.proofs.Words.{scan, by_column, by_texts, insert_values, by_number_given, by_texts_given, insert_puts, insert_meets_none, delete_erases_by, IsUntagged, Contents, contents}
+use Rattle.registry_tables.proofs.Words.{stored, schema, is_held, without_rows, ShowsWhether}
 use Rattle.sqlite.specs.Listing.{understood}
-use Rattle.sqlite.specs.State.{State as Shown, HasCleanDisk}
-use Rattle.sqlite_sql.specs.Term.{col}
 use Rattle.sqlite_tied.specs.Compute.{everything}
-use Rattle.registry_names.specs.Texts.{Text}
-use Rattle.registry_names.specs.Keys.{pair_is}
-use Rattle.registry_names.specs.Maps.{at, put, erase, keep}
 use Rattle.registry_names.proofs.ChangeFacts.{keep_but}
-use Rattle.registry_names.proofs.KeyFacts.{pair_key}
-use Rattle.registry_names.proofs.MapFacts.{at-erase_same}
-use Rattle.registry_rows.specs.Frames.{Wrote}
-use Rattle.registry_rows.specs.KeyKinds.{numbers}
-use Rattle.registry_rows.specs.Ready.{Ready, Leaves}
-use Rattle.registry_rows.specs.Statements.{Means, MeansQuery, delete_where, select_first, scan, by_column, by_texts, insert_values}
-use Rattle.registry_rows.proofs.KeyedFacts.{by_number_given, by_texts_given}
-use Rattle.registry_rows.proofs.StatementFacts.{insert_puts, insert_meets_none, delete_erases_by}
 use Rattle.registry_laws_sql.specs.Cascades.{Child, IsChild, HasChildren, links, link_of}
 use Rattle.registry_laws_sql.proofs.CascadeFacts.{mapped_child, delete_cascades}
-use Rattle.registry_tables.specs.Changes.{IsUntagged}
-use Rattle.registry_tables.specs.Contents.{Contents, contents}
-use Rattle.registry_tables.specs.Effects.{stored}
 use Rattle.registry_tables.specs.Schema as table
-use Rattle.registry_tables.specs.Schema.{schema}
-use Rattle.registry_tables.specs.Withdrawals.{is_held, without_rows}
-use Rattle.registry_tables.specs.Queries.{ShowsWhether}
 use Rattle.registry_tables.proofs.MappedFacts.{archives_numbered, held_mapped, need_ranges_mapped, needs_mapped, spent_mapped, versions_mapped}
 use Rattle.registry_tables.proofs.ReferenceFacts.{named_lives}
 use Rattle.registry_tables.proofs.SomeFacts.{select_some_by}

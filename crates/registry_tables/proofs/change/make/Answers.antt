@@ -1,10 +1,5 @@
-use Rattle.std.proofs.Common.{◌≡◌, Result, OnOk, sym, subst}
-use Rattle.registry_rules.specs.Changes.{change_of}
+use Rattle.registry_tables.proofs.Words.{◌≡◌, Result, OnOk, sym, subst, change_of, Asks, Contents, stored_in, HasMoments}
 use Rattle.registry_rules.specs.declared.change.Change.{Change}
-use Rattle.registry_tables.specs.Changes.{Asks}
-use Rattle.registry_tables.specs.Contents.{Contents}
-use Rattle.registry_tables.specs.Effects.{stored_in}
-use Rattle.registry_tables.specs.Ranges.{HasMoments}
 use Rattle.registry_tables.proofs.EffectFacts.{on_any}
 use Rattle.registry_tables.proofs.change.make.Goals as goal
 

@@ -1,4 +1,4 @@
-use Rattle.registry_tables.specs.Effects.{shown}
+use Rattle.registry_tables.proofs.Words.{shown}
 use Rattle.registry_tables.proofs.ReferenceFacts.{held_stored}
 use Rattle.registry_tables.proofs.StepFacts.{change_counts, change_keeps, change_makes, changes_make}
 use Rattle.registry_tables.proofs.laws.changes_make_operations.Goals as goal

@@ -1,9 +1,4 @@
-use Rattle.std.proofs.Common.{◌≡◌, ◌∙◌, ◌++◌, ◌∷◌, [], List, ap, map, refl, sym}
-use Rattle.registry_names.specs.Maps.{rises}
-use Rattle.registry_names.specs.Texts.{Text, text_cmp}
-use Rattle.registry_access.specs.declared.levels.Level.{Level}
-use Rattle.registry_tables.specs.Levels.{level_entry}
-use Rattle.registry_packument.specs.declared.list.PackageLevel.{PackageLevel}
+use Rattle.registry_tables.proofs.Words.{◌≡◌, ◌∙◌, ◌++◌, ◌∷◌, [], List, ap, map, refl, sym, rises, Text, text_cmp, Level, level_entry, PackageLevel}
 use Rattle.registry_tables.proofs.SortFacts.{keys_rise, next_entry}
 use Rattle.registry_tables.proofs.levels.listed.Goals as goal
 

@@ -1,13 +1,6 @@
-use Rattle.std.proofs.Common.{◌≡◌, ◌∙◌, ap, arith, map, subst}
-use Rattle.std.specs.List.{AllByRecursion}
-use Rattle.std.proofs.lemmas.Result.{IfOk-weaker}
-use Rattle.sqlite.specs.Effect.{Database}
-use Rattle.sqlite.specs.State.{HasCleanDisk}
+use Rattle.registry_tables.proofs.Words.{◌≡◌, ◌∙◌, ap, arith, map, subst, AllByRecursion, IfOk-weaker, Database, HasCleanDisk, access_of, contents, shown, stored_in, IsListedFor, levels_on}
+use Rattle.registry_tables.proofs.Words.{listed_name, AreTeamsSound}
 use Rattle.registry_access.specs.Callers.{role_of}
-use Rattle.registry_tables.specs.Contents.{access_of, contents}
-use Rattle.registry_tables.specs.Effects.{shown, stored_in}
-use Rattle.registry_tables.specs.Levels.{IsListedFor, levels_on, listed_name}
-use Rattle.registry_tables.specs.Teams.{AreTeamsSound}
 use Rattle.registry_tables.proofs.EffectFacts.{reads_as_before}
 use Rattle.registry_tables.proofs.LevelFacts.{listed_right, scope_levels}
 use Rattle.registry_tables.proofs.levels.load_scope_packages.Goals as goal

@@ -1,6 +1,4 @@
-use Rattle.std.proofs.Common.{◌==◌, ap, ◌∙◌}
-use Rattle.registry_rows.proofs.QuietFacts.{shown_keeps}
-use Rattle.registry_tables.specs.Effects.{shown}
+use Rattle.registry_tables.proofs.Words.{◌==◌, ap, ◌∙◌, shown_keeps, shown}
 use Rattle.registry_tables.proofs.CatalogFacts.{none_found, ours_found}
 use Rattle.registry_tables.proofs.meta.lacks_tables.Goals as goal
 

@@ -1,13 +1,5 @@
-use Rattle.std.proofs.Common.{arith, refl, sym, ap, ◌∙◌}
-use Rattle.sqlite.specs.Effect.{Database}
-use Rattle.sqlite.specs.State.{HasCleanDisk}
+use Rattle.registry_tables.proofs.Words.{arith, refl, sym, ap, ◌∙◌, Database, HasCleanDisk, at, reads_then, schema, contents, shown, schema_key}
 use Rattle.sqlite.proofs.InsideLemmas.{keeps_then}
-use Rattle.registry_names.specs.Maps.{at}
-use Rattle.registry_rows.proofs.QuietFacts.{reads_then}
-use Rattle.registry_tables.specs.Schema.{schema}
-use Rattle.registry_tables.specs.Contents.{contents}
-use Rattle.registry_tables.specs.Effects.{shown}
-use Rattle.registry_tables.specs.Fresh.{schema_key}
 use Rattle.registry_tables.proofs.meta.opened.Goals as goal
 
 pub returns-clause-ours : goal.returns-clause-ours

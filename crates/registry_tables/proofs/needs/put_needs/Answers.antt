@@ -1,7 +1,4 @@
-use Rattle.std.proofs.Common.{◌∙◌, ap, arith, refl, rules, take_all}
-use Rattle.registry_rows.proofs.QuietFacts.{stays_then}
-use Rattle.registry_tables.specs.Effects.{stored_in}
-use Rattle.registry_tables.specs.Needs.{with_needs}
+use Rattle.registry_tables.proofs.Words.{◌∙◌, ap, arith, refl, rules, take_all, stays_then, stored_in, with_needs}
 use Rattle.registry_tables.proofs.NeedFacts.{needs_next}
 use Rattle.registry_tables.proofs.needs.put_needs.Goals as goal
 

@@ -1,9 +1,4 @@
-use Rattle.std.proofs.Common.{◌∙◌, ◌&&◌, Bool, arith, ap₂, subst, sym}
-use Rattle.sqlite.specs.State.{State as Shown, HasCleanDisk}
-use Rattle.registry_rows.proofs.QuietFacts.{stays_then}
-use Rattle.registry_tables.specs.Effects.{shown, stored_in}
-use Rattle.registry_tables.specs.Numbers.{is_level, is_moment, is_status}
-use Rattle.registry_tables.specs.Ranges.{TellsRanges, all_pass}
+use Rattle.registry_tables.proofs.Words.{◌∙◌, ◌&&◌, Bool, arith, ap₂, subst, sym, Shown, HasCleanDisk, stays_then, shown, stored_in, is_level, is_moment, is_status, TellsRanges, all_pass}
 use Rattle.registry_tables.proofs.RangeFacts.{tests_tell, then_found}
 use Rattle.registry_tables.proofs.numbers.numbers_are_in_range.Goals as goal
 

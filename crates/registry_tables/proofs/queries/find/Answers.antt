@@ -1,5 +1,4 @@
-use Rattle.std.proofs.Common.{◌∙◌, ap, option_map, slice_get}
-use Rattle.std.proofs.lemmas.Result.{IfOk-weaker}
+use Rattle.registry_tables.proofs.Words.{◌∙◌, ap, option_map, slice_get, IfOk-weaker}
 use Rattle.registry_tables.proofs.queries.find.Goals as goal
 
 pub returns-clause-loads : goal.returns-clause-loads

@@ -1,4 +1,4 @@
-use Rattle.std.proofs.Common.{◌==◌, ◌∙◌, ap, not}
+use Rattle.registry_tables.proofs.Words.{◌==◌, ◌∙◌, ap, not}
 use Rattle.registry_tables.proofs.queries.has.Goals as goal
 
 pub returns-clause-loads : goal.returns-clause-loads

@@ -1,5 +1,4 @@
-use Rattle.std.proofs.Common.{◌∙◌, ap, map}
-use Rattle.std.proofs.lemmas.Result.{IfOk-weaker}
+use Rattle.registry_tables.proofs.Words.{◌∙◌, ap, map, IfOk-weaker}
 use Rattle.registry_tables.proofs.queries.list.Goals as goal
 
 pub returns-clause-loads : goal.returns-clause-loads

@@ -1,5 +1,4 @@
-use Rattle.std.proofs.Common.{arith, refl}
-use Rattle.registry_rows.proofs.QuietFacts.{on_answer, stays_then}
+use Rattle.registry_tables.proofs.Words.{arith, refl, on_answer, stays_then}
 use Rattle.registry_tables.specs.Creation.{creation}
 use Rattle.registry_tables.proofs.CreationFacts.{numbered}
 use Rattle.registry_tables.proofs.schema.create.Goals as goal

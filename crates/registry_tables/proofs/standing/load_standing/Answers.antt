@@ -1,15 +1,6 @@
-use Rattle.std.proofs.Common.{◌≡◌, ◌||◌, ◌∙◌, not, true, arith, is_some, ap, sym}
-use Rattle.sqlite.specs.Effect.{Database}
-use Rattle.sqlite.specs.State.{HasCleanDisk}
-use Rattle.registry_access.specs.Callers.{is_maintainer}
-use Rattle.registry_access.specs.Levels.{is_owner_or_admin}
-use Rattle.registry_access.specs.Positions.{has_scope, scope_role}
+use Rattle.registry_tables.proofs.Words.{◌≡◌, ◌||◌, ◌∙◌, not, true, arith, is_some, ap, sym, Database, HasCleanDisk, is_maintainer, is_owner_or_admin, has_scope, scope_role, scope_of, Reads}
+use Rattle.registry_tables.proofs.Words.{access_of, contents, shown, schema}
 use Rattle.registry_access.specs.RowsFor.{is_owners}
-use Rattle.registry_names.specs.Names.{scope_of}
-use Rattle.registry_rows.specs.Ready.{Reads}
-use Rattle.registry_tables.specs.Contents.{access_of, contents}
-use Rattle.registry_tables.specs.Effects.{shown}
-use Rattle.registry_tables.specs.Schema.{schema}
 use Rattle.registry_tables.proofs.EffectFacts.{reads_as_before}
 use Rattle.registry_tables.proofs.StandingFacts.{all_told, counts_asked, counts_follower, grants_before, public_told, scope_there}
 use Rattle.registry_tables.proofs.standing.load_standing.Goals as goal

@@ -1,7 +1,4 @@
-use Rattle.std.proofs.Common.{◌∙◌, ◌++◌, ◌∷◌, [], ap, sym, take}
-use Rattle.std.proofs.lemmas.List.{take_more}
-use Rattle.registry_names.specs.Texts.{Text}
-use Rattle.registry_names.specs.Versions.{text_of_version}
+use Rattle.registry_tables.proofs.Words.{◌∙◌, ◌++◌, ◌∷◌, [], ap, sym, take, take_more, Text, text_of_version}
 use Rattle.registry_rules.proofs.ListedFacts.{pushed}
 use Rattle.registry_tables.proofs.versions.all_parsed.Goals as goal
 

@@ -1,5 +1,4 @@
-use Rattle.std.proofs.Common.{◌∙◌}
-use Rattle.std.proofs.lemmas.Result.{IfOk-weaker}
+use Rattle.registry_tables.proofs.Words.{◌∙◌, IfOk-weaker}
 use Rattle.registry_tables.proofs.versions.load_live.Goals as goal
 
 pub returns-clause-loads : goal.returns-clause-loads

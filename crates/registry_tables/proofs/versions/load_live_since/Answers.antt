@@ -1,5 +1,4 @@
-use Rattle.std.proofs.Common.{◌∙◌, ap, map}
-use Rattle.std.proofs.lemmas.Result.{IfOk-weaker}
+use Rattle.registry_tables.proofs.Words.{◌∙◌, ap, map, IfOk-weaker}
 use Rattle.registry_packument.specs.Heads.{time_entry}
 use Rattle.registry_tables.proofs.versions.load_live_since.Goals as goal
 
