@@ -45,12 +45,12 @@ pub use Rattle.registry_rows.specs.Statements.{Finds, Means, MeansFirstCounted, 
 pub use Rattle.registry_rows.specs.Tables.{no_tables, reference}
 pub use Rattle.registry_rows.specs.TextKeys.{Texts, TextsMap, texts_are, texts_from, texts_row}
 pub use Rattle.registry_rules.specs.Actions.{version_of}
-pub use Rattle.registry_rules.specs.Changes.{AddOrg, AddTeam, AddToken, AddUser, AddVersion, Change, DropGrant, DropMember, DropOwner, DropTag, DropTeam, DropTeamMember, DropToken, PutDeprecation, PutGrant, PutMember, PutOwner, PutStatus, PutTag, PutTeamMember, RetireVersion, all_made, change_of, made, release_of}
+pub use Rattle.registry_rules.specs.Changes.{AddOrg, AddTeam, AddToken, AddUser, AddVersion, Change, DropGrant, DropMember, DropOwner, DropTag, DropTeam, DropTeamMember, DropToken, PutDeprecation, PutGrant, PutMember, PutOwner, PutStatus, PutTag, PutTeamMember, RetireVersion, all_made, made, release_of}
 pub use Rattle.registry_rules.specs.Refusals.{is_scope}
 pub use Rattle.registry_rules.specs.State.{Release, Withdrawal, has_live, is_empty, is_own, no_access, nothing, tokens_of}
 pub use Rattle.registry_rules.specs.Withdrawals.{is_depended, is_need_of, last_of, last_withdrawal, live_versions, needs_in, published_at, tags_of, versions_in}
 pub use Rattle.registry_tables.specs.Archives.{AreArchivesSound, HeldAreStored, HoldsArchives, archive_number, is_archive, next_archive, number_of, with_archive}
-pub use Rattle.registry_tables.specs.Changes.{Asks, IsFreeUnless, IsUntagged, all_stored, row_of, stored_by, version_put, with_row}
+pub use Rattle.registry_tables.specs.Changes.{IsFreeUnless, IsUntagged, all_stored, row_of, stored_by, version_put, with_row}
 pub use Rattle.registry_tables.specs.Contents.{Archive, Contents, LiveVersion, SpentVersion, access_of, archive_in, as_release, as_withdrawal, bytes_held, contents, grant_in, held_in, live_of, named_in, nothing_in, number_named_in, registry_of, role_in, spent_in, status_in, user_in, version_in, version_in as version_row, with_bytes}
 pub use Rattle.registry_tables.specs.Effects.{HasNoTables, InForm, IsAsBefore, Makes, shown, stored, stored_in}
 pub use Rattle.registry_tables.specs.Fresh.{HasMade, first_tables, fresh, no_contents, schema_after, schema_key, schema_number, with_number}
@@ -92,7 +92,7 @@ pub use Rattle.sqlite_value.proofs.OrderLemmas.{value_cmp-Text}
 pub use Rattle.sqlite_value.specs.Keys.{plain}
 pub use Rattle.sqlite_value.specs.Order.{Row, column, value_cmp}
 pub use Rattle.sqlite_value.specs.declared.keys.Collation.TheVariants.{Binary}
-pub use Rattle.std.proofs.Common.{All, Bool, Bor, Equal, Err, Greater, IfOk, IsTrue, Less, List, None, Ok, OnErr, OnOk, Option, Ordering, Result, SFits, Some, T, [], ap, append_assoc, ap₂, arith, codes, cond, drop, false, filter, get_or, get_or-take, if◌then◌else◌, inl, inr, is_lt, is_none, is_some, length, lit<, map, ne_eqb, negsuc, not, option_map, pos, refl, rules, slice_get, subst, subst₂, suc, sym, take, take_all, true, true≢false, w64, zero, ℕ, ℤ, ◌&&◌, ◌++◌, ◌+◌, ◌<◌, ◌==◌, ◌||◌, ◌↔◌, ◌∙◌, ◌∷◌, ◌≡◌, ◌≢◌, ◌≤◌, ◌⊎◌}
+pub use Rattle.std.proofs.Common.{All, Bool, Bor, Equal, Err, Greater, IfOk, IsTrue, Less, List, None, Ok, OnErr, OnOk, Option, Ordering, Result, SFits, Some, T, [], ap, append_assoc, ap₂, arith, codes, cond, drop, false, filter, get_or, get_or-take, if◌then◌else◌, inl, inr, is_lt, is_none, is_some, length, lit<, map, ne_eqb, negsuc, not, option_map, pos, refl, rules, slice_get, subst, subst₂, suc, sym, take, true, true≢false, w64, zero, ℕ, ℤ, ◌&&◌, ◌++◌, ◌+◌, ◌<◌, ◌==◌, ◌||◌, ◌↔◌, ◌∙◌, ◌∷◌, ◌≡◌, ◌≢◌, ◌≤◌, ◌⊎◌}
 pub use Rattle.std.proofs.lemmas.Bool.{and_from, and_parts, cases_Bool, cases_lt, eqb-true, false_from_ne_true, le-leb, le-ltb}
 pub use Rattle.std.proofs.lemmas.Int.{to_z-of_z}
 pub use Rattle.std.proofs.lemmas.Iterator.Adapters.{option_map_id}

@@ -2,9 +2,6 @@ use Rattle.registry_tables.proofs.Words.{◌≡◌, ◌∙◌, ◌++◌, ◌∷�
 use Rattle.registry_tables.proofs.SortFacts.{keys_rise, next_entry}
 use Rattle.registry_tables.proofs.levels.listed.Goals as goal
 
-pub loop-name-init : goal.loop-name-init
-loop-name-init c = ap (λ (ps : List PackageLevel). map level_entry ps ++ c.into_iter-name-iterator.result) c.new-packages.ensures.items ∙ c.into_iter-name-iterator.ensures.into_iter_gives.0
-
 pub loop-name-preserved : goal.loop-name-preserved
 loop-name-preserved c =
     let at = c.loop-name in

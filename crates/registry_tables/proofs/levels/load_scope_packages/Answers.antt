@@ -26,10 +26,3 @@ returns-clause-loads g c clean =
           let told = subst (λ (d : Database). AreTeamsSound (contents d.trees) → AllByRecursion (IsListedFor (contents d.trees) who c.in_ok-role.role) ps → levels.items ≡ levels_on (contents d.trees) who (map listed_name ps)) two.same it.1 in
           told sound (listed_right stored who c.in_ok-role.role o ps list.1 is_role) ∙ scope_levels stored who c.in_ok-role.role o ps list.1,
     )) (c.with_levels.ensures.knows clean)
-
-pub with_levels-requires : goal.with_levels-requires
-with_levels-requires g c = record {
-  in_form = λ clean _.
-      let at_list : HasCleanDisk (shown g.S.Store c.load_scope_statuses.new.tx) = omega (arith, c.load_caller_role.ensures.stays.survives.clean, clean) in
-      (c.in_ok-role.ensures.knows clean).0.ready (c.in_ok-packages.ensures.loads at_list).0.ready;
-}

@@ -45,27 +45,3 @@ pub returns-then-sees_public-clause-loads : goal.returns-then-sees_public-clause
 returns-then-sees_public-clause-loads g c clean =
     let status = c.in_ok-status.ensures.loads clean in
     (status.0, λ sound. public_told _ _ c.args.caller.now c.args.name.now c.args.ask.now (sym c.sees_public.ensures ∙ c.if-sees_public.true) status.1)
-
-pub has_scope-requires : goal.has_scope-requires
-has_scope-requires g c = record {
-  in_form = λ clean _.
-      let at_status : HasCleanDisk (shown g.S.Store c.load_status.new.tx) = omega (arith, c.load_scope_role.ensures.stays.survives.clean, clean) in
-      (c.in_ok-role.ensures.knows clean).0.ready (c.in_ok-status.ensures.loads at_status).0.ready;
-}
-
-pub maintains_for-requires : goal.maintains_for-requires
-maintains_for-requires g c = record {
-  in_form = λ clean _.
-      let at_role : HasCleanDisk (shown g.S.Store c.load_scope_role.new.tx) = omega (arith, c.has_scope.ensures.stays.survives.clean, clean) in
-      let at_status : HasCleanDisk (shown g.S.Store c.load_status.new.tx) = omega (arith, c.load_scope_role.ensures.stays.survives.clean, at_role) in
-      (c.in_ok-organisation.ensures.knows clean).0.ready ((c.in_ok-role.ensures.knows at_role).0.ready (c.in_ok-status.ensures.loads at_status).0.ready);
-}
-
-pub load_granted-requires : goal.load_granted-requires
-load_granted-requires g c = record {
-  in_form = λ clean _.
-      let at_organisation : HasCleanDisk (shown g.S.Store c.has_scope.new.tx) = omega (arith, c.maintains_for.ensures.stays.survives.clean, clean) in
-      let at_role : HasCleanDisk (shown g.S.Store c.load_scope_role.new.tx) = omega (arith, c.has_scope.ensures.stays.survives.clean, at_organisation) in
-      let at_status : HasCleanDisk (shown g.S.Store c.load_status.new.tx) = omega (arith, c.load_scope_role.ensures.stays.survives.clean, at_role) in
-      (c.in_ok-maintainer.ensures.knows clean).0.ready ((c.in_ok-organisation.ensures.knows at_organisation).0.ready ((c.in_ok-role.ensures.knows at_role).0.ready (c.in_ok-status.ensures.loads at_status).0.ready));
-}
