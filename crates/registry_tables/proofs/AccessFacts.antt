@@ -1,15 +1,8 @@
 -- What loaded rows say of an organisation and a caller.
-use Rattle.std.proofs.Common.{◌≡◌, ◌∙◌, [], ◌∷◌, true, false, cond, is_some, Some, None, map, ap}
-use Rattle.registry_names.specs.Texts.{Text, text_cmp}
-use Rattle.registry_names.specs.Keys.{pair_cmp}
-use Rattle.registry_names.specs.Maps.{at, rows}
-use Rattle.registry_names.proofs.KeyFacts.{text_key, pair_key, same_self}
-use Rattle.registry_names.proofs.MapFacts.{at-rows}
+use Rattle.registry_tables.proofs.Words.{◌≡◌, ◌∙◌, [], ◌∷◌, true, false, cond, is_some, Some, None, map, ap, Text, text_cmp, pair_cmp, at, rows, text_key, pair_key, same_self, at-rows}
+use Rattle.registry_tables.proofs.Words.{has_organisation, User, Role}
 use Rattle.registry_access.specs.Callers.{role_of}
-use Rattle.registry_access.specs.Positions.{has_organisation}
 use Rattle.registry_access.specs.RowMaps.{state_of, organisation_entry, member_entry}
-use Rattle.registry_access.specs.declared.caller.Caller.TheVariants.{User}
-use Rattle.registry_access.specs.declared.role.Role.{Role}
 use Rattle.registry_access.specs.declared.rows.AccessRows.{AccessRows}
 
 -- a row of the organisation says that it is there, and no row that it isn't

@@ -1,21 +1,13 @@
 -- The names of a scope are those after it: not below `@o/`, and below `@o0`.
-use Rattle.std.proofs.Common.{◌≡◌, ◌==◌, ◌∙◌, ◌<◌, ℕ, suc, ◌+◌, Bool, true, false, not, ◌&&◌, cond, filter, is_some, List, [], ◌∷◌, ◌++◌, take, Option, Some, None, Ordering, Less, Equal, Greater, is_lt, refl, sym, ap, subst, true≢false, T, inl, inr, arith, if◌then◌else◌}
+use Rattle.registry_tables.proofs.Words.{◌≡◌, ◌==◌, ◌∙◌, ◌<◌, ℕ, suc, ◌+◌, Bool, true, false, not, ◌&&◌, cond, filter, is_some, List, [], ◌∷◌, ◌++◌, take, Option, Some, None, Ordering, Less, Equal}
+use Rattle.registry_tables.proofs.Words.{Greater, is_lt, refl, sym, ap, subst, true≢false, T, inl, inr, arith, if◌then◌else◌, nat_cmp, ordering_then, before_first, list_all, position_or_len}
+use Rattle.registry_tables.proofs.Words.{and_parts, cases_Bool, cases_lt, eqb-true, false_from_ne_true, scope_of, Text, text_cmp, at, entries, first_at, text_key, at-entries, Status, is_scope}
+use Rattle.registry_tables.proofs.Words.{never_some, is_after_scope, scope_statuses, Contents, access_of}
 use Rattle.std.specs.Cmp.{nat_cmp_is}
-use Rattle.std.specs.Ordering.{nat_cmp, ordering_then}
-use Rattle.std.specs.List.{before_first, list_all, position_or_len}
 use Rattle.std.proofs.Math.Dec.{eqb_refl}
-use Rattle.std.proofs.lemmas.Bool.{and_parts, cases_Bool, cases_lt, eqb-true, false_from_ne_true}
 use Rattle.registry_names.specs.Idents.{is_ident, is_ident_char}
-use Rattle.registry_names.specs.Names.{scope_of}
-use Rattle.registry_names.specs.Texts.{Text, text_cmp, is}
-use Rattle.registry_names.specs.Maps.{at, entries, first_at}
-use Rattle.registry_names.proofs.KeyFacts.{text_key}
-use Rattle.registry_names.proofs.MapFacts.{at-entries}
-use Rattle.registry_names.specs.declared.status.Status.{Status}
-use Rattle.registry_rules.specs.Refusals.{is_scope}
-use Rattle.registry_rows.proofs.RowFacts.{never_some}
-use Rattle.registry_tables.specs.Overviews.{is_after_scope, scope_statuses}
-use Rattle.registry_tables.specs.Contents.{Contents, access_of}
+use Rattle.registry_names.specs.Texts.{is}
+use Rattle.registry_tables.proofs.FoundFacts.{none_at}
 
 from_T : (b : Bool) → T b → b ≡ true
 from_T true h = refl
@@ -67,10 +59,6 @@ slash_next c t = go (c == 47)
 never_below : (t : Text) → is_lt (text_cmp t []) ≡ false
 never_below [] = refl
 never_below (c ∷ t) = refl
-
-at_slash : (t : Text) → is_between (47 ∷ []) (48 ∷ []) (47 ∷ t) ≡ true
-at_slash [] = refl
-at_slash (c ∷ t) = refl
 
 above_slash : (c : ℕ) (t : Text) → 47 < c → is_lt (text_cmp (c ∷ t) (48 ∷ [])) ≡ false
 above_slash c t more = ordered c 48 (λ o. is_lt (ordering_then o (text_cmp t [])) ≡ false) (λ less. absurd (omega (arith, more, less))) (λ e. never_below t) (λ above. refl)
@@ -138,13 +126,9 @@ all_of : (t : Text) → t ++ [] ≡ t
 all_of [] = refl
 all_of (c ∷ t) = ap (λ l. c ∷ l) (all_of t)
 
-nothing_there : {X : Type 0} (o : Option X) → is_some o ≡ false → o ≡ None
-nothing_there None h = refl
-nothing_there (Some x) h = absurd (true≢false h)
-
 -- nothing was found under the scope alone
 pub scope_found : (c : Contents) (o scope : Text) (found : Option Status) → scope ≡ 64 ∷ (o ++ []) → is_ident o ≡ true → found ≡ at (access_of c).statuses scope → is_some found ≡ false
     → filter (λ (e : Text × Status). is_after_scope o e.0) (entries (access_of c).statuses) ≡ scope_statuses c o
 scope_found c o scope found text form is none =
     after_scope_filtered o (entries (access_of c).statuses) (and_parts _ _ form).1
-    (sym (at-entries text_key (access_of c).statuses (64 ∷ o)) ∙ sym (ap (at (access_of c).statuses) (text ∙ ap (λ t. 64 ∷ t) (all_of o))) ∙ sym is ∙ nothing_there found none)
+    (sym (at-entries text_key (access_of c).statuses (64 ∷ o)) ∙ sym (ap (at (access_of c).statuses) (text ∙ ap (λ t. 64 ∷ t) (all_of o))) ∙ sym is ∙ none_at found none)

@@ -1,34 +1,13 @@
 -- What the statements on archives make and show.
-use Rattle.std.proofs.Common.{◌≡◌, ℕ, ℤ, ◌+◌, ◌<◌, List, [], ◌∷◌, length, drop, get_or, map, filter, Bool, true, false, cond, ◌&&◌, Some, None, is_some, option_map, Ok, refl, sym, ap, ◌∙◌, codes}
-use Rattle.std.specs.Prelude.{unwrap_or}
-use Rattle.std.specs.List.{find}
-use Rattle.std.proofs.lemmas.List.{drop_more}
-use Rattle.std.proofs.lemmas.Iterator.Adapters.{option_map_id}
-use Rattle.sqlite.specs.declared.types.Value.TheVariants.{Null, Int, Blob, Text as Stored}
+use Rattle.registry_tables.proofs.Words.{◌≡◌, ℕ, ℤ, ◌+◌, ◌<◌, List, [], ◌∷◌, length, drop, get_or, map, filter, Bool, true, false, cond, ◌&&◌, Some, None, option_map, Ok, refl, sym, ap, ◌∙◌, codes}
+use Rattle.registry_tables.proofs.Words.{find, drop_more, option_map_id, Null, Int, Blob, Stored, Shown, HasCleanDisk, Row, column, lit, col, Text, is, at, put, entries, seen, blob_in, TakesNext}
+use Rattle.registry_tables.proofs.Words.{Wrote, numbers, Ready, Leaves, Reads, Queried, Means, MeansQuery, insert_values, select_where, by_column, by_texts, by_number_given, first_listed}
+use Rattle.registry_tables.proofs.Words.{select_finds, select_finds_by, select_has_by, insert_puts, insert_meets_none, is_archive, number_of, Archive, contents, archive_in, stored, schema}
+use Rattle.registry_tables.proofs.Words.{archive_spelled, blob_of_row, held_spelled, number_among, ShowsFirst}
 use Rattle.sqlite.specs.Listing.{understood}
-use Rattle.sqlite.specs.State.{State as Shown, HasCleanDisk}
 use Rattle.sqlite_tied.specs.Compute.{everything}
-use Rattle.sqlite_value.specs.Order.{Row, column}
-use Rattle.sqlite_sql.specs.Term.{Term, lit, col}
-use Rattle.registry_names.specs.Texts.{Text, is}
-use Rattle.registry_names.specs.Maps.{at, put, entries, seen}
-use Rattle.registry_rows.specs.Columns.{blob_in, int_in}
-use Rattle.registry_rows.specs.Counting.{TakesNext}
-use Rattle.registry_rows.specs.Frames.{Wrote}
-use Rattle.registry_rows.specs.KeyKinds.{numbers}
-use Rattle.registry_rows.specs.Ready.{Ready, Leaves, Reads, Queried}
-use Rattle.registry_rows.specs.Statements.{Means, MeansQuery, insert_values, select_where, by_column, by_texts}
 use Rattle.registry_rows.proofs.CountFacts.{insert_numbers}
-use Rattle.registry_rows.proofs.KeyedFacts.{by_number_given}
-use Rattle.registry_rows.proofs.LookUpFacts.{first_listed, select_finds, select_finds_by, select_has_by}
-use Rattle.registry_rows.proofs.StatementFacts.{insert_puts, insert_meets_none}
-use Rattle.registry_tables.specs.Archives.{is_archive, number_of, next_archive, archive_number, with_archive}
-use Rattle.registry_tables.specs.Contents.{Archive, Contents, contents, archive_in}
-use Rattle.registry_tables.specs.Effects.{stored}
 use Rattle.registry_tables.specs.Schema as table
-use Rattle.registry_tables.specs.Schema.{schema}
-use Rattle.registry_tables.specs.Spelled.{archive_spelled, blob_of_row, held_spelled, number_among}
-use Rattle.registry_tables.specs.Queries.{ShowsFirst}
 use Rattle.registry_tables.proofs.MappedFacts.{archives_counted, archives_numbered, held_mapped}
 
 -- ---- INSERT of an archive
@@ -36,16 +15,13 @@ use Rattle.registry_tables.proofs.MappedFacts.{archives_counted, archives_number
 abbrev put_text : List ℕ
 put_text = codes "INSERT INTO archives (integrity, bytes) VALUES (?1, ?2)"
 
-abbrev put_cells : List Term
-put_cells = col 0 0 ∷ col 0 1 ∷ []
-
-put_means : Means schema put_text (insert_values 15 (lit Null ∷ put_cells))
+put_means : Means schema put_text (insert_values 15 (lit Null ∷ col 0 0 ∷ col 0 1 ∷ []))
 unfolding understood everything
 put_means = (refl, (refl, refl))
 
 pub archive_put : (integrity : Text) (bytes : List ℕ) (old new : Shown) → Ready schema old → Wrote put_text (Stored integrity ∷ Blob bytes ∷ []) old new → HasCleanDisk new
     → TakesNext schema contents table.archives archive_in (λ c m. record c { archives = m }) table.counters.tree (λ c n. record c { last_archive = Some (Int n) }) (Stored integrity ∷ Blob bytes ∷ []) old new
-archive_put integrity bytes old new form call = insert_numbers archives_numbered archives_counted put_text put_cells put_means (Stored integrity ∷ Blob bytes ∷ []) refl old new (Ok call.0) form call.1
+archive_put integrity bytes old new form call = insert_numbers archives_numbered archives_counted put_text _ put_means (Stored integrity ∷ Blob bytes ∷ []) refl old new (Ok call.0) form call.1
 
 -- ---- SELECT by integrity
 
@@ -89,13 +65,6 @@ among_next bytes rows i r within is_row other =
     ap (λ l. number_among bytes (map archive_spelled l)) (drop_more rows i r within ∙ ap (λ (x : Row). x ∷ drop (i + 1) rows) (sym is_row))
     ∙ ap (λ b. option_map (λ (e : ℤ × List ℕ). e.0) (cond b (Some (archive_spelled r)) (find (λ (e : ℤ × List ℕ). is bytes e.1) (map archive_spelled (drop (i + 1) rows))))) other
 
--- and one with these bytes is found
-pub among_here : (bytes : List ℕ) (rows : List Row) (i : ℕ) (r : Row) → i < length rows → r ≡ get_or rows i r → is bytes (blob_in (column r 1)) ≡ true
-    → number_among bytes (map archive_spelled (drop i rows)) ≡ Some (int_in (column r 0))
-among_here bytes rows i r within is_row same =
-    ap (λ l. number_among bytes (map archive_spelled l)) (drop_more rows i r within ∙ ap (λ (x : Row). x ∷ drop (i + 1) rows) (sym is_row))
-    ∙ ap (λ b. option_map (λ (e : ℤ × List ℕ). e.0) (cond b (Some (archive_spelled r)) (find (λ (e : ℤ × List ℕ). is bytes e.1) (map archive_spelled (drop (i + 1) rows))))) same
-
 -- ---- SELECT by number
 
 abbrev bytes_text : List ℕ
@@ -115,20 +84,17 @@ bytes_found n old new rows form call clean =
 abbrev hold_text : List ℕ
 hold_text = codes "INSERT INTO held VALUES (?1, ?2, ?3)"
 
-abbrev hold_cells : List Term
-hold_cells = col 0 0 ∷ col 0 1 ∷ col 0 2 ∷ []
-
-hold_means : Means schema hold_text (insert_values 14 hold_cells)
+hold_means : Means schema hold_text (insert_values 14 (col 0 0 ∷ col 0 1 ∷ col 0 2 ∷ []))
 unfolding understood everything
 hold_means = (refl, (refl, refl))
 
 pub archive_held : (p v : Text) (n : ℤ) (old new : Shown) → Ready schema old → Wrote hold_text (Stored p ∷ Stored v ∷ Int n ∷ []) old new → HasCleanDisk new
     → Leaves schema contents (record (stored old) { held = put (stored old).held (p, v) n }) new
-archive_held p v n old new form call = insert_puts held_mapped hold_text hold_cells hold_means (Stored p ∷ Stored v ∷ Int n ∷ []) refl old new (Ok call.0) form call.1
+archive_held p v n old new form call = insert_puts held_mapped hold_text _ hold_means (Stored p ∷ Stored v ∷ Int n ∷ []) refl old new (Ok call.0) form call.1
 
 -- an answered INSERT had a new key
 pub held_was_new : (p v : Text) (n : ℤ) (old new : Shown) → Ready schema old → Wrote hold_text (Stored p ∷ Stored v ∷ Int n ∷ []) old new → HasCleanDisk new → at (stored old).held (p, v) ≡ None
-held_was_new p v n old new form call = insert_meets_none held_mapped hold_text hold_cells hold_means (Stored p ∷ Stored v ∷ Int n ∷ []) refl old new (Ok call.0) form call.1
+held_was_new p v n old new form call = insert_meets_none held_mapped hold_text _ hold_means (Stored p ∷ Stored v ∷ Int n ∷ []) refl old new (Ok call.0) form call.1
 
 abbrev held_text : List ℕ
 held_text = codes "SELECT archive FROM held WHERE package = ?1 AND version = ?2"
@@ -143,18 +109,3 @@ held_found p v old new rows form call clean =
     (it.0, first_listed held_spelled rows _ it.1 ∙ option_map_id (at (stored old).held (p, v)))
 
 -- ---- an archive that is there, or is added
-
--- it is as it was
-pub stands_stored : (integrity : Text) (bytes : List ℕ) (c : Contents) (n : ℤ) → number_of integrity bytes c.archives ≡ Some n → (c ≡ with_archive integrity bytes c) × (n ≡ archive_number integrity bytes c)
-stands_stored integrity bytes c n e = (
-  rw (ap is_some e) refl,
-  sym (ap (λ o. unwrap_or o (next_archive c)) e),
-)
-
--- it is added
-pub is_added : (integrity : Text) (bytes : List ℕ) (c : Contents) → number_of integrity bytes c.archives ≡ None
-    → (record c { archives = put c.archives (next_archive c) (record { integrity = integrity; bytes = bytes }); last_archive = Some (Int (next_archive c)) } ≡ with_archive integrity bytes c) × (next_archive c ≡ archive_number integrity bytes c)
-is_added integrity bytes c e = (
-  rw (ap is_some e) refl,
-  sym (ap (λ o. unwrap_or o (next_archive c)) e),
-)

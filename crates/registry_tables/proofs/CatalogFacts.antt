@@ -1,33 +1,18 @@
 -- The listing of the schema shows whether there is a table.
 use Rattle.std.specs.Prelude.{codes}
-use Rattle.std.specs.List.{AllZip}
-use Rattle.std.specs.Ordering.{match_ordering}
+use Rattle.registry_tables.proofs.Words.{AllZip, match_ordering, ◌≡◌, inl, Bool, true, false, not, ◌||◌, cond, List, [], ◌∷◌, map, filter, Option, None, Some, IsTrue, refl, sym, ap, subst, subst₂}
+use Rattle.registry_tables.proofs.Words.{◌∙◌, ◌==◌, length, ne_eqb, arith, Row, value_cmp, rowid, put_row, col, Has, Schema, Select, Database, Answers, reads_listing, IsSourceOf, State, HasCleanDisk}
+use Rattle.registry_tables.proofs.Words.{IsUnchanged, ShowsRows, IsPlain, command_of, no_tables, Means, Finds, scan, IsReady, Ready, Reads, Queried, selects, finds, ready_same, schema, listing_query}
 use Rattle.std.specs.declared.cmp.Ordering.TheVariants.{Less, Equal, Greater}
-use Rattle.std.proofs.Common.{◌≡◌, inl, Bool, true, false, not, ◌||◌, cond, List, [], ◌∷◌, map, filter, Option, None, Some, IsTrue, refl, sym, ap, subst, subst₂, ◌∙◌, ◌==◌, length, ne_eqb, arith}
-use Rattle.sqlite_value.specs.Order.{Row, value_cmp}
-use Rattle.sqlite_trees.specs.Tree.{rowid, put_row}
 use Rattle.sqlite_trees.specs.Objects.{catalog_tree}
-use Rattle.sqlite_sql.specs.Term.{col}
 use Rattle.sqlite_rules.specs.Edit.{put_all}
-use Rattle.sqlite_rules.specs.Lists.{Has}
-use Rattle.sqlite_schema.specs.declared.schema.Schema.{Schema}
 use Rattle.sqlite_schema.specs.declared.command.Command.{Command}
 use Rattle.sqlite_schema.specs.declared.command.Returning.{Returning}
 use Rattle.sqlite_catalog.specs.Listing.{AreListed, IsTableRow, IsIndexRow, IsViewRow, is_table_row, is_view_row, is_index_row}
-use Rattle.sqlite.specs.Command.TheVariants.{Select}
 use Rattle.sqlite.specs.Clock.{timed}
-use Rattle.sqlite.specs.Effect.{Database, Reads as Answers}
-use Rattle.sqlite.specs.Listing.{understood, reads_listing, listing_schema, shown, IsSourceOf}
-use Rattle.sqlite.specs.State.{State, HasCleanDisk, IsUnchanged, Shown, ShowsRows}
-use Rattle.sqlite.proofs.Callers.{IsPlain, command_of}
+use Rattle.sqlite.specs.Listing.{understood, listing_schema, shown}
+use Rattle.sqlite.specs.State.{Shown}
 use Rattle.sqlite_tied.specs.Compute.{everything}
-use Rattle.registry_rows.specs.Tables.{no_tables}
-use Rattle.registry_rows.specs.Statements.{Means, Finds, scan}
-use Rattle.registry_rows.specs.Ready.{IsReady, Ready, Reads, Queried}
-use Rattle.registry_rows.proofs.SelectFacts.{selects, finds}
-use Rattle.registry_rows.proofs.QueryFacts.{ready_same}
-use Rattle.registry_tables.specs.Schema.{schema}
-use Rattle.registry_tables.specs.Opening.{listing_query}
 
 abbrev pub lists_names : Command
 lists_names = Select (record { lets = []; body = scan 0 [] (col 1 2 ∷ []) [] }) (codes "name" ∷ [])

@@ -1,14 +1,8 @@
 -- What the tables hold is determined by their rows alone.
-use Rattle.std.proofs.Common.{◌≡◌, [], refl}
+use Rattle.registry_tables.proofs.Words.{◌≡◌, [], refl, count_value, other_counts, bytes, numbers, map_by, map_of, DependsOn, schema, contents, archive_in, held_in, nothing_in, user_in, role_in}
+use Rattle.registry_tables.proofs.Words.{grant_in, status_in, version_in, spent_in, named_in, number_named_in, no_contents}
 use Rattle.registry_names.specs.Maps.{rows, empty}
-use Rattle.registry_rows.specs.Counting.{count_value, other_counts}
-use Rattle.registry_rows.specs.KeyKinds.{bytes, numbers, map_by}
-use Rattle.registry_rows.specs.Rows.{map_of}
-use Rattle.registry_rows.specs.Ready.{DependsOn}
 use Rattle.registry_tables.specs.Schema as table
-use Rattle.registry_tables.specs.Schema.{schema}
-use Rattle.registry_tables.specs.Contents.{contents, archive_in, held_in, nothing_in, user_in, role_in, grant_in, status_in, version_in, spent_in, named_in, number_named_in}
-use Rattle.registry_tables.specs.Fresh.{no_contents}
 
 pub contents_depend : DependsOn schema contents
 contents_depend old new (users, (tokens, (organisations, (members, (teams, (team_members, (packages, (grants, (owners, (versions, (spent, (tags, (needs, (meta, (held, (archives, (counters, (need_ranges, none)))))))))))))))))) = λ i. record {

@@ -1,26 +1,14 @@
 -- The rows in which SQLite counts, and what their names show.
 use Rattle.std.specs.Prelude.{codes}
-use Rattle.std.specs.Ordering.{is_eq}
-use Rattle.std.proofs.Common.{◌≡◌, ◌==◌, inl, inr, Bool, true, false, cond, List, [], ◌∷◌, filter, length, arith, ne_eqb, refl, sym, ap, ◌∙◌}
-use Rattle.std.proofs.lemmas.List.{length-map}
+use Rattle.registry_tables.proofs.Words.{is_eq, ◌≡◌, ◌==◌, inl, inr, Bool, true, false, cond, List, [], ◌∷◌, filter, length, arith, ne_eqb, refl, sym, ap, ◌∙◌, length-map, Stored, Row, column}
+use Rattle.registry_tables.proofs.Words.{value_cmp, col, Has, State, HasCleanDisk, has_name, other_counts, Ready, Reads, Queried, MeansQuery, Selects, Finds, select_where, query_reads, finds, stored}
+use Rattle.registry_tables.proofs.Words.{counts_query, is_name_of_archives, name_archives_alone, schema}
 use Rattle.std.proofs.lemmas.List.Sorted.{length_permutation}
-use Rattle.sqlite.specs.declared.types.Value.TheVariants.{Text as Stored}
-use Rattle.sqlite_value.specs.Order.{Row, column, value_cmp}
-use Rattle.sqlite_sql.specs.Term.{col}
-use Rattle.sqlite_rules.specs.Lists.{Has}
 use Rattle.sqlite.specs.Listing.{understood}
-use Rattle.sqlite.specs.State.{State, HasCleanDisk}
 use Rattle.sqlite_tied.specs.Compute.{everything}
-use Rattle.registry_rows.specs.Counting.{has_name, other_counts}
-use Rattle.registry_rows.specs.Ready.{Ready, Reads, Queried}
-use Rattle.registry_rows.specs.Statements.{MeansQuery, Selects, Finds, select_where, shown_by}
+use Rattle.registry_rows.specs.Statements.{shown_by}
 use Rattle.registry_rows.proofs.LookUpFacts.{all_pass}
-use Rattle.registry_rows.proofs.QueryFacts.{query_reads}
-use Rattle.registry_rows.proofs.SelectFacts.{finds}
-use Rattle.registry_tables.specs.Effects.{stored}
-use Rattle.registry_tables.specs.Opening.{counts_query, is_name_of_archives, name_archives_alone}
 use Rattle.registry_tables.specs.Schema as table
-use Rattle.registry_tables.specs.Schema.{schema}
 
 pub counts_means : MeansQuery schema counts_query (select_where table.counters (col 1 1 ∷ []) [] [] (codes "name" ∷ []))
 unfolding understood everything

@@ -1,25 +1,13 @@
 -- The tables made one after another, each of them empty.
-use Rattle.std.proofs.Common.{◌≡◌, inl, inr, ℕ, zero, suc, ◌+◌, ◌<◌, ◌≤◌, false, List, [], length, get_or, refl, Result, OnOk, Ok, Err, arith, sym, ap, subst, ◌∙◌}
-use Rattle.std.specs.Prelude.{nat_lt}
-use Rattle.std.proofs.lemmas.Bool.{cases_lt, le-ltb}
-use Rattle.sqlite_trees.specs.declared.store.Store.{Ghosts}
-use Rattle.sqlite.specs.State.{State, HasCleanDisk, ExecutesIn}
-use Rattle.sqlite.specs.declared.transaction.Transaction.{Transaction}
-use Rattle.sqlite.specs.Listing.{understood}
+use Rattle.registry_tables.proofs.Words.{◌≡◌, inl, inr, ℕ, zero, suc, ◌+◌, ◌<◌, ◌≤◌, false, List, [], length, get_or, refl, Result, OnOk, Ok, Err, arith, sym, ap, subst, ◌∙◌, nat_lt, cases_lt, le-ltb}
+use Rattle.registry_tables.proofs.Words.{Ghosts, State, HasCleanDisk, Transaction, understood, Exists, Schema, no_tables, Wrote, Ready, Blank, Leaves, Executed, schema, schema_2, contents}
+use Rattle.registry_tables.proofs.Words.{HasNoTables, InForm, Makes, shown, stored_in, HasMade, first_tables, fresh, no_contents, schema_after, schema_number, with_number}
+use Rattle.sqlite.specs.State.{ExecutesIn}
 use Rattle.sqlite_resolve.specs.declared.error.CompileError.{CompileError}
-use Rattle.sqlite_resolve.specs.declared.error.CompileError.TheVariants.{Exists}
-use Rattle.sqlite_schema.specs.declared.schema.Schema.{Schema}
-use Rattle.registry_rows.specs.Tables.{no_tables}
-use Rattle.registry_rows.specs.Frames.{Wrote}
-use Rattle.registry_rows.specs.Ready.{Ready, Blank, Leaves, Executed}
 use Rattle.registry_rows.proofs.ReadyFacts.{inside}
 use Rattle.registry_rows.proofs.CreateFacts.{create_adds, create_adds_counter, creates_ready, index_keeps_blank, blank_holds}
 use Rattle.registry_tables.specs.Schema as table
-use Rattle.registry_tables.specs.Schema.{schema, schema_2}
-use Rattle.registry_tables.specs.Contents.{contents}
 use Rattle.registry_tables.specs.Creation.{creation}
-use Rattle.registry_tables.specs.Effects.{HasNoTables, InForm, Makes, shown, stored_in}
-use Rattle.registry_tables.specs.Fresh.{HasMade, first_tables, fresh, no_contents, schema_after, schema_number, with_number}
 use Rattle.registry_tables.proofs.ContentsFacts.{contents_depend, no_rows}
 use Rattle.registry_tables.proofs.SchemaFacts.{AddsTable, adds, creation_length, means_archives, means_archives_index, means_needs, means_needs_index, means_held_index, means_tokens_index, means_members_index, means_team_members_index, means_owners_index, users_exists}
 

@@ -1,65 +1,25 @@
 -- What the statement on the needs of a package shows, and who needs its versions.
-use Rattle.std.proofs.Common.{◌≡◌, ◌<◌, ◌+◌, ℕ, Bool, true, false, not, ◌&&◌, ◌||◌, true≢false, List, [], ◌∷◌, ◌++◌, append_assoc, length, take, drop, map, filter, Option, Some, None, is_some, option_map, Ordering, Less, Equal, Greater, is_eq, refl, sym, ap, ap₂, subst, ◌∙◌, codes}
-use Rattle.std.specs.List.{list_any}
-use Rattle.std.specs.Ordering.{is_ne}
-use Rattle.std.specs.Prelude.{option_and_then, slice_index_or, unwrap_or}
+use Rattle.registry_tables.proofs.Words.{◌≡◌, ◌<◌, ◌+◌, ℕ, Bool, true, false, not, ◌&&◌, ◌||◌, true≢false, List, [], ◌∷◌, ◌++◌, append_assoc, length, take, drop, map, filter, Option, Some, None}
+use Rattle.registry_tables.proofs.Words.{is_some, option_map, Ordering, Less, Equal, Greater, refl, sym, ap, ap₂, subst, ◌∙◌, codes, list_any, is_ne, option_and_then, slice_index_or, unwrap_or}
+use Rattle.registry_tables.proofs.Words.{map-append, take-append-drop, take_more, list_any-append, and_from, and_parts, map-map, Value, Stored, Shown, Row, column, value_cmp, Binary, value_cmp-Text}
+use Rattle.registry_tables.proofs.Words.{Compare, Eq, Ne, is_true, from_truth, Term, col, op2, Has, all_has, has_filtered, has_kept, Pair, Text, is, at, entries, IsVersionOf, VersionParts}
+use Rattle.registry_tables.proofs.Words.{entries_rise, pair_key, at-entries, is_self, is_sym, is_tie, text_is, needs_of, Need, binds, Release, is_depended, is_need_of, needs_in, versions_in, text_in}
+use Rattle.registry_tables.proofs.Words.{IsReady, key_of, MeansQuery, select_where, in_order, is_wanted, Texts, by_texts_given, texts_of, has_mapped, map_has, first_risen, select_passes_by}
+use Rattle.registry_tables.proofs.Words.{seen_as_is, found_has, and_true, row_parts, texts_key, Contents, LiveVersion, live_of, registry_of, with_bytes, stored, HoldsNeeds, is_needed, names_if_any}
+use Rattle.registry_tables.proofs.Words.{schema, text_spelled, is_foreign_need, ranges_on, version_text, ShowsAll}
+use Rattle.std.proofs.Common.{is_eq}
 use Rattle.std.specs.Option.{option_to_list}
-use Rattle.std.proofs.lemmas.List.{map-append, take-append-drop, take_more}
-use Rattle.std.proofs.lemmas.List.Folds.{list_any-append}
-use Rattle.std.proofs.lemmas.Bool.{and_from, and_parts}
-use Rattle.std.proofs.lemmas.Simd.{map-map}
-use Rattle.sqlite.specs.declared.types.Value.{Value}
-use Rattle.sqlite.specs.declared.types.Value.TheVariants.{Text as Stored}
 use Rattle.sqlite.specs.Listing.{understood}
-use Rattle.sqlite.specs.State.{State as Shown}
 use Rattle.sqlite_tied.specs.Compute.{everything}
-use Rattle.sqlite_value.specs.Order.{Row, column, value_cmp}
-use Rattle.sqlite_value.specs.declared.keys.Collation.TheVariants.{Binary}
-use Rattle.sqlite_value.proofs.OrderLemmas.{value_cmp-Text}
-use Rattle.sqlite_sql.specs.declared.ops.BinaryOp.TheVariants.{Compare}
-use Rattle.sqlite_sql.specs.declared.ops.CompareOp.TheVariants.{Eq, Ne}
-use Rattle.sqlite_sql.specs.Ops.{binary, is_true, from_truth}
-use Rattle.sqlite_sql.specs.Term.{Term, col, op2}
-use Rattle.sqlite_rules.specs.Lists.{Has}
-use Rattle.sqlite_rules.proofs.ListLemmas.{all_has, has_filtered, has_kept}
-use Rattle.registry_names.specs.Keys.{Pair}
-use Rattle.registry_names.specs.Texts.{Text, is}
-use Rattle.registry_names.specs.Maps.{at, entries}
+use Rattle.sqlite_sql.specs.Ops.{binary}
 use Rattle.registry_names.specs.Precedence.{version_in}
-use Rattle.registry_names.specs.Versions.{IsVersionOf, VersionParts}
 use Rattle.registry_names.proofs.PrecedenceFacts.{version_reads}
-use Rattle.registry_names.proofs.EntryFacts.{entries_rise}
-use Rattle.registry_names.proofs.KeyFacts.{pair_key}
-use Rattle.registry_names.proofs.MapFacts.{at-entries}
-use Rattle.registry_names.proofs.TextFacts.{is_self, is_sym, is_tie, is_true as text_is}
-use Rattle.registry_publish.specs.Needs.{needs_of}
-use Rattle.registry_publish.specs.declared.need.Need.{Need}
-use Rattle.registry_ranges.specs.Texts.{binds}
-use Rattle.registry_rules.specs.State.{Release}
-use Rattle.registry_rules.specs.Withdrawals.{is_depended, is_need_of, needs_in, versions_in}
 use Rattle.registry_rules.specs.declared.facts.LiveVersion.{LiveVersion as Listed}
-use Rattle.registry_rows.specs.Columns.{text_in}
-use Rattle.registry_rows.specs.Ready.{IsReady}
-use Rattle.registry_rows.specs.Rows.{key_of}
-use Rattle.registry_rows.specs.Statements.{MeansQuery, select_where, in_order, is_wanted}
-use Rattle.registry_rows.specs.TextKeys.{Texts}
-use Rattle.registry_rows.proofs.KeyedFacts.{by_texts_given, texts_of}
-use Rattle.registry_rows.proofs.ListFacts.{has_mapped, map_has}
-use Rattle.registry_rows.proofs.ListingFacts.{first_risen}
-use Rattle.registry_rows.proofs.LookUpFacts.{select_passes_by, seen_as_is}
-use Rattle.registry_rows.proofs.OrderFacts.{found_has}
-use Rattle.registry_rows.proofs.TextKeyFacts.{and_true, row_parts, texts_key}
-use Rattle.registry_tables.specs.Contents.{Contents, LiveVersion, live_of, registry_of, with_bytes}
-use Rattle.registry_tables.specs.Effects.{stored}
-use Rattle.registry_tables.specs.Needs.{HoldsNeeds, is_needed, names_if_any}
 use Rattle.registry_tables.specs.Schema as table
-use Rattle.registry_tables.specs.Schema.{schema}
-use Rattle.registry_tables.specs.Teams.{text_spelled}
-use Rattle.registry_tables.specs.Withdrawals.{is_foreign_need, ranges_on, version_text}
-use Rattle.registry_tables.specs.Queries.{ShowsAll}
 use Rattle.registry_tables.proofs.MappedFacts.{need_ranges_mapped}
 use Rattle.registry_tables.proofs.ReadFacts.{at-read}
-use Rattle.registry_tables.proofs.RetiredFacts.{any_where, where_any}
+use Rattle.registry_tables.proofs.SomeFacts.{any_where, where_any}
+use Rattle.registry_tables.proofs.FoundFacts.{some_at}
 
 -- ---- SELECT by target, except a package's own needs
 
@@ -124,10 +84,6 @@ one_truth : (a b : Bool) → (a ≡ true → b ≡ true) → (b ≡ true → a �
 one_truth true b to from = sym (to refl)
 one_truth false true to from = from refl
 one_truth false false to from = refl
-
-some_there : {X : Type 0} (o : Option X) → is_some o ≡ true → (x : X) × (o ≡ Some x)
-some_there None h = absurd (true≢false (sym h))
-some_there (Some x) h = (x, refl)
 
 -- a live version whose manifest has these needs, of which one passes
 record IsNeeding (c : Contents) (k : Pair) (test : Need → Bool) : Type 0 where
@@ -214,7 +170,7 @@ module _ (c : Contents) (h : HoldsNeeds c) (p : Text) (v : VersionParts) where
         any = any_where (λ n. is n.target p && is n.range need.0.range) needing.needs need.0 need.1 (and_from _ _ names.0 (is_self need.0.range));
       }) in
       let q : Texts 3 = (k.0, (k.1, (p, need.0.range))) in
-      let there = some_there (at c.need_ranges q) (h.stored k.0 k.1 p need.0.range ∙ needed) in
+      let there = some_at (at c.need_ranges q) (h.stored k.0 k.1 p need.0.range ∙ needed) in
       let entry = found_has (texts_key 3) q there.0 (entries c.need_ranges) (sym (at-entries (texts_key 3) c.need_ranges q) ∙ there.1) in
       let kept = has_kept (foreign p) (entries c.need_ranges) (q, there.0) entry (and_from _ _ (is_self p) (ap not (is_sym p k.0) ∙ both.0)) in
       any_where binding (ranges_on c p) need.0.range (map_has range_of (filter (foreign p) (entries c.need_ranges)) (q, there.0) kept) names.1

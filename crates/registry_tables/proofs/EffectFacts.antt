@@ -1,10 +1,6 @@
 -- Calls inside a transaction, one after another.
-use Rattle.std.proofs.Common.{◌∙◌, refl, Result, Ok, Err, OnOk}
-use Rattle.sqlite.specs.State.{State as Shown, HasCleanDisk}
+use Rattle.registry_tables.proofs.Words.{◌∙◌, refl, Result, Ok, Err, OnOk, Shown, HasCleanDisk, Ready, Reads, IsAsBefore, schema}
 use Rattle.sqlite.proofs.InsideLemmas.{keeps_then}
-use Rattle.registry_rows.specs.Ready.{Ready, Reads}
-use Rattle.registry_tables.specs.Effects.{IsAsBefore}
-use Rattle.registry_tables.specs.Schema.{schema}
 
 -- what holds in any case
 pub on_any : {R E P : Type 0} (r : Result R E) → P → OnOk r P

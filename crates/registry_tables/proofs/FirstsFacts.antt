@@ -1,42 +1,11 @@
 -- What SELECT by the second text of a key shows: the first texts.
-use Rattle.std.proofs.Common.{◌≡◌, ◌∙◌, ◌&&◌, ◌||◌, ℕ, Bool, true, false, cond, List, [], ◌∷◌, drop, filter, map, is_some, refl, sym, ap, codes}
-use Rattle.std.specs.List.{list_any}
-use Rattle.std.proofs.lemmas.Simd.{map-map}
-use Rattle.sqlite.specs.declared.types.Value.{Value}
-use Rattle.sqlite.specs.declared.types.Value.TheVariants.{Text as Stored}
+use Rattle.registry_tables.proofs.Words.{◌≡◌, ◌∙◌, ◌&&◌, ◌||◌, ℕ, Bool, true, false, cond, List, [], ◌∷◌, drop, filter, map, is_some, refl, sym, ap, codes, list_any, map-map, Value, Stored, Shown}
+use Rattle.registry_tables.proofs.Words.{HasCleanDisk, Row, column, Binary, Compare, Eq, Term, col, op2, Table, Has, all_has, Pair, pair_is, PairMap, among, at, entries, keys, seen, Text, is}
+use Rattle.registry_tables.proofs.Words.{among_keys, pair_key, at-entries, is_sym, text_is, takes, text_in, IsMapped, IsReady, Queried, Reads, Ready, key_of, map_of, MeansQuery, select_where}
+use Rattle.registry_tables.proofs.Words.{in_order, is_wanted, TextsMap, by_texts_given, select_passes_by, and_true, row_parts, Contents, contents, stored, firsts_of, schema, text_spelled, ShowsAll}
 use Rattle.sqlite.specs.Listing.{understood}
-use Rattle.sqlite.specs.State.{State as Shown, HasCleanDisk}
 use Rattle.sqlite_tied.specs.Compute.{everything}
-use Rattle.sqlite_value.specs.Order.{Row, column}
-use Rattle.sqlite_value.specs.declared.keys.Collation.TheVariants.{Binary}
-use Rattle.sqlite_sql.specs.declared.ops.BinaryOp.TheVariants.{Compare}
-use Rattle.sqlite_sql.specs.declared.ops.CompareOp.TheVariants.{Eq}
-use Rattle.sqlite_sql.specs.Term.{Term, col, op2}
-use Rattle.sqlite_schema.specs.declared.schema.Table.{Table}
-use Rattle.sqlite_rules.specs.Lists.{Has}
-use Rattle.sqlite_rules.proofs.ListLemmas.{all_has}
-use Rattle.registry_names.specs.Keys.{Pair, pair_is}
-use Rattle.registry_names.specs.Maps.{PairMap, among, at, entries, keys, seen}
-use Rattle.registry_names.specs.Texts.{Text, is}
-use Rattle.registry_names.proofs.EntryFacts.{among_keys}
-use Rattle.registry_names.proofs.KeyFacts.{pair_key}
-use Rattle.registry_names.proofs.MapFacts.{at-entries}
-use Rattle.registry_names.proofs.TextFacts.{is_sym, is_true as text_is}
-use Rattle.registry_rows.specs.Columns.{takes, text_in}
-use Rattle.registry_rows.specs.Ready.{IsMapped, IsReady, Queried, Reads, Ready}
-use Rattle.registry_rows.specs.Rows.{key_of, map_of}
-use Rattle.registry_rows.specs.Statements.{MeansQuery, select_where, in_order, is_wanted}
-use Rattle.registry_rows.specs.TextKeys.{TextsMap}
-use Rattle.registry_rows.proofs.KeyedFacts.{by_texts_given}
-use Rattle.registry_rows.proofs.LookUpFacts.{select_passes_by}
-use Rattle.registry_rows.proofs.TextKeyFacts.{and_true, row_parts}
-use Rattle.registry_tables.specs.Contents.{Contents, contents}
-use Rattle.registry_tables.specs.Effects.{stored}
-use Rattle.registry_tables.specs.Levels.{firsts_of}
 use Rattle.registry_tables.specs.Schema as table
-use Rattle.registry_tables.specs.Schema.{schema}
-use Rattle.registry_tables.specs.Teams.{text_spelled}
-use Rattle.registry_tables.specs.Queries.{ShowsAll}
 use Rattle.registry_tables.proofs.MappedFacts.{members_mapped, owners_mapped}
 
 -- the second text is the parameter

@@ -1,29 +1,11 @@
 -- What the statements on grants make and show.
-use Rattle.std.proofs.Common.{ℕ, List, [], ◌∷◌, Option, Some, None, is_some, Ok, refl, sym, ap, ◌∙◌, codes, Bool, if◌then◌else◌}
-use Rattle.sqlite.specs.declared.types.Value.TheVariants.{Null, Int, Text as Stored}
-use Rattle.sqlite.specs.Command.TheVariants.{Insert, Update, Delete, Select}
-use Rattle.sqlite.specs.Source.TheVariants.{Values}
+use Rattle.registry_tables.proofs.Words.{ℕ, List, [], ◌∷◌, Some, None, is_some, Ok, refl, sym, ap, ◌∙◌, codes, Bool, if◌then◌else◌, Int, Stored, Delete, Select, Shown, HasCleanDisk, col, Text, at}
+use Rattle.registry_tables.proofs.Words.{erase, pairs_of, parts, pair_key, triple_key, Grant, Wrote, Ready, Leaves, Means, MeansQuery, scan, by_texts, in_order, insert_values, update_where}
+use Rattle.registry_tables.proofs.Words.{select_lists_two, delete_erases, schema, IsFreeUnless, with_row, access_of, contents, stored, grant_number, grant_of, granted_spelled, grants_of, ShowsAll}
+use Rattle.registry_tables.proofs.Words.{ShowsWhether}
 use Rattle.sqlite.specs.Listing.{understood}
-use Rattle.sqlite.specs.State.{State as Shown, HasCleanDisk}
 use Rattle.sqlite_tied.specs.Compute.{everything}
-use Rattle.sqlite_sql.specs.Term.{Term, lit, col}
-use Rattle.registry_names.specs.Texts.{Text}
-use Rattle.registry_names.specs.Maps.{at, erase, pairs_of, parts}
-use Rattle.registry_names.proofs.KeyFacts.{pair_key, triple_key}
-use Rattle.registry_access.specs.declared.grant.Grant.{Grant}
-use Rattle.registry_rows.specs.Frames.{Wrote}
-use Rattle.registry_rows.specs.Ready.{Ready, Leaves}
-use Rattle.registry_rows.specs.Statements.{Means, MeansQuery, IsUncascaded, scan, by_texts, in_order, set_terms}
-use Rattle.registry_rows.proofs.LookUpFacts.{select_lists_two}
-use Rattle.registry_rows.proofs.StatementFacts.{delete_erases}
-use Rattle.registry_tables.specs.Schema.{schema}
 use Rattle.registry_tables.specs.Schema as table
-use Rattle.registry_tables.specs.Changes.{IsFreeUnless, with_row}
-use Rattle.registry_tables.specs.Contents.{access_of, contents}
-use Rattle.registry_tables.specs.Effects.{stored}
-use Rattle.registry_tables.specs.Numbers.{grant_number, grant_of}
-use Rattle.registry_tables.specs.Teams.{granted_spelled, grants_of}
-use Rattle.registry_tables.specs.Queries.{ShowsAll, ShowsWhether}
 use Rattle.registry_tables.proofs.FoundFacts.{there_found}
 use Rattle.registry_tables.proofs.MappedFacts.{grants_mapped}
 use Rattle.registry_tables.proofs.ReadFacts.{part-read, parts-read, some-read}
@@ -34,10 +16,7 @@ use Rattle.registry_tables.proofs.SetRowFacts.{row_set}
 abbrev put_text : List ℕ
 put_text = codes "INSERT INTO grants VALUES (?1, ?2, ?3, ?4)"
 
-abbrev put_cells : List Term
-put_cells = col 0 0 ∷ col 0 1 ∷ col 0 2 ∷ col 0 3 ∷ []
-
-put_means : Means schema put_text (Insert 7 (Values (lit Null ∷ put_cells) 5))
+put_means : Means schema put_text (insert_values 7 (col 0 0 ∷ col 0 1 ∷ col 0 2 ∷ col 0 3 ∷ []))
 unfolding understood everything
 put_means = (refl, (refl, refl))
 
@@ -47,16 +26,13 @@ abbrev set_text : List ℕ
 set_text = codes "UPDATE grants SET level = ?4 WHERE org = ?1 AND team = ?2 AND package = ?3"
 
 -- the key stays, and the grant is the last parameter
-abbrev sets : List (Option ℕ)
-sets = None ∷ None ∷ None ∷ Some 3 ∷ []
-
-set_means : Means schema set_text (Update 7 (record { lets = []; body = scan 14 (by_texts 2 1 0) (col 1 0 ∷ col 1 0 ∷ set_terms 1 sets) [] }))
+set_means : Means schema set_text (update_where 7 table.grants (None ∷ None ∷ None ∷ Some 3 ∷ []) (by_texts 2 1 0))
 unfolding understood everything
 set_means = (refl, (refl, refl))
 
 pub grant_set : (o t p : Text) (grant : Grant) (stands : Bool) (old new : Shown) → Ready schema old → Wrote (if stands then set_text else put_text) (Stored o ∷ Stored t ∷ Stored p ∷ Int (grant_number grant) ∷ []) old new → HasCleanDisk new
     → Leaves schema contents (record (stored old) { grants = with_row (stored old).grants (o, (t, p)) (grant_number grant) stands }) new × IsFreeUnless (stored old).grants (o, (t, p)) stands
-grant_set o t p grant = row_set grants_mapped set_text put_text sets put_cells set_means put_means (o, (t, p)) (Int (grant_number grant) ∷ []) (grant_number grant) refl (λ vs. refl) (λ vs. refl) refl refl refl
+grant_set o t p grant = row_set grants_mapped set_text put_text (None ∷ None ∷ None ∷ Some 3 ∷ []) _ set_means put_means (o, (t, p)) (Int (grant_number grant) ∷ []) (grant_number grant) refl (λ vs. refl) (λ vs. refl) refl refl refl
 
 -- ---- DELETE
 
@@ -68,13 +44,10 @@ unfolding understood everything
 drop_means = (refl, (refl, refl))
 
 -- nothing refers to a grant
-nothing_refers : IsUncascaded schema table.grants
-unfolding everything
-nothing_refers olds = refl
-
 pub grant_dropped : (o t p : Text) (old new : Shown) → Ready schema old → Wrote drop_text (Stored o ∷ Stored t ∷ Stored p ∷ []) old new → HasCleanDisk new
     → Leaves schema contents (record (stored old) { grants = erase (stored old).grants (o, (t, p)) }) new
-grant_dropped o t p old new form call = delete_erases grants_mapped drop_text drop_means nothing_refers (o, (t, p)) old new (Ok call.0) form call.1
+unfolding everything
+grant_dropped o t p old new form call = delete_erases grants_mapped drop_text drop_means (λ olds. refl) (o, (t, p)) old new (Ok call.0) form call.1
 
 -- ---- SELECT
 
@@ -93,14 +66,11 @@ grant_found o t p old new rows form call clean =
 abbrev list_text : List ℕ
 list_text = codes "SELECT package, level FROM grants WHERE org = ?1 AND team = ?2 ORDER BY package"
 
-abbrev list_columns : List Term
-list_columns = col 1 3 ∷ col 1 4 ∷ []
-
-pub list_means : MeansQuery schema list_text (Select (record { lets = []; body = scan 14 (by_texts 1 1 0) list_columns (in_order 0 3) }) (codes "package" ∷ codes "level" ∷ []))
+pub list_means : MeansQuery schema list_text (Select (record { lets = []; body = scan 14 (by_texts 1 1 0) (col 1 3 ∷ col 1 4 ∷ []) (in_order 0 3) }) (codes "package" ∷ codes "level" ∷ []))
 unfolding understood everything
 list_means = ((refl, (refl, refl)), refl)
 
 pub grants_listed : (o t : Text) (old new : Shown) → ShowsAll list_text (Stored o ∷ Stored t ∷ []) old new granted_spelled (grants_of (stored old) o t)
 grants_listed o t old new rows form call clean =
-    let it = select_lists_two grants_mapped list_text list_columns _ list_means o t granted_spelled grant_of (λ id vs. refl) old new rows form call clean in
+    let it = select_lists_two grants_mapped list_text _ _ list_means o t granted_spelled grant_of (λ id vs. refl) old new rows form call clean in
     (it.0, it.1 ∙ sym (ap (λ es. parts es t) (part-read pair_key (stored old).grants grant_of o) ∙ parts-read grant_of (pairs_of (stored old).grants o) t))

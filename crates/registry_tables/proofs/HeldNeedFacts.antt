@@ -1,21 +1,9 @@
 -- The needs that are stored stay those of live manifests.
-use Rattle.std.proofs.Common.{◌≡◌, ℕ, Bool, true, false, ◌&&◌, ◌||◌, cond, List, [], ◌∷◌, Option, Some, None, is_some, refl, sym, ap, ◌∙◌}
-use Rattle.std.specs.Prelude.{option_and_then}
-use Rattle.registry_names.specs.Texts.{Text, is}
-use Rattle.registry_names.specs.Keys.{Pair, pair_is}
-use Rattle.registry_names.specs.Maps.{PairMap, at}
-use Rattle.registry_names.proofs.KeyFacts.{pair_key, same_true}
-use Rattle.registry_names.proofs.MapFacts.{at-empty, at-put}
+use Rattle.registry_tables.proofs.Words.{◌≡◌, ℕ, Bool, true, false, ◌&&◌, ◌||◌, cond, List, [], ◌∷◌, Option, Some, is_some, refl, sym, ap, ◌∙◌, option_and_then, Text, is, Pair, pair_is, PairMap, at}
+use Rattle.registry_tables.proofs.Words.{pair_key, same_true, at-empty, at-put, needs_of, Need, version_of, TextsMap, texts_key, row_of, version_put, Contents, LiveVersion, fresh, need_key, with_need}
+use Rattle.registry_tables.proofs.Words.{with_needs, names_range, names_if_any, HoldsNeeds}
 use Rattle.registry_publish.specs.Form.{FormParts}
-use Rattle.registry_publish.specs.Needs.{needs_of}
-use Rattle.registry_publish.specs.declared.need.Need.{Need}
-use Rattle.registry_rules.specs.Actions.{version_of}
-use Rattle.registry_rows.specs.TextKeys.{TextsMap}
-use Rattle.registry_rows.proofs.TextKeyFacts.{texts_key}
-use Rattle.registry_tables.specs.Changes.{row_of, version_put}
-use Rattle.registry_tables.specs.Contents.{Contents, LiveVersion}
-use Rattle.registry_tables.specs.Fresh.{fresh}
-use Rattle.registry_tables.specs.Needs.{need_key, with_need, with_needs, names_range, names_if_any, HoldsNeeds}
+use Rattle.registry_tables.proofs.FoundFacts.{none_at}
 
 -- ---- what is there after a list of needs was put
 
@@ -45,10 +33,6 @@ at-with_needs m p v (need ∷ needs) q w target range =
 abbrev named_of : Text → Text → Option LiveVersion → Bool
 named_of target range o = names_if_any target range (option_and_then (λ (r : LiveVersion). needs_of r.manifest) o)
 
-none_live : {X : Type 0} (o : Option X) → is_some o ≡ false → o ≡ None
-none_live None h = refl
-none_live (Some x) h = absurd cc
-
 or_false : (b : Bool) → (b || false) ≡ b
 or_false true = refl
 or_false false = refl
@@ -75,6 +59,6 @@ version_holds f now c needs new h = record {
     each p v target range true same =
         ap (λ o. names_range target range f.needs || o)
         (h.stored p v target range ∙ ap (λ (q : Pair). named_of target range (at c.versions q)) (sym (same_true pair_key (f.name, version_of f) (p, v) same))
-        ∙ ap (named_of target range) (none_live (at c.versions (f.name, version_of f)) new))
+        ∙ ap (named_of target range) (none_at (at c.versions (f.name, version_of f)) new))
         ∙ or_false (names_range target range f.needs) ∙ ap (names_if_any target range) (sym needs)
     each p v target range false same = h.stored p v target range

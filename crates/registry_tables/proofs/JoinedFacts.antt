@@ -1,45 +1,19 @@
 -- What the join of team_members and grants shows: what a user's teams are granted. Those of a
 -- package's scope are all that they have.
-use Rattle.std.proofs.Common.{◌≡◌, inl, inr, ℕ, List, [], ◌∷◌, map, codes, Bool, true, false, ◌&&◌, Option, Some, None, option_map, refl, sym, ap, ap₂, subst, ◌∙◌, true≢false}
-use Rattle.std.specs.Prelude.{◌↔◌, IsSome, is_some}
-use Rattle.std.specs.List.{list_any}
-use Rattle.std.proofs.lemmas.Bool.{cases_Bool, and_parts, and_from, false_from_ne_true}
-use Rattle.sqlite.specs.declared.types.Value.TheVariants.{Text as Stored}
-use Rattle.sqlite_value.specs.Order.{Row}
-use Rattle.sqlite_sql.specs.Term.{col}
-use Rattle.sqlite.specs.Command.TheVariants.{Select}
+use Rattle.registry_tables.proofs.Words.{◌≡◌, inl, inr, ℕ, List, [], ◌∷◌, map, codes, Bool, true, false, ◌&&◌, Option, Some, None, option_map, refl, sym, ap, ap₂, subst, ◌∙◌, true≢false, IsSome}
+use Rattle.registry_tables.proofs.Words.{list_any, cases_Bool, and_parts, and_from, false_from_ne_true, Stored, Row, col, Select, Shown, HasCleanDisk, Has, some_has, some_from, Text, is, Triple}
+use Rattle.registry_tables.proofs.Words.{pair_is, at, entries, keys, scope_of, is_self, is_sym, pair_key, triple_key, entries_rise, at-entries, grants, team_granted, is_grant, Grant, MeansQuery}
+use Rattle.registry_tables.proofs.Words.{Ready, Reads, Queried, has_mapped, map_has, first_risen, found_has, some_same, schema, Contents, access_of, stored, AreGranted, AreTeamsSound, GrantsInScope}
+use Rattle.registry_tables.proofs.Words.{grant_spelled, granted_in, grant_of, role_of}
+use Rattle.std.specs.Prelude.{◌↔◌, is_some}
 use Rattle.sqlite.specs.Listing.{understood}
-use Rattle.sqlite.specs.State.{State as Shown, HasCleanDisk}
 use Rattle.sqlite_tied.specs.Compute.{everything}
-use Rattle.sqlite_rules.specs.Lists.{Has}
-use Rattle.sqlite_rules.proofs.ListLemmas.{some_has, some_from}
-use Rattle.registry_names.specs.Texts.{Text, is}
-use Rattle.registry_names.specs.Keys.{Triple, pair_is}
-use Rattle.registry_names.specs.Maps.{at, entries, keys}
-use Rattle.registry_names.specs.Names.{scope_of}
-use Rattle.registry_names.proofs.TextFacts.{is_true, is_self, is_sym}
-use Rattle.registry_names.proofs.KeyFacts.{pair_key, triple_key}
-use Rattle.registry_names.proofs.EntryFacts.{entries_rise}
-use Rattle.registry_names.proofs.MapFacts.{at-entries}
-use Rattle.registry_access.specs.Callers.{grants, team_granted}
-use Rattle.registry_access.specs.Levels.{is_grant}
+use Rattle.registry_names.proofs.TextFacts.{is_true}
 use Rattle.registry_access.specs.Standings.{is_listed}
-use Rattle.registry_access.specs.declared.grant.Grant.{Grant}
-use Rattle.registry_rows.specs.Statements.{MeansQuery}
-use Rattle.registry_rows.specs.Ready.{Ready, Reads, Queried}
-use Rattle.registry_rows.proofs.ListFacts.{has_mapped, map_has}
-use Rattle.registry_rows.proofs.ListingFacts.{first_risen}
-use Rattle.registry_rows.proofs.OrderFacts.{found_has}
-use Rattle.registry_rows.proofs.RowFacts.{some_same}
 use Rattle.registry_laws_sql.specs.Joins.{Side, given, first, second, comparisons, join, joins, IsJoined}
 use Rattle.registry_laws_sql.proofs.JoinFacts.{select_joins}
-use Rattle.registry_tables.specs.Schema.{schema}
-use Rattle.registry_tables.specs.Contents.{Contents, access_of}
-use Rattle.registry_tables.specs.Effects.{stored}
-use Rattle.registry_tables.specs.Teams.{AreGranted, AreTeamsSound, GrantsInScope, grant_spelled, granted_in}
 use Rattle.registry_tables.proofs.MappedFacts.{team_members_mapped, grants_mapped}
 use Rattle.registry_tables.proofs.ReadFacts.{at-read, read_there, some-read}
-use Rattle.registry_tables.specs.Numbers.{grant_of, role_of}
 
 -- the organisation, the user, the organisation again, the team and the package
 abbrev grant_sides : List (Side × Side)

@@ -1,31 +1,15 @@
 -- The archives that are stored stay those of live versions, each once.
-use Rattle.std.proofs.Common.{◌≡◌, ◌⊎◌, inl, inr, ℕ, ℤ, Bool, true, false, cond, true≢false, List, [], ◌∷◌, Option, Some, None, is_some, option_map, refl, sym, ap, subst, ◌∙◌}
-use Rattle.std.specs.Prelude.{option_and_then, unwrap_or, if◌then◌else◌}
-use Rattle.std.specs.List.{find}
-use Rattle.std.proofs.lemmas.Bool.{and_parts, and_from, cases_Bool}
-use Rattle.std.specs.Ordering.{int_eq}
-use Rattle.sqlite_rules.specs.Lists.{Has}
-use Rattle.sqlite_rules.proofs.ListLemmas.{has_found}
-use Rattle.registry_names.specs.Keys.{Pair, pair_is}
-use Rattle.registry_names.specs.Texts.{Text, is}
-use Rattle.registry_names.specs.Maps.{PairMap, at, put, entries}
-use Rattle.registry_names.proofs.KeyFacts.{pair_key, text_key, same_true, same_self}
-use Rattle.registry_names.proofs.MapFacts.{at-empty, at-entries, at-put, at-put_same, at-put_other, same_map}
-use Rattle.registry_names.proofs.EntryFacts.{entries_rise}
+use Rattle.registry_tables.proofs.Words.{◌≡◌, ◌⊎◌, inl, inr, ℕ, ℤ, Bool, true, false, cond, true≢false, List, [], ◌∷◌, Option, Some, None, is_some, option_map, refl, sym, ap, subst, ◌∙◌}
+use Rattle.registry_tables.proofs.Words.{option_and_then, unwrap_or, find, and_parts, and_from, cases_Bool, int_eq, Has, has_found, Pair, pair_is, Text, is, PairMap, at, put, entries, pair_key}
+use Rattle.registry_tables.proofs.Words.{text_key, same_true, same_self, at-empty, at-entries, at-put, at-put_same, at-put_other, same_map, entries_rise, version_of, release_of, NumberMap, number_key}
+use Rattle.registry_tables.proofs.Words.{first_risen, found_has, AreArchivesSound, is_archive, number_of, next_archive, archive_number, with_archive, HeldAreStored, HoldsArchives, row_of, version_put}
+use Rattle.registry_tables.proofs.Words.{Archive, Contents, LiveVersion, as_release, bytes_held, live_of, with_bytes, fresh}
+use Rattle.std.specs.Prelude.{if◌then◌else◌}
 use Rattle.registry_publish.specs.Form.{FormParts}
 use Rattle.registry_publish.specs.Integrity.{integrity_text}
-use Rattle.registry_rules.specs.Actions.{version_of}
-use Rattle.registry_rules.specs.Changes.{release_of}
-use Rattle.registry_rows.specs.KeyKinds.{NumberMap}
 use Rattle.registry_rows.specs.Counting.{counted}
 use Rattle.registry_rows.proofs.CountFacts.{next_is_new}
-use Rattle.registry_rows.proofs.KeyedFacts.{number_key}
-use Rattle.registry_rows.proofs.ListingFacts.{first_risen}
-use Rattle.registry_rows.proofs.OrderFacts.{found_has}
-use Rattle.registry_tables.specs.Archives.{AreArchivesSound, is_archive, number_of, next_archive, archive_number, with_archive, HeldAreStored, HoldsArchives}
-use Rattle.registry_tables.specs.Changes.{row_of, version_put}
-use Rattle.registry_tables.specs.Contents.{Archive, Contents, LiveVersion, as_release, bytes_held, live_of, with_bytes}
-use Rattle.registry_tables.specs.Fresh.{fresh}
+use Rattle.registry_tables.proofs.FoundFacts.{none_at, some_at}
 use Rattle.registry_tables.proofs.ReadFacts.{at-read}
 
 -- ---- looking an archive up
@@ -153,14 +137,6 @@ module _ (integrity : Text) (bytes : List ℕ) (c : Contents) (right : integrity
   }
 
 -- ---- a version is put
-
-some_at : {X : Type 0} (o : Option X) → is_some o ≡ true → (x : X) × (o ≡ Some x)
-some_at None h = absurd (true≢false (sym h))
-some_at (Some x) h = (x, refl)
-
-none_at : {X : Type 0} (o : Option X) → is_some o ≡ false → o ≡ None
-none_at None h = refl
-none_at (Some x) h = absurd (true≢false h)
 
 module _ (f : FormParts) (now : ℕ) (c : Contents) where
   abbrev key : Pair

@@ -1,59 +1,21 @@
 -- Packages with a caller's level on each: those of a scope, and those that are the caller's own.
-use Rattle.std.proofs.Common.{◌≡◌, ◌⊎◌, ◌∙◌, ◌&&◌, ◌||◌, Bool, true, false, cond, List, [], ◌∷◌, ◌++◌, filter, map, Option, Some, None, is_some, is_none, refl, sym, ap, ap₂, subst, true≢false, append_assoc, inl, inr}
-use Rattle.std.specs.List.{AllByRecursion, flat_map, list_any}
-use Rattle.std.proofs.lemmas.Bool.{and_parts}
-use Rattle.std.proofs.lemmas.Simd.{map-map}
-use Rattle.sqlite.specs.State.{State as Shown}
-use Rattle.sqlite_rules.specs.Lists.{Has}
-use Rattle.sqlite_rules.proofs.ListLemmas.{all_from, has_filtered}
-use Rattle.registry_names.specs.Maps.{among, at, entries, first_at, keys, rises}
-use Rattle.registry_names.specs.Names.{scope_of}
-use Rattle.registry_names.specs.Texts.{Text, text_cmp, is}
-use Rattle.registry_names.specs.declared.status.Status.{Status}
-use Rattle.registry_names.proofs.EntryFacts.{among_keys, entries_rise, rises_kept, rises_mapped, same_rows}
-use Rattle.registry_names.proofs.KeyFacts.{text_key}
-use Rattle.registry_names.proofs.MapFacts.{at-entries}
-use Rattle.registry_names.proofs.TextFacts.{is_self, is_sym, is_true as text_is}
-use Rattle.registry_access.specs.Callers.{is_maintainer, role_of}
-use Rattle.registry_access.specs.Levels.{is_owner_or_admin, reads}
-use Rattle.registry_access.specs.Positions.{has_scope, level_at, level_in, scope_role}
-use Rattle.registry_access.specs.Standings.{position_of}
-use Rattle.registry_access.specs.declared.caller.Caller.{Caller}
-use Rattle.registry_access.specs.declared.caller.Caller.TheVariants.{Operator, User, Anonymous}
-use Rattle.registry_access.specs.declared.levels.Level.{Level}
+use Rattle.registry_tables.proofs.Words.{◌≡◌, ◌⊎◌, ◌∙◌, ◌&&◌, ◌||◌, Bool, true, false, cond, List, [], ◌∷◌, ◌++◌, filter, map, Option, Some, None, is_some, is_none, refl, sym, ap, ap₂, subst}
+use Rattle.registry_tables.proofs.Words.{append_assoc, inl, inr, AllByRecursion, flat_map, list_any, and_parts, map-append, map-map, Shown, Has, all_from, has_filtered, among, at, entries, first_at}
+use Rattle.registry_tables.proofs.Words.{keys, rises, scope_of, Text, text_cmp, is, Status, among_keys, entries_rise, rises_kept, rises_mapped, same_rows, text_key, at-entries, is_self, is_sym}
+use Rattle.registry_tables.proofs.Words.{text_is, is_owner_or_admin, reads, level_in, scope_role, Caller, Operator, User, Anonymous, Level, Role, PackageLevel, filter_twice, map_has, first_risen}
+use Rattle.registry_tables.proofs.Words.{is_scope, is_own, IsReady, Contents, access_of, stored, IsListedFor, firsts_of, last_at, level_entry, leveled, levels_in, levels_on, listed_name}
+use Rattle.registry_tables.proofs.Words.{scopes_levels, unscoped_levels, writable, role_numbered, status_of, package_entry, scope_statuses, schema, ListedPackage, pair_key}
+use Rattle.registry_access.specs.Callers.{role_of}
 use Rattle.registry_access.specs.declared.levels.Level.TheVariants.{Write}
-use Rattle.registry_access.specs.declared.role.Role.{Role}
-use Rattle.registry_access.specs.declared.standing.Standing.{Standing}
-use Rattle.registry_access.proofs.AgreementFacts.{standing_level}
-use Rattle.registry_packument.specs.declared.list.PackageLevel.{PackageLevel}
-use Rattle.registry_rows.proofs.ListFacts.{map_has}
-use Rattle.registry_rows.proofs.ListingFacts.{first_risen}
-use Rattle.registry_rules.specs.Refusals.{is_scope}
-use Rattle.registry_rules.specs.State.{is_own}
-use Rattle.registry_rows.specs.Ready.{IsReady}
-use Rattle.registry_tables.specs.Contents.{Contents, access_of}
-use Rattle.registry_tables.specs.Effects.{stored}
-use Rattle.registry_tables.specs.Levels.{IsListedFor, firsts_of, last_at, level_entry, leveled, levels_in, levels_on, listed_name, scopes_levels, unscoped_levels, writable}
-use Rattle.registry_tables.specs.Numbers.{role_of as role_numbered, status_of}
-use Rattle.registry_tables.specs.Overviews.{package_entry, scope_statuses}
-use Rattle.registry_tables.specs.Schema.{schema}
-use Rattle.registry_tables.specs.Teams.{AreGrantedTo, AreTeamsSound}
-use Rattle.registry_tables.specs.declared.packages.ListedPackage.{ListedPackage}
+use Rattle.registry_rules.proofs.AllowedFacts.{scope_is}
+use Rattle.registry_rules.proofs.WithdrawnFacts.{among_passing}
 use Rattle.registry_tables.proofs.FirstsFacts.{among_firsts}
+use Rattle.registry_tables.proofs.FoundFacts.{some_at}
 use Rattle.registry_tables.proofs.ParentFacts.{owned_there}
 use Rattle.registry_tables.proofs.ReadFacts.{some-read}
-use Rattle.registry_names.proofs.KeyFacts.{pair_key}
+use Rattle.registry_tables.proofs.SomeFacts.{or_true}
 
 -- ---- filters
-
--- one test after another
-filtered_twice : {A : Type 0} (f g : A → Bool) (xs : List A) → filter g (filter f xs) ≡ filter (λ x. f x && g x) xs
-filtered_twice f g [] = refl
-filtered_twice {A} f g (x ∷ xs) = each (f x) (g x) refl ∙ ap (λ l. cond (f x && g x) (x ∷ l) l) (filtered_twice f g xs)
-  where
-    each : (a b : Bool) → g x ≡ b → filter g (cond a (x ∷ filter f xs) (filter f xs)) ≡ cond (a && b) (x ∷ filter g (filter f xs)) (filter g (filter f xs))
-    each true b e = ap (λ c. cond c (x ∷ filter g (filter f xs)) (filter g (filter f xs))) e
-    each false b e = refl
 
 -- the keys that pass are those of the entries that do
 keys_filtered : {X : Type 0} (f : Text → Bool) (es : List (Text × X)) → keys (filter (λ (e : Text × X). f e.0) es) ≡ filter f (keys es)
@@ -66,10 +28,6 @@ keys_filtered {X} f (e ∷ es) = each (f e.0) ∙ ap (λ l. cond (f e.0) (e.0 �
 
 -- ---- the packages of a scope
 
-scope_named : (o : Text) (scope : Option Text) → is_scope o scope ≡ true → scope ≡ Some o
-scope_named o None h = absurd (true≢false (sym h))
-scope_named o (Some s) h = ap (λ (t : Text). Some t) (text_is s o h)
-
 module _ (c : Contents) (who : Caller) (role : Option Role) (o : Text) (ps : List ListedPackage) (listed : map package_entry ps ≡ scope_statuses c o) where
   -- each has its status, and its scope is of the organisation
   pub listed_right : role ≡ role_of (access_of c) who o → AllByRecursion (IsListedFor c who role) ps
@@ -77,14 +35,14 @@ module _ (c : Contents) (who : Caller) (role : Option Role) (o : Text) (ps : Lis
       let there : Has (scope_statuses c o) (p.name, p.status) = subst (λ (es : List (Text × Status)). Has es (p.name, p.status)) listed (map_has package_entry ps p h) in
       let kept = has_filtered (λ (e : Text × Status). is_scope o (scope_of e.0)) (entries (access_of c).statuses) (p.name, p.status) there in (
         at-entries text_key (access_of c).statuses p.name ∙ first_risen text_key p.name p.status (entries (access_of c).statuses) (entries_rise (access_of c).statuses) kept.0,
-        is ∙ sym (ap (scope_role (access_of c) who) (scope_named o (scope_of p.name) kept.1)),
+        is ∙ sym (ap (scope_role (access_of c) who) (scope_is o (scope_of p.name) kept.1)),
       ))
 
   -- those that the caller reads are those of the scope that they read
   pub scope_levels : levels_on c who (map listed_name ps) ≡ levels_in c who (λ p. is_scope o (scope_of p))
   scope_levels =
       ap (levels_on c who) (sym (map-map (λ (e : Text × Status). e.0) package_entry ps) ∙ ap keys listed ∙ keys_filtered (λ p. is_scope o (scope_of p)) (entries (access_of c).statuses))
-      ∙ ap (map (leveled c who)) (filtered_twice (λ p. is_scope o (scope_of p)) (λ p. reads (level_in (access_of c) who p)) (keys (entries (access_of c).statuses)))
+      ∙ ap (map (leveled c who)) (filter_twice (λ p. is_scope o (scope_of p)) (λ p. reads (level_in (access_of c) who p)) (keys (entries (access_of c).statuses)))
 
 -- ---- one package after another
 
@@ -98,35 +56,7 @@ module _ (c : Contents) (who : Caller) (done : List PackageLevel) (p : Text) (le
   level_taken t = append_assoc done (record { name = p; level = level } ∷ []) (levels_on c who rest)
       ∙ ap (λ (l : Level). done ++ record { name = p; level = l } ∷ levels_on c who rest) is ∙ step true (sym (ap reads is) ∙ t)
 
-  -- another isn't
-  pub level_left : reads level ≡ false → done ++ levels_on c who rest ≡ levels_on c who all
-  level_left f = step false (sym (ap reads is) ∙ f)
-
 -- ---- the level on one package
-
--- an owner or admin of its scope writes a package that was published
-pub leads_write : (c : Contents) (who : Caller) (role : Option Role) (p : ListedPackage) → is_owner_or_admin role ≡ true → IsListedFor c who role p → Write ≡ level_in (access_of c) who p.name
-leads_write c who role p leads listed =
-    let leader : is_owner_or_admin (scope_role (access_of c) who (scope_of p.name)) ≡ true = sym (ap is_owner_or_admin listed.1) ∙ leads in
-    rw (listed.0, leader) refl
-
--- whether the organisation is there doesn't matter
-without_organisation : (s : Standing) (there : Bool) (who : Caller) → level_at (position_of s who) ≡ level_at (position_of (record s { organisation = there }) who)
-without_organisation s there Operator = refl
-without_organisation s there (User u) = refl
-without_organisation s there Anonymous = refl
-
-pub standing_tells_level : (c : Contents) (who : Caller) (p : Text) (status : Status) (s : Standing) → AreTeamsSound c → IsListedFor c who s.role (record { name = p; status = status }) → s.status ≡ Some status → s.maintainer ≡ is_maintainer (access_of c) who p
-    → AreGrantedTo c who p s.role s.maintainer s.grants.items → level_at (position_of s who) ≡ level_in (access_of c) who p
-standing_tells_level c who p status s sound listed is maintainer granted =
-    without_organisation s (has_scope (access_of c) (scope_of p)) who
-    ∙ standing_level (record s { organisation = has_scope (access_of c) (scope_of p) }) (access_of c) who p (record {
-      organisation = refl;
-      role = listed.1;
-      status = is ∙ sym listed.0;
-      maintainer = λ other. maintainer;
-      grants = granted sound listed.1;
-    })
 
 -- ---- all that are the caller's own
 
@@ -158,37 +88,11 @@ among_more (p ∷ ps) qs q = ap (λ b. is p q || b) (among_more ps qs q) ∙ eac
     each true = refl
     each false = refl
 
-among_filtered : (f : Text → Bool) (ps : List Text) (q : Text) → among is (filter f ps) q ≡ (f q && among is ps q)
-among_filtered f [] q = none (f q)
-  where
-    none : (b : Bool) → false ≡ (b && false)
-    none true = refl
-    none false = refl
-among_filtered f (p ∷ ps) q = each (f p) (is p q) refl refl (among_filtered f ps q)
-  where
-    or_true : (b : Bool) → (b && true) ≡ b
-    or_true true = refl
-    or_true false = refl
-
-    each : (a b : Bool) → f p ≡ a → is p q ≡ b → among is (filter f ps) q ≡ (f q && among is ps q) → among is (cond a (p ∷ filter f ps) (filter f ps)) q ≡ (f q && (b || among is ps q))
-    each true true fp same later = ap (λ b. b || among is (filter f ps) q) same ∙ sym (or_true (f q) ∙ ap f (sym (text_is p q same)) ∙ fp)
-    each true false fp same later = ap (λ b. b || among is (filter f ps) q) same ∙ later
-    each false true fp same later = later ∙ ap (λ b. b && among is ps q) (ap f (sym (text_is p q same)) ∙ fp) ∙ sym (ap (λ b. b && true) (ap f (sym (text_is p q same)) ∙ fp))
-    each false false fp same later = later
-
 among_flat : (g : Text → List Text) (os : List Text) (q : Text) → among is (flat_map g os) q ≡ list_any (λ o. among is (g o) q) os
 among_flat g [] q = refl
 among_flat g (o ∷ os) q = among_more (g o) (flat_map g os) q ∙ ap (λ b. among is (g o) q || b) (among_flat g os q)
 
 -- ---- what users maintain, and what they are members of
-
-or_true : (a : Bool) → (a || true) ≡ true
-or_true true = refl
-or_true false = refl
-
-there_is : {X : Type 0} (o : Option X) → is_some o ≡ true → (x : X) × (o ≡ Some x)
-there_is None h = absurd (true≢false (sym h))
-there_is (Some x) h = (x, refl)
 
 none_any : {A : Type 0} (os : List A) → list_any (λ o. false) os ≡ false
 none_any [] = refl
@@ -232,9 +136,9 @@ module _ (s : Shown) (ready : IsReady schema s) (u : Text) where
   -- a package that they maintain was published, and they write it
   maintained : (p : Text) → maintains_it p ≡ true → (is_some (at (access_of c).statuses p) ≡ true) × (level p ≡ Write)
   maintained p m =
-      let mark = there_is (at c.owners (p, u)) m in
+      let mark = some_at (at c.owners (p, u)) m in
       let there : is_some (at (access_of c).statuses p) ≡ true = some-read text_key c.packages (λ _ n. status_of n) p ∙ owned_there s ready p u mark.0 mark.1 in
-      let status = there_is (at (access_of c).statuses p) there in
+      let status = some_at (at (access_of c).statuses p) there in
       (there, rw (status.1, m, or_true (is_owner_or_admin (scope_role (access_of c) (User u) (scope_of p)))) refl)
 
   abbrev unscoped : List Text
@@ -266,9 +170,9 @@ module _ (s : Shown) (ready : IsReady schema s) (u : Text) where
   gathered_among : (q : Text) → among is (unscoped ++ flat_map scoped organisations) q ≡ among is own q
   gathered_among q =
       among_more unscoped (flat_map scoped organisations) q
-      ∙ ap₂ (λ a b. a || b) (among_filtered (λ p. is_none (scope_of p)) (firsts_of c.owners u) q ∙ ap (λ b. is_none (scope_of q) && b) (among_firsts c.owners u q))
-      (among_flat scoped organisations q ∙ (λ i. list_any (λ o. among_filtered (λ p. is_scope o (scope_of p) && reads_it p) names q i) organisations))
-      ∙ same_for q (scope_of q) ∙ sym (among_filtered (λ p. is_own (access_of c) (User u) p (scope_of p) && reads_it p) names q)
+      ∙ ap₂ (λ a b. a || b) (among_passing (λ p. is_none (scope_of p)) (firsts_of c.owners u) q ∙ ap (λ b. is_none (scope_of q) && b) (among_firsts c.owners u q))
+      (among_flat scoped organisations q ∙ (λ i. list_any (λ o. among_passing (λ p. is_scope o (scope_of p) && reads_it p) names q i) organisations))
+      ∙ same_for q (scope_of q) ∙ sym (among_passing (λ p. is_own (access_of c) (User u) p (scope_of p) && reads_it p) names q)
 
   -- ---- as entries
 
@@ -280,19 +184,15 @@ module _ (s : Shown) (ready : IsReady schema s) (u : Text) where
 
   unscoped_said : map level_entry (unscoped_levels c u) ≡ map said unscoped
   unscoped_said = map-map level_entry writable unscoped ∙ same_mapped (λ p. (p, Write)) said unscoped (λ p h.
-      let there = and_parts (is_none (scope_of p)) (maintains_it p) (sym (among_filtered (λ q. is_none (scope_of q)) (firsts_of c.owners u) p ∙ ap (λ b. is_none (scope_of p) && b) (among_firsts c.owners u p)) ∙ h) in
+      let there = and_parts (is_none (scope_of p)) (maintains_it p) (sym (among_passing (λ q. is_none (scope_of q)) (firsts_of c.owners u) p ∙ ap (λ b. is_none (scope_of p) && b) (among_firsts c.owners u p)) ∙ h) in
       ap (λ (l : Level). (p, l)) (sym (maintained p there.1).1))
-
-  mapped_more : {A B : Type 0} (f : A → B) (xs ys : List A) → map f (xs ++ ys) ≡ map f xs ++ map f ys
-  mapped_more f [] ys = refl
-  mapped_more f (x ∷ xs) ys = ap (λ l. f x ∷ l) (mapped_more f xs ys)
 
   scopes_said : (os : List Text) → map level_entry (scopes_levels c (User u) os) ≡ map said (flat_map scoped os)
   scopes_said [] = refl
   scopes_said (o ∷ os) =
-      mapped_more level_entry (map (leveled c (User u)) (scoped o)) (scopes_levels c (User u) os)
+      map-append level_entry (map (leveled c (User u)) (scoped o)) (scopes_levels c (User u) os)
       ∙ ap₂ (λ a b. a ++ b) (map-map level_entry (leveled c (User u)) (scoped o)) (scopes_said os)
-      ∙ sym (mapped_more said (scoped o) (flat_map scoped os))
+      ∙ sym (map-append said (scoped o) (flat_map scoped os))
 
   own_said : map level_entry (levels_in c (User u) (λ p. is_own (access_of c) (User u) p (scope_of p))) ≡ map said own
   own_said = map-map level_entry (leveled c (User u)) own
@@ -325,7 +225,7 @@ module _ (s : Shown) (ready : IsReady schema s) (u : Text) where
       (same_rows text_key (map level_entry sorted) (map said own) rise own_rises (λ q.
       last q
       ∙ ap (λ (ps : List PackageLevel). last_at (map level_entry ps) q None) are
-      ∙ ap (λ (es : List (Text × Level)). last_at es q None) (mapped_more level_entry (unscoped_levels c u) (scopes_levels c (User u) organisations) ∙ ap₂ (λ a b. a ++ b) unscoped_said (scopes_said organisations) ∙ sym (mapped_more said unscoped (flat_map scoped organisations)))
+      ∙ ap (λ (es : List (Text × Level)). last_at es q None) (map-append level_entry (unscoped_levels c u) (scopes_levels c (User u) organisations) ∙ ap₂ (λ a b. a ++ b) unscoped_said (scopes_said organisations) ∙ sym (map-append said unscoped (flat_map scoped organisations)))
       ∙ last_said level (unscoped ++ flat_map scoped organisations) q None ∙ ap (λ b. cond b (Some (level q)) None) (gathered_among q) ∙ sym (first_said level own q)) ∙ sym own_said)
 
 -- nobody else has any

@@ -54,3 +54,4 @@ pub mod VersionFacts
 pub mod WalkFacts
 pub mod WalkSourceFacts
 pub mod WithdrawalFacts
+pub mod Words

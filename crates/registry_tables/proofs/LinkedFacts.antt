@@ -1,24 +1,11 @@
 -- What goes with members and teams, and what the statements that drop them make.
-use Rattle.std.proofs.Common.{◌≡◌, ℕ, List, [], ◌∷◌, not, Ok, refl, codes}
-use Rattle.sqlite.specs.declared.types.Value.TheVariants.{Text as Stored}
-use Rattle.sqlite.specs.Command.TheVariants.{Delete}
+use Rattle.registry_tables.proofs.Words.{◌≡◌, ℕ, List, [], ◌∷◌, not, Ok, refl, codes, Stored, Delete, Shown, HasCleanDisk, col, Text, pair_is, keep, Wrote, Ready, Leaves, Means, scan, by_texts}
+use Rattle.registry_tables.proofs.Words.{schema, Contents, contents, stored, without_member, without_team}
 use Rattle.sqlite.specs.Listing.{understood}
-use Rattle.sqlite.specs.State.{State as Shown, HasCleanDisk}
-use Rattle.sqlite_sql.specs.Term.{col}
 use Rattle.sqlite_tied.specs.Compute.{everything}
-use Rattle.registry_names.specs.Texts.{Text}
-use Rattle.registry_names.specs.Keys.{pair_is}
-use Rattle.registry_names.specs.Maps.{keep}
-use Rattle.registry_rows.specs.Frames.{Wrote}
-use Rattle.registry_rows.specs.Ready.{Ready, Leaves}
-use Rattle.registry_rows.specs.Statements.{Means, scan, by_texts}
 use Rattle.registry_laws_sql.specs.Cascades.{Child, IsChild, HasChildren, links, link_of}
 use Rattle.registry_laws_sql.proofs.CascadeFacts.{mapped_child, delete_cascades}
-use Rattle.registry_tables.specs.Schema.{schema}
 use Rattle.registry_tables.specs.Schema as table
-use Rattle.registry_tables.specs.Contents.{Contents, contents}
-use Rattle.registry_tables.specs.Effects.{stored}
-use Rattle.registry_tables.specs.Teams.{without_member, without_team}
 use Rattle.registry_tables.proofs.MappedFacts.{members_mapped, teams_mapped, team_members_mapped, grants_mapped}
 
 -- ---- what goes with a member: their places in teams

@@ -1,17 +1,9 @@
 -- The live versions, each read from three tables.
-use Rattle.std.proofs.Common.{◌≡◌, ◌==◌, ℕ, ℤ, true≢false, Bool, true, false, not, cond, List, [], ◌∷◌, map, take, length, Option, None, Some, is_some, option_map, arith, ne_eqb, refl, sym, ap, ◌∙◌}
-use Rattle.std.proofs.lemmas.Simd.{map-map}
-use Rattle.std.specs.Prelude.{option_and_then, unwrap_or}
-use Rattle.sqlite_value.specs.Order.{Row}
-use Rattle.registry_names.specs.Keys.{Pair}
-use Rattle.registry_names.specs.Texts.{Text, is}
-use Rattle.registry_names.specs.Maps.{at, empty, of, entries, keys, part, parts, seen}
-use Rattle.registry_names.proofs.KeyFacts.{pair_key, text_key, triple_key}
-use Rattle.registry_rules.specs.State.{Release, has_live, is_empty, no_access, nothing}
-use Rattle.registry_tables.specs.Contents.{Archive, Contents, LiveVersion, as_release, as_withdrawal, bytes_held, live_of, registry_of, with_bytes}
-use Rattle.registry_tables.specs.Fresh.{fresh}
-use Rattle.registry_tables.specs.Numbers.{grant_of, role_of, seconds_of, status_of}
-use Rattle.registry_tables.specs.Spelled.{document, published}
+use Rattle.registry_tables.proofs.Words.{◌≡◌, ◌==◌, ℕ, ℤ, true≢false, Bool, true, false, not, cond, List, [], ◌∷◌, map, take, length, Option, None, Some, is_some, option_map, arith, ne_eqb, refl, sym}
+use Rattle.registry_tables.proofs.Words.{ap, ◌∙◌, map-map, option_and_then, unwrap_or, Row, Pair, Text, is, at, empty, of, entries, keys, parts, seen, pair_key, text_key, triple_key, Release}
+use Rattle.registry_tables.proofs.Words.{has_live, is_empty, no_access, nothing, Archive, Contents, LiveVersion, as_release, as_withdrawal, bytes_held, live_of, registry_of, with_bytes, fresh}
+use Rattle.registry_tables.proofs.Words.{grant_of, role_of, seconds_of, status_of, document, published}
+use Rattle.registry_names.specs.Maps.{part}
 use Rattle.registry_tables.proofs.ReadFacts.{at-read, entries-read, read-empty, some-read}
 
 -- a version lives where it has a row

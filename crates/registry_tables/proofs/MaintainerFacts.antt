@@ -1,29 +1,10 @@
 -- What the statements on maintainers make and show.
-use Rattle.std.proofs.Common.{◌≡◌, ℕ, List, [], ◌∷◌, Bool, ◌||◌, is_some, None, Ok, refl, sym, ap, ◌∙◌, codes}
-use Rattle.std.specs.List.{list_any}
-use Rattle.std.proofs.lemmas.Simd.{map-map}
-use Rattle.sqlite.specs.declared.types.Value.TheVariants.{Null, Text as Stored}
-use Rattle.sqlite.specs.Command.TheVariants.{Insert, Delete, Select}
-use Rattle.sqlite.specs.Source.TheVariants.{Values}
+use Rattle.registry_tables.proofs.Words.{◌≡◌, ℕ, List, [], ◌∷◌, Bool, ◌||◌, is_some, None, Ok, refl, ap, codes, list_any, Stored, Delete, Select, Shown, HasCleanDisk, col, Text, at, erase, keys, of}
+use Rattle.registry_tables.proofs.Words.{put, Wrote, Ready, Leaves, Means, MeansQuery, scan, by_texts, in_order, insert_values, select_lists, insert_puts, insert_meets_none, delete_erases, schema}
+use Rattle.registry_tables.proofs.Words.{contents, stored, text_spelled, ShowsAll, ShowsWhether}
 use Rattle.sqlite.specs.Listing.{understood}
-use Rattle.sqlite.specs.State.{State as Shown, HasCleanDisk}
 use Rattle.sqlite_tied.specs.Compute.{everything}
-use Rattle.sqlite_value.specs.Order.{Row}
-use Rattle.sqlite_sql.specs.Term.{Term, lit, col}
-use Rattle.registry_names.specs.Texts.{Text}
-use Rattle.registry_names.specs.Maps.{at, erase, keys, of, put}
-use Rattle.registry_rows.specs.Frames.{Wrote}
-use Rattle.registry_rows.specs.Ready.{Ready, Leaves}
-use Rattle.registry_rows.specs.Statements.{Means, MeansQuery, IsUncascaded, scan, by_texts, in_order}
-use Rattle.registry_rows.proofs.LookUpFacts.{select_lists, seen_as_is}
-use Rattle.registry_rows.proofs.StatementFacts.{insert_puts, insert_meets_none, delete_erases}
-use Rattle.registry_tables.specs.Schema.{schema}
-use Rattle.registry_tables.specs.Schema as table
-use Rattle.registry_tables.specs.Contents.{contents}
-use Rattle.registry_tables.specs.Effects.{stored}
-use Rattle.registry_tables.specs.Teams.{text_spelled}
-use Rattle.registry_tables.specs.Queries.{ShowsAll, ShowsWhether}
-use Rattle.registry_tables.proofs.FoundFacts.{there_found}
+use Rattle.registry_tables.proofs.FoundFacts.{key_entry, keys_seen, there_found}
 use Rattle.registry_tables.proofs.MappedFacts.{owners_mapped}
 
 -- ---- INSERT
@@ -31,20 +12,17 @@ use Rattle.registry_tables.proofs.MappedFacts.{owners_mapped}
 abbrev put_text : List ℕ
 put_text = codes "INSERT INTO owners VALUES (?1, ?2)"
 
-abbrev put_cells : List Term
-put_cells = col 0 0 ∷ col 0 1 ∷ []
-
-put_means : Means schema put_text (Insert 8 (Values (lit Null ∷ put_cells) 3))
+put_means : Means schema put_text (insert_values 8 (col 0 0 ∷ col 0 1 ∷ []))
 unfolding understood everything
 put_means = (refl, (refl, refl))
 
 pub owner_put : (p u : Text) (old new : Shown) → Ready schema old → Wrote put_text (Stored p ∷ Stored u ∷ []) old new → HasCleanDisk new
     → Leaves schema contents (record (stored old) { owners = put (stored old).owners (p, u) tt }) new
-owner_put p u old new form call = insert_puts owners_mapped put_text put_cells put_means (Stored p ∷ Stored u ∷ []) refl old new (Ok call.0) form call.1
+owner_put p u old new form call = insert_puts owners_mapped put_text _ put_means (Stored p ∷ Stored u ∷ []) refl old new (Ok call.0) form call.1
 
 -- an answered INSERT had a new key
 pub owner_was_new : (p u : Text) (old new : Shown) → Ready schema old → Wrote put_text (Stored p ∷ Stored u ∷ []) old new → HasCleanDisk new → at (stored old).owners (p, u) ≡ None
-owner_was_new p u old new form call = insert_meets_none owners_mapped put_text put_cells put_means (Stored p ∷ Stored u ∷ []) refl old new (Ok call.0) form call.1
+owner_was_new p u old new form call = insert_meets_none owners_mapped put_text _ put_means (Stored p ∷ Stored u ∷ []) refl old new (Ok call.0) form call.1
 
 -- ---- DELETE
 
@@ -56,13 +34,10 @@ unfolding understood everything
 drop_means = (refl, (refl, refl))
 
 -- nothing refers to a maintainer
-nothing_refers : IsUncascaded schema table.owners
-unfolding everything
-nothing_refers olds = refl
-
 pub owner_dropped : (p u : Text) (old new : Shown) → Ready schema old → Wrote drop_text (Stored p ∷ Stored u ∷ []) old new → HasCleanDisk new
     → Leaves schema contents (record (stored old) { owners = erase (stored old).owners (p, u) }) new
-owner_dropped p u old new form call = delete_erases owners_mapped drop_text drop_means nothing_refers (p, u) old new (Ok call.0) form call.1
+unfolding everything
+owner_dropped p u old new form call = delete_erases owners_mapped drop_text drop_means (λ olds. refl) (p, u) old new (Ok call.0) form call.1
 
 -- ---- SELECT
 
@@ -83,14 +58,10 @@ pub list_means : MeansQuery schema list_text (Select (record { lets = []; body =
 unfolding understood everything
 list_means = ((refl, (refl, refl)), refl)
 
--- a maintainer who is there
-abbrev user_entry : Row → Text × Unit {0}
-user_entry r = (text_spelled r, tt)
-
 pub maintainers_listed : (p : Text) (old new : Shown) → ShowsAll list_text (Stored p ∷ []) old new text_spelled (keys (of (stored old).owners p))
 maintainers_listed p old new rows form call clean =
-    let it = select_lists owners_mapped list_text (col 1 2 ∷ []) _ list_means p user_entry (λ (u : Unit {0}). u) (λ id vs. refl) old new rows form call clean in
-    (it.0, sym (map-map (λ (e : Text × Unit {0}). e.0) user_entry rows) ∙ ap keys (it.1 ∙ seen_as_is (of (stored old).owners p)))
+    let it = select_lists owners_mapped list_text (col 1 2 ∷ []) _ list_means p key_entry (λ (u : Unit {0}). u) (λ id vs. refl) old new rows form call clean in
+    (it.0, keys_seen rows (of (stored old).owners p) it.1)
 
 -- a test of keys is one of their entries
 pub any_key : (test : Text → Bool) (es : List (Text × Unit {0})) → list_any test (keys es) ≡ list_any (λ e. test e.0) es

@@ -1,12 +1,8 @@
 -- Each table gives one map of what is stored.
-use Rattle.std.proofs.Common.{Some, refl}
-use Rattle.sqlite.specs.declared.types.Value.TheVariants.{Int}
+use Rattle.registry_tables.proofs.Words.{Some, refl, Int, IsCounted, IsMapped, IsMappedByBytes, IsNumbered, schema, contents, archive_in, held_in, nothing_in, user_in, role_in, grant_in, status_in}
+use Rattle.registry_tables.proofs.Words.{version_in, spent_in, named_in}
 use Rattle.sqlite_tied.specs.Compute.{everything}
-use Rattle.registry_rows.specs.Counting.{IsCounted}
-use Rattle.registry_rows.specs.Ready.{IsMapped, IsMappedByBytes, IsNumbered}
-use Rattle.registry_tables.specs.Schema.{schema}
 use Rattle.registry_tables.specs.Schema as table
-use Rattle.registry_tables.specs.Contents.{contents, archive_in, held_in, nothing_in, user_in, role_in, grant_in, status_in, version_in, spent_in, named_in}
 use Rattle.registry_tables.proofs.ContentsFacts.{contents_depend}
 
 pub users_mapped : IsMapped schema contents 0 table.users 0 nothing_in (λ c m. record c { users = m })

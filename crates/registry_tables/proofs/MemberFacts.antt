@@ -1,29 +1,12 @@
 -- What the statements on members make and show.
-use Rattle.std.proofs.Common.{◌≡◌, ℕ, Bool, ◌||◌, List, [], ◌∷◌, map, ap, Option, Some, None, refl, sym, ◌∙◌, codes, if◌then◌else◌}
-use Rattle.std.specs.List.{list_any}
-use Rattle.sqlite.specs.declared.types.Value.TheVariants.{Null, Int, Text as Stored}
-use Rattle.sqlite.specs.Command.TheVariants.{Insert, Update, Select}
-use Rattle.sqlite.specs.Source.TheVariants.{Values}
+use Rattle.registry_tables.proofs.Words.{◌≡◌, ℕ, Bool, ◌||◌, List, [], ◌∷◌, map, ap, Some, None, refl, sym, ◌∙◌, codes, if◌then◌else◌, list_any, Int, Stored, Select, Shown, HasCleanDisk, col, Text}
+use Rattle.registry_tables.proofs.Words.{at, of, pair_key, text_key, Role, Wrote, Ready, Leaves, Means, MeansQuery, scan, by_texts, in_order, insert_values, update_where, select_finds, select_lists}
+use Rattle.registry_tables.proofs.Words.{first_listed, schema, IsFreeUnless, with_row, access_of, contents, stored, role_number, role_of, member_entry, member_spelled, role_spelled, ShowsAll}
+use Rattle.registry_tables.proofs.Words.{ShowsFirst}
 use Rattle.sqlite.specs.Listing.{understood}
-use Rattle.sqlite.specs.State.{State as Shown, HasCleanDisk}
 use Rattle.sqlite_tied.specs.Compute.{everything}
-use Rattle.sqlite_sql.specs.Term.{Term, lit, col}
-use Rattle.registry_names.specs.Texts.{Text}
-use Rattle.registry_names.specs.Maps.{at, of}
-use Rattle.registry_names.proofs.KeyFacts.{pair_key, text_key}
-use Rattle.registry_access.specs.declared.role.Role.{Role}
 use Rattle.registry_packument.specs.declared.list.Member.{Member}
-use Rattle.registry_rows.specs.Frames.{Wrote}
-use Rattle.registry_rows.specs.Ready.{Ready, Leaves}
-use Rattle.registry_rows.specs.Statements.{Means, MeansQuery, scan, by_texts, in_order, set_terms}
-use Rattle.registry_rows.proofs.LookUpFacts.{select_finds, select_lists, first_listed}
-use Rattle.registry_tables.specs.Schema.{schema}
-use Rattle.registry_tables.specs.Changes.{IsFreeUnless, with_row}
-use Rattle.registry_tables.specs.Contents.{access_of, contents}
-use Rattle.registry_tables.specs.Effects.{stored}
-use Rattle.registry_tables.specs.Numbers.{role_number, role_of}
-use Rattle.registry_tables.specs.Spelled.{member_entry, member_spelled, role_spelled}
-use Rattle.registry_tables.specs.Queries.{ShowsAll, ShowsFirst}
+use Rattle.registry_tables.specs.Schema as table
 use Rattle.registry_tables.proofs.MappedFacts.{members_mapped}
 use Rattle.registry_tables.proofs.ReadFacts.{at-read, part-read}
 use Rattle.registry_tables.proofs.SetRowFacts.{row_set}
@@ -33,10 +16,7 @@ use Rattle.registry_tables.proofs.SetRowFacts.{row_set}
 abbrev put_text : List ℕ
 put_text = codes "INSERT INTO members VALUES (?1, ?2, ?3)"
 
-abbrev put_cells : List Term
-put_cells = col 0 0 ∷ col 0 1 ∷ col 0 2 ∷ []
-
-put_means : Means schema put_text (Insert 3 (Values (lit Null ∷ put_cells) 4))
+put_means : Means schema put_text (insert_values 3 (col 0 0 ∷ col 0 1 ∷ col 0 2 ∷ []))
 unfolding understood everything
 put_means = (refl, (refl, refl))
 
@@ -46,16 +26,13 @@ abbrev set_text : List ℕ
 set_text = codes "UPDATE members SET role = ?3 WHERE org = ?1 AND user = ?2"
 
 -- the key stays, and the role is the last parameter
-abbrev sets : List (Option ℕ)
-sets = None ∷ None ∷ Some 2 ∷ []
-
-set_means : Means schema set_text (Update 3 (record { lets = []; body = scan 6 (by_texts 1 1 0) (col 1 0 ∷ col 1 0 ∷ set_terms 1 sets) [] }))
+set_means : Means schema set_text (update_where 3 table.members (None ∷ None ∷ Some 2 ∷ []) (by_texts 1 1 0))
 unfolding understood everything
 set_means = (refl, (refl, refl))
 
 pub member_set : (o u : Text) (role : Role) (stands : Bool) (old new : Shown) → Ready schema old → Wrote (if stands then set_text else put_text) (Stored o ∷ Stored u ∷ Int (role_number role) ∷ []) old new → HasCleanDisk new
     → Leaves schema contents (record (stored old) { members = with_row (stored old).members (o, u) (role_number role) stands }) new × IsFreeUnless (stored old).members (o, u) stands
-member_set o u role = row_set members_mapped set_text put_text sets put_cells set_means put_means (o, u) (Int (role_number role) ∷ []) (role_number role) refl (λ vs. refl) (λ vs. refl) refl refl refl
+member_set o u role = row_set members_mapped set_text put_text (None ∷ None ∷ Some 2 ∷ []) _ set_means put_means (o, u) (Int (role_number role) ∷ []) (role_number role) refl (λ vs. refl) (λ vs. refl) refl refl refl
 
 -- ---- SELECT
 
@@ -74,16 +51,13 @@ role_found o u old new rows form call clean =
 abbrev list_text : List ℕ
 list_text = codes "SELECT user, role FROM members WHERE org = ?1 ORDER BY user"
 
-abbrev list_columns : List Term
-list_columns = col 1 2 ∷ col 1 3 ∷ []
-
-pub list_means : MeansQuery schema list_text (Select (record { lets = []; body = scan 6 (by_texts 0 1 0) list_columns (in_order 0 2) }) (codes "user" ∷ codes "role" ∷ []))
+pub list_means : MeansQuery schema list_text (Select (record { lets = []; body = scan 6 (by_texts 0 1 0) (col 1 2 ∷ col 1 3 ∷ []) (in_order 0 2) }) (codes "user" ∷ codes "role" ∷ []))
 unfolding understood everything
 list_means = ((refl, (refl, refl)), refl)
 
 pub members_listed : (o : Text) (old new : Shown) → ShowsAll list_text (Stored o ∷ []) old new member_spelled (of (access_of (stored old)).roles o)
 members_listed o old new rows form call clean =
-    let it = select_lists members_mapped list_text list_columns _ list_means o member_spelled role_of (λ id vs. refl) old new rows form call clean in
+    let it = select_lists members_mapped list_text _ _ list_means o member_spelled role_of (λ id vs. refl) old new rows form call clean in
     (it.0, it.1 ∙ sym (part-read text_key (stored old).members role_of o))
 
 -- a test of members is one of their entries

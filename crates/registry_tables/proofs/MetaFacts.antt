@@ -1,26 +1,11 @@
 -- The table `meta`.
 use Rattle.std.specs.Prelude.{codes}
-use Rattle.std.proofs.Common.{◌≡◌, ℕ, ℤ, List, [], ◌∷◌, Option, None, Some, option_map, slice_get, Ok, pos, refl, ◌∙◌}
-use Rattle.sqlite.specs.declared.types.Value.TheVariants.{Null, Int, Text as Stored}
-use Rattle.sqlite_value.specs.Order.{Row, column}
-use Rattle.sqlite_sql.specs.Term.{Term, lit, col}
-use Rattle.sqlite.specs.Source.TheVariants.{Values}
-use Rattle.sqlite.specs.Command.TheVariants.{Insert, Select}
+use Rattle.registry_tables.proofs.Words.{◌≡◌, ℕ, ℤ, List, [], ◌∷◌, Option, None, Some, option_map, slice_get, Ok, pos, refl, ◌∙◌, Int, Stored, Row, column, lit, col, Select, State, HasCleanDisk, at}
+use Rattle.registry_tables.proofs.Words.{int_in, Means, MeansQuery, scan, by_texts, insert_values, Wrote, Ready, Leaves, Reads, Queried, IsMapped, first_listed, select_finds, insert_puts, schema}
+use Rattle.registry_tables.proofs.Words.{contents, number_named_in, stored, schema_key, with_number}
 use Rattle.sqlite.specs.Listing.{understood}
-use Rattle.sqlite.specs.State.{State, HasCleanDisk}
 use Rattle.sqlite_tied.specs.Compute.{everything}
-use Rattle.registry_names.specs.Maps.{at}
-use Rattle.registry_rows.specs.Columns.{int_in}
-use Rattle.registry_rows.specs.Statements.{Means, MeansQuery, scan, by_texts}
-use Rattle.registry_rows.specs.Frames.{Wrote}
-use Rattle.registry_rows.specs.Ready.{Ready, Leaves, Reads, Queried, IsMapped}
-use Rattle.registry_rows.proofs.LookUpFacts.{first_listed, select_finds}
-use Rattle.registry_rows.proofs.StatementFacts.{insert_puts}
 use Rattle.registry_tables.specs.Schema as table
-use Rattle.registry_tables.specs.Schema.{schema}
-use Rattle.registry_tables.specs.Contents.{contents, number_named_in}
-use Rattle.registry_tables.specs.Effects.{stored}
-use Rattle.registry_tables.specs.Fresh.{schema_key, with_number}
 use Rattle.registry_tables.proofs.ContentsFacts.{contents_depend}
 
 pub meta_mapped : IsMapped schema contents 13 table.meta 0 number_named_in (λ c m. record c { meta = m })
@@ -29,16 +14,13 @@ meta_mapped = record { found = refl; shape = refl; index = 13; indexed = refl; p
 abbrev insert_text : List ℕ
 insert_text = codes "INSERT INTO meta VALUES ('schema', ?1)"
 
-abbrev cells : List Term
-cells = lit (Stored (codes "schema")) ∷ col 0 0 ∷ []
-
-insert_means : Means schema insert_text (Insert 13 (Values (lit Null ∷ cells) 3))
+insert_means : Means schema insert_text (insert_values 13 (lit (Stored (codes "schema")) ∷ col 0 0 ∷ []))
 unfolding understood everything
 insert_means = (refl, (refl, refl))
 
 pub number_put : (number : ℕ) (old new : State) → Ready schema old → Wrote insert_text (Int (pos number) ∷ []) old new → HasCleanDisk new
     → Leaves schema contents (with_number (stored old) number) new
-number_put number old new form call = insert_puts meta_mapped insert_text cells insert_means (Int (pos number) ∷ []) refl old new (Ok call.0) form call.1
+number_put number old new form call = insert_puts meta_mapped insert_text _ insert_means (Int (pos number) ∷ []) refl old new (Ok call.0) form call.1
 
 -- ---- SELECT value FROM meta WHERE name = ?1
 

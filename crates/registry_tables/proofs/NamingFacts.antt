@@ -1,37 +1,12 @@
 -- What the statement on the tags that name a version shows.
-use Rattle.std.proofs.Common.{◌≡◌, ℕ, Bool, true, false, ◌&&◌, cond, List, [], ◌∷◌, drop, map, filter, refl, sym, ap, ap₂, ◌∙◌, codes}
-use Rattle.std.proofs.lemmas.Simd.{map-map}
-use Rattle.sqlite.specs.declared.types.Value.{Value}
-use Rattle.sqlite.specs.declared.types.Value.TheVariants.{Text as Stored}
+use Rattle.registry_tables.proofs.Words.{◌≡◌, ℕ, Bool, true, false, ◌&&◌, cond, List, [], ◌∷◌, drop, map, filter, refl, sym, ap, ap₂, ◌∙◌, codes, map-map, Value, Stored, Shown, Row, column, Binary}
+use Rattle.registry_tables.proofs.Words.{Compare, Eq, Term, col, op2, Has, all_has, Pair, Text, is, PairMap, entries, keys, of, parts, seen, is_sym, text_is, tags_of, text_in, IsReady, key_of}
+use Rattle.registry_tables.proofs.Words.{MeansQuery, select_where, in_order, is_wanted, by_texts_given, select_passes_by, and_true, row_parts, and_parts, named_in, registry_of, stored, schema}
+use Rattle.registry_tables.proofs.Words.{text_spelled, ShowsAll}
 use Rattle.sqlite.specs.Listing.{understood}
-use Rattle.sqlite.specs.State.{State as Shown}
 use Rattle.sqlite_tied.specs.Compute.{everything}
-use Rattle.sqlite_value.specs.Order.{Row, column}
-use Rattle.sqlite_value.specs.declared.keys.Collation.TheVariants.{Binary}
-use Rattle.sqlite_sql.specs.declared.ops.BinaryOp.TheVariants.{Compare}
-use Rattle.sqlite_sql.specs.declared.ops.CompareOp.TheVariants.{Eq}
-use Rattle.sqlite_sql.specs.Term.{Term, col, op2}
-use Rattle.sqlite_rules.specs.Lists.{Has}
-use Rattle.sqlite_rules.proofs.ListLemmas.{all_has}
-use Rattle.registry_names.specs.Keys.{Pair}
-use Rattle.registry_names.specs.Texts.{Text, is}
-use Rattle.registry_names.specs.Maps.{PairMap, entries, keys, of, part, parts, seen}
-use Rattle.registry_names.proofs.TextFacts.{is_sym, is_true as text_is}
-use Rattle.registry_rules.specs.Withdrawals.{tags_of}
-use Rattle.registry_rows.specs.Columns.{text_in}
-use Rattle.registry_rows.specs.Ready.{IsReady}
-use Rattle.registry_rows.specs.Rows.{key_of}
-use Rattle.registry_rows.specs.Statements.{MeansQuery, select_where, in_order, is_wanted}
-use Rattle.registry_rows.proofs.KeyedFacts.{by_texts_given}
-use Rattle.registry_rows.proofs.LookUpFacts.{select_passes_by}
-use Rattle.registry_rows.proofs.TextKeyFacts.{and_true, row_parts}
-use Rattle.std.proofs.lemmas.Bool.{and_parts}
-use Rattle.registry_tables.specs.Contents.{named_in, registry_of}
-use Rattle.registry_tables.specs.Effects.{stored}
+use Rattle.registry_names.specs.Maps.{part}
 use Rattle.registry_tables.specs.Schema as table
-use Rattle.registry_tables.specs.Schema.{schema}
-use Rattle.registry_tables.specs.Teams.{text_spelled}
-use Rattle.registry_tables.specs.Queries.{ShowsAll}
 use Rattle.registry_tables.proofs.MappedFacts.{tags_mapped}
 
 abbrev naming_text : List ℕ

@@ -1,32 +1,10 @@
 -- What the statements on needs make and show.
-use Rattle.std.proofs.Common.{◌≡◌, ℕ, List, [], ◌∷◌, ◌++◌, Bool, true, false, cond, Option, Some, None, is_some, take, get_or, length, ◌+◌, ◌<◌, Ok, refl, sym, ap, ◌∙◌, codes}
-use Rattle.std.proofs.lemmas.List.{take_more}
-use Rattle.std.proofs.lemmas.Iterator.Adapters.{option_map_id}
-use Rattle.sqlite.specs.declared.types.Value.TheVariants.{Null, Text as Stored}
-use Rattle.sqlite.specs.Command.TheVariants.{Insert, Select}
-use Rattle.sqlite.specs.Source.TheVariants.{Values}
+use Rattle.registry_tables.proofs.Words.{◌≡◌, ℕ, List, [], ◌∷◌, ◌++◌, Bool, true, false, cond, Option, Some, None, is_some, take, get_or, length, ◌+◌, ◌<◌, Ok, refl, sym, ap, ◌∙◌, codes, take_more}
+use Rattle.registry_tables.proofs.Words.{option_map_id, Stored, Select, Shown, HasCleanDisk, col, Text, Wrote, Ready, Leaves, schema, contents, stored, at, put, same_true, at-put, same_map, Need}
+use Rattle.registry_tables.proofs.Words.{Means, MeansQuery, scan, by_texts, insert_values, Texts, TextsMap, texts_are, texts_key, insert_puts, select_finds, Contents, nothing_in, need_key, with_need}
+use Rattle.registry_tables.proofs.Words.{with_needs, ShowsWhether}
 use Rattle.sqlite.specs.Listing.{understood}
-use Rattle.sqlite.specs.State.{State as Shown, HasCleanDisk}
 use Rattle.sqlite_tied.specs.Compute.{everything}
-use Rattle.sqlite_sql.specs.Term.{Term, lit, col}
-use Rattle.registry_names.specs.Texts.{Text}
-use Rattle.registry_rows.specs.Frames.{Wrote}
-use Rattle.registry_rows.specs.Ready.{Ready, Leaves}
-use Rattle.registry_tables.specs.Schema.{schema}
-use Rattle.registry_tables.specs.Contents.{contents}
-use Rattle.registry_tables.specs.Effects.{stored}
-use Rattle.registry_names.specs.Maps.{at, put}
-use Rattle.registry_names.proofs.KeyFacts.{same_true}
-use Rattle.registry_names.proofs.MapFacts.{at-put, same_map}
-use Rattle.registry_publish.specs.declared.need.Need.{Need}
-use Rattle.registry_rows.specs.Statements.{Means, MeansQuery, scan, by_texts}
-use Rattle.registry_rows.specs.TextKeys.{Texts, TextsMap, texts_are}
-use Rattle.registry_rows.proofs.TextKeyFacts.{texts_key}
-use Rattle.registry_rows.proofs.StatementFacts.{insert_puts}
-use Rattle.registry_rows.proofs.LookUpFacts.{select_finds}
-use Rattle.registry_tables.specs.Contents.{Contents, nothing_in}
-use Rattle.registry_tables.specs.Needs.{need_key, with_need, with_needs}
-use Rattle.registry_tables.specs.Queries.{ShowsWhether}
 use Rattle.registry_tables.proofs.FoundFacts.{some_found}
 use Rattle.registry_tables.proofs.MappedFacts.{need_ranges_mapped}
 
@@ -35,16 +13,13 @@ use Rattle.registry_tables.proofs.MappedFacts.{need_ranges_mapped}
 abbrev put_text : List ℕ
 put_text = codes "INSERT INTO need_ranges VALUES (?1, ?2, ?3, ?4)"
 
-abbrev put_cells : List Term
-put_cells = col 0 0 ∷ col 0 1 ∷ col 0 2 ∷ col 0 3 ∷ []
-
-put_means : Means schema put_text (Insert 17 (Values (lit Null ∷ put_cells) 5))
+put_means : Means schema put_text (insert_values 17 (col 0 0 ∷ col 0 1 ∷ col 0 2 ∷ col 0 3 ∷ []))
 unfolding understood everything
 put_means = (refl, (refl, refl))
 
 pub need_put : (p v : Text) (need : Need) (old new : Shown) → Ready schema old → Wrote put_text (Stored p ∷ Stored v ∷ Stored need.target ∷ Stored need.range ∷ []) old new → HasCleanDisk new
     → Leaves schema contents (record (stored old) { need_ranges = with_need (stored old).need_ranges p v need }) new
-need_put p v need old new form call = insert_puts need_ranges_mapped put_text put_cells put_means (Stored p ∷ Stored v ∷ Stored need.target ∷ Stored need.range ∷ []) refl old new (Ok call.0) form call.1
+need_put p v need old new form call = insert_puts need_ranges_mapped put_text _ put_means (Stored p ∷ Stored v ∷ Stored need.target ∷ Stored need.range ∷ []) refl old new (Ok call.0) form call.1
 
 -- ---- SELECT
 

@@ -1,15 +1,9 @@
 -- What numbers in columns are read as, and which are in range.
-use Rattle.std.proofs.Common.{◌≡◌, pos, negsuc, refl}
-use Rattle.sqlite.specs.declared.types.Value.{Value}
-use Rattle.sqlite.specs.declared.types.Value.TheVariants.{Null, Int, Real, Text, Blob}
-use Rattle.registry_names.specs.declared.status.Status.{Status}
+use Rattle.registry_tables.proofs.Words.{◌≡◌, pos, negsuc, refl, Value, Null, Int, Real, Blob, Status, Role, Developer, Admin, Owner, Grant, int_in, number_in, grant_number, grant_of, role_number}
+use Rattle.registry_tables.proofs.Words.{role_of, seconds_of, status_number, status_of}
+use Rattle.sqlite.specs.declared.types.Value.TheVariants.{Text}
 use Rattle.registry_names.specs.declared.status.Status.TheVariants.{Public, Restricted}
-use Rattle.registry_access.specs.declared.role.Role.{Role}
-use Rattle.registry_access.specs.declared.role.Role.TheVariants.{Developer, Admin, Owner}
-use Rattle.registry_access.specs.declared.grant.Grant.{Grant}
 use Rattle.registry_access.specs.declared.grant.Grant.TheVariants.{ReadOnly, ReadWrite}
-use Rattle.registry_rows.specs.Columns.{int_in, number_in}
-use Rattle.registry_tables.specs.Numbers.{grant_number, grant_of, role_number, role_of, seconds_of, status_number, status_of}
 
 -- seconds that are read as a natural number
 pub as_seconds : (v : Value) → number_in v ≡ seconds_of (int_in v)

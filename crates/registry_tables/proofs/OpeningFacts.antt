@@ -1,22 +1,13 @@
 -- What the answers say of the database, whatever it holds.
-use Rattle.std.proofs.Common.{◌≡◌, ◌==◌, inl, inr, ℕ, zero, suc, true, false, List, [], ◌∷◌, None, Some, Err, length, ne_eqb, refl, sym, ap, subst, ◌∙◌, arith, if◌then◌else◌}
-use Rattle.std.proofs.lemmas.Bool.{cases_Bool}
-use Rattle.sqlite_value.specs.Order.{Row}
-use Rattle.sqlite_resolve.specs.declared.error.CompileError.TheVariants.{NoSuchTable, Exists}
+use Rattle.registry_tables.proofs.Words.{◌≡◌, ◌==◌, inl, inr, ℕ, zero, suc, true, false, List, [], ◌∷◌, None, Some, Err, length, ne_eqb, refl, sym, ap, subst, ◌∙◌, arith, if◌then◌else◌, cases_Bool}
+use Rattle.registry_tables.proofs.Words.{Row, NoSuchTable, Exists, Schema, Database, Answers, reads_listing, if_select, State, HasCleanDisk, Wrote, first_tables, shown, HasNothing, HasNumber, HasRun}
+use Rattle.registry_tables.proofs.Words.{HasUsersAlone, IsMade, Understands, first_creation, listing_query, number_query, Transaction, Ghosts, IsPlain, command_of}
 use Rattle.sqlite_resolve.specs.Compile.{compiled}
-use Rattle.sqlite_schema.specs.declared.schema.Schema.{Schema}
-use Rattle.sqlite.specs.Effect.{Database, Reads as Answers}
-use Rattle.sqlite.specs.Listing.{understood, reads_listing, listing_schema, if_select}
-use Rattle.sqlite.specs.State.{State, HasCleanDisk, Shown, ExecutesIn}
+use Rattle.sqlite.specs.Listing.{understood, listing_schema}
+use Rattle.sqlite.specs.State.{Shown, ExecutesIn}
 use Rattle.sqlite_tied.specs.Compute.{everything}
-use Rattle.registry_rows.specs.Frames.{Wrote}
 use Rattle.registry_tables.specs.Creation.{creation}
-use Rattle.registry_tables.specs.Fresh.{first_tables}
-use Rattle.registry_tables.specs.Effects.{shown}
-use Rattle.registry_tables.specs.Opening.{Finds, HasNothing, HasNumber, HasRun, HasUsersAlone, IsMade, Understands, first_creation, listing_query, number_query}
-use Rattle.sqlite.specs.declared.transaction.Transaction.{Transaction}
-use Rattle.sqlite_trees.specs.declared.store.Store.{Ghosts}
-use Rattle.sqlite.proofs.Callers.{IsPlain, command_of}
+use Rattle.registry_tables.specs.Opening.{Finds}
 use Rattle.registry_tables.proofs.SchemaFacts.{creation_length}
 use Rattle.registry_tables.proofs.CatalogFacts.{ReadsListing, lists_names, listing_shown, none_shown, some_shown}
 

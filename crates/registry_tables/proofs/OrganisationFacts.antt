@@ -1,28 +1,11 @@
 -- What the statements on organisations make and show.
-use Rattle.std.proofs.Common.{◌≡◌, ◌∙◌, ℕ, List, [], ◌∷◌, ap, is_some, None, Ok, refl, sym, codes}
-use Rattle.std.proofs.lemmas.Simd.{map-map}
-use Rattle.sqlite.specs.declared.types.Value.TheVariants.{Null, Text as Stored}
-use Rattle.sqlite.specs.Command.TheVariants.{Insert, Select}
-use Rattle.sqlite.specs.Source.TheVariants.{Values}
+use Rattle.registry_tables.proofs.Words.{◌≡◌, ℕ, List, [], ◌∷◌, is_some, None, Ok, refl, codes, Stored, Select, Shown, HasCleanDisk, col, Text, at, entries, keys, put, Wrote, Ready, Leaves, Means}
+use Rattle.registry_tables.proofs.Words.{MeansQuery, scan, by_texts, in_order, select_where, insert_values, insert_puts, insert_meets_none, select_all, schema, text_spelled, contents, stored}
+use Rattle.registry_tables.proofs.Words.{ShowsAll, ShowsWhether}
 use Rattle.sqlite.specs.Listing.{understood}
-use Rattle.sqlite.specs.State.{State as Shown, HasCleanDisk}
 use Rattle.sqlite_tied.specs.Compute.{everything}
-use Rattle.sqlite_value.specs.Order.{Row}
-use Rattle.sqlite_sql.specs.Term.{Term, lit, col}
-use Rattle.registry_names.specs.Texts.{Text}
-use Rattle.registry_names.specs.Maps.{at, entries, keys, put}
-use Rattle.registry_rows.specs.Frames.{Wrote}
-use Rattle.registry_rows.specs.Ready.{Ready, Leaves}
-use Rattle.registry_rows.specs.Statements.{Means, MeansQuery, scan, by_texts, in_order, select_where}
-use Rattle.registry_rows.proofs.StatementFacts.{insert_puts, insert_meets_none}
-use Rattle.registry_rows.proofs.LookUpFacts.{select_all, seen_as_is}
 use Rattle.registry_tables.specs.Schema as table
-use Rattle.registry_tables.specs.Schema.{schema}
-use Rattle.registry_tables.specs.Teams.{text_spelled}
-use Rattle.registry_tables.specs.Contents.{contents}
-use Rattle.registry_tables.specs.Effects.{stored}
-use Rattle.registry_tables.specs.Queries.{ShowsAll, ShowsWhether}
-use Rattle.registry_tables.proofs.FoundFacts.{there_found}
+use Rattle.registry_tables.proofs.FoundFacts.{key_entry, keys_seen, there_found}
 use Rattle.registry_tables.proofs.MappedFacts.{organisations_mapped}
 
 -- ---- INSERT
@@ -30,20 +13,17 @@ use Rattle.registry_tables.proofs.MappedFacts.{organisations_mapped}
 abbrev put_text : List ℕ
 put_text = codes "INSERT INTO orgs VALUES (?1)"
 
-abbrev put_cells : List Term
-put_cells = col 0 0 ∷ []
-
-put_means : Means schema put_text (Insert 2 (Values (lit Null ∷ put_cells) 2))
+put_means : Means schema put_text (insert_values 2 (col 0 0 ∷ []))
 unfolding understood everything
 put_means = (refl, (refl, refl))
 
 pub organisation_put : (o : Text) (old new : Shown) → Ready schema old → Wrote put_text (Stored o ∷ []) old new → HasCleanDisk new
     → Leaves schema contents (record (stored old) { organisations = put (stored old).organisations o tt }) new
-organisation_put o old new form call = insert_puts organisations_mapped put_text put_cells put_means (Stored o ∷ []) refl old new (Ok call.0) form call.1
+organisation_put o old new form call = insert_puts organisations_mapped put_text _ put_means (Stored o ∷ []) refl old new (Ok call.0) form call.1
 
 -- an answered INSERT had a new key
 pub organisation_was_new : (o : Text) (old new : Shown) → Ready schema old → Wrote put_text (Stored o ∷ []) old new → HasCleanDisk new → at (stored old).organisations o ≡ None
-organisation_was_new o old new form call = insert_meets_none organisations_mapped put_text put_cells put_means (Stored o ∷ []) refl old new (Ok call.0) form call.1
+organisation_was_new o old new form call = insert_meets_none organisations_mapped put_text _ put_means (Stored o ∷ []) refl old new (Ok call.0) form call.1
 
 -- ---- SELECT
 
@@ -64,11 +44,7 @@ pub list_means : MeansQuery schema list_text (select_where table.organisations (
 unfolding understood everything
 list_means = ((refl, (refl, refl)), refl)
 
--- an organisation that is there
-abbrev organisation_entry : Row → Text × Unit {0}
-organisation_entry r = (text_spelled r, tt)
-
 pub organisations_listed : (old new : Shown) → ShowsAll list_text [] old new text_spelled (keys (entries (stored old).organisations))
 organisations_listed old new rows form call clean =
-    let it = select_all organisations_mapped list_text (col 1 1 ∷ []) _ list_means organisation_entry (λ (u : Unit {0}). u) (λ id vs. refl) old new rows form call clean in
-    (it.0, sym (map-map (λ (e : Text × Unit {0}). e.0) organisation_entry rows) ∙ ap keys (it.1 ∙ seen_as_is (entries (stored old).organisations)))
+    let it = select_all organisations_mapped list_text (col 1 1 ∷ []) _ list_means key_entry (λ (u : Unit {0}). u) (λ id vs. refl) old new rows form call clean in
+    (it.0, keys_seen rows (entries (stored old).organisations) it.1)

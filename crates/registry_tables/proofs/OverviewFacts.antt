@@ -1,5 +1,5 @@
 -- Rows that are made of names, one after another.
-use Rattle.std.proofs.Common.{◌≡◌, List, [], ◌∷◌, ◌++◌, map, sym, ap, ◌∙◌, append_assoc}
+use Rattle.registry_tables.proofs.Words.{◌≡◌, List, [], ◌∷◌, ◌++◌, map, sym, ap, ◌∙◌, append_assoc}
 
 -- one more is made
 pub next_listed : {A B : Type 0} (f : A → B) (done : List B) (row : B) (x : A) (rest left all : List A) (new : List B) → left ≡ x ∷ rest → row ≡ f x → new ≡ done ++ row ∷ []

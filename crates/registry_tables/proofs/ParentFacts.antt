@@ -1,41 +1,13 @@
 -- What the rows of a table refer to by their first column: the organisation of a member is there,
 -- and the package of a version.
-use Rattle.std.proofs.Common.{◌≡◌, ◌||◌, ℕ, ℤ, [], ◌∷◌, drop, inl, true, false, Some, is_some, refl, sym, ap, subst, ◌∙◌, codes}
-use Rattle.std.proofs.lemmas.Bool.{and_parts}
-use Rattle.sqlite.specs.declared.types.Value.{Value}
-use Rattle.sqlite.specs.declared.types.Value.TheVariants.{Text as Stored}
-use Rattle.sqlite.specs.State.{State}
-use Rattle.sqlite_value.specs.Order.{Row, column}
-use Rattle.sqlite_value.specs.declared.keys.Collation.TheVariants.{Binary}
-use Rattle.sqlite_value.specs.Keys.{plain, first_key}
-use Rattle.sqlite_sql.specs.declared.ops.BinaryOp.TheVariants.{Compare}
-use Rattle.sqlite_sql.specs.declared.ops.CompareOp.TheVariants.{Eq}
-use Rattle.sqlite_sql.specs.Ops.{binary, is_null, is_true}
+use Rattle.registry_tables.proofs.Words.{◌≡◌, ◌||◌, ℕ, ℤ, [], ◌∷◌, drop, inl, true, false, Some, is_some, refl, sym, ap, subst, ◌∙◌, codes, and_parts, Value, Stored, State, Row, column, Binary, plain}
+use Rattle.registry_tables.proofs.Words.{Compare, Eq, binary, is_null, is_true, NoAction, Table, parent_key, Has, all_has, has_got, Pair, Text, at, put, pair_key, at-put_same, key_of, map_of}
+use Rattle.registry_tables.proofs.Words.{TextsMap, IsMapped, IsReady, Leaves, reference, by_texts_given, texts_of, table_rowids, parent_of, rows_tell_by, row_parts, Contents, LiveVersion, contents}
+use Rattle.registry_tables.proofs.Words.{stored, schema}
+use Rattle.sqlite_value.specs.Keys.{first_key}
 use Rattle.sqlite_schema.specs.declared.schema.Action.{Action}
-use Rattle.sqlite_schema.specs.declared.schema.Action.TheVariants.{NoAction}
-use Rattle.sqlite_schema.specs.declared.schema.Table.{Table}
-use Rattle.sqlite_schema.specs.Rules.{parent_key}
 use Rattle.sqlite_tied.specs.Compute.{everything}
-use Rattle.sqlite_rules.specs.Lists.{Has}
-use Rattle.sqlite_rules.proofs.ListLemmas.{all_has, has_got}
-use Rattle.registry_names.specs.Keys.{Pair}
-use Rattle.registry_names.specs.Texts.{Text}
-use Rattle.registry_names.specs.Maps.{at, put}
-use Rattle.registry_names.proofs.KeyFacts.{pair_key}
-use Rattle.registry_names.proofs.MapFacts.{at-put_same}
-use Rattle.registry_rows.specs.Rows.{key_of, map_of}
-use Rattle.registry_rows.specs.TextKeys.{TextsMap}
-use Rattle.registry_rows.specs.Ready.{IsMapped, IsReady, Leaves}
-use Rattle.registry_rows.specs.Tables.{reference}
-use Rattle.registry_rows.proofs.KeyedFacts.{by_texts_given, texts_of}
-use Rattle.registry_rows.proofs.OneRowFacts.{table_rowids}
-use Rattle.registry_rows.proofs.ReferenceFacts.{parent_of}
-use Rattle.registry_rows.proofs.StatementFacts.{rows_tell_by}
-use Rattle.registry_rows.proofs.TextKeyFacts.{row_parts}
-use Rattle.registry_tables.specs.Contents.{Contents, LiveVersion, contents}
-use Rattle.registry_tables.specs.Effects.{stored}
 use Rattle.registry_tables.specs.Schema as table
-use Rattle.registry_tables.specs.Schema.{schema}
 use Rattle.registry_tables.proofs.MappedFacts.{members_mapped, organisations_mapped, owners_mapped, packages_mapped, versions_mapped}
 use Rattle.registry_tables.proofs.ReferenceFacts.{told}
 

@@ -1,21 +1,7 @@
 -- What follows of each query.
-use Rattle.std.proofs.Common.{◌≡◌, ◌∙◌, ℕ, List, [], map, Option, option_map, Result, Ok, Err, IfOk, OnErr, arith, sym}
-use Rattle.std.proofs.lemmas.Iterator.Adapters.{option_map_id}
-use Rattle.std.proofs.lemmas.List.{map-id}
-use Rattle.std.proofs.lemmas.Result.{IfOk-weaker}
-use Rattle.sqlite.specs.Command.TheVariants.{Select}
-use Rattle.sqlite.specs.declared.transaction.Transaction.{Transaction}
+use Rattle.registry_tables.proofs.Words.{◌≡◌, ◌∙◌, ℕ, List, [], map, Option, option_map, Result, Ok, Err, IfOk, OnErr, arith, sym, option_map_id, map-id, IfOk-weaker, Select, Transaction, Ghosts, Row}
+use Rattle.registry_tables.proofs.Words.{Stays, Queried, MeansQuery, query_answers, read_stays, InForm, shown, IsQuery, schema}
 use Rattle.sqlite_sql.specs.Query.{Query}
-use Rattle.sqlite_trees.specs.declared.store.Store.{Ghosts}
-use Rattle.sqlite_value.specs.Order.{Row}
-use Rattle.registry_rows.specs.Frames.{Stays}
-use Rattle.registry_rows.specs.Ready.{Queried}
-use Rattle.registry_rows.specs.Statements.{MeansQuery}
-use Rattle.registry_rows.proofs.QueryFacts.{query_answers}
-use Rattle.registry_rows.proofs.QuietFacts.{read_stays}
-use Rattle.registry_tables.specs.Effects.{InForm, shown}
-use Rattle.registry_tables.specs.Queries.{IsQuery}
-use Rattle.registry_tables.specs.Schema.{schema}
 
 -- a text that means a SELECT is a query
 pub is_query : {sql : List ℕ} {q : Query} {names : List (List ℕ)} → MeansQuery schema sql (Select (record { lets = []; body = q }) names) → IsQuery sql

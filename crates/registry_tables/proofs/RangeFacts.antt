@@ -1,45 +1,19 @@
 -- The numbers that are stored stay in range, and tests of all rows tell whether they are.
-use Rattle.std.proofs.Common.{◌≡◌, ◌≤◌, ◌∙◌, ℕ, ℤ, Bool, true, false, cond, ◌&&◌, List, [], ◌∷◌, map, pos, is_some, refl, sym, ap, subst, Ordering, Some, None, Option, option_map, IsTrue, All, codes, if◌then◌else◌}
-use Rattle.std.specs.List.{AllByRecursion, list_all}
-use Rattle.std.proofs.lemmas.Bool.{and_from, and_parts, le-leb}
+use Rattle.registry_tables.proofs.Words.{◌≡◌, ◌≤◌, ◌∙◌, ℕ, ℤ, Bool, true, false, cond, ◌&&◌, List, [], ◌∷◌, map, pos, is_some, refl, sym, ap, subst, Ordering, Some, None, Option, option_map, IsTrue}
+use Rattle.registry_tables.proofs.Words.{All, codes, if◌then◌else◌, AllByRecursion, list_all, and_from, and_parts, le-leb, list_all-map, map-map, Database, Shown, Term, col, Row, column, IsKey, Pair}
+use Rattle.registry_tables.proofs.Words.{Triple, MapBy, at, empty, entries, erase, first_at, keep, put, revise, seen, Text, Status, IsFoundIn, entries_rise, rows_found, pair_key, text_key, triple_key}
+use Rattle.registry_tables.proofs.Words.{at-empty, at-entries, at-erase, at-keep, at-put, at-revise, Grant, Role, Developer, Admin, Owner, Change, AddUser, AddToken, DropToken, AddOrg, PutMember}
+use Rattle.registry_tables.proofs.Words.{DropMember, AddTeam, PutTeamMember, DropTeamMember, DropTeam, PutGrant, DropGrant, PutOwner, DropOwner, PutStatus, AddVersion, RetireVersion, PutDeprecation}
+use Rattle.registry_tables.proofs.Words.{PutTag, DropTag, text_in, Reads, MeansQuery, in_order, select_where, select_all, reads_then, all_stored, stored_by, with_row, Contents, LiveVersion}
+use Rattle.registry_tables.proofs.Words.{SpentVersion, contents, stored, fresh, grant_number, is_level, is_moment, is_role, is_status, role_number, status_number, HasMoments, HasNumbersInRange}
+use Rattle.registry_tables.proofs.Words.{NumbersAreReadBack, TellsRanges, all_pass, moments_spelled, schema, fourth_number, second_number, third_number, ShowsAll}
 use Rattle.std.proofs.lemmas.List.Elements.{All-head, All-tail}
-use Rattle.std.proofs.lemmas.List.Folds.{list_all-map}
-use Rattle.std.proofs.lemmas.Simd.{map-map}
-use Rattle.sqlite.specs.Effect.{Database}
 use Rattle.sqlite.specs.Listing.{understood}
-use Rattle.sqlite.specs.State.{State as Shown}
-use Rattle.sqlite_sql.specs.Term.{Term, col}
 use Rattle.sqlite_tied.specs.Compute.{everything}
-use Rattle.sqlite_value.specs.Order.{Row, column}
-use Rattle.registry_names.specs.Keys.{IsKey, Pair, Triple}
-use Rattle.registry_names.specs.Maps.{MapBy, at, empty, entries, erase, first_at, keep, put, revise, seen}
 use Rattle.registry_names.specs.Moments.{last_second}
-use Rattle.registry_names.specs.Texts.{Text}
-use Rattle.registry_names.specs.declared.status.Status.{Status}
 use Rattle.registry_names.specs.declared.status.Status.TheVariants.{Public, Restricted}
-use Rattle.registry_names.proofs.EntryFacts.{IsFoundIn, entries_rise, rows_found}
-use Rattle.registry_names.proofs.KeyFacts.{pair_key, text_key, triple_key}
-use Rattle.registry_names.proofs.MapFacts.{at-empty, at-entries, at-erase, at-keep, at-put, at-revise}
-use Rattle.registry_access.specs.declared.grant.Grant.{Grant}
 use Rattle.registry_access.specs.declared.grant.Grant.TheVariants.{ReadOnly, ReadWrite}
-use Rattle.registry_access.specs.declared.role.Role.{Role}
-use Rattle.registry_access.specs.declared.role.Role.TheVariants.{Developer, Admin, Owner}
-use Rattle.registry_rules.specs.Changes.{Change, AddUser, AddToken, DropToken, AddOrg, PutMember, DropMember, AddTeam, PutTeamMember, DropTeamMember, DropTeam, PutGrant, DropGrant, PutOwner, DropOwner, PutStatus, AddVersion, RetireVersion, PutDeprecation, PutTag, DropTag}
-use Rattle.registry_rows.specs.Columns.{text_in}
-use Rattle.registry_rows.specs.Ready.{Reads}
-use Rattle.registry_rows.specs.Statements.{MeansQuery, in_order, select_where}
-use Rattle.registry_rows.proofs.LookUpFacts.{select_all}
-use Rattle.registry_rows.proofs.QuietFacts.{reads_then}
-use Rattle.registry_tables.specs.Changes.{all_stored, stored_by, with_row}
-use Rattle.registry_tables.specs.Contents.{Contents, LiveVersion, SpentVersion, contents}
-use Rattle.registry_tables.specs.Effects.{stored}
-use Rattle.registry_tables.specs.Fresh.{fresh}
-use Rattle.registry_tables.specs.Numbers.{grant_number, is_level, is_moment, is_role, is_status, role_number, status_number}
-use Rattle.registry_tables.specs.Ranges.{HasMoments, HasNumbersInRange, NumbersAreReadBack, TellsRanges, all_pass, moments_spelled}
 use Rattle.registry_tables.specs.Schema as table
-use Rattle.registry_tables.specs.Schema.{schema}
-use Rattle.registry_tables.specs.Spelled.{fourth_number, second_number, third_number}
-use Rattle.registry_tables.specs.Queries.{ShowsAll}
 use Rattle.registry_tables.proofs.MappedFacts.{grants_mapped, members_mapped, packages_mapped, spent_mapped, versions_mapped}
 use Rattle.registry_tables.proofs.NumberFacts.{grant_again, role_again, status_again}
 use Rattle.registry_tables.proofs.StatusFacts.{list_columns, list_means, list_text}
@@ -332,10 +306,7 @@ live_listed old new rows form call clean =
 abbrev spent_text : List ℕ
 spent_text = codes "SELECT package, version, published, withdrawn FROM spent ORDER BY package, version"
 
-abbrev spent_columns : List Term
-spent_columns = col 1 1 ∷ col 1 2 ∷ col 1 3 ∷ col 1 4 ∷ []
-
-pub spent_means : MeansQuery schema spent_text (select_where table.spent spent_columns [] (in_order 1 1) (codes "package" ∷ codes "version" ∷ codes "published" ∷ codes "withdrawn" ∷ []))
+pub spent_means : MeansQuery schema spent_text (select_where table.spent (col 1 1 ∷ col 1 2 ∷ col 1 3 ∷ col 1 4 ∷ []) [] (in_order 1 1) (codes "package" ∷ codes "version" ∷ codes "published" ∷ codes "withdrawn" ∷ []))
 unfolding understood everything
 spent_means = ((refl, (refl, refl)), refl)
 
@@ -347,7 +318,7 @@ moments_of v = (v.published, v.withdrawn)
 
 pub spent_listed : (old new : Shown) → ShowsAll spent_text [] old new moments_spelled (map (λ e. moments_of e.1) (entries (stored old).spent))
 spent_listed old new rows form call clean =
-    let it = select_all spent_mapped spent_text spent_columns _ spent_means pair_moments moments_of (λ id vs. refl) old new rows form call clean in
+    let it = select_all spent_mapped spent_text _ _ spent_means pair_moments moments_of (λ id vs. refl) old new rows form call clean in
     (it.0, shown_values moments_of pair_moments rows (entries (stored old).spent) it.1)
 
 -- ---- one query after another

@@ -1,11 +1,8 @@
 -- Maps whose values are read as values of another type.
-use Rattle.std.proofs.Common.{◌≡◌, ◌∙◌, Bool, true, false, cond, List, [], ◌∷◌, map, is_some, refl, sym, ap, Ordering, Some, None, Option, option_map}
-use Rattle.registry_names.specs.Keys.{IsKey, by_first}
-use Rattle.registry_names.specs.Maps.{MapBy, at, empty, entries, erase, first_at, keep, part, parts, put, seen}
-use Rattle.registry_names.specs.Texts.{Text, is}
-use Rattle.registry_names.proofs.EntryFacts.{entries-rows, entries_rise, rises_mapped}
-use Rattle.registry_names.proofs.KeyFacts.{first_key, same_true}
-use Rattle.registry_names.proofs.MapFacts.{at-empty, at-entries, at-erase, at-keep, at-put, at-rows, same_map}
+use Rattle.registry_tables.proofs.Words.{◌≡◌, ◌∙◌, Bool, true, false, cond, List, [], ◌∷◌, map, is_some, refl, sym, ap, Ordering, Some, None, Option, option_map, IsKey, by_first, MapBy, at, empty}
+use Rattle.registry_tables.proofs.Words.{entries, erase, first_at, keep, parts, put, seen, Text, is, entries-rows, entries_rise, rises_mapped, first_key, same_true, at-empty, at-entries, at-erase}
+use Rattle.registry_tables.proofs.Words.{at-keep, at-put, at-rows, same_map}
+use Rattle.registry_names.specs.Maps.{part}
 use Rattle.registry_tables.specs.ReadMaps.{read_as}
 use Rattle.registry_tables.proofs.FoundFacts.{some_seen}
 

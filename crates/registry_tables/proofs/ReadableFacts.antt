@@ -1,12 +1,7 @@
 -- Grants on packages that a caller reads, one after another.
-use Rattle.std.proofs.Common.{◌≡◌, true, List, [], ◌∷◌, ◌++◌, map, sym, ap, ◌∙◌, append_assoc, if◌then◌else◌}
-use Rattle.std.proofs.lemmas.List.{map-append}
-use Rattle.registry_access.specs.Levels.{reads}
-use Rattle.registry_access.specs.Positions.{level_in}
-use Rattle.registry_access.specs.declared.caller.Caller.{Caller}
+use Rattle.registry_tables.proofs.Words.{◌≡◌, true, List, [], ◌∷◌, ◌++◌, map, sym, ap, ◌∙◌, append_assoc, if◌then◌else◌, map-append, reads, level_in, Caller, Contents, access_of, granted_entry}
+use Rattle.registry_tables.proofs.Words.{readable}
 use Rattle.registry_packument.specs.declared.list.Granted.{Granted}
-use Rattle.registry_tables.specs.Contents.{Contents, access_of}
-use Rattle.registry_tables.specs.Teams.{granted_entry, readable}
 
 module _ (c : Contents) (who : Caller) (done : List Granted) (g : Granted) (rest all : List Granted)
     (so_far : map granted_entry done ++ readable c who (map granted_entry (g ∷ rest)) ≡ readable c who (map granted_entry all)) where

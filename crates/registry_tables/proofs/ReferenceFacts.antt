@@ -1,41 +1,12 @@
 -- Which rows the rows of `held` and of `tags` refer to.
-use Rattle.std.proofs.Common.{◌≡◌, ℤ, [], ◌∷◌, drop, inl, inr, true, false, Some, is_some, refl, sym, ap, ap₂, subst, ◌∙◌, codes}
-use Rattle.std.proofs.lemmas.Bool.{and_parts}
-use Rattle.sqlite.specs.declared.types.Value.{Value}
-use Rattle.sqlite.specs.declared.types.Value.TheVariants.{Int, Text as Stored}
-use Rattle.sqlite.specs.State.{State}
-use Rattle.sqlite_value.specs.Order.{Row, column}
-use Rattle.sqlite_value.specs.declared.keys.Collation.TheVariants.{Binary}
-use Rattle.sqlite_value.specs.Keys.{plain, first_key}
-use Rattle.sqlite_trees.specs.Tree.{rowid}
-use Rattle.sqlite_sql.specs.declared.ops.BinaryOp.TheVariants.{Compare}
-use Rattle.sqlite_sql.specs.declared.ops.CompareOp.TheVariants.{Eq}
-use Rattle.sqlite_sql.specs.Ops.{binary, is_true}
-use Rattle.sqlite_schema.specs.declared.schema.Action.TheVariants.{NoAction, Cascade}
-use Rattle.sqlite_schema.specs.Rules.{agree, has_null, parent_key}
+use Rattle.registry_tables.proofs.Words.{◌≡◌, ℤ, [], ◌∷◌, drop, inl, inr, true, false, Some, is_some, refl, sym, ap, ap₂, subst, ◌∙◌, codes, and_parts, Value, Int, Stored, State, Row, column, Binary}
+use Rattle.registry_tables.proofs.Words.{plain, rowid, Compare, Eq, binary, is_true, NoAction, Cascade, agree, has_null, parent_key, Has, all_has, has_got, Pair, Text, at, text_key, same_true}
+use Rattle.registry_tables.proofs.Words.{text_in, int_in, AreOf, numbers, key_of, IsReady, reference, by_number_given, by_texts_given, number_is, number_key, texts_of, types_of, table_rowids}
+use Rattle.registry_tables.proofs.Words.{parent_of, rows_tell_by, row_parts, HeldAreStored, archive_in, version_row, stored, schema}
+use Rattle.sqlite_value.specs.Keys.{first_key}
 use Rattle.sqlite_tied.specs.Compute.{everything}
-use Rattle.sqlite_rules.specs.Lists.{Has}
-use Rattle.sqlite_rules.proofs.ListLemmas.{all_has, has_got}
-use Rattle.registry_names.specs.Keys.{Pair}
-use Rattle.registry_names.specs.Texts.{Text}
-use Rattle.registry_names.specs.Maps.{at}
-use Rattle.registry_names.proofs.KeyFacts.{text_key, same_true}
-use Rattle.registry_rows.specs.Columns.{text_in, int_in, AreOf}
-use Rattle.registry_rows.specs.KeyKinds.{numbers}
-use Rattle.registry_rows.specs.Rows.{key_of}
-use Rattle.registry_rows.specs.Ready.{IsReady}
-use Rattle.registry_rows.specs.Tables.{reference}
-use Rattle.registry_rows.proofs.KeyedFacts.{by_number_given, by_texts_given, number_is, number_key, texts_of, types_of}
-use Rattle.registry_rows.proofs.OneRowFacts.{table_rowids}
-use Rattle.registry_rows.proofs.ReferenceFacts.{parent_of}
-use Rattle.registry_rows.proofs.StatementFacts.{rows_tell_by}
-use Rattle.registry_rows.proofs.TextKeyFacts.{row_parts}
 use Rattle.registry_rows.proofs.TypeFacts.{number_test, text_test}
-use Rattle.registry_tables.specs.Archives.{HeldAreStored}
-use Rattle.registry_tables.specs.Contents.{archive_in, version_in as version_row}
-use Rattle.registry_tables.specs.Effects.{stored}
 use Rattle.registry_tables.specs.Schema as table
-use Rattle.registry_tables.specs.Schema.{schema}
 use Rattle.registry_tables.proofs.MappedFacts.{archives_numbered, held_mapped, tags_mapped, versions_mapped}
 
 -- the values of a row of `held`
@@ -50,17 +21,17 @@ held_values id (a ∷ b ∷ c ∷ []) r e h =
     (id, h.0.0, h.1.0.0, h.1.1.0.0, e ∙ ap (λ v. id ∷ v ∷ b ∷ c ∷ []) h.0.1 ∙ ap (λ v. id ∷ Stored h.0.0 ∷ v ∷ c ∷ []) h.1.0.1 ∙ ap (λ v. id ∷ Stored h.0.0 ∷ Stored h.1.0.0 ∷ v ∷ []) h.1.1.0.1)
 held_values id (a ∷ b ∷ c ∷ d ∷ vs) r e h = absurd h.1.1.1
 
--- the values of a row of `tags`
-abbrev TagRow : Row → Type 0
-TagRow r = (id : Value) × (p : Text) × (t : Text) × (v : Text) × (r ≡ id ∷ Stored p ∷ Stored t ∷ Stored v ∷ [])
+-- the values of a row of three texts, as those of `tags` and `team_members`
+abbrev TextsRow : Row → Type 0
+TextsRow r = (id : Value) × (p : Text) × (t : Text) × (v : Text) × (r ≡ id ∷ Stored p ∷ Stored t ∷ Stored v ∷ [])
 
-tag_values : (id : Value) (vs r : Row) → r ≡ id ∷ vs → AreOf table.tags.columns vs → TagRow r
-tag_values id [] r e h = absurd h
-tag_values id (a ∷ []) r e h = absurd h.1
-tag_values id (a ∷ b ∷ []) r e h = absurd h.1.1
-tag_values id (a ∷ b ∷ c ∷ []) r e h =
+pub three_texts : (id : Value) (vs r : Row) → r ≡ id ∷ vs → AreOf table.tags.columns vs → TextsRow r
+three_texts id [] r e h = absurd h
+three_texts id (a ∷ []) r e h = absurd h.1
+three_texts id (a ∷ b ∷ []) r e h = absurd h.1.1
+three_texts id (a ∷ b ∷ c ∷ []) r e h =
     (id, h.0.0, h.1.0.0, h.1.1.0.0, e ∙ ap (λ v. id ∷ v ∷ b ∷ c ∷ []) h.0.1 ∙ ap (λ v. id ∷ Stored h.0.0 ∷ v ∷ c ∷ []) h.1.0.1 ∙ ap (λ v. id ∷ Stored h.0.0 ∷ Stored h.1.0.0 ∷ v ∷ []) h.1.1.0.1)
-tag_values id (a ∷ b ∷ c ∷ d ∷ vs) r e h = absurd h.1.1.1
+three_texts id (a ∷ b ∷ c ∷ d ∷ vs) r e h = absurd h.1.1.1
 
 -- SQL's = of texts
 pub told : (t : Text) (x : Value) → x ≡ Stored (text_in x) → is_true (binary (Compare Eq Binary) x (Stored t)) ≡ true → t ≡ text_in x
@@ -147,7 +118,7 @@ module _ (s : State) (ready : IsReady schema s) where
       let row = (rows_tell_by (by_texts_given tags_mapped) s ready (p, t) v).0 e in
       let r = row.0 in
       let begins = row_parts r (all_has _ (s.now.trees table.tags.tree) r (table_rowids schema s 11 table.tags ready refl).1 row.1) in
-      let values = tag_values begins.0 (drop 1 r) r begins.1 (types_of tags_mapped s ready r row.1) in
+      let values = three_texts begins.0 (drop 1 r) r begins.1 (types_of tags_mapped s ready r row.1) in
       let whole = values.4 in
       let a = values.1 in
       let b = values.3 in

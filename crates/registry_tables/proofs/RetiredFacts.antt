@@ -1,49 +1,13 @@
 -- The archives and the needs that are stored stay those of live versions, when one is withdrawn or
 -- deprecated.
-use Rattle.std.proofs.Common.{◌≡◌, inl, inr, ℕ, ℤ, Bool, true, false, not, ◌||◌, cond, true≢false, List, [], ◌∷◌, Option, Some, None, is_some, option_map, refl, sym, ap, ◌∙◌, if◌then◌else◌}
-use Rattle.std.specs.Prelude.{option_and_then, unwrap_or}
-use Rattle.std.specs.List.{list_any}
-use Rattle.std.specs.Ordering.{int_eq}
-use Rattle.std.proofs.lemmas.Bool.{cases_Bool}
-use Rattle.sqlite_rules.specs.Lists.{Has}
-use Rattle.registry_names.specs.Keys.{Pair, pair_is}
-use Rattle.registry_names.specs.Texts.{Text}
-use Rattle.registry_names.specs.Maps.{at, erase, entries, revise}
-use Rattle.registry_names.proofs.KeyFacts.{pair_key, same_true, same_self}
-use Rattle.registry_names.proofs.MapFacts.{at-entries, at-erase, at-erase_same, at-erase_other, at-keep, at-revise, same_map}
-use Rattle.registry_names.proofs.EntryFacts.{entries_rise}
-use Rattle.registry_publish.specs.Needs.{needs_of}
-use Rattle.registry_rules.specs.State.{Release}
-use Rattle.registry_rows.specs.TextKeys.{Texts}
-use Rattle.registry_rows.proofs.KeyedFacts.{number_key}
-use Rattle.registry_rows.proofs.ListingFacts.{first_risen}
-use Rattle.registry_rows.proofs.OrderFacts.{found_has}
-use Rattle.registry_rows.proofs.TextKeyFacts.{texts_key}
-use Rattle.registry_tables.specs.Archives.{HeldAreStored, HoldsArchives}
-use Rattle.registry_tables.specs.Contents.{Archive, Contents, LiveVersion, as_release, bytes_held, live_of, with_bytes}
-use Rattle.registry_tables.specs.Needs.{HoldsNeeds, names_if_any}
-use Rattle.registry_tables.specs.Withdrawals.{archives_left, is_held, version_retired, with_message, without_rows}
+use Rattle.registry_tables.proofs.Words.{◌≡◌, inl, inr, ℕ, ℤ, Bool, true, false, not, cond, true≢false, List, [], Option, Some, None, is_some, option_map, refl, sym, ap, ◌∙◌, if◌then◌else◌}
+use Rattle.registry_tables.proofs.Words.{option_and_then, unwrap_or, int_eq, cases_Bool, Pair, pair_is, Text, at, erase, entries, revise, pair_key, same_true, same_self, at-entries, at-erase}
+use Rattle.registry_tables.proofs.Words.{at-erase_same, at-erase_other, at-keep, at-revise, same_map, entries_rise, needs_of, Release, Texts, number_key, first_risen, found_has, texts_key}
+use Rattle.registry_tables.proofs.Words.{HeldAreStored, HoldsArchives, Archive, Contents, LiveVersion, as_release, bytes_held, live_of, with_bytes, HoldsNeeds, names_if_any, archives_left, is_held}
+use Rattle.registry_tables.proofs.Words.{version_retired, with_message, without_rows}
 use Rattle.registry_tables.proofs.FoundFacts.{some_seen}
 use Rattle.registry_tables.proofs.ReadFacts.{at-read}
-
--- ---- lists in which something passes
-
-or_right : (a b : Bool) → b ≡ true → (a || b) ≡ true
-or_right true b h = refl
-or_right false b h = h
-
-pub any_where : {A : Type 0} (test : A → Bool) (es : List A) (x : A) → Has es x → test x ≡ true → list_any test es ≡ true
-any_where test [] x h t = absurd h
-any_where test (e ∷ es) x (inl is) t = ap (λ b. b || list_any test es) (ap test (sym is) ∙ t)
-any_where test (e ∷ es) x (inr later) t = or_right (test e) (list_any test es) (any_where test es x later t)
-
-pub where_any : {A : Type 0} (test : A → Bool) (es : List A) → list_any test es ≡ true → (x : A) × Has es x × (test x ≡ true)
-where_any test [] h = absurd (true≢false (sym h))
-where_any test (e ∷ es) h = each (test e) refl h (where_any test es)
-  where
-    each : (b : Bool) → test e ≡ b → (b || list_any test es) ≡ true → (list_any test es ≡ true → (x : _) × Has es x × (test x ≡ true)) → (x : _) × Has (e ∷ es) x × (test x ≡ true)
-    each true t h rest = (e, inl refl, t)
-    each false t h rest = let it = rest h in (it.0, inr it.1, it.2)
+use Rattle.registry_tables.proofs.SomeFacts.{any_where, where_any}
 
 -- ---- a withdrawal
 

@@ -1,10 +1,6 @@
 -- UPDATE of one row, as an operation on a map.
-use Rattle.std.proofs.Common.{◌≡◌, Bool, true, false, cond, Option, Some, None, is_some, option_map, sym, ap, ◌∙◌, if◌then◌else◌, Ordering, refl}
-use Rattle.std.proofs.lemmas.Iterator.Adapters.{option_map_id}
-use Rattle.registry_names.specs.Keys.{IsKey}
-use Rattle.registry_names.specs.Maps.{MapBy, at, put, revise}
-use Rattle.registry_names.proofs.KeyFacts.{same_true}
-use Rattle.registry_names.proofs.MapFacts.{at-put, at-revise, same_map}
+use Rattle.registry_tables.proofs.Words.{◌≡◌, Bool, true, false, cond, Option, Some, None, is_some, option_map, sym, ap, ◌∙◌, if◌then◌else◌, Ordering, refl, option_map_id, IsKey, MapBy, at, put}
+use Rattle.registry_tables.proofs.Words.{revise, same_true, at-put, at-revise, same_map}
 
 module _ {K X : Type 0} {cmp : K → K → Ordering} {same : K → K → Bool} (key : IsKey cmp same) (m : MapBy cmp X) (q : K) (x : X) where
   abbrev with_new : K → X → X

@@ -1,15 +1,11 @@
 -- What the CREATE texts mean: each adds the next table of the schema.
-use Rattle.std.proofs.Common.{◌≡◌, ℕ, zero, suc, ◌+◌, ◌<◌, List, [], ◌∷◌, length, get_or, get_or-take, take, Err, arith, refl, subst}
+use Rattle.registry_tables.proofs.Words.{◌≡◌, ℕ, zero, suc, ◌+◌, ◌<◌, List, [], ◌∷◌, length, get_or, get_or-take, take, Err, arith, refl, subst, Table, Exists, MeansTable, MeansFirstCounted}
+use Rattle.registry_tables.proofs.Words.{MeansIndex, schema, schema_2, first_tables, schema_after}
 use Rattle.sqlite.specs.Listing.{understood}
 use Rattle.sqlite_catalog.specs.Change.{created}
-use Rattle.sqlite_schema.specs.declared.schema.Table.{Table}
-use Rattle.sqlite_resolve.specs.declared.error.CompileError.TheVariants.{Exists}
 use Rattle.sqlite_tied.specs.Compute.{everything}
-use Rattle.registry_rows.specs.Statements.{MeansTable, MeansFirstCounted, MeansIndex}
 use Rattle.registry_tables.specs.Schema as table
-use Rattle.registry_tables.specs.Schema.{schema, schema_2}
 use Rattle.registry_tables.specs.Creation.{creation}
-use Rattle.registry_tables.specs.Fresh.{first_tables, schema_after}
 
 -- where the first so many tables are there, the text adds the next
 pub record AddsTable (n : ℕ) (sql : List ℕ) : Type 0 where

@@ -1,25 +1,10 @@
 -- What the statement on all grants shows, and what it says of their scopes.
-use Rattle.std.proofs.Common.{◌≡◌, ◌≢◌, ◌==◌, ◌∙◌, ◌↔◌, ℕ, ℤ, Bool, true, false, cond, List, [], ◌∷◌, map, Option, None, Some, IsSome, is_some, Ordering, refl, sym, ap, subst, true≢false, if◌then◌else◌}
-use Rattle.std.specs.List.{before_first, list_all}
-use Rattle.std.proofs.lemmas.Bool.{and_from, and_parts, eqb-true}
-use Rattle.std.proofs.lemmas.List.Folds.{list_all-map}
-use Rattle.std.proofs.lemmas.Simd.{map-map}
-use Rattle.sqlite.specs.State.{State as Shown}
-use Rattle.sqlite_value.specs.Order.{Row, column}
-use Rattle.registry_names.specs.Keys.{IsKey, Triple}
-use Rattle.registry_names.specs.Maps.{entries, first_at, keys}
-use Rattle.registry_names.specs.Names.{scope_of}
-use Rattle.registry_names.specs.Texts.{Text}
-use Rattle.registry_names.proofs.KeyFacts.{same_self, same_true, text_key, triple_key}
-use Rattle.registry_names.proofs.MapFacts.{at-entries}
-use Rattle.registry_rules.specs.Refusals.{is_scope}
-use Rattle.registry_rows.specs.Columns.{text_in}
-use Rattle.registry_rows.proofs.LookUpFacts.{select_all}
-use Rattle.registry_tables.specs.Contents.{Contents}
-use Rattle.registry_tables.specs.Effects.{stored}
+use Rattle.registry_tables.proofs.Words.{◌≡◌, ◌≢◌, ◌==◌, ◌∙◌, ◌↔◌, ℕ, ℤ, Bool, true, false, cond, List, [], ◌∷◌, map, Option, None, Some, is_some, Ordering, refl, sym, ap, subst, true≢false}
+use Rattle.registry_tables.proofs.Words.{if◌then◌else◌, before_first, list_all, and_from, and_parts, eqb-true, list_all-map, map-map, Shown, Row, column, IsKey, Triple, entries, first_at, keys}
+use Rattle.registry_tables.proofs.Words.{scope_of, Text, same_self, same_true, text_key, triple_key, at-entries, is_scope, text_in, select_all, Contents, stored, GrantsInScope, ShowsAll}
+use Rattle.std.proofs.Common.{IsSome}
+use Rattle.registry_rules.proofs.AllowedFacts.{scope_is}
 use Rattle.registry_tables.specs.Scopes.{grant_places, is_in_its_scope, place_spelled}
-use Rattle.registry_tables.specs.Teams.{GrantsInScope}
-use Rattle.registry_tables.specs.Queries.{ShowsAll}
 use Rattle.registry_tables.proofs.MappedFacts.{grants_mapped}
 use Rattle.registry_tables.proofs.RangeFacts.{levels_columns, levels_means, levels_text}
 
@@ -76,10 +61,6 @@ module _ {K X : Type 0} {cmp : K → K → Ordering} {same : K → K → Bool} (
       (all_pass es (λ k h. f k (more_found e es k h)))
 
 -- ---- the test of a scope
-
-scope_is : (o : Text) (s : Option Text) → is_scope o s ≡ true → s ≡ Some o
-scope_is o None h = absurd (true≢false (sym h))
-scope_is o (Some s) h = ap (λ (t : Text). Some t) (same_true text_key s o h)
 
 is_its_scope : (o : Text) (s : Option Text) → s ≡ Some o → is_scope o s ≡ true
 is_its_scope o s e = ap (is_scope o) e ∙ same_self text_key o

@@ -1,22 +1,7 @@
 -- A row that is set: an UPDATE where one stands, and an INSERT where none does.
-use Rattle.std.proofs.Common.{◌≡◌, ℕ, List, [], ◌∷◌, ◌++◌, Bool, true, false, Option, None, Ok, if◌then◌else◌, refl, ap, subst, subst₂, true≢false}
-use Rattle.sqlite.specs.State.{State, HasCleanDisk}
-use Rattle.sqlite_value.specs.Order.{Row}
-use Rattle.sqlite_sql.specs.Term.{Term, eval_all}
-use Rattle.sqlite_schema.specs.declared.schema.Table.{Table}
-use Rattle.registry_names.specs.Maps.{at, put}
-use Rattle.registry_rows.specs.Columns.{are_exact}
-use Rattle.registry_rows.specs.Frames.{Wrote}
-use Rattle.registry_rows.specs.Ready.{Ready, Leaves, IsMapped}
-use Rattle.registry_rows.specs.Rows.{map_of}
-use Rattle.registry_rows.specs.Statements.{Means, insert_values, update_where, set_row, are_set, by_texts}
-use Rattle.registry_rows.specs.TextKeys.{Texts, TextsMap, texts_from, texts_row}
-use Rattle.registry_rows.proofs.KeyedFacts.{by_texts_given}
-use Rattle.registry_rows.proofs.StatementFacts.{insert_by, update_revises}
-use Rattle.registry_rows.proofs.TextKeyFacts.{texts_key}
-use Rattle.registry_tables.specs.Changes.{IsFreeUnless, with_row}
-use Rattle.registry_tables.specs.Contents.{Contents, contents}
-use Rattle.registry_tables.specs.Schema.{schema}
+use Rattle.registry_tables.proofs.Words.{◌≡◌, ℕ, List, [], ◌∷◌, ◌++◌, Bool, true, false, Option, None, Ok, if◌then◌else◌, refl, ap, subst, subst₂, true≢false, State, HasCleanDisk, Row, Term, eval_all}
+use Rattle.registry_tables.proofs.Words.{Table, at, put, are_exact, Wrote, Ready, Leaves, IsMapped, map_of, Means, insert_values, update_where, set_row, are_set, by_texts, Texts, TextsMap, texts_from}
+use Rattle.registry_tables.proofs.Words.{texts_row, by_texts_given, insert_by, update_revises, texts_key, IsFreeUnless, with_row, Contents, contents, schema}
 use Rattle.registry_tables.proofs.ReviseFacts.{revised}
 
 -- both texts take the key and then the rest, and give the key the value x

@@ -1,48 +1,23 @@
 -- A query for one row that passes: it shows one exactly where an entry of the table's map passes.
-use Rattle.std.proofs.Common.{◌≡◌, ◌==◌, inl, inr, ℕ, suc, List, [], ◌∷◌, length, not, ◌||◌, take, drop, Bool, true, false, arith, ne_eqb, true≢false, refl, sym, ap, ◌∙◌}
-use Rattle.std.specs.List.{list_any}
-use Rattle.sqlite.specs.declared.types.Value.{Value}
-use Rattle.sqlite.specs.State.{State, HasCleanDisk}
-use Rattle.sqlite_value.specs.Order.{Row, column}
-use Rattle.sqlite_value.specs.declared.keys.Collation.TheVariants.{Binary}
-use Rattle.sqlite_sql.specs.declared.ops.BinaryOp.TheVariants.{Compare}
-use Rattle.sqlite_sql.specs.declared.ops.CompareOp.TheVariants.{Eq}
-use Rattle.sqlite_sql.specs.Ops.{binary, is_true}
-use Rattle.sqlite_sql.specs.Term.{Term}
-use Rattle.sqlite_schema.specs.declared.schema.Schema.{Schema}
-use Rattle.sqlite_schema.specs.declared.schema.Table.{Table}
-use Rattle.sqlite_trees.specs.Tree.{Trees}
-use Rattle.sqlite_rules.specs.Lists.{Has}
-use Rattle.sqlite_rules.proofs.ListLemmas.{all_has}
-use Rattle.registry_names.specs.Maps.{MapBy, entries}
-use Rattle.registry_names.proofs.EntryFacts.{entries_rise}
-use Rattle.registry_names.proofs.MapFacts.{at-entries}
-use Rattle.registry_rows.specs.Columns.{takes, equals}
-use Rattle.registry_rows.specs.KeyKinds.{KeyKind, map_by}
-use Rattle.registry_rows.specs.Ready.{IsReady, Ready, Reads, Queried}
-use Rattle.registry_rows.specs.Statements.{Finds, MeansQuery, by_column, is_wanted, select_first}
-use Rattle.registry_rows.proofs.KeyedFacts.{Gives}
-use Rattle.registry_rows.proofs.ListingFacts.{first_risen}
-use Rattle.registry_rows.proofs.OrderFacts.{found_has}
-use Rattle.registry_rows.proofs.QueryFacts.{query_starts}
-use Rattle.registry_rows.proofs.RowFacts.{at_row, row_at}
-use Rattle.registry_rows.proofs.SelectFacts.{finds}
-use Rattle.registry_rows.proofs.TextKeyFacts.{and_true, row_parts}
+use Rattle.registry_tables.proofs.Words.{◌≡◌, ◌==◌, inl, inr, ℕ, suc, List, [], ◌∷◌, length, not, ◌||◌, take, drop, Bool, true, false, arith, ne_eqb, true≢false, refl, sym, ap, ◌∙◌, list_any, Value}
+use Rattle.registry_tables.proofs.Words.{State, HasCleanDisk, Row, column, Binary, Compare, Eq, binary, is_true, Term, Schema, Table, Trees, Has, all_has, MapBy, entries, entries_rise, at-entries}
+use Rattle.registry_tables.proofs.Words.{takes, equals, KeyKind, map_by, IsReady, Ready, Reads, Queried, Finds, MeansQuery, by_column, is_wanted, select_first, Gives, first_risen, found_has}
+use Rattle.registry_tables.proofs.Words.{query_starts, at_row, row_at, finds, and_true, row_parts}
 
 -- ---- lists
 
-or_true : (b : Bool) → (b || true) ≡ true
+pub or_true : (b : Bool) → (b || true) ≡ true
 or_true true = refl
 or_true false = refl
 
-any_has : {A : Type 0} (test : A → Bool) (es : List A) (e : A) → Has es e → test e ≡ true → list_any test es ≡ true
-any_has test [] e h on = absurd h
-any_has test (d ∷ es) e (inl is) on = ap (λ b. b || list_any test es) (sym (ap test is) ∙ on)
-any_has test (d ∷ es) e (inr later) on = ap (λ b. test d || b) (any_has test es e later on) ∙ or_true (test d)
+pub any_where : {A : Type 0} (test : A → Bool) (es : List A) (e : A) → Has es e → test e ≡ true → list_any test es ≡ true
+any_where test [] e h on = absurd h
+any_where test (d ∷ es) e (inl is) on = ap (λ b. b || list_any test es) (sym (ap test is) ∙ on)
+any_where test (d ∷ es) e (inr later) on = ap (λ b. test d || b) (any_where test es e later on) ∙ or_true (test d)
 
-has_any : {A : Type 0} (test : A → Bool) (es : List A) → list_any test es ≡ true → (e : A) × Has es e × (test e ≡ true)
-has_any test [] h = absurd (true≢false (sym h))
-has_any {A} test (d ∷ es) h = go (test d) refl h (has_any test es)
+pub where_any : {A : Type 0} (test : A → Bool) (es : List A) → list_any test es ≡ true → (e : A) × Has es e × (test e ≡ true)
+where_any test [] h = absurd (true≢false (sym h))
+where_any {A} test (d ∷ es) h = go (test d) refl h (where_any test es)
   where
     go : (b : Bool) → test d ≡ b → (b || list_any test es) ≡ true → (list_any test es ≡ true → (e : A) × Has es e × (test e ≡ true)) → (e : A) × Has (d ∷ es) e × (test e ≡ true)
     go true on h later = (d, inl refl, on)
@@ -74,12 +49,12 @@ module _ {k : KeyKind} {C X : Type 0} {schema : Schema} {contents : Trees → C}
     entry_passes : (r : Row) → Has rows_of r → is_wanted wanted params r ≡ true → list_any test entries_of ≡ true
     entry_passes r h pass =
         let own = sym (at-entries t.keyed.key (map_by k value rows_of) (k.of_row r)) ∙ at_row k t.keyed.key value rows_of r (t.keyed.once s ready) h in
-        any_has test entries_of (k.of_row r, value (drop 1 r)) (found_has t.keyed.key (k.of_row r) (value (drop 1 r)) entries_of own) (sym (passes r h) ∙ pass)
+        any_where test entries_of (k.of_row r, value (drop 1 r)) (found_has t.keyed.key (k.of_row r) (value (drop 1 r)) entries_of own) (sym (passes r h) ∙ pass)
 
     -- the row of an entry that passes
     row_passes : list_any test entries_of ≡ true → (r : Row) × Has rows_of r × (is_wanted wanted params r ≡ true)
     row_passes on =
-        let it = has_any test entries_of on in
+        let it = where_any test entries_of on in
         let m = map_by k value rows_of in
         let r = row_at k t.keyed.key value rows_of it.0.0 it.0.1 (at-entries t.keyed.key m it.0.0 ∙ first_risen t.keyed.key it.0.0 it.0.1 entries_of (entries_rise m) it.1) in
         (r.0, r.1, passes r.0 r.1 ∙ ap has r.3 ∙ it.2)

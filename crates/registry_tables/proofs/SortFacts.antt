@@ -1,18 +1,9 @@
 -- Packages in the order of their names.
-use Rattle.std.proofs.Common.{◌≡◌, ◌∙◌, true, cond, List, [], ◌∷◌, ◌++◌, length, map, Some, Result, Ok, Err, IfOk, Less, is_lt, refl, sym, ap, append_assoc}
-use Rattle.std.specs.List.{AllByRecursion}
+use Rattle.registry_tables.proofs.Words.{◌≡◌, ◌∙◌, true, cond, List, [], ◌∷◌, ◌++◌, length, map, Some, Result, Ok, Err, IfOk, Less, is_lt, refl, sym, ap, append_assoc, AllByRecursion, BTreeMap}
+use Rattle.registry_tables.proofs.Words.{Updates, is_at, get, and_from, map-append, first_at, rises, Text, text_cmp, is, is_sym, is_tie, Level, PackageLevel, level_entry}
 use Rattle.std.specs.List.Sorted.{IsStrictlySortedBy}
 use Rattle.std.specs.Map.{lookup, keys_of}
-use Rattle.std.specs.BTreeMap.{BTreeMap, Updates, is_at, get}
 use Rattle.std.specs.FinMap.Entries.{below_all}
-use Rattle.std.proofs.lemmas.Bool.{and_from}
-use Rattle.std.proofs.lemmas.List.{map-append}
-use Rattle.registry_names.specs.Maps.{first_at, rises}
-use Rattle.registry_names.specs.Texts.{Text, text_cmp, is}
-use Rattle.registry_names.proofs.TextFacts.{is_sym, is_tie}
-use Rattle.registry_access.specs.declared.levels.Level.{Level}
-use Rattle.registry_packument.specs.declared.list.PackageLevel.{PackageLevel}
-use Rattle.registry_tables.specs.Levels.{level_entry}
 
 -- ---- the entries of a map, one after another
 

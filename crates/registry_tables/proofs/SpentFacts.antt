@@ -1,32 +1,12 @@
 -- What the statements on withdrawn versions show.
-use Rattle.std.proofs.Common.{◌≡◌, ◌+◌, ◌<◌, List, [], ◌∷◌, ◌++◌, map, take, Option, Some, is_some, length, arith, refl, sym, ap, ◌∙◌, codes, ℕ}
-use Rattle.std.specs.Prelude.{max, slice_index_or, unwrap_or}
-use Rattle.std.proofs.lemmas.Simd.{map-map}
-use Rattle.sqlite.specs.declared.types.Value.TheVariants.{Text as Stored}
-use Rattle.sqlite.specs.Command.TheVariants.{Select}
+use Rattle.registry_tables.proofs.Words.{◌≡◌, ◌+◌, ◌<◌, List, [], ◌∷◌, ◌++◌, map, take, Option, Some, is_some, length, arith, refl, sym, ap, ◌∙◌, codes, ℕ, max, slice_index_or, unwrap_or, map-map}
+use Rattle.registry_tables.proofs.Words.{Stored, Select, Shown, HasCleanDisk, Row, column, col, Text, at, of, seen, Withdrawal, last_of, last_withdrawal, text_in, Ready, Reads, Queried, MeansQuery}
+use Rattle.registry_tables.proofs.Words.{scan, by_texts, in_order, select_finds, select_lists, schema, Contents, SpentVersion, as_withdrawal, registry_of, stored, seconds_of, held_spelled}
+use Rattle.registry_tables.proofs.Words.{number_spelled, second_spelled, last_number, ShowsAll, ShowsWhether, text_key}
 use Rattle.sqlite.specs.Listing.{understood}
-use Rattle.sqlite.specs.State.{State as Shown, HasCleanDisk}
 use Rattle.sqlite_tied.specs.Compute.{everything}
-use Rattle.sqlite_value.specs.Order.{Row, column}
-use Rattle.sqlite_sql.specs.Term.{Term, col}
-use Rattle.registry_names.specs.Texts.{Text}
-use Rattle.registry_names.specs.Maps.{at, of, seen}
-use Rattle.registry_rules.specs.State.{Withdrawal}
 use Rattle.registry_rules.specs.Moments.{spent_publications}
-use Rattle.registry_rules.specs.Withdrawals.{last_of, last_withdrawal}
 use Rattle.registry_rules.proofs.ListedFacts.{mapped_more}
-use Rattle.registry_rows.specs.Columns.{text_in}
-use Rattle.registry_rows.specs.Ready.{Ready, Reads, Queried}
-use Rattle.registry_rows.specs.Statements.{MeansQuery, scan, by_texts, in_order}
-use Rattle.registry_rows.proofs.LookUpFacts.{select_finds, select_lists}
-use Rattle.registry_tables.specs.Schema.{schema}
-use Rattle.registry_tables.specs.Contents.{Contents, SpentVersion, as_withdrawal, registry_of}
-use Rattle.registry_tables.specs.Effects.{stored}
-use Rattle.registry_tables.specs.Numbers.{seconds_of}
-use Rattle.registry_tables.specs.Spelled.{held_spelled, number_spelled, second_spelled}
-use Rattle.registry_tables.specs.Withdrawals.{last_number}
-use Rattle.registry_tables.specs.Queries.{ShowsAll, ShowsWhether}
-use Rattle.registry_names.proofs.KeyFacts.{text_key}
 use Rattle.registry_tables.proofs.FoundFacts.{some_found, some_seen}
 use Rattle.registry_tables.proofs.MappedFacts.{spent_mapped}
 use Rattle.registry_tables.proofs.NumberFacts.{as_seconds}
@@ -49,10 +29,7 @@ withdrawal_found p v old new rows form call clean =
 abbrev last_text : List ℕ
 last_text = codes "SELECT withdrawn, published, version FROM spent WHERE package = ?1 ORDER BY version"
 
-abbrev last_columns : List Term
-last_columns = col 1 4 ∷ col 1 3 ∷ col 1 2 ∷ []
-
-pub last_means : MeansQuery schema last_text (Select (record { lets = []; body = scan 20 (by_texts 0 1 0) last_columns (in_order 0 2) }) (codes "withdrawn" ∷ codes "published" ∷ codes "version" ∷ []))
+pub last_means : MeansQuery schema last_text (Select (record { lets = []; body = scan 20 (by_texts 0 1 0) (col 1 4 ∷ col 1 3 ∷ col 1 2 ∷ []) (in_order 0 2) }) (codes "withdrawn" ∷ codes "published" ∷ codes "version" ∷ []))
 unfolding understood everything
 last_means = ((refl, (refl, refl)), refl)
 
@@ -73,7 +50,7 @@ pub last_found : (p : Text) (old new : Shown) (rows : List Row) → Ready schema
     → Reads schema old new × (last_number (map number_spelled rows) ≡ last_withdrawal (registry_of (stored old)) p)
 last_found p old new rows form call clean =
     let es = of (stored old).spent p in
-    let it = select_lists spent_mapped last_text last_columns _ last_means p withdrawn_entry (λ (w : SpentVersion). seconds_of w.withdrawn) (λ id vs. ap (λ (n : ℕ). (text_in (column vs 1), n)) (as_seconds (column vs 3))) old new rows form call clean in (
+    let it = select_lists spent_mapped last_text _ _ last_means p withdrawn_entry (λ (w : SpentVersion). seconds_of w.withdrawn) (λ id vs. ap (λ (n : ℕ). (text_in (column vs 1), n)) (as_seconds (column vs 3))) old new rows form call clean in (
       it.0,
       ap last_number (sym (map-map (λ (e : Text × ℕ). e.1) withdrawn_entry rows) ∙ ap (map (λ (e : Text × ℕ). e.1)) (it.1 ∙ sym (map-map (seen (λ (w : Withdrawal). w.withdrawn)) (seen as_withdrawal) es)))
           ∙ last_as_number (map (seen as_withdrawal) es) ∙ ap last_of (sym (spent_as_rows (stored old) p)),
@@ -86,7 +63,7 @@ published_entry r = (text_in (column r 2), second_spelled r)
 pub publications_found : (p : Text) (old new : Shown) → ShowsAll last_text (Stored p ∷ []) old new second_spelled (spent_publications (of (registry_of (stored old)).spent p))
 publications_found p old new rows form call clean =
     let es = of (stored old).spent p in
-    let it = select_lists spent_mapped last_text last_columns _ last_means p published_entry (λ (w : SpentVersion). seconds_of w.published) (λ id vs. ap (λ (n : ℕ). (text_in (column vs 1), n)) (as_seconds (column vs 2))) old new rows form call clean in (
+    let it = select_lists spent_mapped last_text _ _ last_means p published_entry (λ (w : SpentVersion). seconds_of w.published) (λ id vs. ap (λ (n : ℕ). (text_in (column vs 1), n)) (as_seconds (column vs 2))) old new rows form call clean in (
       it.0,
       sym (map-map (λ (e : Text × ℕ). e.1) published_entry rows) ∙ ap (map (λ (e : Text × ℕ). e.1)) it.1
           ∙ map-map (λ (e : Text × ℕ). e.1) (seen (λ (w : SpentVersion). seconds_of w.published)) es

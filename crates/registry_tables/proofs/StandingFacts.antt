@@ -1,33 +1,16 @@
 -- What is granted to a caller, as it is asked for, and in which organisation they have a role.
-use Rattle.std.proofs.Common.{◌≡◌, ℤ, Bool, true, false, not, ◌&&◌, ◌||◌, List, [], Option, Some, None, is_some, refl, sym, ap, subst, ◌∙◌, true≢false}
-use Rattle.sqlite.specs.Effect.{Database}
-use Rattle.sqlite.specs.State.{State as Shown}
-use Rattle.registry_names.specs.Names.{scope_of}
-use Rattle.registry_names.specs.Texts.{Text}
+use Rattle.registry_tables.proofs.Words.{◌≡◌, ℤ, Bool, true, false, not, ◌&&◌, ◌||◌, List, [], Option, Some, None, is_some, refl, sym, ap, subst, ◌∙◌, true≢false, Database, Shown, scope_of, Text}
+use Rattle.registry_tables.proofs.Words.{granted, is_maintainer, has_scope, scope_role, Caller, Operator, User, Anonymous, Grant, Role, Developer, Admin, Owner, at, pair_key, IsReady, Contents}
+use Rattle.registry_tables.proofs.Words.{access_of, contents, stored, schema, AreGranted, AreGrantedTo, role_of}
 use Rattle.registry_access.specs.Access.{Access}
-use Rattle.registry_access.specs.Callers.{granted, is_maintainer}
-use Rattle.registry_access.specs.Positions.{has_scope, scope_role}
 use Rattle.registry_access.specs.RowsFor.{StandingTells, TellsFor, is_owners, is_public, is_read}
 use Rattle.registry_access.specs.Standings.{is_listed}
 use Rattle.registry_access.specs.declared.ask.Ask.{Ask}
 use Rattle.registry_access.specs.declared.ask.Ask.TheVariants.{Operate, OrgMembers, OrgTeams, Publish, Write, Owners, Read, OrgRead}
-use Rattle.registry_access.specs.declared.caller.Caller.{Caller}
-use Rattle.registry_access.specs.declared.caller.Caller.TheVariants.{Operator, User, Anonymous}
-use Rattle.registry_access.specs.declared.grant.Grant.{Grant}
-use Rattle.registry_access.specs.declared.role.Role.{Role}
-use Rattle.registry_access.specs.declared.role.Role.TheVariants.{Developer, Admin, Owner}
 use Rattle.registry_access.specs.declared.standing.Standing.{Standing}
-use Rattle.registry_names.specs.Maps.{at}
-use Rattle.registry_names.proofs.KeyFacts.{pair_key}
-use Rattle.registry_rows.specs.Ready.{IsReady}
-use Rattle.registry_tables.specs.Contents.{Contents, access_of, contents}
-use Rattle.registry_tables.specs.Effects.{stored}
-use Rattle.registry_tables.specs.Schema.{schema}
-use Rattle.registry_tables.specs.Teams.{AreGranted, AreGrantedTo}
 use Rattle.registry_tables.proofs.JoinedFacts.{scoped_are_all, strangers_have_none, unscoped_have_none}
 use Rattle.registry_tables.proofs.ParentFacts.{organisation_there}
 use Rattle.registry_tables.proofs.ReadFacts.{some-read}
-use Rattle.registry_tables.specs.Numbers.{role_of}
 
 -- those of their teams in the organisation of the scope
 pub members_grants : (c : Contents) (o u p : Text) (role : Option Role) (maintainer : Bool) (gs : List Grant) → scope_of p ≡ Some o → AreGranted c o u p gs → AreGrantedTo c (User u) p role maintainer gs

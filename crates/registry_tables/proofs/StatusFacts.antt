@@ -1,43 +1,14 @@
 -- What the statements on statuses make and show.
-use Rattle.std.proofs.Common.{◌≡◌, ℕ, Bool, true, false, not, ◌&&◌, cond, drop, filter, Ordering, Less, Equal, Greater, is_lt, ap, ap₂, List, [], ◌∷◌, map, Option, Some, None, refl, sym, ◌∙◌, codes, if◌then◌else◌}
-use Rattle.sqlite.specs.declared.types.Value.TheVariants.{Null, Int, Text as Stored}
-use Rattle.sqlite.specs.Command.TheVariants.{Insert, Update, Select}
-use Rattle.sqlite.specs.Source.TheVariants.{Values}
+use Rattle.registry_tables.proofs.Words.{◌≡◌, ℕ, Bool, true, false, not, ◌&&◌, cond, drop, filter, Ordering, Less, Equal, Greater, is_lt, ap, ap₂, List, [], ◌∷◌, map, Some, None, refl, sym, ◌∙◌}
+use Rattle.registry_tables.proofs.Words.{codes, if◌then◌else◌, Int, Stored, Select, Shown, HasCleanDisk, Value, Row, column, value_cmp, Binary, value_cmp-Text, Compare, Ge, Lt, is_true, Has, all_has}
+use Rattle.registry_tables.proofs.Words.{is_ge, Term, col, op2, Text, text_cmp, Wrote, IsReady, Ready, Leaves, package_spelled, schema, access_of, contents, stored, at, entries, seen, Status}
+use Rattle.registry_tables.proofs.Words.{text_key, Means, MeansQuery, scan, by_texts, in_order, is_wanted, select_where, insert_values, update_where, text_in, key_of, by_texts_given, texts_of}
+use Rattle.registry_tables.proofs.Words.{select_all, select_finds, select_passes_by, first_listed, and_true, row_parts, IsFreeUnless, with_row, status_number, status_of, status_spelled, ShowsAll}
+use Rattle.registry_tables.proofs.Words.{ShowsFirst}
 use Rattle.sqlite.specs.Listing.{understood}
-use Rattle.sqlite.specs.State.{State as Shown, HasCleanDisk}
 use Rattle.sqlite_tied.specs.Compute.{everything}
-use Rattle.sqlite.specs.declared.types.Value.{Value}
-use Rattle.sqlite_value.specs.Order.{Row, column, value_cmp}
-use Rattle.sqlite_value.specs.declared.keys.Collation.TheVariants.{Binary}
-use Rattle.sqlite_value.proofs.OrderLemmas.{value_cmp-Text}
-use Rattle.sqlite_sql.specs.declared.ops.BinaryOp.TheVariants.{Compare}
-use Rattle.sqlite_sql.specs.declared.ops.CompareOp.TheVariants.{Ge, Lt}
-use Rattle.sqlite_sql.specs.Ops.{binary, is_true}
-use Rattle.sqlite_rules.specs.Lists.{Has}
-use Rattle.sqlite_rules.proofs.ListLemmas.{all_has}
-use Rattle.std.specs.Ordering.{is_ge}
-use Rattle.sqlite_sql.specs.Term.{Term, lit, col, op2}
-use Rattle.registry_names.specs.Texts.{Text, text_cmp}
-use Rattle.registry_rows.specs.Frames.{Wrote}
-use Rattle.registry_rows.specs.Ready.{IsReady, Ready, Leaves}
-use Rattle.registry_tables.specs.Overviews.{package_spelled}
+use Rattle.sqlite_sql.specs.Ops.{binary}
 use Rattle.registry_tables.specs.Schema as table
-use Rattle.registry_tables.specs.Schema.{schema}
-use Rattle.registry_tables.specs.Contents.{access_of, contents}
-use Rattle.registry_tables.specs.Effects.{stored}
-use Rattle.registry_names.specs.Maps.{at, entries, seen}
-use Rattle.registry_names.specs.declared.status.Status.{Status}
-use Rattle.registry_names.proofs.KeyFacts.{text_key}
-use Rattle.registry_rows.specs.Statements.{Means, MeansQuery, scan, by_texts, in_order, is_wanted, select_where, set_terms}
-use Rattle.registry_rows.specs.Columns.{text_in}
-use Rattle.registry_rows.specs.Rows.{key_of}
-use Rattle.registry_rows.proofs.KeyedFacts.{by_texts_given, texts_of}
-use Rattle.registry_rows.proofs.LookUpFacts.{select_all, select_finds, select_passes_by, first_listed}
-use Rattle.registry_rows.proofs.TextKeyFacts.{and_true, row_parts}
-use Rattle.registry_tables.specs.Changes.{IsFreeUnless, with_row}
-use Rattle.registry_tables.specs.Numbers.{status_number, status_of}
-use Rattle.registry_tables.specs.Spelled.{status_spelled}
-use Rattle.registry_tables.specs.Queries.{ShowsAll, ShowsFirst}
 use Rattle.registry_tables.proofs.AfterScopeFacts.{is_between}
 use Rattle.registry_tables.proofs.DependentFacts.{truth_is}
 use Rattle.registry_tables.proofs.MappedFacts.{packages_mapped}
@@ -49,10 +20,7 @@ use Rattle.registry_tables.proofs.SetRowFacts.{row_set}
 abbrev put_text : List ℕ
 put_text = codes "INSERT INTO packages VALUES (?1, ?2)"
 
-abbrev put_cells : List Term
-put_cells = col 0 0 ∷ col 0 1 ∷ []
-
-put_means : Means schema put_text (Insert 6 (Values (lit Null ∷ put_cells) 3))
+put_means : Means schema put_text (insert_values 6 (col 0 0 ∷ col 0 1 ∷ []))
 unfolding understood everything
 put_means = (refl, (refl, refl))
 
@@ -62,16 +30,13 @@ abbrev set_text : List ℕ
 set_text = codes "UPDATE packages SET status = ?2 WHERE name = ?1"
 
 -- the name stays, and the status is the second parameter
-abbrev sets : List (Option ℕ)
-sets = None ∷ Some 1 ∷ []
-
-set_means : Means schema set_text (Update 6 (record { lets = []; body = scan 12 (by_texts 0 1 0) (col 1 0 ∷ col 1 0 ∷ set_terms 1 sets) [] }))
+set_means : Means schema set_text (update_where 6 table.packages (None ∷ Some 1 ∷ []) (by_texts 0 1 0))
 unfolding understood everything
 set_means = (refl, (refl, refl))
 
 pub status_set : (p : Text) (status : Status) (stands : Bool) (old new : Shown) → Ready schema old → Wrote (if stands then set_text else put_text) (Stored p ∷ Int (status_number status) ∷ []) old new → HasCleanDisk new
     → Leaves schema contents (record (stored old) { packages = with_row (stored old).packages p (status_number status) stands }) new × IsFreeUnless (stored old).packages p stands
-status_set p status = row_set packages_mapped set_text put_text sets put_cells set_means put_means p (Int (status_number status) ∷ []) (status_number status) refl (λ vs. refl) (λ vs. refl) refl refl refl
+status_set p status = row_set packages_mapped set_text put_text (None ∷ Some 1 ∷ []) _ set_means put_means p (Int (status_number status) ∷ []) (status_number status) refl (λ vs. refl) (λ vs. refl) refl refl refl
 
 -- ---- SELECT
 

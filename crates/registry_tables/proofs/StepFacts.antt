@@ -1,20 +1,11 @@
 -- A change of what is stored makes one operation of the registry's state.
-use Rattle.std.proofs.Common.{◌≡◌, Bool, true, false, not, List, [], ◌∷◌, pos, refl, sym, ap, ap₂, ◌∙◌, is_some, if◌then◌else◌}
-use Rattle.registry_names.specs.Keys.{pair_is}
-use Rattle.registry_names.specs.Texts.{Text}
-use Rattle.registry_names.specs.Maps.{PairMap, TextMap, TripleMap, at, put}
-use Rattle.registry_names.proofs.KeyFacts.{pair_key, text_key, triple_key}
-use Rattle.registry_names.specs.declared.status.Status.{Status}
-use Rattle.registry_access.specs.declared.grant.Grant.{Grant}
-use Rattle.registry_access.specs.declared.role.Role.{Role}
-use Rattle.registry_rules.specs.Changes.{Change, AddUser, AddToken, DropToken, AddOrg, PutMember, DropMember, AddTeam, PutTeamMember, DropTeamMember, DropTeam, PutGrant, DropGrant, PutOwner, DropOwner, PutStatus, AddVersion, RetireVersion, PutDeprecation, PutTag, DropTag, made, all_made}
+use Rattle.registry_tables.proofs.Words.{◌≡◌, Bool, true, false, not, List, [], ◌∷◌, pos, refl, sym, ap, ap₂, ◌∙◌, is_some, if◌then◌else◌, pair_is, Text, PairMap, TextMap, TripleMap, at, put}
+use Rattle.registry_tables.proofs.Words.{pair_key, text_key, triple_key, Status, Grant, Role, Change, AddUser, AddToken, DropToken, AddOrg, PutMember, DropMember, AddTeam, PutTeamMember}
+use Rattle.registry_tables.proofs.Words.{DropTeamMember, DropTeam, PutGrant, DropGrant, PutOwner, DropOwner, PutStatus, AddVersion, RetireVersion, PutDeprecation, PutTag, DropTag, made, all_made}
+use Rattle.registry_tables.proofs.Words.{Release, Withdrawal, HeldAreStored, stored_by, all_stored, Contents, access_of, as_withdrawal, registry_of, grant_number, grant_of, role_number, role_of}
+use Rattle.registry_tables.proofs.Words.{status_number, status_of, without_member, without_team}
 use Rattle.registry_rules.specs.Operations.{with_member, with_grant, with_status, with_tag}
-use Rattle.registry_rules.specs.State.{Release, State, Withdrawal}
-use Rattle.registry_tables.specs.Archives.{HeldAreStored}
-use Rattle.registry_tables.specs.Changes.{stored_by, all_stored}
-use Rattle.registry_tables.specs.Contents.{Contents, access_of, as_withdrawal, registry_of}
-use Rattle.registry_tables.specs.Numbers.{grant_number, grant_of, role_number, role_of, status_number, status_of}
-use Rattle.registry_tables.specs.Teams.{without_member, without_team}
+use Rattle.registry_rules.specs.State.{State}
 use Rattle.registry_tables.proofs.KeptArchiveFacts.{live_put, put_held_stored}
 use Rattle.registry_tables.proofs.NumberFacts.{grant_again, role_again, status_again}
 use Rattle.registry_tables.proofs.ReadFacts.{read-erase, read-keep, read-put, some-read}

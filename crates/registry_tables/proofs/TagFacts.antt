@@ -1,28 +1,11 @@
 -- What the statements on tags make and show.
-use Rattle.std.proofs.Common.{ℕ, List, [], ◌∷◌, Option, Some, None, is_some, Ok, refl, ap, ◌∙◌, codes, Bool, if◌then◌else◌}
-use Rattle.std.proofs.lemmas.Iterator.Adapters.{option_map_id}
-use Rattle.sqlite.specs.declared.types.Value.TheVariants.{Null, Text as Stored}
-use Rattle.sqlite_sql.specs.Term.{Term, lit, col}
-use Rattle.sqlite.specs.Source.TheVariants.{Values}
-use Rattle.sqlite.specs.Command.TheVariants.{Insert, Update, Delete, Select}
+use Rattle.registry_tables.proofs.Words.{ℕ, List, [], ◌∷◌, Some, None, is_some, Ok, refl, ◌∙◌, codes, Bool, if◌then◌else◌, option_map_id, Stored, col, Delete, Select, Shown, HasCleanDisk, Text, at}
+use Rattle.registry_tables.proofs.Words.{erase, of, Wrote, Means, MeansQuery, scan, by_texts, in_order, insert_values, update_where, Ready, Leaves, delete_erases, select_finds, select_lists}
+use Rattle.registry_tables.proofs.Words.{first_listed, seen_as_is, schema, IsFreeUnless, with_row, contents, stored, tag_spelled, named_spelled, ShowsAll, ShowsFirst, ShowsWhether}
 use Rattle.sqlite.specs.Listing.{understood}
-use Rattle.sqlite.specs.State.{State as Shown, HasCleanDisk}
 use Rattle.sqlite_tied.specs.Compute.{everything}
-use Rattle.registry_names.specs.Texts.{Text}
-use Rattle.registry_names.specs.Maps.{at, erase, of}
-use Rattle.registry_rows.specs.Frames.{Wrote}
-use Rattle.registry_rows.specs.Statements.{Means, MeansQuery, IsUncascaded, scan, by_texts, in_order, set_terms}
-use Rattle.registry_rows.specs.Ready.{Ready, Leaves}
-use Rattle.registry_rows.proofs.StatementFacts.{delete_erases}
-use Rattle.registry_rows.proofs.LookUpFacts.{select_finds, select_lists, first_listed, seen_as_is}
-use Rattle.registry_tables.specs.Schema.{schema}
 use Rattle.registry_tables.specs.Schema as table
-use Rattle.registry_tables.specs.Changes.{IsFreeUnless, with_row}
-use Rattle.registry_tables.specs.Contents.{contents}
-use Rattle.registry_tables.specs.Effects.{stored}
-use Rattle.registry_tables.specs.Spelled.{tag_spelled, named_spelled}
-use Rattle.registry_tables.specs.Queries.{ShowsAll, ShowsFirst, ShowsWhether}
-use Rattle.registry_tables.proofs.FoundFacts.{some_found}
+use Rattle.registry_tables.proofs.FoundFacts.{there_found}
 use Rattle.registry_tables.proofs.MappedFacts.{tags_mapped}
 use Rattle.registry_tables.proofs.SetRowFacts.{row_set}
 
@@ -31,10 +14,7 @@ use Rattle.registry_tables.proofs.SetRowFacts.{row_set}
 abbrev put_text : List ℕ
 put_text = codes "INSERT INTO tags VALUES (?1, ?2, ?3)"
 
-abbrev put_cells : List Term
-put_cells = col 0 0 ∷ col 0 1 ∷ col 0 2 ∷ []
-
-put_means : Means schema put_text (Insert 11 (Values (lit Null ∷ put_cells) 4))
+put_means : Means schema put_text (insert_values 11 (col 0 0 ∷ col 0 1 ∷ col 0 2 ∷ []))
 unfolding understood everything
 put_means = (refl, (refl, refl))
 
@@ -44,16 +24,13 @@ abbrev set_text : List ℕ
 set_text = codes "UPDATE tags SET version = ?3 WHERE package = ?1 AND tag = ?2"
 
 -- the package and the tag stay, and the version is the third parameter
-abbrev sets : List (Option ℕ)
-sets = None ∷ None ∷ Some 2 ∷ []
-
-set_means : Means schema set_text (Update 11 (record { lets = []; body = scan 22 (by_texts 1 1 0) (col 1 0 ∷ col 1 0 ∷ set_terms 1 sets) [] }))
+set_means : Means schema set_text (update_where 11 table.tags (None ∷ None ∷ Some 2 ∷ []) (by_texts 1 1 0))
 unfolding understood everything
 set_means = (refl, (refl, refl))
 
 pub tag_set : (p t v : Text) (stands : Bool) (old new : Shown) → Ready schema old → Wrote (if stands then set_text else put_text) (Stored p ∷ Stored t ∷ Stored v ∷ []) old new → HasCleanDisk new
     → Leaves schema contents (record (stored old) { tags = with_row (stored old).tags (p, t) v stands }) new × IsFreeUnless (stored old).tags (p, t) stands
-tag_set p t v = row_set tags_mapped set_text put_text sets put_cells set_means put_means (p, t) (Stored v ∷ []) v refl (λ vs. refl) (λ vs. refl) refl refl refl
+tag_set p t v = row_set tags_mapped set_text put_text (None ∷ None ∷ Some 2 ∷ []) _ set_means put_means (p, t) (Stored v ∷ []) v refl (λ vs. refl) (λ vs. refl) refl refl refl
 
 -- ---- DELETE
 
@@ -65,13 +42,10 @@ unfolding understood everything
 drop_means = (refl, (refl, refl))
 
 -- nothing refers to a tag
-nothing_refers : IsUncascaded schema table.tags
-unfolding everything
-nothing_refers olds = refl
-
 pub tag_dropped : (p t : Text) (old new : Shown) → Ready schema old → Wrote drop_text (Stored p ∷ Stored t ∷ []) old new → HasCleanDisk new
     → Leaves schema contents (record (stored old) { tags = erase (stored old).tags (p, t) }) new
-tag_dropped p t old new form call = delete_erases tags_mapped drop_text drop_means nothing_refers (p, t) old new (Ok call.0) form call.1
+unfolding everything
+tag_dropped p t old new form call = delete_erases tags_mapped drop_text drop_means (λ olds. refl) (p, t) old new (Ok call.0) form call.1
 
 -- ---- SELECT
 
@@ -83,9 +57,7 @@ unfolding understood everything
 find_means = ((refl, (refl, refl)), refl)
 
 pub tag_found : (p t : Text) (old new : Shown) → ShowsWhether find_text (Stored p ∷ Stored t ∷ []) old new (is_some (at (stored old).tags (p, t)))
-tag_found p t old new rows form call clean =
-    let it = select_finds tags_mapped find_text (col 1 3 ∷ []) _ find_means (p, t) named_spelled (λ (v : Text). v) (λ id vs. refl) old new rows form call clean in
-    (it.0, some_found named_spelled rows _ it.1 ∙ ap is_some (option_map_id (at (stored old).tags (p, t))))
+tag_found p t = there_found tags_mapped find_text (col 1 3 ∷ []) _ find_means (p, t)
 
 pub tag_named : (p t : Text) (old new : Shown) → ShowsFirst find_text (Stored p ∷ Stored t ∷ []) old new named_spelled (at (stored old).tags (p, t))
 tag_named p t old new rows form call clean =
@@ -95,14 +67,11 @@ tag_named p t old new rows form call clean =
 abbrev list_text : List ℕ
 list_text = codes "SELECT tag, version FROM tags WHERE package = ?1 ORDER BY tag"
 
-abbrev list_columns : List Term
-list_columns = col 1 2 ∷ col 1 3 ∷ []
-
-pub list_means : MeansQuery schema list_text (Select (record { lets = []; body = scan 22 (by_texts 0 1 0) list_columns (in_order 0 2) }) (codes "tag" ∷ codes "version" ∷ []))
+pub list_means : MeansQuery schema list_text (Select (record { lets = []; body = scan 22 (by_texts 0 1 0) (col 1 2 ∷ col 1 3 ∷ []) (in_order 0 2) }) (codes "tag" ∷ codes "version" ∷ []))
 unfolding understood everything
 list_means = ((refl, (refl, refl)), refl)
 
 pub tags_listed : (p : Text) (old new : Shown) → ShowsAll list_text (Stored p ∷ []) old new tag_spelled (of (stored old).tags p)
 tags_listed p old new rows form call clean =
-    let it = select_lists tags_mapped list_text list_columns _ list_means p tag_spelled (λ (v : Text). v) (λ id vs. refl) old new rows form call clean in
+    let it = select_lists tags_mapped list_text _ _ list_means p tag_spelled (λ (v : Text). v) (λ id vs. refl) old new rows form call clean in
     (it.0, it.1 ∙ seen_as_is (of (stored old).tags p))

@@ -1,31 +1,12 @@
 -- What the statements on teams make and show.
-use Rattle.std.proofs.Common.{◌≡◌, ℕ, List, [], ◌∷◌, is_some, None, Ok, refl, sym, ap, ◌∙◌, codes}
-use Rattle.std.proofs.lemmas.Simd.{map-map}
-use Rattle.sqlite.specs.declared.types.Value.TheVariants.{Null, Text as Stored}
-use Rattle.sqlite.specs.Command.TheVariants.{Insert, Select}
-use Rattle.sqlite.specs.Source.TheVariants.{Values}
+use Rattle.registry_tables.proofs.Words.{◌≡◌, ℕ, List, [], ◌∷◌, is_some, None, Ok, refl, sym, ◌∙◌, codes, Stored, Select, Shown, HasCleanDisk, col, Text, at, keys, of, put, Wrote, Ready, Leaves}
+use Rattle.registry_tables.proofs.Words.{Means, MeansQuery, scan, by_texts, in_order, insert_values, insert_puts, insert_meets_none, select_lists, schema, Contents, access_of, contents, grant_of}
+use Rattle.registry_tables.proofs.Words.{role_of, pair_key, triple_key, stored, AreTeamsSound, text_spelled, ShowsAll, ShowsWhether}
 use Rattle.sqlite.specs.Listing.{understood}
-use Rattle.sqlite.specs.State.{State as Shown, HasCleanDisk}
 use Rattle.sqlite_tied.specs.Compute.{everything}
-use Rattle.sqlite_value.specs.Order.{Row}
-use Rattle.sqlite_sql.specs.Term.{Term, lit, col}
-use Rattle.registry_names.specs.Texts.{Text}
-use Rattle.registry_names.specs.Maps.{at, keys, of, put}
-use Rattle.registry_rows.specs.Frames.{Wrote}
-use Rattle.registry_rows.specs.Ready.{Ready, Leaves}
-use Rattle.registry_rows.specs.Statements.{Means, MeansQuery, scan, by_texts, in_order}
-use Rattle.registry_rows.proofs.StatementFacts.{insert_puts, insert_meets_none}
-use Rattle.registry_rows.proofs.LookUpFacts.{select_lists, seen_as_is}
-use Rattle.registry_tables.specs.Schema.{schema}
 use Rattle.registry_rules.specs.Kept.{IsSound}
-use Rattle.registry_tables.specs.Contents.{Contents, access_of, contents}
-use Rattle.registry_tables.specs.Numbers.{grant_of, role_of}
 use Rattle.registry_tables.proofs.ReadFacts.{some-read}
-use Rattle.registry_names.proofs.KeyFacts.{pair_key, triple_key}
-use Rattle.registry_tables.specs.Effects.{stored}
-use Rattle.registry_tables.specs.Teams.{AreTeamsSound, text_spelled}
-use Rattle.registry_tables.specs.Queries.{ShowsAll, ShowsWhether}
-use Rattle.registry_tables.proofs.FoundFacts.{there_found}
+use Rattle.registry_tables.proofs.FoundFacts.{key_entry, keys_seen, there_found}
 use Rattle.registry_tables.proofs.MappedFacts.{teams_mapped}
 
 -- ---- INSERT
@@ -33,20 +14,17 @@ use Rattle.registry_tables.proofs.MappedFacts.{teams_mapped}
 abbrev put_text : List ℕ
 put_text = codes "INSERT INTO teams VALUES (?1, ?2)"
 
-abbrev put_cells : List Term
-put_cells = col 0 0 ∷ col 0 1 ∷ []
-
-put_means : Means schema put_text (Insert 4 (Values (lit Null ∷ put_cells) 3))
+put_means : Means schema put_text (insert_values 4 (col 0 0 ∷ col 0 1 ∷ []))
 unfolding understood everything
 put_means = (refl, (refl, refl))
 
 pub team_put : (o t : Text) (old new : Shown) → Ready schema old → Wrote put_text (Stored o ∷ Stored t ∷ []) old new → HasCleanDisk new
     → Leaves schema contents (record (stored old) { teams = put (stored old).teams (o, t) tt }) new
-team_put o t old new form call = insert_puts teams_mapped put_text put_cells put_means (Stored o ∷ Stored t ∷ []) refl old new (Ok call.0) form call.1
+team_put o t old new form call = insert_puts teams_mapped put_text _ put_means (Stored o ∷ Stored t ∷ []) refl old new (Ok call.0) form call.1
 
 -- an answered INSERT had a new key
 pub team_was_new : (o t : Text) (old new : Shown) → Ready schema old → Wrote put_text (Stored o ∷ Stored t ∷ []) old new → HasCleanDisk new → at (stored old).teams (o, t) ≡ None
-team_was_new o t old new form call = insert_meets_none teams_mapped put_text put_cells put_means (Stored o ∷ Stored t ∷ []) refl old new (Ok call.0) form call.1
+team_was_new o t old new form call = insert_meets_none teams_mapped put_text _ put_means (Stored o ∷ Stored t ∷ []) refl old new (Ok call.0) form call.1
 
 -- ---- SELECT
 
@@ -67,14 +45,10 @@ pub list_means : MeansQuery schema list_text (Select (record { lets = []; body =
 unfolding understood everything
 list_means = ((refl, (refl, refl)), refl)
 
--- a team that is there
-abbrev team_entry : Row → Text × Unit {0}
-team_entry r = (text_spelled r, tt)
-
 pub teams_listed : (o : Text) (old new : Shown) → ShowsAll list_text (Stored o ∷ []) old new text_spelled (keys (of (stored old).teams o))
 teams_listed o old new rows form call clean =
-    let it = select_lists teams_mapped list_text (col 1 2 ∷ []) _ list_means o team_entry (λ (u : Unit {0}). u) (λ id vs. refl) old new rows form call clean in
-    (it.0, sym (map-map (λ (e : Text × Unit {0}). e.0) team_entry rows) ∙ ap keys (it.1 ∙ seen_as_is (of (stored old).teams o)))
+    let it = select_lists teams_mapped list_text (col 1 2 ∷ []) _ list_means o key_entry (λ (u : Unit {0}). u) (λ id vs. refl) old new rows form call clean in
+    (it.0, keys_seen rows (of (stored old).teams o) it.1)
 
 -- ---- what teams have
 

@@ -1,21 +1,9 @@
 -- What the list of a team's users shows.
-use Rattle.std.proofs.Common.{ℕ, List, [], ◌∷◌, refl, sym, ap, ◌∙◌, codes}
-use Rattle.std.proofs.lemmas.Simd.{map-map}
-use Rattle.sqlite.specs.declared.types.Value.TheVariants.{Text as Stored}
-use Rattle.sqlite_value.specs.Order.{Row}
-use Rattle.sqlite_sql.specs.Term.{col}
-use Rattle.sqlite.specs.Command.TheVariants.{Select}
+use Rattle.registry_tables.proofs.Words.{ℕ, List, [], ◌∷◌, refl, codes, Stored, col, Select, Shown, Text, pairs_of, parts, MeansQuery, scan, by_texts, in_order, select_lists_two, schema, stored}
+use Rattle.registry_tables.proofs.Words.{text_spelled, users_of, ShowsAll}
 use Rattle.sqlite.specs.Listing.{understood}
-use Rattle.sqlite.specs.State.{State as Shown}
 use Rattle.sqlite_tied.specs.Compute.{everything}
-use Rattle.registry_names.specs.Texts.{Text}
-use Rattle.registry_names.specs.Maps.{keys, pairs_of, parts}
-use Rattle.registry_rows.specs.Statements.{MeansQuery, scan, by_texts, in_order}
-use Rattle.registry_rows.proofs.LookUpFacts.{select_lists_two, seen_as_is}
-use Rattle.registry_tables.specs.Schema.{schema}
-use Rattle.registry_tables.specs.Effects.{stored}
-use Rattle.registry_tables.specs.Teams.{text_spelled, users_of}
-use Rattle.registry_tables.specs.Queries.{ShowsAll}
+use Rattle.registry_tables.proofs.FoundFacts.{key_entry, keys_seen}
 use Rattle.registry_tables.proofs.MappedFacts.{team_members_mapped}
 
 -- ---- SELECT by organisation and team
@@ -27,11 +15,7 @@ pub users_means : MeansQuery schema users_text (Select (record { lets = []; body
 unfolding understood everything
 users_means = ((refl, (refl, refl)), refl)
 
--- a user who is in the team
-abbrev user_entry : Row → Text × Unit {0}
-user_entry r = (text_spelled r, tt)
-
 pub users_listed : (o t : Text) (old new : Shown) → ShowsAll users_text (Stored o ∷ Stored t ∷ []) old new text_spelled (users_of (stored old) o t)
 users_listed o t old new rows form call clean =
-    let it = select_lists_two team_members_mapped users_text (col 1 3 ∷ []) _ users_means o t user_entry (λ (u : Unit {0}). u) (λ id vs. refl) old new rows form call clean in
-    (it.0, sym (map-map (λ (e : Text × Unit {0}). e.0) user_entry rows) ∙ ap keys (it.1 ∙ seen_as_is (parts (pairs_of (stored old).team_members o) t)))
+    let it = select_lists_two team_members_mapped users_text (col 1 3 ∷ []) _ users_means o t key_entry (λ (u : Unit {0}). u) (λ id vs. refl) old new rows form call clean in
+    (it.0, keys_seen rows (parts (pairs_of (stored old).team_members o) t) it.1)

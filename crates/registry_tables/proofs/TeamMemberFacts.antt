@@ -1,23 +1,8 @@
 -- What the statements on the members of teams make and show.
-use Rattle.std.proofs.Common.{◌≡◌, ℕ, List, [], ◌∷◌, is_some, None, Ok, refl, codes}
-use Rattle.sqlite.specs.declared.types.Value.TheVariants.{Null, Text as Stored}
-use Rattle.sqlite.specs.Command.TheVariants.{Insert, Delete, Select}
-use Rattle.sqlite.specs.Source.TheVariants.{Values}
+use Rattle.registry_tables.proofs.Words.{◌≡◌, ℕ, List, [], ◌∷◌, is_some, None, Ok, refl, codes, Stored, Delete, Select, Shown, HasCleanDisk, col, Text, at, erase, put, Wrote, Ready, Leaves, Means}
+use Rattle.registry_tables.proofs.Words.{MeansQuery, scan, by_texts, insert_values, insert_puts, insert_meets_none, delete_erases, schema, contents, stored, ShowsWhether}
 use Rattle.sqlite.specs.Listing.{understood}
-use Rattle.sqlite.specs.State.{State as Shown, HasCleanDisk}
 use Rattle.sqlite_tied.specs.Compute.{everything}
-use Rattle.sqlite_sql.specs.Term.{Term, lit, col}
-use Rattle.registry_names.specs.Texts.{Text}
-use Rattle.registry_names.specs.Maps.{at, erase, put}
-use Rattle.registry_rows.specs.Frames.{Wrote}
-use Rattle.registry_rows.specs.Ready.{Ready, Leaves}
-use Rattle.registry_rows.specs.Statements.{Means, MeansQuery, IsUncascaded, scan, by_texts}
-use Rattle.registry_rows.proofs.StatementFacts.{insert_puts, insert_meets_none, delete_erases}
-use Rattle.registry_tables.specs.Schema.{schema}
-use Rattle.registry_tables.specs.Schema as table
-use Rattle.registry_tables.specs.Contents.{contents}
-use Rattle.registry_tables.specs.Effects.{stored}
-use Rattle.registry_tables.specs.Queries.{ShowsWhether}
 use Rattle.registry_tables.proofs.FoundFacts.{there_found}
 use Rattle.registry_tables.proofs.MappedFacts.{team_members_mapped}
 
@@ -26,20 +11,17 @@ use Rattle.registry_tables.proofs.MappedFacts.{team_members_mapped}
 abbrev put_text : List ℕ
 put_text = codes "INSERT INTO team_members VALUES (?1, ?2, ?3)"
 
-abbrev put_cells : List Term
-put_cells = col 0 0 ∷ col 0 1 ∷ col 0 2 ∷ []
-
-put_means : Means schema put_text (Insert 5 (Values (lit Null ∷ put_cells) 4))
+put_means : Means schema put_text (insert_values 5 (col 0 0 ∷ col 0 1 ∷ col 0 2 ∷ []))
 unfolding understood everything
 put_means = (refl, (refl, refl))
 
 pub team_member_put : (o t u : Text) (old new : Shown) → Ready schema old → Wrote put_text (Stored o ∷ Stored t ∷ Stored u ∷ []) old new → HasCleanDisk new
     → Leaves schema contents (record (stored old) { team_members = put (stored old).team_members (o, (t, u)) tt }) new
-team_member_put o t u old new form call = insert_puts team_members_mapped put_text put_cells put_means (Stored o ∷ Stored t ∷ Stored u ∷ []) refl old new (Ok call.0) form call.1
+team_member_put o t u old new form call = insert_puts team_members_mapped put_text _ put_means (Stored o ∷ Stored t ∷ Stored u ∷ []) refl old new (Ok call.0) form call.1
 
 -- an answered INSERT had a new key
 pub team_member_was_new : (o t u : Text) (old new : Shown) → Ready schema old → Wrote put_text (Stored o ∷ Stored t ∷ Stored u ∷ []) old new → HasCleanDisk new → at (stored old).team_members (o, (t, u)) ≡ None
-team_member_was_new o t u old new form call = insert_meets_none team_members_mapped put_text put_cells put_means (Stored o ∷ Stored t ∷ Stored u ∷ []) refl old new (Ok call.0) form call.1
+team_member_was_new o t u old new form call = insert_meets_none team_members_mapped put_text _ put_means (Stored o ∷ Stored t ∷ Stored u ∷ []) refl old new (Ok call.0) form call.1
 
 -- ---- DELETE
 
@@ -51,13 +33,10 @@ unfolding understood everything
 drop_means = (refl, (refl, refl))
 
 -- nothing refers to a member of a team
-nothing_refers : IsUncascaded schema table.team_members
-unfolding everything
-nothing_refers olds = refl
-
 pub team_member_dropped : (o t u : Text) (old new : Shown) → Ready schema old → Wrote drop_text (Stored o ∷ Stored t ∷ Stored u ∷ []) old new → HasCleanDisk new
     → Leaves schema contents (record (stored old) { team_members = erase (stored old).team_members (o, (t, u)) }) new
-team_member_dropped o t u old new form call = delete_erases team_members_mapped drop_text drop_means nothing_refers (o, (t, u)) old new (Ok call.0) form call.1
+unfolding everything
+team_member_dropped o t u old new form call = delete_erases team_members_mapped drop_text drop_means (λ olds. refl) (o, (t, u)) old new (Ok call.0) form call.1
 
 -- ---- SELECT
 

@@ -1,52 +1,12 @@
 -- Who is in a team is a member: the rows of `team_members` refer to those of `members`.
-use Rattle.std.proofs.Common.{◌≡◌, [], ◌∷◌, drop, inl, inr, true, false, Option, Some, None, is_some, refl, sym, ap, ap₂, subst, ◌∙◌, codes, true≢false}
-use Rattle.std.proofs.lemmas.Bool.{and_parts}
-use Rattle.std.specs.Prelude.{IsSome}
-use Rattle.sqlite.specs.declared.types.Value.{Value}
-use Rattle.sqlite.specs.declared.types.Value.TheVariants.{Text as Stored}
-use Rattle.sqlite.specs.State.{State}
-use Rattle.sqlite_value.specs.Order.{Row, column}
-use Rattle.sqlite_value.specs.declared.keys.Collation.TheVariants.{Binary}
-use Rattle.sqlite_value.specs.Keys.{plain, first_key}
-use Rattle.sqlite_sql.specs.declared.ops.BinaryOp.TheVariants.{Compare}
-use Rattle.sqlite_sql.specs.declared.ops.CompareOp.TheVariants.{Eq}
-use Rattle.sqlite_sql.specs.Ops.{binary, is_true}
-use Rattle.sqlite_schema.specs.declared.schema.Action.TheVariants.{Cascade}
-use Rattle.sqlite_schema.specs.Rules.{agree, has_null, parent_key}
+use Rattle.registry_tables.proofs.Words.{◌≡◌, [], ◌∷◌, drop, inl, inr, true, false, Option, Some, None, is_some, refl, sym, ap, ap₂, subst, ◌∙◌, codes, true≢false, and_parts, IsSome, Stored, State}
+use Rattle.registry_tables.proofs.Words.{Row, column, plain, Cascade, agree, has_null, parent_key, all_has, has_got, Pair, Triple, Text, at, text_in, key_of, IsReady, reference, by_texts_given}
+use Rattle.registry_tables.proofs.Words.{texts_of, types_of, table_rowids, parent_of, rows_tell_by, row_parts, role_in, stored, schema, AreTeamsSound, GrantsInScope, TeamsAreOfMembers}
+use Rattle.sqlite_value.specs.Keys.{first_key}
 use Rattle.sqlite_tied.specs.Compute.{everything}
-use Rattle.sqlite_rules.proofs.ListLemmas.{all_has, has_got}
-use Rattle.registry_names.specs.Keys.{Pair, Triple}
-use Rattle.registry_names.specs.Texts.{Text}
-use Rattle.registry_names.specs.Maps.{at}
-use Rattle.registry_names.proofs.KeyFacts.{text_key, same_true}
-use Rattle.registry_rows.specs.Columns.{text_in, AreOf}
-use Rattle.registry_rows.specs.Rows.{key_of}
-use Rattle.registry_rows.specs.Ready.{IsReady}
-use Rattle.registry_rows.specs.Tables.{reference}
-use Rattle.registry_rows.proofs.KeyedFacts.{by_texts_given, texts_of, types_of}
-use Rattle.registry_rows.proofs.OneRowFacts.{table_rowids}
-use Rattle.registry_rows.proofs.ReferenceFacts.{parent_of}
-use Rattle.registry_rows.proofs.StatementFacts.{rows_tell_by}
-use Rattle.registry_rows.proofs.TextKeyFacts.{row_parts}
-use Rattle.registry_rows.proofs.TypeFacts.{text_test}
-use Rattle.registry_tables.specs.Contents.{role_in}
-use Rattle.registry_tables.specs.Effects.{stored}
 use Rattle.registry_tables.specs.Schema as table
-use Rattle.registry_tables.specs.Schema.{schema}
-use Rattle.registry_tables.specs.Teams.{AreTeamsSound, GrantsInScope, TeamsAreOfMembers}
 use Rattle.registry_tables.proofs.MappedFacts.{members_mapped, team_members_mapped}
-
--- the values of a row of `team_members`
-abbrev TeamRow : Row → Type 0
-TeamRow r = (id : Value) × (o : Text) × (t : Text) × (u : Text) × (r ≡ id ∷ Stored o ∷ Stored t ∷ Stored u ∷ [])
-
-team_values : (id : Value) (vs r : Row) → r ≡ id ∷ vs → AreOf table.team_members.columns vs → TeamRow r
-team_values id [] r e h = absurd h
-team_values id (a ∷ []) r e h = absurd h.1
-team_values id (a ∷ b ∷ []) r e h = absurd h.1.1
-team_values id (a ∷ b ∷ c ∷ []) r e h =
-    (id, h.0.0, h.1.0.0, h.1.1.0.0, e ∙ ap (λ v. id ∷ v ∷ b ∷ c ∷ []) h.0.1 ∙ ap (λ v. id ∷ Stored h.0.0 ∷ v ∷ c ∷ []) h.1.0.1 ∙ ap (λ v. id ∷ Stored h.0.0 ∷ Stored h.1.0.0 ∷ v ∷ []) h.1.1.0.1)
-team_values id (a ∷ b ∷ c ∷ d ∷ vs) r e h = absurd h.1.1.1
+use Rattle.registry_tables.proofs.ReferenceFacts.{three_texts, told}
 
 to_members : parent_key schema.tables (reference (1 ∷ 3 ∷ []) (codes "members") Cascade) ≡ Some (table.members.tree, 1 ∷ 2 ∷ [], plain)
 unfolding everything
@@ -64,7 +24,7 @@ module _ (s : State) (ready : IsReady schema s) where
       let row = (rows_tell_by (by_texts_given team_members_mapped) s ready (o, (t, u)) tt).0 (there_is _ in_team) in
       let r = row.0 in
       let cut = row_parts r (all_has _ (s.now.trees table.team_members.tree) r (table_rowids schema s 5 table.team_members ready refl).1 row.1) in
-      let values = team_values cut.0 (drop 1 r) r cut.1 (types_of team_members_mapped s ready r row.1) in
+      let values = three_texts cut.0 (drop 1 r) r cut.1 (types_of team_members_mapped s ready r row.1) in
       let a = values.1 in
       let b = values.2 in
       let d = values.3 in
@@ -82,9 +42,6 @@ module _ (s : State) (ready : IsReady schema s) where
       let key : (o, u) ≡ key_of 1 p = sym (ap (λ (k : Triple). (k.0, k.1.1)) is) ∙ ap₂ (λ (x y : Text). (x, y)) first second in
       let there = (rows_tell_by (by_texts_given members_mapped) s ready (key_of 1 p) (role_in (drop 1 p))).1 (p, parent.1, refl, refl) in
       ap (λ (q : Pair). is_some (at (stored s).members q)) key ∙ ap is_some there
-    where
-      told : (x : Text) (v : Value) → v ≡ Stored (text_in v) → is_true (binary (Compare Eq Binary) v (Stored x)) ≡ true → x ≡ text_in v
-      told x v is h = same_true text_key x (text_in v) (sym (text_test (text_in v) x) ∙ subst (λ y. is_true (binary (Compare Eq Binary) y (Stored x)) ≡ true) is h)
 
   -- so teams are sound where grants are in scope
   pub teams_sound : GrantsInScope (stored s) → AreTeamsSound (stored s)

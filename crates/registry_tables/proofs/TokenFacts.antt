@@ -1,32 +1,11 @@
 -- What the statements on tokens make and show.
-use Rattle.std.proofs.Common.{◌≡◌, ℕ, List, [], ◌∷◌, filter, None, Ok, refl, sym, ap, ◌∙◌, codes}
-use Rattle.std.proofs.lemmas.Iterator.Adapters.{option_map_id}
-use Rattle.std.proofs.lemmas.Simd.{map-map}
-use Rattle.sqlite.specs.declared.types.Value.TheVariants.{Null, Blob, Text as Stored}
-use Rattle.sqlite.specs.Command.TheVariants.{Insert, Delete, Select}
-use Rattle.sqlite.specs.Source.TheVariants.{Values}
+use Rattle.registry_tables.proofs.Words.{◌≡◌, ℕ, List, [], ◌∷◌, filter, None, Ok, refl, sym, ap, ◌∙◌, codes, option_map_id, map-map, Blob, Stored, Delete, Select, Shown, HasCleanDisk, Row, col, Text}
+use Rattle.registry_tables.proofs.Words.{is, at, put, erase, entries, keys, seen, is_sym, tokens_of, Wrote, Ready, Leaves, bytes, Means, MeansQuery, scan, select_where, by_column, by_texts}
+use Rattle.registry_tables.proofs.Words.{insert_values, by_bytes_given, insert_puts_bytes, insert_meets_none_bytes, delete_erases_by, select_finds_by, select_has_by, first_listed, schema, contents}
+use Rattle.registry_tables.proofs.Words.{registry_of, stored, blob_of_row, named_spelled, ShowsAll, ShowsFirst}
 use Rattle.sqlite.specs.Listing.{understood}
-use Rattle.sqlite.specs.State.{State as Shown, HasCleanDisk}
 use Rattle.sqlite_tied.specs.Compute.{everything}
-use Rattle.sqlite_value.specs.Order.{Row}
-use Rattle.sqlite_sql.specs.Term.{Term, lit, col}
-use Rattle.registry_names.specs.Texts.{Text, is}
-use Rattle.registry_names.specs.Maps.{at, put, erase, entries, keys, seen}
-use Rattle.registry_names.proofs.TextFacts.{is_sym}
-use Rattle.registry_rules.specs.State.{tokens_of}
-use Rattle.registry_rows.specs.Frames.{Wrote}
-use Rattle.registry_rows.specs.Ready.{Ready, Leaves}
-use Rattle.registry_rows.specs.KeyKinds.{bytes}
-use Rattle.registry_rows.specs.Statements.{Means, MeansQuery, IsUncascaded, scan, select_where, by_column, by_texts}
-use Rattle.registry_rows.proofs.KeyedFacts.{by_bytes_given}
-use Rattle.registry_rows.proofs.StatementFacts.{insert_puts_bytes, insert_meets_none_bytes, delete_erases_by}
-use Rattle.registry_rows.proofs.LookUpFacts.{select_finds_by, select_has_by, first_listed}
 use Rattle.registry_tables.specs.Schema as table
-use Rattle.registry_tables.specs.Schema.{schema}
-use Rattle.registry_tables.specs.Contents.{contents, registry_of}
-use Rattle.registry_tables.specs.Effects.{stored}
-use Rattle.registry_tables.specs.Spelled.{blob_of_row, named_spelled}
-use Rattle.registry_tables.specs.Queries.{ShowsAll, ShowsFirst}
 use Rattle.registry_tables.proofs.MappedFacts.{tokens_mapped}
 
 -- ---- INSERT
@@ -34,20 +13,17 @@ use Rattle.registry_tables.proofs.MappedFacts.{tokens_mapped}
 abbrev put_text : List ℕ
 put_text = codes "INSERT INTO tokens VALUES (?1, ?2)"
 
-abbrev put_cells : List Term
-put_cells = col 0 0 ∷ col 0 1 ∷ []
-
-put_means : Means schema put_text (Insert 1 (Values (lit Null ∷ put_cells) 3))
+put_means : Means schema put_text (insert_values 1 (col 0 0 ∷ col 0 1 ∷ []))
 unfolding understood everything
 put_means = (refl, (refl, refl))
 
 pub token_put : (digest u : Text) (old new : Shown) → Ready schema old → Wrote put_text (Blob digest ∷ Stored u ∷ []) old new → HasCleanDisk new
     → Leaves schema contents (record (stored old) { tokens = put (stored old).tokens digest u }) new
-token_put digest u old new form call = insert_puts_bytes tokens_mapped put_text put_cells put_means (Blob digest ∷ Stored u ∷ []) refl old new (Ok call.0) form call.1
+token_put digest u old new form call = insert_puts_bytes tokens_mapped put_text _ put_means (Blob digest ∷ Stored u ∷ []) refl old new (Ok call.0) form call.1
 
 -- an answered INSERT had a new key
 pub token_was_new : (digest u : Text) (old new : Shown) → Ready schema old → Wrote put_text (Blob digest ∷ Stored u ∷ []) old new → HasCleanDisk new → at (stored old).tokens digest ≡ None
-token_was_new digest u old new form call = insert_meets_none_bytes tokens_mapped put_text put_cells put_means (Blob digest ∷ Stored u ∷ []) refl old new (Ok call.0) form call.1
+token_was_new digest u old new form call = insert_meets_none_bytes tokens_mapped put_text _ put_means (Blob digest ∷ Stored u ∷ []) refl old new (Ok call.0) form call.1
 
 -- ---- DELETE
 
@@ -59,13 +35,10 @@ unfolding understood everything
 drop_means = (refl, (refl, refl))
 
 -- nothing refers to a token
-nothing_refers : IsUncascaded schema table.tokens
-unfolding everything
-nothing_refers olds = refl
-
 pub token_dropped : (digest : Text) (old new : Shown) → Ready schema old → Wrote drop_text (Blob digest ∷ []) old new → HasCleanDisk new
     → Leaves schema contents (record (stored old) { tokens = erase (stored old).tokens digest }) new
-token_dropped digest old new form call = delete_erases_by (by_bytes_given tokens_mapped) drop_text drop_means nothing_refers digest old new (Ok call.0) form call.1
+unfolding everything
+token_dropped digest old new form call = delete_erases_by (by_bytes_given tokens_mapped) drop_text drop_means (λ olds. refl) digest old new (Ok call.0) form call.1
 
 -- ---- SELECT
 

@@ -1,28 +1,11 @@
 -- What the statements on users make and show.
-use Rattle.std.proofs.Common.{◌≡◌, ◌∙◌, ℕ, List, [], ◌∷◌, ap, is_some, None, Ok, refl, sym, codes}
-use Rattle.std.proofs.lemmas.Simd.{map-map}
-use Rattle.sqlite.specs.declared.types.Value.TheVariants.{Null, Text as Stored}
-use Rattle.sqlite.specs.Command.TheVariants.{Insert, Select}
-use Rattle.sqlite.specs.Source.TheVariants.{Values}
+use Rattle.registry_tables.proofs.Words.{◌≡◌, ℕ, List, [], ◌∷◌, is_some, None, Ok, refl, codes, Stored, Select, Shown, HasCleanDisk, col, Text, at, entries, keys, put, Wrote, Ready, Leaves, Means}
+use Rattle.registry_tables.proofs.Words.{MeansQuery, scan, by_texts, in_order, select_where, insert_values, insert_puts, insert_meets_none, select_all, schema, text_spelled, contents, stored}
+use Rattle.registry_tables.proofs.Words.{ShowsAll, ShowsWhether}
 use Rattle.sqlite.specs.Listing.{understood}
-use Rattle.sqlite.specs.State.{State as Shown, HasCleanDisk}
 use Rattle.sqlite_tied.specs.Compute.{everything}
-use Rattle.sqlite_value.specs.Order.{Row}
-use Rattle.sqlite_sql.specs.Term.{Term, lit, col}
-use Rattle.registry_names.specs.Texts.{Text}
-use Rattle.registry_names.specs.Maps.{at, entries, keys, put}
-use Rattle.registry_rows.specs.Frames.{Wrote}
-use Rattle.registry_rows.specs.Ready.{Ready, Leaves}
-use Rattle.registry_rows.specs.Statements.{Means, MeansQuery, scan, by_texts, in_order, select_where}
-use Rattle.registry_rows.proofs.StatementFacts.{insert_puts, insert_meets_none}
-use Rattle.registry_rows.proofs.LookUpFacts.{select_all, seen_as_is}
 use Rattle.registry_tables.specs.Schema as table
-use Rattle.registry_tables.specs.Schema.{schema}
-use Rattle.registry_tables.specs.Teams.{text_spelled}
-use Rattle.registry_tables.specs.Contents.{contents}
-use Rattle.registry_tables.specs.Effects.{stored}
-use Rattle.registry_tables.specs.Queries.{ShowsAll, ShowsWhether}
-use Rattle.registry_tables.proofs.FoundFacts.{there_found}
+use Rattle.registry_tables.proofs.FoundFacts.{key_entry, keys_seen, there_found}
 use Rattle.registry_tables.proofs.MappedFacts.{users_mapped}
 
 -- ---- INSERT
@@ -30,20 +13,17 @@ use Rattle.registry_tables.proofs.MappedFacts.{users_mapped}
 abbrev put_text : List ℕ
 put_text = codes "INSERT INTO users VALUES (?1)"
 
-abbrev put_cells : List Term
-put_cells = col 0 0 ∷ []
-
-put_means : Means schema put_text (Insert 0 (Values (lit Null ∷ put_cells) 2))
+put_means : Means schema put_text (insert_values 0 (col 0 0 ∷ []))
 unfolding understood everything
 put_means = (refl, (refl, refl))
 
 pub user_put : (u : Text) (old new : Shown) → Ready schema old → Wrote put_text (Stored u ∷ []) old new → HasCleanDisk new
     → Leaves schema contents (record (stored old) { users = put (stored old).users u tt }) new
-user_put u old new form call = insert_puts users_mapped put_text put_cells put_means (Stored u ∷ []) refl old new (Ok call.0) form call.1
+user_put u old new form call = insert_puts users_mapped put_text _ put_means (Stored u ∷ []) refl old new (Ok call.0) form call.1
 
 -- an answered INSERT had a new key
 pub user_was_new : (u : Text) (old new : Shown) → Ready schema old → Wrote put_text (Stored u ∷ []) old new → HasCleanDisk new → at (stored old).users u ≡ None
-user_was_new u old new form call = insert_meets_none users_mapped put_text put_cells put_means (Stored u ∷ []) refl old new (Ok call.0) form call.1
+user_was_new u old new form call = insert_meets_none users_mapped put_text _ put_means (Stored u ∷ []) refl old new (Ok call.0) form call.1
 
 -- ---- SELECT
 
@@ -64,11 +44,7 @@ pub list_means : MeansQuery schema list_text (select_where table.users (col 1 1 
 unfolding understood everything
 list_means = ((refl, (refl, refl)), refl)
 
--- a user who is there
-abbrev user_entry : Row → Text × Unit {0}
-user_entry r = (text_spelled r, tt)
-
 pub users_listed : (old new : Shown) → ShowsAll list_text [] old new text_spelled (keys (entries (stored old).users))
 users_listed old new rows form call clean =
-    let it = select_all users_mapped list_text (col 1 1 ∷ []) _ list_means user_entry (λ (u : Unit {0}). u) (λ id vs. refl) old new rows form call clean in
-    (it.0, sym (map-map (λ (e : Text × Unit {0}). e.0) user_entry rows) ∙ ap keys (it.1 ∙ seen_as_is (entries (stored old).users)))
+    let it = select_all users_mapped list_text (col 1 1 ∷ []) _ list_means key_entry (λ (u : Unit {0}). u) (λ id vs. refl) old new rows form call clean in
+    (it.0, keys_seen rows (entries (stored old).users) it.1)

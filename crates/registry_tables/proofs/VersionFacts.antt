@@ -1,32 +1,12 @@
 -- What the statements on versions make and show.
-use Rattle.std.proofs.Common.{◌≡◌, ℕ, List, [], ◌∷◌, pos, map, is_some, option_map, Option, None, Some, Ok, refl, sym, ap, ◌∙◌, codes}
-use Rattle.std.proofs.lemmas.Simd.{map-map}
-use Rattle.sqlite.specs.declared.types.Value.TheVariants.{Null, Int, Text as Stored, Blob}
-use Rattle.sqlite.specs.Command.TheVariants.{Insert, Update, Select}
-use Rattle.sqlite.specs.Source.TheVariants.{Values}
+use Rattle.registry_tables.proofs.Words.{◌≡◌, ℕ, List, [], ◌∷◌, pos, map, is_some, option_map, None, Some, Ok, refl, sym, ap, ◌∙◌, codes, map-map, Int, Stored, Blob, Select, Shown, HasCleanDisk}
+use Rattle.registry_tables.proofs.Words.{column, Term, lit, col, Text, text_in, Wrote, Ready, Leaves, schema, LiveVersion, as_release, contents, live_of, registry_of, stored, at, keys, of, put, seen}
+use Rattle.registry_tables.proofs.Words.{has_live, live_versions, published_at, Means, MeansQuery, scan, first_of, by_texts, in_order, insert_values, update_where, insert_puts, insert_meets_none}
+use Rattle.registry_tables.proofs.Words.{update_revises, select_finds, select_lists, select_lists_first, first_listed, text_spelled, with_message, seconds_of, held_spelled, number_spelled, document}
+use Rattle.registry_tables.proofs.Words.{document_spelled, published, row_spelled, time_spelled, version_spelled, ShowsAll, ShowsFirst, ShowsWhether}
 use Rattle.sqlite.specs.Listing.{understood}
-use Rattle.sqlite.specs.State.{State as Shown, HasCleanDisk}
 use Rattle.sqlite_tied.specs.Compute.{everything}
-use Rattle.sqlite_value.specs.Order.{column}
-use Rattle.sqlite_sql.specs.Term.{Term, lit, col}
-use Rattle.registry_names.specs.Texts.{Text}
-use Rattle.registry_rows.specs.Columns.{text_in}
-use Rattle.registry_rows.specs.Frames.{Wrote}
-use Rattle.registry_rows.specs.Ready.{Ready, Leaves}
-use Rattle.registry_tables.specs.Schema.{schema}
-use Rattle.registry_tables.specs.Contents.{LiveVersion, as_release, contents, live_of, registry_of}
-use Rattle.registry_tables.specs.Effects.{stored}
-use Rattle.registry_names.specs.Maps.{at, keys, of, put, seen}
-use Rattle.registry_rules.specs.State.{has_live}
-use Rattle.registry_rules.specs.Withdrawals.{live_versions, published_at}
-use Rattle.registry_rows.specs.Statements.{Means, MeansQuery, scan, first_of, by_texts, in_order, set_terms}
-use Rattle.registry_rows.proofs.StatementFacts.{insert_puts, insert_meets_none, update_revises}
-use Rattle.registry_rows.proofs.LookUpFacts.{select_finds, select_lists, select_lists_first, first_listed}
-use Rattle.registry_tables.specs.Teams.{text_spelled}
-use Rattle.registry_tables.specs.Withdrawals.{with_message}
-use Rattle.registry_tables.specs.Numbers.{seconds_of}
-use Rattle.registry_tables.specs.Spelled.{held_spelled, number_spelled, document, document_spelled, published, row_spelled, time_spelled, version_spelled}
-use Rattle.registry_tables.specs.Queries.{ShowsAll, ShowsFirst, ShowsWhether}
+use Rattle.registry_tables.specs.Schema as table
 use Rattle.registry_tables.proofs.FoundFacts.{some_found, some_seen}
 use Rattle.registry_tables.proofs.LiveFacts.{document_as_row, documents_as_rows, lives_as_row, lives_as_rows, published_as_row, first_shown, times_as_rows, versions_as_rows}
 use Rattle.registry_tables.proofs.MappedFacts.{versions_mapped}
@@ -37,22 +17,19 @@ use Rattle.registry_tables.proofs.NumberFacts.{as_seconds}
 abbrev put_text : List ℕ
 put_text = codes "INSERT INTO versions VALUES (?1, ?2, ?3, ?4, '', x'')"
 
-abbrev put_cells : List Term
-put_cells = col 0 0 ∷ col 0 1 ∷ col 0 2 ∷ col 0 3 ∷ lit (Stored []) ∷ lit (Blob []) ∷ []
-
-put_means : Means schema put_text (Insert 9 (Values (lit Null ∷ put_cells) 7))
+put_means : Means schema put_text (insert_values 9 (col 0 0 ∷ col 0 1 ∷ col 0 2 ∷ col 0 3 ∷ lit (Stored []) ∷ lit (Blob []) ∷ []))
 unfolding understood everything
 put_means = (refl, (refl, refl))
 
 pub version_inserted : (p v : Text) (published : ℕ) (manifest : Text) (old new : Shown) → Ready schema old
     → Wrote put_text (Stored p ∷ Stored v ∷ Int (pos published) ∷ Stored manifest ∷ []) old new → HasCleanDisk new
     → Leaves schema contents (record (stored old) { versions = put (stored old).versions (p, v) (record { published = pos published; manifest = manifest; archive = []; message = [] }) }) new
-version_inserted p v published manifest old new form call = insert_puts versions_mapped put_text put_cells put_means (Stored p ∷ Stored v ∷ Int (pos published) ∷ Stored manifest ∷ []) refl old new (Ok call.0) form call.1
+version_inserted p v published manifest old new form call = insert_puts versions_mapped put_text _ put_means (Stored p ∷ Stored v ∷ Int (pos published) ∷ Stored manifest ∷ []) refl old new (Ok call.0) form call.1
 
 -- an answered INSERT had a new key
 pub version_is_new : (p v : Text) (published : ℕ) (manifest : Text) (old new : Shown) → Ready schema old
     → Wrote put_text (Stored p ∷ Stored v ∷ Int (pos published) ∷ Stored manifest ∷ []) old new → HasCleanDisk new → at (stored old).versions (p, v) ≡ None
-version_is_new p v published manifest old new form call = insert_meets_none versions_mapped put_text put_cells put_means (Stored p ∷ Stored v ∷ Int (pos published) ∷ Stored manifest ∷ []) refl old new (Ok call.0) form call.1
+version_is_new p v published manifest old new form call = insert_meets_none versions_mapped put_text _ put_means (Stored p ∷ Stored v ∷ Int (pos published) ∷ Stored manifest ∷ []) refl old new (Ok call.0) form call.1
 
 -- ---- UPDATE
 
@@ -60,17 +37,14 @@ abbrev set_text : List ℕ
 set_text = codes "UPDATE versions SET deprecated = ?3 WHERE package = ?1 AND version = ?2"
 
 -- all stays but the message, which is the third parameter
-abbrev sets : List (Option ℕ)
-sets = None ∷ None ∷ None ∷ None ∷ Some 2 ∷ None ∷ []
-
-set_means : Means schema set_text (Update 9 (record { lets = []; body = scan 18 (by_texts 1 1 0) (col 1 0 ∷ col 1 0 ∷ set_terms 1 sets) [] }))
+set_means : Means schema set_text (update_where 9 table.versions (None ∷ None ∷ None ∷ None ∷ Some 2 ∷ None ∷ []) (by_texts 1 1 0))
 unfolding understood everything
 set_means = (refl, (refl, refl))
 
 pub message_set : (p v message : Text) (old new : Shown) → Ready schema old → Wrote set_text (Stored p ∷ Stored v ∷ Stored message ∷ []) old new → HasCleanDisk new
     → Leaves schema contents (record (stored old) { versions = with_message (stored old).versions (p, v) message }) new
 message_set p v message old new form call =
-    update_revises versions_mapped set_text sets set_means refl (p, v) (Stored message ∷ []) refl (λ (r : LiveVersion). record r { message = message }) (λ vs. refl) (λ vs. refl) old new (Ok call.0) form call.1
+    update_revises versions_mapped set_text (None ∷ None ∷ None ∷ None ∷ Some 2 ∷ None ∷ []) set_means refl (p, v) (Stored message ∷ []) refl (λ (r : LiveVersion). record r { message = message }) (λ vs. refl) (λ vs. refl) old new (Ok call.0) form call.1
 
 -- ---- SELECT by package and version
 
@@ -123,33 +97,27 @@ versions_listed p old new rows form call clean =
 abbrev times_text : List ℕ
 times_text = codes "SELECT version, published FROM versions WHERE package = ?1 ORDER BY version"
 
-abbrev times_columns : List Term
-times_columns = col 1 2 ∷ col 1 3 ∷ []
-
-pub times_means : MeansQuery schema times_text (Select (record { lets = []; body = scan 18 (by_texts 0 1 0) times_columns (in_order 0 2) }) (codes "version" ∷ codes "published" ∷ []))
+pub times_means : MeansQuery schema times_text (Select (record { lets = []; body = scan 18 (by_texts 0 1 0) (col 1 2 ∷ col 1 3 ∷ []) (in_order 0 2) }) (codes "version" ∷ codes "published" ∷ []))
 unfolding understood everything
 times_means = ((refl, (refl, refl)), refl)
 
 -- the rows show when each live version was published
 pub times_listed : (p : Text) (old new : Shown) → ShowsAll times_text (Stored p ∷ []) old new time_spelled (map (seen published) (of (live_of (stored old)) p))
 times_listed p old new rows form call clean =
-    let it = select_lists versions_mapped times_text times_columns _ times_means p time_spelled (λ (r : LiveVersion). published (as_release r)) (λ id vs. ap (λ (n : ℕ). (text_in (column vs 1), n)) (as_seconds (column vs 2))) old new rows form call clean in
+    let it = select_lists versions_mapped times_text _ _ times_means p time_spelled (λ (r : LiveVersion). published (as_release r)) (λ id vs. ap (λ (n : ℕ). (text_in (column vs 1), n)) (as_seconds (column vs 2))) old new rows form call clean in
     (it.0, it.1 ∙ sym (times_as_rows (stored old) p))
 
 abbrev live_text : List ℕ
 live_text = codes "SELECT version FROM versions WHERE package = ?1 ORDER BY version"
 
-abbrev live_columns : List Term
-live_columns = col 1 2 ∷ []
-
-pub live_means : MeansQuery schema live_text (Select (record { lets = []; body = scan 18 (by_texts 0 1 0) live_columns (in_order 0 2) }) (codes "version" ∷ []))
+pub live_means : MeansQuery schema live_text (Select (record { lets = []; body = scan 18 (by_texts 0 1 0) (col 1 2 ∷ []) (in_order 0 2) }) (codes "version" ∷ []))
 unfolding understood everything
 live_means = ((refl, (refl, refl)), refl)
 
 -- the rows show which versions of the package live
 pub live_listed : (p : Text) (old new : Shown) → ShowsAll live_text (Stored p ∷ []) old new text_spelled (live_versions (registry_of (stored old)) p)
 live_listed p old new rows form call clean =
-    let it = select_lists versions_mapped live_text live_columns _ live_means p version_spelled (λ (r : LiveVersion). tt) (λ id vs. refl) old new rows form call clean in (
+    let it = select_lists versions_mapped live_text _ _ live_means p version_spelled (λ (r : LiveVersion). tt) (λ id vs. refl) old new rows form call clean in (
       it.0,
       sym (map-map (λ (e : Text × Unit {0}). e.0) version_spelled rows) ∙ ap keys it.1
           ∙ map-map (λ (e : Text × Unit {0}). e.0) (seen (λ (r : LiveVersion). tt)) (of (stored old).versions p) ∙ sym (versions_as_rows (stored old) p),

@@ -1,31 +1,16 @@
 -- What the rows of a walk are.
-use Rattle.std.proofs.Common.{◌≡◌, ◌⊎◌, ◌∙◌, List, [], ◌∷◌, ◌++◌, false, map, refl, sym, ap, subst, codes, IsTrue, Option, Result, Ok, Err, arith, inl, inr}
-use Rattle.std.proofs.lemmas.List.{map-append}
-use Rattle.std.specs.Borrow.{Bor}
-use Rattle.sqlite.specs.Command.TheVariants.{Select}
+use Rattle.registry_tables.proofs.Words.{◌≡◌, ◌⊎◌, ◌∙◌, List, [], ◌∷◌, ◌++◌, false, map, refl, sym, ap, subst, codes, IsTrue, arith, inl, inr, map-append, Select, Database, understood, State}
+use Rattle.registry_tables.proofs.Words.{HasCleanDisk, IsRolledBack, IsUnchanged, Survives, IsStatement, CommitsShowing, FailsToShow, Stored, IsPlain, begins_shown, EndsIn, command_of, given_begin}
+use Rattle.registry_tables.proofs.Words.{begun_plain, never_commits, Ghosts, Row, Text, ready_same, Ready, scan, by_texts, in_order, schema, row_entry, row_spelled, walk_text, documents_of}
+use Rattle.registry_tables.proofs.Words.{row_of_entry, HasWalked, IsLeftAlone}
 use Rattle.sqlite.specs.Clock.{timed}
-use Rattle.sqlite.specs.Effect.{Database}
 use Rattle.sqlite.specs.Given.{HasBegun}
 use Rattle.sqlite.specs.Held.{Held, state}
-use Rattle.sqlite.specs.Listing.{understood}
-use Rattle.sqlite.specs.Next.{HasMoved}
-use Rattle.sqlite.specs.State.{State, HasCleanDisk, IsNotRun, IsRolledBack, IsUnchanged, Survives, Shown, IsStatement, CommitsShowing, FailsToQuery, FailsToShow}
+use Rattle.sqlite.specs.State.{IsNotRun, Shown, FailsToQuery}
 use Rattle.sqlite.specs.declared.error.Error.{Error}
-use Rattle.sqlite.specs.declared.rows.stream.Rows.{Rows}
-use Rattle.sqlite.specs.declared.types.Value.TheVariants.{Text as Stored}
-use Rattle.sqlite.proofs.Callers.{IsPlain, begins_shown, EndsIn, command_of, given_begin, begun_plain, never_commits}
 use Rattle.sqlite.proofs.StateLemmas.{survives_weaker, unchanged}
 use Rattle.sqlite_resolve.specs.declared.compiled.Compiled.{Compiled}
-use Rattle.sqlite_trees.specs.declared.store.Store.{Ghosts}
-use Rattle.sqlite_value.specs.Order.{Row}
-use Rattle.registry_names.specs.Texts.{Text}
-use Rattle.registry_rows.proofs.QueryFacts.{ready_same}
-use Rattle.registry_rows.specs.Ready.{Ready}
-use Rattle.registry_rows.specs.Statements.{scan, by_texts, in_order}
-use Rattle.registry_tables.specs.Schema.{schema}
-use Rattle.registry_tables.specs.Spelled.{row_entry, row_spelled}
 use Rattle.registry_tables.specs.WalkLaws.{left_itself}
-use Rattle.registry_tables.specs.Walks.{walk_text, documents_of, row_of_entry, HasWalked, IsLeftAlone}
 use Rattle.registry_tables.proofs.VersionFacts.{list_columns, list_means, versions_listed}
 
 -- the text is plain in our schema
@@ -117,8 +102,3 @@ refused_leaves p old new e form unshut s idle failed =
     left_by old new quiet idle (λ clean.
     let was : HasCleanDisk old = omega (arith, quiet.clean, clean) in
     failed_walk p old new e (plain_in old (form was (unshut was)).schema_is) (failed clean))
-
--- a step of a walk leaves its connection alone
-pub step_leaves : {S : Type 0} (g : Ghosts S) (old new : Rows S g) (r : Result (Option (Bor Row)) Error) → HasMoved g old r new → IsLeftAlone (state g old.conn.now) (state g new.conn.now)
-step_leaves g old new (Ok row) moved = left_by (state g old.conn.now) (state g new.conn.now) moved.survives moved.mode (λ clean. inl (moved.same clean))
-step_leaves g old new (Err e) moved = left_by (state g old.conn.now) (state g new.conn.now) moved.survives moved.mode (λ clean. elim (moved.kept clean) [ inl fails ↦ inr fails.3 | inr same ↦ inl same ])

@@ -1,26 +1,17 @@
 -- What a walk has left.
-use Rattle.std.proofs.Common.{◌≡◌, ◌≤◌, ◌∙◌, ℕ, ◌+◌, List, [], ◌∷◌, ◌++◌, map, length, drop, refl, sym, ap, IsTrue, arith, false, inl, Some, None, Result, Ok, Err, IfOk, OnErr}
+use Rattle.registry_tables.proofs.Words.{◌≡◌, ◌≤◌, ◌∙◌, ℕ, ◌+◌, List, [], ◌∷◌, ◌++◌, map, length, drop, refl, sym, ap, IsTrue, arith, false, inl, Some, None, Result, Ok, Err, IfOk, OnErr, map-append}
+use Rattle.registry_tables.proofs.Words.{drop_all, length-append, length-map, Database, HasCleanDisk, IsUnchanged, Survives, CommitsShowing, Stored, Ghosts, of, seen, Text, Ready, contents, live_of}
+use Rattle.registry_tables.proofs.Words.{schema, document, row_entry, row_spelled, walk_text, documents_of, row_of_entry, rows_after, Begins, IsAt, IsGoing, IsLeftAlone, Steps, shown_by}
 use Rattle.std.proofs.Math.Logic.{∥∥₁_elim, ∥∥₁_map}
-use Rattle.std.proofs.lemmas.List.{map-append, append_assoc, drop_all, length-append, length-map}
+use Rattle.std.proofs.lemmas.List.{append_assoc}
 use lib.Seq.{drop_at}
 use base.Stored.{Coded-set}
 use Rattle.std.specs.Coded.{coded×, coded_ℕ, coded_list}
-use Rattle.sqlite.specs.Effect.{Database}
 use Rattle.sqlite.specs.Given.{HasBegun, IsRefused}
 use Rattle.sqlite.specs.Held.{Held, state}
-use Rattle.sqlite.specs.State.{HasCleanDisk, IsUnchanged, Survives, CommitsShowing}
 use Rattle.sqlite.specs.declared.error.Error.{Error}
 use Rattle.sqlite.specs.declared.rows.stream.Rows.{Rows}
-use Rattle.sqlite.specs.declared.types.Value.TheVariants.{Text as Stored}
-use Rattle.sqlite_trees.specs.declared.store.Store.{Ghosts}
-use Rattle.registry_names.specs.Maps.{of, seen}
-use Rattle.registry_names.specs.Texts.{Text}
 use Rattle.registry_packument.specs.declared.packument.VersionRow.{VersionRow}
-use Rattle.registry_rows.specs.Ready.{Ready}
-use Rattle.registry_tables.specs.Contents.{contents, live_of}
-use Rattle.registry_tables.specs.Schema.{schema}
-use Rattle.registry_tables.specs.Spelled.{document, row_entry, row_spelled}
-use Rattle.registry_tables.specs.Walks.{walk_text, documents_of, row_of_entry, rows_after, Begins, IsAt, IsGoing, IsLeftAlone, Steps, shown_by}
 use Rattle.registry_tables.specs.declared.walk.stage.Stage.TheVariants.{Goes, Over}
 use Rattle.registry_tables.proofs.WalkFacts.{begun_walk, commits_nothing, left_by, ready_still, refused_leaves, walked_first, shown_all}
 
@@ -30,9 +21,6 @@ entries_set = Coded-set (coded_list (coded× (coded_list coded_ℕ) (coded× (co
 -- what lives where nothing has changed
 same_documents : (p : Text) (d e : Database) → e ≡ d → map (seen document) (of (live_of (contents e.trees)) p) ≡ map (seen document) (of (live_of (contents d.trees)) p)
 same_documents p d e same = ap (λ (d : Database). map (seen document) (of (live_of (contents d.trees)) p)) same
-
-pub same_rows : {S : Type 0} (g : Ghosts S) (p : Text) (old new : Held S) (n : ℕ) → IsUnchanged (state g old) (state g new) → rows_after (state g new) p n ≡ rows_after (state g old) p n
-same_rows g p old new n same = ap (λ es. map row_of_entry (drop n es)) (same_documents p (state g old).now (state g new).now same.0.now_is)
 
 -- a walk begins before the first version
 starts : {S : Type 0} (g : Ghosts S) (p : Text) (old new : Held S) → Ready schema (state g old) → (HasCleanDisk (state g old) → IsTrue (state g old).is_open)

@@ -1,36 +1,14 @@
 -- What the statements make that withdraw a version, and what goes with its row.
-use Rattle.std.proofs.Common.{◌≡◌, ◌==◌, ℕ, ℤ, List, [], ◌∷◌, pos, map, filter, length, not, ◌||◌, Bool, true, false, cond, arith, ne_eqb, true≢false, None, Some, is_some, Ok, refl, sym, ap, ◌∙◌, codes}
-use Rattle.std.specs.Ordering.{int_eq}
-use Rattle.sqlite.specs.declared.types.Value.TheVariants.{Null, Int, Text as Stored}
-use Rattle.sqlite.specs.Command.TheVariants.{Insert, Delete}
-use Rattle.sqlite.specs.Source.TheVariants.{Values}
+use Rattle.registry_tables.proofs.Words.{◌≡◌, ℕ, ℤ, List, [], ◌∷◌, pos, not, true, false, true≢false, None, Some, is_some, Ok, refl, sym, ap, ◌∙◌, codes, int_eq, Int, Stored, Delete, Shown}
+use Rattle.registry_tables.proofs.Words.{HasCleanDisk, col, Text, pair_is, at, put, erase, keep, pair_key, at-erase_same, Wrote, numbers, Ready, Leaves, Means, MeansQuery, delete_where, select_first}
+use Rattle.registry_tables.proofs.Words.{scan, by_column, by_texts, insert_values, by_number_given, by_texts_given, insert_puts, insert_meets_none, delete_erases_by, IsUntagged, Contents, contents}
+use Rattle.registry_tables.proofs.Words.{stored, schema, is_held, without_rows, ShowsWhether}
 use Rattle.sqlite.specs.Listing.{understood}
-use Rattle.sqlite.specs.State.{State as Shown, HasCleanDisk}
-use Rattle.sqlite_sql.specs.Term.{Term, lit, col}
 use Rattle.sqlite_tied.specs.Compute.{everything}
-use Rattle.sqlite_value.specs.Order.{Row, column}
-use Rattle.registry_names.specs.Texts.{Text}
-use Rattle.registry_names.specs.Keys.{Pair, pair_is}
-use Rattle.registry_names.specs.Maps.{at, put, erase, keep}
 use Rattle.registry_names.proofs.ChangeFacts.{keep_but}
-use Rattle.registry_names.proofs.KeyFacts.{pair_key}
-use Rattle.registry_names.proofs.MapFacts.{at-erase_same}
-use Rattle.registry_rows.specs.Columns.{text_in}
-use Rattle.registry_rows.specs.Frames.{Wrote}
-use Rattle.registry_rows.specs.KeyKinds.{numbers}
-use Rattle.registry_rows.specs.Ready.{Ready, Leaves}
-use Rattle.registry_rows.specs.Statements.{Means, MeansQuery, IsUncascaded, delete_where, select_first, scan, by_column, by_texts}
-use Rattle.registry_rows.proofs.KeyedFacts.{by_number_given, by_texts_given}
-use Rattle.registry_rows.proofs.StatementFacts.{insert_puts, insert_meets_none, delete_erases_by}
 use Rattle.registry_laws_sql.specs.Cascades.{Child, IsChild, HasChildren, links, link_of}
 use Rattle.registry_laws_sql.proofs.CascadeFacts.{mapped_child, delete_cascades}
-use Rattle.registry_tables.specs.Changes.{IsUntagged}
-use Rattle.registry_tables.specs.Contents.{Contents, contents}
-use Rattle.registry_tables.specs.Effects.{stored}
 use Rattle.registry_tables.specs.Schema as table
-use Rattle.registry_tables.specs.Schema.{schema}
-use Rattle.registry_tables.specs.Withdrawals.{is_held, without_rows}
-use Rattle.registry_tables.specs.Queries.{ShowsWhether}
 use Rattle.registry_tables.proofs.MappedFacts.{archives_numbered, held_mapped, need_ranges_mapped, needs_mapped, spent_mapped, versions_mapped}
 use Rattle.registry_tables.proofs.ReferenceFacts.{named_lives}
 use Rattle.registry_tables.proofs.SomeFacts.{select_some_by}
@@ -102,13 +80,10 @@ unfolding understood everything
 archive_means = (refl, (refl, refl))
 
 -- nothing goes with an archive: a version that has it keeps it there
-nothing_goes : IsUncascaded schema table.archives
-unfolding everything
-nothing_goes olds = refl
-
 pub archive_dropped : (n : ℤ) (old new : Shown) → Ready schema old → Wrote archive_text (Int n ∷ []) old new → HasCleanDisk new
     → Leaves schema contents (record (stored old) { archives = erase (stored old).archives n }) new
-archive_dropped n old new form call = delete_erases_by (by_number_given archives_numbered) archive_text archive_means nothing_goes n old new (Ok call.0) form call.1
+unfolding everything
+archive_dropped n old new form call = delete_erases_by (by_number_given archives_numbered) archive_text archive_means (λ olds. refl) n old new (Ok call.0) form call.1
 
 abbrev holders_text : List ℕ
 holders_text = codes "SELECT package FROM held WHERE archive = ?1 LIMIT 1"
@@ -125,18 +100,15 @@ archive_had n = select_some_by (by_texts_given held_mapped) 2 (Int n) refl (λ (
 abbrev put_text : List ℕ
 put_text = codes "INSERT INTO spent VALUES (?1, ?2, ?3, ?4)"
 
-abbrev put_cells : List Term
-put_cells = col 0 0 ∷ col 0 1 ∷ col 0 2 ∷ col 0 3 ∷ []
-
-put_means : Means schema put_text (Insert 10 (Values (lit Null ∷ put_cells) 5))
+put_means : Means schema put_text (insert_values 10 (col 0 0 ∷ col 0 1 ∷ col 0 2 ∷ col 0 3 ∷ []))
 unfolding understood everything
 put_means = (refl, (refl, refl))
 
 pub withdrawal_put : (p v : Text) (published withdrawn : ℕ) (old new : Shown) → Ready schema old
     → Wrote put_text (Stored p ∷ Stored v ∷ Int (pos published) ∷ Int (pos withdrawn) ∷ []) old new → HasCleanDisk new
     → Leaves schema contents (record (stored old) { spent = put (stored old).spent (p, v) (record { published = pos published; withdrawn = pos withdrawn }) }) new
-withdrawal_put p v published withdrawn old new form call = insert_puts spent_mapped put_text put_cells put_means (Stored p ∷ Stored v ∷ Int (pos published) ∷ Int (pos withdrawn) ∷ []) refl old new (Ok call.0) form call.1
+withdrawal_put p v published withdrawn old new form call = insert_puts spent_mapped put_text _ put_means (Stored p ∷ Stored v ∷ Int (pos published) ∷ Int (pos withdrawn) ∷ []) refl old new (Ok call.0) form call.1
 
 -- an answered INSERT had a new key
 pub withdrawal_was_new : (p v : Text) (published withdrawn : ℕ) (old new : Shown) → Ready schema old → Wrote put_text (Stored p ∷ Stored v ∷ Int (pos published) ∷ Int (pos withdrawn) ∷ []) old new → HasCleanDisk new → at (stored old).spent (p, v) ≡ None
-withdrawal_was_new p v published withdrawn old new form call = insert_meets_none spent_mapped put_text put_cells put_means (Stored p ∷ Stored v ∷ Int (pos published) ∷ Int (pos withdrawn) ∷ []) refl old new (Ok call.0) form call.1
+withdrawal_was_new p v published withdrawn old new form call = insert_meets_none spent_mapped put_text _ put_means (Stored p ∷ Stored v ∷ Int (pos published) ∷ Int (pos withdrawn) ∷ []) refl old new (Ok call.0) form call.1

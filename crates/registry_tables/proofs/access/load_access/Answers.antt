@@ -1,10 +1,6 @@
-use Rattle.std.proofs.Common.{◌∙◌, arith, ap, refl}
-use Rattle.sqlite.specs.Effect.{Database}
-use Rattle.sqlite.specs.State.{HasCleanDisk}
+use Rattle.registry_tables.proofs.Words.{◌∙◌, arith, ap, refl, Database, HasCleanDisk, access_of, contents, shown}
 use Rattle.registry_access.specs.Callers.{role_of}
 use Rattle.registry_access.specs.declared.rows.AccessRows.{AccessRows}
-use Rattle.registry_tables.specs.Contents.{access_of, contents}
-use Rattle.registry_tables.specs.Effects.{shown}
 use Rattle.registry_tables.proofs.EffectFacts.{reads_as_before}
 use Rattle.registry_tables.proofs.access.load_access.Goals as goal
 

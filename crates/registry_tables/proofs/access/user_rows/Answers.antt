@@ -1,5 +1,4 @@
-use Rattle.std.proofs.Common.{◌∙◌, sym}
-use Rattle.std.proofs.lemmas.Result.{IfOk-weaker}
+use Rattle.registry_tables.proofs.Words.{◌∙◌, sym, IfOk-weaker}
 use Rattle.registry_tables.proofs.AccessFacts.{member_is, member_isnt}
 use Rattle.registry_tables.proofs.access.user_rows.Goals as goal
 

@@ -1,6 +1,4 @@
-use Rattle.std.proofs.Common.{SFits, w64, rules, ◌∙◌}
-use Rattle.std.proofs.lemmas.Int.{to_z-of_z}
-use Rattle.registry_tables.specs.Effects.{shown}
+use Rattle.registry_tables.proofs.Words.{SFits, w64, rules, ◌∙◌, to_z-of_z, shown}
 use Rattle.registry_tables.proofs.ArchiveFacts.{archive_put}
 use Rattle.registry_tables.proofs.archives.add.Goals as goal
 

@@ -1,7 +1,4 @@
-use Rattle.std.proofs.Common.{◌∙◌, ap, map}
-use Rattle.std.proofs.lemmas.Result.{IfOk-weaker}
-use Rattle.registry_tables.specs.Effects.{shown}
-use Rattle.registry_tables.specs.Spelled.{archive_spelled, number_among}
+use Rattle.registry_tables.proofs.Words.{◌∙◌, ap, map, IfOk-weaker, shown, archive_spelled, number_among}
 use Rattle.registry_tables.proofs.ArchiveFacts.{archive_listed, list_means}
 use Rattle.registry_tables.proofs.QueryFacts.{is_query}
 use Rattle.registry_tables.proofs.archives.find_number.Goals as goal

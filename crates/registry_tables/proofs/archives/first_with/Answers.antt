@@ -1,4 +1,4 @@
-use Rattle.std.proofs.Common.{◌∙◌, sym}
+use Rattle.registry_tables.proofs.Words.{◌∙◌, sym}
 use Rattle.registry_tables.proofs.ArchiveFacts.{among_next}
 use Rattle.registry_tables.proofs.archives.first_with.Goals as goal
 

@@ -1,5 +1,4 @@
-use Rattle.std.proofs.Common.{◌≡◌, drop, map}
-use Rattle.registry_tables.specs.Spelled.{archive_spelled, number_among}
+use Rattle.registry_tables.proofs.Words.{◌≡◌, drop, map, archive_spelled, number_among}
 use Rattle.registry_tables.proofs.archives.first_with.Given as goal
 
 -- none of the archives so far has the bytes

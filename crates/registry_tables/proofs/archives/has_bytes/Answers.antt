@@ -1,7 +1,5 @@
-use Rattle.std.proofs.Common.{◌∙◌, ap}
-use Rattle.sqlite.specs.declared.types.Value.{Value}
+use Rattle.registry_tables.proofs.Words.{◌∙◌, ap, Value, blob_in}
 use Rattle.registry_names.specs.Texts.{is}
-use Rattle.registry_rows.specs.Columns.{blob_in}
 use Rattle.registry_tables.proofs.archives.has_bytes.Goals as goal
 
 pub returns-in-Ok-Blob : goal.returns-in-Ok-Blob

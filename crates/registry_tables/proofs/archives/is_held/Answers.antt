@@ -1,5 +1,4 @@
-use Rattle.std.proofs.Common.{SFits, w64, rules}
-use Rattle.std.proofs.lemmas.Int.{to_z-of_z}
+use Rattle.registry_tables.proofs.Words.{SFits, w64, rules, to_z-of_z}
 use Rattle.registry_tables.proofs.QueryFacts.{is_query}
 use Rattle.registry_tables.proofs.WithdrawalFacts.{archive_had, holders_means}
 use Rattle.registry_tables.proofs.archives.is_held.Goals as goal

@@ -1,12 +1,4 @@
-use Rattle.std.proofs.lemmas.Int.{to_z-of_z}
-use Rattle.std.proofs.Common.{SFits, w64, rules, ◌∙◌, ap, arith, option_map, sym}
-use Rattle.sqlite.specs.Effect.{Database}
-use Rattle.sqlite.specs.State.{HasCleanDisk}
-use Rattle.registry_names.specs.Maps.{at}
-use Rattle.registry_rows.proofs.QuietFacts.{reads_then}
-use Rattle.registry_tables.specs.Contents.{Archive, contents}
-use Rattle.registry_tables.specs.Effects.{shown}
-use Rattle.registry_tables.specs.Schema.{schema}
+use Rattle.registry_tables.proofs.Words.{to_z-of_z, SFits, w64, rules, ◌∙◌, ap, arith, option_map, sym, Database, HasCleanDisk, at, reads_then, Archive, contents, shown, schema}
 use Rattle.registry_tables.proofs.ReferenceFacts.{version_there}
 use Rattle.registry_tables.proofs.LiveFacts.{archive_of_held}
 use Rattle.registry_tables.proofs.archives.load_archive.Goals as goal

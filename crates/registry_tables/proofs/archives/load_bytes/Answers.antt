@@ -1,8 +1,4 @@
-use Rattle.std.proofs.Common.{SFits, w64, rules, ◌∙◌, option_map, sym}
-use Rattle.std.proofs.lemmas.Int.{to_z-of_z}
-use Rattle.std.proofs.lemmas.Iterator.Adapters.{option_map_id}
-use Rattle.registry_names.specs.Maps.{at}
-use Rattle.registry_tables.specs.Effects.{stored_in}
+use Rattle.registry_tables.proofs.Words.{SFits, w64, rules, ◌∙◌, option_map, sym, to_z-of_z, option_map_id, at, stored_in}
 use Rattle.registry_tables.proofs.ArchiveFacts.{bytes_found, bytes_means}
 use Rattle.registry_tables.proofs.QueryFacts.{is_query}
 use Rattle.registry_tables.proofs.archives.load_bytes.Goals as goal

@@ -1,6 +1,4 @@
-use Rattle.std.proofs.Common.{◌∙◌}
-use Rattle.std.proofs.lemmas.Result.{IfOk-weaker}
-use Rattle.registry_tables.specs.Effects.{shown}
+use Rattle.registry_tables.proofs.Words.{◌∙◌, IfOk-weaker, shown}
 use Rattle.registry_tables.proofs.CounterFacts.{counts_means, counts_told}
 use Rattle.registry_tables.proofs.QueryFacts.{is_query}
 use Rattle.registry_tables.proofs.counters.counts_archives_alone.Goals as goal

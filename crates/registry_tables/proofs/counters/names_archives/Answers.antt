@@ -1,11 +1,5 @@
-use Rattle.std.specs.Ordering.{is_eq}
-use Rattle.std.proofs.Common.{◌∙◌, ap, sym}
-use Rattle.sqlite.specs.declared.types.Value.{Value}
-use Rattle.sqlite.specs.declared.types.Value.TheVariants.{Text as Stored}
-use Rattle.sqlite_value.specs.Order.{value_cmp}
-use Rattle.sqlite_value.proofs.OrderLemmas.{value_cmp-Text}
+use Rattle.registry_tables.proofs.Words.{is_eq, ◌∙◌, ap, sym, Value, Stored, value_cmp, value_cmp-Text, is_tie}
 use Rattle.registry_names.specs.Texts.{is}
-use Rattle.registry_names.proofs.TextFacts.{is_tie}
 use Rattle.registry_tables.specs.Schema as table
 use Rattle.registry_tables.proofs.counters.names_archives.Goals as goal
 

@@ -1,6 +1,4 @@
-use Rattle.std.proofs.Common.{◌≡◌, false, take}
-use Rattle.std.specs.List.{list_any}
-use Rattle.registry_ranges.specs.Texts.{binds}
+use Rattle.registry_tables.proofs.Words.{◌≡◌, false, take, list_any, binds}
 use Rattle.registry_tables.proofs.dependents.any_binds.Given as goal
 
 -- none of the texts so far binds the version

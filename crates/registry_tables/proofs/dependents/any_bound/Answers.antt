@@ -1,7 +1,5 @@
-use Rattle.std.proofs.Common.{◌≡◌, ◌+◌, ◌∙◌, ◌||◌, Bool, ap, false, slice_index_or, subst, sym, true}
-use Rattle.std.specs.List.{list_any}
-use Rattle.registry_names.specs.Versions.{IsVersionOf, VersionParts, text_of_version}
-use Rattle.registry_ranges.specs.Texts.{binds}
+use Rattle.registry_tables.proofs.Words.{◌≡◌, ◌+◌, ◌∙◌, ◌||◌, Bool, ap, false, subst, sym, true, list_any, IsVersionOf, VersionParts, text_of_version, binds}
+use Rattle.std.proofs.Common.{slice_index_or}
 use Rattle.registry_rules.specs.declared.facts.LiveVersion.{LiveVersion as Listed}
 use Rattle.registry_tables.proofs.DependentFacts.{one_more_bound, some_bound}
 use Rattle.registry_tables.proofs.dependents.any_bound.Goals as goal

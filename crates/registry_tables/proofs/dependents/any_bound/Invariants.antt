@@ -1,8 +1,4 @@
-use Rattle.std.proofs.Common.{◌≡◌, false, map, take}
-use Rattle.std.specs.List.{list_any}
-use Rattle.registry_ranges.specs.Texts.{binds}
-use Rattle.registry_rules.specs.Withdrawals.{versions_in}
-use Rattle.registry_tables.specs.Withdrawals.{version_text}
+use Rattle.registry_tables.proofs.Words.{◌≡◌, false, map, take, list_any, binds, versions_in, version_text}
 use Rattle.registry_tables.proofs.dependents.any_bound.Given as goal
 
 -- no text binds one of the versions so far

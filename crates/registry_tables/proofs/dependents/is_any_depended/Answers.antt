@@ -1,12 +1,4 @@
-use Rattle.std.proofs.Common.{◌∙◌, List, ap, map}
-use Rattle.std.specs.List.{list_any}
-use Rattle.std.proofs.lemmas.Result.{IfOk-weaker}
-use Rattle.registry_names.specs.Texts.{Text}
-use Rattle.registry_names.specs.Versions.{VersionParts}
-use Rattle.registry_ranges.specs.Texts.{binds}
-use Rattle.registry_rules.specs.Withdrawals.{versions_in}
-use Rattle.registry_tables.specs.Effects.{stored_in}
-use Rattle.registry_tables.specs.Withdrawals.{version_text}
+use Rattle.registry_tables.proofs.Words.{◌∙◌, List, ap, map, list_any, IfOk-weaker, Text, VersionParts, binds, versions_in, stored_in, version_text}
 use Rattle.registry_tables.proofs.DependentFacts.{ranges_tell}
 use Rattle.registry_tables.proofs.dependents.is_any_depended.Goals as goal
 

@@ -1,8 +1,4 @@
-use Rattle.std.proofs.Common.{◌∙◌, ap}
-use Rattle.std.specs.List.{list_any}
-use Rattle.std.proofs.lemmas.Result.{IfOk-weaker}
-use Rattle.registry_ranges.specs.Texts.{binds}
-use Rattle.registry_tables.specs.Effects.{stored_in}
+use Rattle.registry_tables.proofs.Words.{◌∙◌, ap, list_any, IfOk-weaker, binds, stored_in}
 use Rattle.registry_tables.proofs.DependentFacts.{ranges_tell}
 use Rattle.registry_tables.proofs.dependents.is_depended.Goals as goal
 

@@ -1,5 +1,4 @@
-use Rattle.registry_rows.proofs.QuietFacts.{on_answer}
-use Rattle.registry_tables.specs.Effects.{shown}
+use Rattle.registry_tables.proofs.Words.{on_answer, shown}
 use Rattle.registry_tables.proofs.GrantFacts.{grant_dropped}
 use Rattle.registry_tables.proofs.grants.drop_grant.Goals as goal
 

@@ -1,8 +1,4 @@
-use Rattle.std.proofs.Common.{◌∙◌, ap, sym, subst, map}
-use Rattle.std.proofs.lemmas.List.{map-id}
-use Rattle.std.proofs.lemmas.Result.{IfOk-weaker}
-use Rattle.registry_tables.specs.Effects.{shown, stored_in}
-use Rattle.registry_tables.specs.Teams.{AreGranted, grant_spelled}
+use Rattle.registry_tables.proofs.Words.{◌∙◌, ap, sym, subst, map, map-id, IfOk-weaker, shown, stored_in, AreGranted, grant_spelled}
 use Rattle.registry_tables.proofs.JoinedFacts.{grants_listed, grants_means}
 use Rattle.registry_tables.proofs.QueryFacts.{is_query}
 use Rattle.registry_tables.proofs.grants.load_grants.Goals as goal

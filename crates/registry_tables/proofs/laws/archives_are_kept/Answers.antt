@@ -2,20 +2,12 @@ use Rattle.registry_tables.proofs.KeptArchiveFacts.{archives_stay_sound, fresh_a
 use Rattle.registry_tables.proofs.RetiredFacts.{messaged_keeps_archives, retired_keeps_archives}
 use Rattle.registry_tables.proofs.laws.archives_are_kept.Goals as goal
 
-pub returns-clause-fresh : goal.returns-clause-fresh
-returns-clause-fresh c = fresh_archives
-
-pub returns-clause-stored : goal.returns-clause-stored
-returns-clause-stored c = archives_stay_sound
-
-pub returns-clause-others : goal.returns-clause-others
-returns-clause-others c = others_keep_archives
-
-pub returns-clause-versions : goal.returns-clause-versions
-returns-clause-versions c = version_keeps_archives
-
-pub returns-clause-withdrawals : goal.returns-clause-withdrawals
-returns-clause-withdrawals c = retired_keeps_archives
-
-pub returns-clause-deprecations : goal.returns-clause-deprecations
-returns-clause-deprecations c = messaged_keeps_archives
+pub returns : goal.returns
+returns c = record {
+  fresh = fresh_archives;
+  stored = archives_stay_sound;
+  others = others_keep_archives;
+  versions = version_keeps_archives;
+  withdrawals = retired_keeps_archives;
+  deprecations = messaged_keeps_archives;
+}

@@ -1,16 +1,5 @@
-use Rattle.std.proofs.Common.{◌≡◌, ◌∙◌, ◌∷◌, ◌++◌, List, ap, append_assoc, arith, length, subst, sym}
-use Rattle.std.specs.Vec.Iter.{into_iter_items}
-use Rattle.sqlite.specs.Effect.{Database}
-use Rattle.sqlite.specs.State.{HasCleanDisk}
-use Rattle.registry_names.specs.Names.{scope_of}
-use Rattle.registry_names.specs.Texts.{Text}
-use Rattle.registry_packument.specs.declared.list.PackageLevel.{PackageLevel}
-use Rattle.registry_rows.proofs.QuietFacts.{stays_then}
-use Rattle.registry_rules.specs.Refusals.{is_scope}
-use Rattle.registry_tables.specs.Contents.{contents}
-use Rattle.registry_tables.specs.Effects.{shown, stored_in}
-use Rattle.registry_tables.specs.Levels.{levels_in, scopes_levels}
-use Rattle.registry_tables.specs.Teams.{AreTeamsSound}
+use Rattle.registry_tables.proofs.Words.{◌≡◌, ◌∙◌, ◌∷◌, ◌++◌, List, ap, append_assoc, arith, length, subst, sym, into_iter_items, Database, HasCleanDisk, scope_of, Text, PackageLevel, stays_then}
+use Rattle.registry_tables.proofs.Words.{is_scope, contents, shown, stored_in, levels_in, scopes_levels, AreTeamsSound}
 use Rattle.registry_tables.proofs.EffectFacts.{before_then, reads_nothing_new}
 use Rattle.registry_tables.proofs.levels.add_scopes.Goals as goal
 

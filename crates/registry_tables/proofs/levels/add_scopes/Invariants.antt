@@ -1,10 +1,4 @@
-use Rattle.std.proofs.Common.{◌≡◌, ◌++◌, length}
-use Rattle.std.specs.Vec.Iter.{into_iter_items, into_iter_len}
-use Rattle.sqlite.specs.State.{HasCleanDisk}
-use Rattle.registry_rows.specs.Frames.{Stays}
-use Rattle.registry_tables.specs.Effects.{IsAsBefore, shown, stored_in}
-use Rattle.registry_tables.specs.Levels.{scopes_levels}
-use Rattle.registry_tables.specs.Teams.{AreTeamsSound}
+use Rattle.registry_tables.proofs.Words.{◌≡◌, ◌++◌, length, into_iter_items, into_iter_len, HasCleanDisk, Stays, IsAsBefore, shown, stored_in, scopes_levels, AreTeamsSound}
 use Rattle.registry_tables.proofs.levels.add_scopes.Given as goal
 
 -- the packages of the scopes so far were added, and nothing has changed

@@ -1,12 +1,5 @@
-use Rattle.std.proofs.Common.{◌≡◌, ◌∙◌, ◌∷◌, [], cond, List, None, Some, ap, arith, length, map, sym}
-use Rattle.std.specs.BTreeMap.{get}
-use Rattle.std.specs.Vec.Iter.{into_iter_items}
-use Rattle.std.proofs.lemmas.Result.{IfOk-weaker}
-use Rattle.registry_names.specs.Maps.{first_at}
-use Rattle.registry_names.specs.Texts.{Text, text_cmp, is}
-use Rattle.registry_access.specs.declared.levels.Level.{Level}
-use Rattle.registry_tables.specs.Levels.{last_at, level_entry}
-use Rattle.registry_packument.specs.declared.list.PackageLevel.{PackageLevel}
+use Rattle.registry_tables.proofs.Words.{◌≡◌, ◌∙◌, ◌∷◌, [], cond, List, None, Some, ap, arith, length, map, sym, get, into_iter_items, IfOk-weaker, first_at, Text, text_cmp, is, Level, last_at}
+use Rattle.registry_tables.proofs.Words.{level_entry, PackageLevel}
 use Rattle.registry_tables.proofs.SortFacts.{emptied, looked_up, next_put}
 use Rattle.registry_tables.proofs.levels.in_order.Goals as goal
 

@@ -1,9 +1,4 @@
-use Rattle.std.proofs.Common.{◌≡◌, None, map}
-use Rattle.std.specs.BTreeMap.{get}
-use Rattle.std.specs.Vec.Iter.{into_iter_items, into_iter_len}
-use Rattle.std.proofs.Common.{length}
-use Rattle.registry_names.specs.Texts.{Text, text_cmp}
-use Rattle.registry_tables.specs.Levels.{last_at, level_entry}
+use Rattle.registry_tables.proofs.Words.{◌≡◌, None, map, get, into_iter_items, into_iter_len, length, Text, text_cmp, last_at, level_entry}
 use Rattle.registry_tables.proofs.levels.in_order.Given as goal
 
 -- what is found so far, and in those that are left after that

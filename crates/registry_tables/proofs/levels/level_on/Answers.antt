@@ -1,11 +1,4 @@
-use Rattle.std.proofs.Common.{◌≡◌, ◌∙◌, subst}
-use Rattle.std.proofs.lemmas.Result.{IfOk-weaker}
-use Rattle.registry_access.specs.Positions.{level_in}
-use Rattle.registry_names.specs.Texts.{Text}
-use Rattle.registry_tables.specs.Contents.{access_of}
-use Rattle.registry_tables.specs.Effects.{stored_in}
-use Rattle.registry_tables.specs.Levels.{IsListedFor}
-use Rattle.registry_tables.specs.Teams.{AreTeamsSound}
+use Rattle.registry_tables.proofs.Words.{◌≡◌, ◌∙◌, subst, IfOk-weaker, level_in, Text, access_of, stored_in, IsListedFor, AreTeamsSound}
 use Rattle.registry_tables.proofs.levels.level_on.Goals as goal
 
 pub returns-clause-knows : goal.returns-clause-knows

@@ -1,14 +1,6 @@
-use Rattle.std.proofs.Common.{◌≡◌, ◌∙◌, ◌++◌, ◌∷◌, [], List, ap, map, refl, sym}
-use Rattle.registry_names.specs.Maps.{rises}
-use Rattle.registry_names.specs.Texts.{Text, text_cmp}
-use Rattle.registry_access.specs.declared.levels.Level.{Level}
-use Rattle.registry_tables.specs.Levels.{level_entry}
-use Rattle.registry_packument.specs.declared.list.PackageLevel.{PackageLevel}
+use Rattle.registry_tables.proofs.Words.{◌≡◌, ◌∙◌, ◌++◌, ◌∷◌, [], List, ap, map, refl, sym, rises, Text, text_cmp, Level, level_entry, PackageLevel}
 use Rattle.registry_tables.proofs.SortFacts.{keys_rise, next_entry}
 use Rattle.registry_tables.proofs.levels.listed.Goals as goal
-
-pub loop-name-init : goal.loop-name-init
-loop-name-init c = ap (λ (ps : List PackageLevel). map level_entry ps ++ c.into_iter-name-iterator.result) c.new-packages.ensures.items ∙ c.into_iter-name-iterator.ensures.into_iter_gives.0
 
 pub loop-name-preserved : goal.loop-name-preserved
 loop-name-preserved c =

@@ -1,5 +1,4 @@
-use Rattle.std.proofs.Common.{◌≡◌, ◌++◌, map}
-use Rattle.registry_tables.specs.Levels.{level_entry}
+use Rattle.registry_tables.proofs.Words.{◌≡◌, ◌++◌, map, level_entry}
 use Rattle.registry_tables.proofs.levels.listed.Given as goal
 
 -- the entries so far are listed, and those that are left come after them

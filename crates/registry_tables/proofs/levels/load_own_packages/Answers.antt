@@ -1,5 +1,4 @@
-use Rattle.std.proofs.Common.{◌∙◌}
-use Rattle.registry_tables.specs.Effects.{shown, stored_in}
+use Rattle.registry_tables.proofs.Words.{◌∙◌, shown, stored_in}
 use Rattle.registry_tables.proofs.EffectFacts.{as_it_was}
 use Rattle.registry_tables.proofs.LevelFacts.{others_own_none}
 use Rattle.registry_tables.proofs.levels.load_own_packages.Goals as goal

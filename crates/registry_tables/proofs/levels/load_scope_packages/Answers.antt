@@ -1,13 +1,6 @@
-use Rattle.std.proofs.Common.{◌≡◌, ◌∙◌, ap, arith, map, subst}
-use Rattle.std.specs.List.{AllByRecursion}
-use Rattle.std.proofs.lemmas.Result.{IfOk-weaker}
-use Rattle.sqlite.specs.Effect.{Database}
-use Rattle.sqlite.specs.State.{HasCleanDisk}
+use Rattle.registry_tables.proofs.Words.{◌≡◌, ◌∙◌, ap, arith, map, subst, AllByRecursion, IfOk-weaker, Database, HasCleanDisk, access_of, contents, shown, stored_in, IsListedFor, levels_on}
+use Rattle.registry_tables.proofs.Words.{listed_name, AreTeamsSound}
 use Rattle.registry_access.specs.Callers.{role_of}
-use Rattle.registry_tables.specs.Contents.{access_of, contents}
-use Rattle.registry_tables.specs.Effects.{shown, stored_in}
-use Rattle.registry_tables.specs.Levels.{IsListedFor, levels_on, listed_name}
-use Rattle.registry_tables.specs.Teams.{AreTeamsSound}
 use Rattle.registry_tables.proofs.EffectFacts.{reads_as_before}
 use Rattle.registry_tables.proofs.LevelFacts.{listed_right, scope_levels}
 use Rattle.registry_tables.proofs.levels.load_scope_packages.Goals as goal
@@ -33,10 +26,3 @@ returns-clause-loads g c clean =
           let told = subst (λ (d : Database). AreTeamsSound (contents d.trees) → AllByRecursion (IsListedFor (contents d.trees) who c.in_ok-role.role) ps → levels.items ≡ levels_on (contents d.trees) who (map listed_name ps)) two.same it.1 in
           told sound (listed_right stored who c.in_ok-role.role o ps list.1 is_role) ∙ scope_levels stored who c.in_ok-role.role o ps list.1,
     )) (c.with_levels.ensures.knows clean)
-
-pub with_levels-requires : goal.with_levels-requires
-with_levels-requires g c = record {
-  in_form = λ clean _.
-      let at_list : HasCleanDisk (shown g.S.Store c.load_scope_statuses.new.tx) = omega (arith, c.load_caller_role.ensures.stays.survives.clean, clean) in
-      (c.in_ok-role.ensures.knows clean).0.ready (c.in_ok-packages.ensures.loads at_list).0.ready;
-}

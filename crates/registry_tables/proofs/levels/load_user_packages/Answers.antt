@@ -1,18 +1,5 @@
-use Rattle.std.proofs.Common.{◌≡◌, ◌∙◌, ◌++◌, List, ap, ap₂, arith, subst, sym}
-use Rattle.std.proofs.lemmas.Result.{IfOk-weaker}
-use Rattle.sqlite.specs.Effect.{Database}
-use Rattle.sqlite.specs.State.{HasCleanDisk}
-use Rattle.registry_access.specs.declared.caller.Caller.{Caller}
-use Rattle.registry_access.specs.declared.caller.Caller.TheVariants.{User}
-use Rattle.registry_names.specs.Names.{scope_of}
-use Rattle.registry_names.specs.Texts.{Text}
-use Rattle.registry_packument.specs.declared.list.PackageLevel.{PackageLevel}
-use Rattle.registry_rows.proofs.QuietFacts.{stays_then}
-use Rattle.registry_rules.specs.State.{is_own}
-use Rattle.registry_tables.specs.Contents.{access_of, contents}
-use Rattle.registry_tables.specs.Effects.{shown, stored_in}
-use Rattle.registry_tables.specs.Levels.{firsts_of, levels_in, scopes_levels, unscoped_levels}
-use Rattle.registry_tables.specs.Teams.{AreTeamsSound}
+use Rattle.registry_tables.proofs.Words.{◌≡◌, ◌∙◌, ◌++◌, List, ap, ap₂, arith, subst, sym, IfOk-weaker, Database, HasCleanDisk, Caller, User, scope_of, Text, PackageLevel, stays_then, is_own}
+use Rattle.registry_tables.proofs.Words.{access_of, contents, shown, stored_in, firsts_of, levels_in, scopes_levels, unscoped_levels, AreTeamsSound}
 use Rattle.registry_tables.proofs.EffectFacts.{reads_as_before, reads_nothing_new}
 use Rattle.registry_tables.proofs.LevelFacts.{own_levels}
 use Rattle.registry_tables.proofs.SortFacts.{both_ok}

@@ -1,16 +1,5 @@
-use Rattle.std.proofs.Common.{◌≡◌, List, ◌∷◌, ◌++◌, ◌∙◌, map, sym, ap, subst, arith, length}
-use Rattle.std.specs.List.{AllByRecursion}
-use Rattle.std.specs.Vec.Iter.{into_iter_items}
-use Rattle.sqlite.specs.Effect.{Database}
-use Rattle.sqlite.specs.State.{HasCleanDisk}
-use Rattle.registry_access.specs.Positions.{level_in}
-use Rattle.registry_packument.specs.declared.list.PackageLevel.{PackageLevel}
-use Rattle.registry_rows.proofs.QuietFacts.{stays_then}
-use Rattle.registry_tables.specs.Contents.{access_of, contents}
-use Rattle.registry_tables.specs.Effects.{shown, stored_in}
-use Rattle.registry_tables.specs.Levels.{IsListedFor, levels_on, listed_name}
-use Rattle.registry_tables.specs.Teams.{AreTeamsSound}
-use Rattle.registry_tables.specs.declared.packages.ListedPackage.{ListedPackage}
+use Rattle.registry_tables.proofs.Words.{◌≡◌, List, ◌∷◌, ◌++◌, ◌∙◌, map, sym, ap, subst, arith, length, AllByRecursion, into_iter_items, Database, HasCleanDisk, level_in, PackageLevel, stays_then}
+use Rattle.registry_tables.proofs.Words.{access_of, contents, shown, stored_in, IsListedFor, levels_on, listed_name, AreTeamsSound, ListedPackage}
 use Rattle.registry_tables.proofs.EffectFacts.{before_then}
 use Rattle.registry_tables.proofs.LevelFacts.{level_taken}
 use Rattle.registry_tables.proofs.levels.with_levels.Goals as goal

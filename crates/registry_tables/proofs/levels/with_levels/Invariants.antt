@@ -1,11 +1,5 @@
-use Rattle.std.proofs.Common.{◌≡◌, ◌++◌, length, map}
-use Rattle.std.specs.List.{AllByRecursion}
-use Rattle.std.specs.Vec.Iter.{into_iter_items, into_iter_len}
-use Rattle.sqlite.specs.State.{HasCleanDisk}
-use Rattle.registry_rows.specs.Frames.{Stays}
-use Rattle.registry_tables.specs.Effects.{IsAsBefore, shown, stored_in}
-use Rattle.registry_tables.specs.Levels.{IsListedFor, levels_on, listed_name}
-use Rattle.registry_tables.specs.Teams.{AreTeamsSound}
+use Rattle.registry_tables.proofs.Words.{◌≡◌, ◌++◌, length, map, AllByRecursion, into_iter_items, into_iter_len, HasCleanDisk, Stays, IsAsBefore, shown, stored_in, IsListedFor, levels_on, listed_name}
+use Rattle.registry_tables.proofs.Words.{AreTeamsSound}
 use Rattle.registry_tables.proofs.levels.with_levels.Given as goal
 
 -- of the packages so far there are those that the caller reads, and nothing has changed

@@ -1,8 +1,5 @@
-use Rattle.std.proofs.Common.{◌≡◌, ◌++◌, filter, length, map}
+use Rattle.registry_tables.proofs.Words.{◌≡◌, ◌++◌, filter, length, map, into_iter_items, into_iter_len, scope_of, writable}
 use Rattle.std.specs.Prelude.{is_none}
-use Rattle.std.specs.Vec.Iter.{into_iter_items, into_iter_len}
-use Rattle.registry_names.specs.Names.{scope_of}
-use Rattle.registry_tables.specs.Levels.{writable}
 use Rattle.registry_tables.proofs.levels.written.Given as goal
 
 -- of the names so far there are those without a scope

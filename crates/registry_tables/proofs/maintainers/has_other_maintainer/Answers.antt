@@ -1,8 +1,4 @@
-use Rattle.std.proofs.Common.{◌∙◌, ap, Bool, not}
-use Rattle.std.specs.List.{list_any}
-use Rattle.registry_names.specs.Maps.{of}
-use Rattle.registry_names.specs.Texts.{Text, is}
-use Rattle.registry_tables.specs.Effects.{stored_in}
+use Rattle.registry_tables.proofs.Words.{◌∙◌, ap, Bool, not, list_any, of, Text, is, stored_in}
 use Rattle.registry_tables.proofs.MaintainerFacts.{any_key}
 use Rattle.registry_tables.proofs.maintainers.has_other_maintainer.Goals as goal
 

@@ -1,5 +1,4 @@
-use Rattle.registry_rows.proofs.QuietFacts.{on_answer}
-use Rattle.registry_tables.specs.Effects.{shown}
+use Rattle.registry_tables.proofs.Words.{on_answer, shown}
 use Rattle.registry_tables.proofs.MaintainerFacts.{owner_put, owner_was_new}
 use Rattle.registry_tables.proofs.maintainers.put_owner.Goals as goal
 

@@ -1,9 +1,4 @@
-use Rattle.std.proofs.Common.{◌∙◌, ap, Bool, ◌&&◌, not, Some}
-use Rattle.std.specs.List.{list_any}
-use Rattle.registry_access.specs.Levels.{is_owner}
-use Rattle.registry_access.specs.declared.role.Role.{Role}
-use Rattle.registry_names.specs.Texts.{Text, is}
-use Rattle.registry_tables.specs.Spelled.{member_entry}
+use Rattle.registry_tables.proofs.Words.{◌∙◌, ap, Bool, ◌&&◌, not, Some, list_any, is_owner, Role, Text, is, member_entry}
 use Rattle.registry_tables.proofs.MemberFacts.{any_listed}
 use Rattle.registry_tables.proofs.members.has_other_owner.Goals as goal
 

@@ -1,7 +1,4 @@
-use Rattle.std.proofs.Common.{SFits, w64, rules}
-use Rattle.std.proofs.lemmas.Int.{to_z-of_z}
-use Rattle.registry_rows.proofs.QuietFacts.{on_answer}
-use Rattle.registry_tables.specs.Effects.{shown}
+use Rattle.registry_tables.proofs.Words.{SFits, w64, rules, to_z-of_z, on_answer, shown}
 use Rattle.registry_tables.proofs.MemberFacts.{member_set}
 use Rattle.registry_tables.proofs.members.put_member.Goals as goal
 

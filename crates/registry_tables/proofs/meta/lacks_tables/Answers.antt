@@ -1,6 +1,4 @@
-use Rattle.std.proofs.Common.{◌==◌, ap, ◌∙◌}
-use Rattle.registry_rows.proofs.QuietFacts.{shown_keeps}
-use Rattle.registry_tables.specs.Effects.{shown}
+use Rattle.registry_tables.proofs.Words.{◌==◌, ap, ◌∙◌, shown_keeps, shown}
 use Rattle.registry_tables.proofs.CatalogFacts.{none_found, ours_found}
 use Rattle.registry_tables.proofs.meta.lacks_tables.Goals as goal
 
@@ -19,6 +17,3 @@ returns-clause-committed g c on clean = (shown_keeps _ _ (shown g.S.Store c.args
 
 pub returns-clause-going : goal.returns-clause-going
 returns-clause-going g c on clean = (shown_keeps _ _ (shown g.S.Store c.args.tx.now) (shown g.S.Store c.read.new.tx) _ on (c.in_ok-objects.ensures.shown.shown clean)).1
-
-pub returns-clause-lists : goal.returns-clause-lists
-returns-clause-lists g c = (_, c.in_ok-objects.ensures.shown, c.is_empty.ensures ∙ ap (λ n. n == 0) c.in_ok-objects.objects.ok.0)

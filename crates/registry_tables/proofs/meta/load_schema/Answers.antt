@@ -1,7 +1,4 @@
-use Rattle.std.proofs.Common.{◌∙◌, sym}
-use Rattle.std.proofs.lemmas.Result.{IfOk-weaker}
-use Rattle.registry_rows.proofs.QuietFacts.{shown_keeps}
-use Rattle.registry_tables.specs.Effects.{shown}
+use Rattle.registry_tables.proofs.Words.{◌∙◌, sym, IfOk-weaker, shown_keeps, shown}
 use Rattle.registry_tables.proofs.MetaFacts.{number_found}
 use Rattle.registry_tables.proofs.meta.load_schema.Goals as goal
 

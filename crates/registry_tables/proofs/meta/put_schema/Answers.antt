@@ -1,6 +1,4 @@
-use Rattle.registry_rows.proofs.QuietFacts.{on_answer}
-use Rattle.registry_tables.specs.Effects.{shown}
-use Rattle.registry_tables.specs.Fresh.{schema_number}
+use Rattle.registry_tables.proofs.Words.{on_answer, shown, schema_number}
 use Rattle.registry_tables.proofs.MetaFacts.{number_put}
 use Rattle.registry_tables.proofs.meta.put_schema.Goals as goal
 

@@ -1,6 +1,4 @@
-use Rattle.std.proofs.Common.{◌∙◌, ℕ, Option, Some, ap, sym}
-use Rattle.std.specs.Prelude.{max, slice_index_or, unwrap_or}
-use Rattle.registry_tables.specs.Spelled.{number_spelled}
+use Rattle.registry_tables.proofs.Words.{◌∙◌, ℕ, Option, Some, ap, sym, max, slice_index_or, unwrap_or, number_spelled}
 use Rattle.registry_tables.proofs.SpentFacts.{last_next}
 use Rattle.registry_tables.proofs.moments.last_moment.Goals as goal
 

@@ -1,6 +1,4 @@
-use Rattle.std.proofs.Common.{◌≡◌, map, take}
-use Rattle.registry_tables.specs.Spelled.{number_spelled}
-use Rattle.registry_tables.specs.Withdrawals.{last_number}
+use Rattle.registry_tables.proofs.Words.{◌≡◌, map, take, number_spelled, last_number}
 use Rattle.registry_tables.proofs.moments.last_moment.Given as goal
 
 -- the last of the moments so far

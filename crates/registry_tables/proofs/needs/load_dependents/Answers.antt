@@ -1,9 +1,4 @@
-use Rattle.std.proofs.Common.{◌∙◌, ap}
-use Rattle.std.specs.List.{list_any}
-use Rattle.std.proofs.lemmas.Result.{IfOk-weaker}
-use Rattle.registry_ranges.specs.Texts.{binds}
-use Rattle.registry_tables.specs.Effects.{stored_in}
-use Rattle.registry_tables.specs.Withdrawals.{ranges_on}
+use Rattle.registry_tables.proofs.Words.{◌∙◌, ap, list_any, IfOk-weaker, binds, stored_in, ranges_on}
 use Rattle.registry_tables.proofs.DependentFacts.{dependents_listed, list_means, ranges_tell}
 use Rattle.registry_tables.proofs.QueryFacts.{is_query}
 use Rattle.registry_tables.proofs.needs.load_dependents.Goals as goal

@@ -1,7 +1,4 @@
-use Rattle.std.proofs.Common.{◌∙◌, ap, arith, sym}
-use Rattle.sqlite.specs.Effect.{Database}
-use Rattle.registry_tables.specs.Contents.{contents}
-use Rattle.registry_tables.specs.Effects.{stored_in}
+use Rattle.registry_tables.proofs.Words.{◌∙◌, ap, arith, sym, Database, contents, stored_in}
 use Rattle.registry_tables.proofs.NeedFacts.{stands_already}
 use Rattle.registry_tables.proofs.needs.put_need.Goals as goal
 

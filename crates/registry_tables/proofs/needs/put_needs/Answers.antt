@@ -1,12 +1,6 @@
-use Rattle.std.proofs.Common.{◌∙◌, ap, arith, refl, rules, take_all}
-use Rattle.registry_rows.proofs.QuietFacts.{stays_then}
-use Rattle.registry_tables.specs.Effects.{stored_in}
-use Rattle.registry_tables.specs.Needs.{with_needs}
+use Rattle.registry_tables.proofs.Words.{arith, rules, stays_then, stored_in}
 use Rattle.registry_tables.proofs.NeedFacts.{needs_next}
 use Rattle.registry_tables.proofs.needs.put_needs.Goals as goal
-
-pub put_need-requires : goal.put_need-requires
-put_need-requires g c = record { under_way = λ clean. let it = c.loop-need.invariant.made clean in record { holds = refl; ready = it.ready; mode = it.mode } }
 
 pub loop-need-preserved : goal.loop-need-preserved
 loop-need-preserved g c = record {
@@ -22,12 +16,3 @@ loop-need-preserved g c = record {
         mode = it.mode;
       };
 }
-
-pub returns-clause-makes : goal.returns-clause-makes
-returns-clause-makes g c clean =
-    let it = c.loop-need.invariant.made clean in
-    record {
-      holds = it.holds ∙ ap (λ needs. record (stored_in g.S.Store c.args.tx.now) { need_ranges = with_needs (stored_in g.S.Store c.args.tx.now).need_ranges c.args.name.now c.args.version.now needs }) (take_all c.loop-need.need-index c.args.needs.now c.loop-need-test.false);
-      ready = it.ready;
-      mode = it.mode;
-    }

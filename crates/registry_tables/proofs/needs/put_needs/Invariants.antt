@@ -1,13 +1,6 @@
 use denote.Shadow.{shadow}
 use denote.Text.{Utf8}
-use Rattle.std.proofs.Common.{take}
-use Rattle.sqlite.specs.State.{HasCleanDisk}
-use Rattle.registry_rows.specs.Frames.{Stays}
-use Rattle.registry_rows.specs.Ready.{Leaves}
-use Rattle.registry_tables.specs.Schema.{schema}
-use Rattle.registry_tables.specs.Contents.{contents}
-use Rattle.registry_tables.specs.Effects.{shown, stored_in}
-use Rattle.registry_tables.specs.Needs.{with_needs}
+use Rattle.registry_tables.proofs.Words.{take, HasCleanDisk, Stays, Leaves, schema, contents, shown, stored_in, with_needs}
 use Rattle.registry_tables.proofs.needs.put_needs.Given as goal
 
 -- the needs so far are stored

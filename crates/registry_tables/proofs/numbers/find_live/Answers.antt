@@ -1,11 +1,4 @@
-use Rattle.std.proofs.Common.{◌∙◌, ap, map, sym}
-use Rattle.std.specs.List.{list_all}
-use Rattle.std.proofs.lemmas.List.{map-id}
-use Rattle.registry_names.specs.Keys.{Pair}
-use Rattle.registry_names.specs.Maps.{entries}
-use Rattle.registry_tables.specs.Contents.{LiveVersion}
-use Rattle.registry_tables.specs.Effects.{stored_in}
-use Rattle.registry_tables.specs.Numbers.{is_moment}
+use Rattle.registry_tables.proofs.Words.{◌∙◌, ap, map, sym, list_all, map-id, Pair, entries, LiveVersion, stored_in, is_moment}
 use Rattle.registry_tables.proofs.QueryFacts.{is_query}
 use Rattle.registry_tables.proofs.RangeFacts.{live_listed, live_means, seen_pass}
 use Rattle.registry_tables.proofs.numbers.find_live.Goals as goal

@@ -1,10 +1,4 @@
-use Rattle.std.proofs.Common.{◌∙◌, ℤ, ap, map, sym}
-use Rattle.std.specs.List.{list_all}
-use Rattle.std.proofs.lemmas.List.{map-id}
-use Rattle.registry_names.specs.Keys.{Pair}
-use Rattle.registry_names.specs.Maps.{entries}
-use Rattle.registry_tables.specs.Effects.{stored_in}
-use Rattle.registry_tables.specs.Numbers.{is_role}
+use Rattle.registry_tables.proofs.Words.{◌∙◌, ℤ, ap, map, sym, list_all, map-id, Pair, entries, stored_in, is_role}
 use Rattle.registry_tables.proofs.QueryFacts.{is_query}
 use Rattle.registry_tables.proofs.RangeFacts.{roles_listed, roles_means, seen_pass}
 use Rattle.registry_tables.proofs.numbers.find_roles.Goals as goal

@@ -1,11 +1,4 @@
-use Rattle.std.proofs.Common.{◌∙◌, ap, map, sym}
-use Rattle.std.specs.List.{list_all}
-use Rattle.std.proofs.lemmas.List.Folds.{list_all-map}
-use Rattle.registry_names.specs.Keys.{Pair}
-use Rattle.registry_names.specs.Maps.{entries}
-use Rattle.registry_tables.specs.Contents.{SpentVersion}
-use Rattle.registry_tables.specs.Effects.{stored_in}
-use Rattle.registry_tables.specs.Ranges.{is_pair_of_moments, moments_entry}
+use Rattle.registry_tables.proofs.Words.{◌∙◌, ap, map, sym, list_all, list_all-map, Pair, entries, SpentVersion, stored_in, is_pair_of_moments, moments_entry}
 use Rattle.registry_tables.proofs.QueryFacts.{is_query}
 use Rattle.registry_tables.proofs.RangeFacts.{moments_of, seen_pass, spent_listed, spent_means}
 use Rattle.registry_tables.proofs.numbers.find_spent.Goals as goal

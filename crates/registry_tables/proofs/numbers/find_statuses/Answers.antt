@@ -1,10 +1,4 @@
-use Rattle.std.proofs.Common.{◌∙◌, ℤ, ap, map, sym}
-use Rattle.std.specs.List.{list_all}
-use Rattle.std.proofs.lemmas.List.{map-id}
-use Rattle.registry_names.specs.Texts.{Text}
-use Rattle.registry_names.specs.Maps.{entries}
-use Rattle.registry_tables.specs.Effects.{stored_in}
-use Rattle.registry_tables.specs.Numbers.{is_status}
+use Rattle.registry_tables.proofs.Words.{◌∙◌, ℤ, ap, map, sym, list_all, map-id, Text, entries, stored_in, is_status}
 use Rattle.registry_tables.proofs.QueryFacts.{is_query}
 use Rattle.registry_tables.proofs.RangeFacts.{seen_pass, statuses_listed}
 use Rattle.registry_tables.proofs.StatusFacts.{list_means}

@@ -1,9 +1,4 @@
-use Rattle.std.proofs.Common.{◌∙◌, ◌&&◌, Bool, arith, ap₂, subst, sym}
-use Rattle.sqlite.specs.State.{State as Shown, HasCleanDisk}
-use Rattle.registry_rows.proofs.QuietFacts.{stays_then}
-use Rattle.registry_tables.specs.Effects.{shown, stored_in}
-use Rattle.registry_tables.specs.Numbers.{is_level, is_moment, is_status}
-use Rattle.registry_tables.specs.Ranges.{TellsRanges, all_pass}
+use Rattle.registry_tables.proofs.Words.{◌∙◌, ◌&&◌, Bool, arith, ap₂, subst, sym, Shown, HasCleanDisk, shown, stored_in, is_level, is_moment, is_status, TellsRanges, all_pass}
 use Rattle.registry_tables.proofs.RangeFacts.{tests_tell, then_found}
 use Rattle.registry_tables.proofs.numbers.numbers_are_in_range.Goals as goal
 
@@ -27,30 +22,3 @@ returns-clause-loads g c clean =
     let r5 = then_found s0 s4 s5 (λ x. all_pass (λ v. is_moment v.published && is_moment v.withdrawn) x.spent) c.in_ok-spent.spent r4.0 (c.in_ok-spent.ensures.loads w5) in
     let is = c.are_all.ensures ∙ ap₂ (λ a b. a && b) r1.1 (ap₂ (λ a b. a && b) r2.1 (ap₂ (λ a b. a && b) r3.1 (ap₂ (λ a b. a && b) r4.1 r5.1))) in
     (r5.0, subst (λ (fine : Bool). TellsRanges fine (stored_in g.S.Store c.args.tx.now)) (sym is) (tests_tell (stored_in g.S.Store c.args.tx.now)))
-
-pub find_statuses-requires : goal.find_statuses-requires
-find_statuses-requires g c = record { in_form = λ clean up. (c.in_ok-roles.ensures.loads clean).0.ready }
-
-pub find_levels-requires : goal.find_levels-requires
-find_levels-requires g c = record { in_form = λ clean up. (c.in_ok-statuses.ensures.loads clean).0.ready }
-
-pub find_live-requires : goal.find_live-requires
-find_live-requires g c = record { in_form = λ clean up. (c.in_ok-levels.ensures.loads clean).0.ready }
-
-pub find_spent-requires : goal.find_spent-requires
-find_spent-requires g c = record { in_form = λ clean up. (c.in_ok-live.ensures.loads clean).0.ready }
-
-pub returns-in_err-statuses-clause-stays : goal.returns-in_err-statuses-clause-stays
-returns-in_err-statuses-clause-stays g c = stays_then g.S.Store c.args.tx.now c.find_roles.new.tx c.find_statuses.new.tx c.find_roles.ensures.stays c.find_statuses.ensures.stays
-
-pub returns-in_err-levels-clause-stays : goal.returns-in_err-levels-clause-stays
-returns-in_err-levels-clause-stays g c = stays_then g.S.Store c.args.tx.now c.find_statuses.new.tx c.find_levels.new.tx (stays_then g.S.Store c.args.tx.now c.find_roles.new.tx c.find_statuses.new.tx c.find_roles.ensures.stays c.find_statuses.ensures.stays) c.find_levels.ensures.stays
-
-pub returns-in_err-live-clause-stays : goal.returns-in_err-live-clause-stays
-returns-in_err-live-clause-stays g c = stays_then g.S.Store c.args.tx.now c.find_levels.new.tx c.find_live.new.tx (stays_then g.S.Store c.args.tx.now c.find_statuses.new.tx c.find_levels.new.tx (stays_then g.S.Store c.args.tx.now c.find_roles.new.tx c.find_statuses.new.tx c.find_roles.ensures.stays c.find_statuses.ensures.stays) c.find_levels.ensures.stays) c.find_live.ensures.stays
-
-pub returns-in_err-spent-clause-stays : goal.returns-in_err-spent-clause-stays
-returns-in_err-spent-clause-stays g c = stays_then g.S.Store c.args.tx.now c.find_live.new.tx c.find_spent.new.tx (stays_then g.S.Store c.args.tx.now c.find_levels.new.tx c.find_live.new.tx (stays_then g.S.Store c.args.tx.now c.find_statuses.new.tx c.find_levels.new.tx (stays_then g.S.Store c.args.tx.now c.find_roles.new.tx c.find_statuses.new.tx c.find_roles.ensures.stays c.find_statuses.ensures.stays) c.find_levels.ensures.stays) c.find_live.ensures.stays) c.find_spent.ensures.stays
-
-pub returns-clause-stays : goal.returns-clause-stays
-returns-clause-stays g c = stays_then g.S.Store c.args.tx.now c.find_live.new.tx c.find_spent.new.tx (stays_then g.S.Store c.args.tx.now c.find_levels.new.tx c.find_live.new.tx (stays_then g.S.Store c.args.tx.now c.find_statuses.new.tx c.find_levels.new.tx (stays_then g.S.Store c.args.tx.now c.find_roles.new.tx c.find_statuses.new.tx c.find_roles.ensures.stays c.find_statuses.ensures.stays) c.find_levels.ensures.stays) c.find_live.ensures.stays) c.find_spent.ensures.stays

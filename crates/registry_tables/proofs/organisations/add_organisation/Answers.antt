@@ -1,5 +1,4 @@
-use Rattle.registry_rows.proofs.QuietFacts.{on_answer}
-use Rattle.registry_tables.specs.Effects.{shown}
+use Rattle.registry_tables.proofs.Words.{on_answer, shown}
 use Rattle.registry_tables.proofs.OrganisationFacts.{organisation_put, organisation_was_new}
 use Rattle.registry_tables.proofs.organisations.add_organisation.Goals as goal
 

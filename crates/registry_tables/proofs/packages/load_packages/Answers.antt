@@ -1,11 +1,4 @@
-use Rattle.std.proofs.Common.{◌∙◌, ap, arith, map, sym}
-use Rattle.std.proofs.lemmas.Simd.{map-map}
-use Rattle.std.proofs.lemmas.Result.{IfOk-weaker}
-use Rattle.sqlite.specs.Effect.{Database}
-use Rattle.sqlite.specs.State.{HasCleanDisk}
-use Rattle.registry_tables.specs.Contents.{contents}
-use Rattle.registry_tables.specs.Effects.{shown, stored_in}
-use Rattle.registry_tables.specs.Overviews.{package_entry, viewed}
+use Rattle.registry_tables.proofs.Words.{◌∙◌, ap, arith, map, sym, map-map, IfOk-weaker, Database, HasCleanDisk, contents, shown, stored_in, package_entry, viewed}
 use Rattle.registry_tables.proofs.EffectFacts.{reads_as_before}
 use Rattle.registry_tables.proofs.packages.load_packages.Goals as goal
 

@@ -1,13 +1,4 @@
-use Rattle.std.proofs.Common.{◌∙◌, ap, arith, filter, sym}
-use Rattle.std.proofs.lemmas.Result.{IfOk-weaker}
-use Rattle.sqlite.specs.Effect.{Database}
-use Rattle.sqlite.specs.State.{HasCleanDisk}
-use Rattle.registry_names.specs.Maps.{entries}
-use Rattle.registry_names.specs.Texts.{Text}
-use Rattle.registry_names.specs.declared.status.Status.{Status}
-use Rattle.registry_tables.specs.Contents.{access_of, contents}
-use Rattle.registry_tables.specs.Effects.{shown, stored_in}
-use Rattle.registry_tables.specs.Overviews.{is_after_scope}
+use Rattle.registry_tables.proofs.Words.{◌∙◌, ap, arith, filter, sym, IfOk-weaker, Database, HasCleanDisk, entries, Text, Status, access_of, contents, shown, stored_in, is_after_scope}
 use Rattle.registry_tables.proofs.AfterScopeFacts.{scope_found}
 use Rattle.registry_tables.proofs.EffectFacts.{reads_as_before, reads_nothing_new}
 use Rattle.registry_tables.proofs.packages.load_scope_statuses.Goals as goal

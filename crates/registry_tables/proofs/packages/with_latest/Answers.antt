@@ -1,12 +1,4 @@
-use Rattle.std.proofs.Common.{◌≡◌, ◌∷◌, ap, subst, arith, length}
-use Rattle.std.specs.Vec.Iter.{into_iter_items}
-use Rattle.sqlite.specs.Effect.{Database}
-use Rattle.sqlite.specs.State.{HasCleanDisk}
-use Rattle.registry_rows.proofs.QuietFacts.{stays_then}
-use Rattle.registry_tables.specs.Contents.{contents}
-use Rattle.registry_tables.specs.Effects.{shown, stored_in}
-use Rattle.registry_tables.specs.Overviews.{package_entry, viewed}
-use Rattle.registry_tables.specs.declared.packages.ListedPackage.{ListedPackage}
+use Rattle.registry_tables.proofs.Words.{◌≡◌, ◌∷◌, ap, subst, arith, length, into_iter_items, Database, HasCleanDisk, stays_then, contents, shown, stored_in, package_entry, viewed, ListedPackage}
 use Rattle.registry_tables.proofs.EffectFacts.{before_then, reads_nothing_new}
 use Rattle.registry_tables.proofs.OverviewFacts.{next_listed}
 use Rattle.registry_tables.proofs.packages.with_latest.Goals as goal

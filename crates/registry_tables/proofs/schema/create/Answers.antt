@@ -1,5 +1,4 @@
-use Rattle.std.proofs.Common.{arith, refl}
-use Rattle.registry_rows.proofs.QuietFacts.{on_answer, stays_then}
+use Rattle.registry_tables.proofs.Words.{arith, refl, on_answer}
 use Rattle.registry_tables.specs.Creation.{creation}
 use Rattle.registry_tables.proofs.CreationFacts.{numbered}
 use Rattle.registry_tables.proofs.schema.create.Goals as goal
@@ -14,6 +13,3 @@ returns-clause-made g c none =
 
 pub returns-clause-created : goal.returns-clause-created
 returns-clause-created g c = on_answer c.put_schema.result (λ puts. (c.create_tables.new.tx, c.in_ok-create_tables.ensures.ran, puts)) c.put_schema.ensures.puts
-
-pub returns-clause-stays : goal.returns-clause-stays
-returns-clause-stays g c = stays_then g.S.Store c.args.tx.now c.create_tables.new.tx c.put_schema.new.tx c.create_tables.ensures.stays c.put_schema.ensures.stays

@@ -1,11 +1,5 @@
-use Rattle.std.proofs.Common.{◌≡◌, ◌+◌, suc, ◌<◌, ◌∙◌, ℕ, List, [], Bor, ap, arith, get_or, length, map, subst, sym}
-use Rattle.std.proofs.lemmas.List.{get_or-map, length-map}
-use Rattle.registry_rows.specs.Frames.{Wrote}
-use Rattle.registry_rows.proofs.QuietFacts.{stays_then}
+use Rattle.registry_tables.proofs.Words.{◌≡◌, ◌+◌, suc, ◌<◌, ◌∙◌, ℕ, List, [], Bor, ap, arith, get_or, length, map, subst, sym, get_or-map, length-map, Wrote, stays_then, shown, HasMade, HasRun}
 use Rattle.registry_tables.specs.Creation.{creation}
-use Rattle.registry_tables.specs.Effects.{shown}
-use Rattle.registry_tables.specs.Fresh.{HasMade}
-use Rattle.registry_tables.specs.Opening.{HasRun}
 use Rattle.registry_tables.proofs.SchemaFacts.{creation_length}
 use Rattle.registry_tables.proofs.CreationFacts.{makes_next, refuses_next}
 use Rattle.registry_tables.proofs.schema.create_tables.Goals as goal

@@ -1,9 +1,4 @@
-use Rattle.std.proofs.Common.{◌≡◌, ◌<◌}
-use Rattle.sqlite.specs.State.{HasCleanDisk}
-use Rattle.registry_rows.specs.Frames.{Stays}
-use Rattle.registry_tables.specs.Effects.{HasNoTables, InForm, shown}
-use Rattle.registry_tables.specs.Fresh.{HasMade}
-use Rattle.registry_tables.specs.Opening.{HasRun}
+use Rattle.registry_tables.proofs.Words.{◌≡◌, ◌<◌, HasCleanDisk, Stays, HasNoTables, InForm, shown, HasMade, HasRun}
 use Rattle.registry_tables.proofs.schema.create_tables.Given as goal
 
 -- the tables so far are made, where there was none at first

@@ -1,7 +1,4 @@
-use Rattle.std.proofs.Common.{◌≡◌, ◌∙◌, ap, sym}
-use Rattle.std.specs.List.{list_all}
-use Rattle.std.proofs.lemmas.List.Folds.{list_all-map}
-use Rattle.registry_tables.specs.Effects.{stored_in}
+use Rattle.registry_tables.proofs.Words.{◌≡◌, ◌∙◌, ap, sym, list_all, list_all-map, stored_in}
 use Rattle.registry_tables.specs.Scopes.{is_in_its_scope, place_entry}
 use Rattle.registry_tables.proofs.ScopeFacts.{in_scope_told}
 use Rattle.registry_tables.proofs.scopes.are_grants_in_scope.Goals as goal

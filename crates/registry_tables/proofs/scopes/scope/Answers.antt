@@ -1,4 +1,4 @@
-use Rattle.std.proofs.Common.{lit<, sym}
+use Rattle.registry_tables.proofs.Words.{lit<, sym}
 use Rattle.std.proofs.lemmas.Str.Pattern.{strip_prefix_char}
 use Rattle.registry_tables.proofs.ScopeFacts.{bare_has_none}
 use Rattle.registry_tables.proofs.scopes.scope.Goals as goal

@@ -1,8 +1,4 @@
-use Rattle.std.proofs.Common.{◌∙◌, sym}
-use Rattle.std.proofs.lemmas.Result.{IfOk-weaker}
-use Rattle.registry_names.proofs.KeyFacts.{pair_key}
-use Rattle.registry_tables.specs.Contents.{as_withdrawal}
-use Rattle.registry_tables.specs.Effects.{stored_in}
+use Rattle.registry_tables.proofs.Words.{◌∙◌, sym, IfOk-weaker, pair_key, as_withdrawal, stored_in}
 use Rattle.registry_tables.proofs.ReadFacts.{some-read}
 use Rattle.registry_tables.proofs.spent.is_spent.Goals as goal
 

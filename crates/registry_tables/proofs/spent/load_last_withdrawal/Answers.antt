@@ -1,8 +1,4 @@
-use Rattle.std.proofs.Common.{◌∙◌, ap, map}
-use Rattle.std.proofs.lemmas.Result.{IfOk-weaker}
-use Rattle.registry_tables.specs.Effects.{shown}
-use Rattle.registry_tables.specs.Spelled.{number_spelled}
-use Rattle.registry_tables.specs.Withdrawals.{last_number}
+use Rattle.registry_tables.proofs.Words.{◌∙◌, ap, map, IfOk-weaker, shown, number_spelled, last_number}
 use Rattle.registry_tables.proofs.QueryFacts.{is_query}
 use Rattle.registry_tables.proofs.SpentFacts.{last_found, last_means}
 use Rattle.registry_tables.proofs.spent.load_last_withdrawal.Goals as goal

@@ -1,9 +1,4 @@
-use Rattle.std.proofs.Common.{sym, ap, subst, ◌∙◌, rules}
-use Rattle.std.proofs.lemmas.Result.{IfOk-weaker}
-use Rattle.registry_access.specs.declared.caller.Caller.{Caller}
-use Rattle.registry_access.specs.declared.caller.Caller.TheVariants.{User}
-use Rattle.registry_tables.specs.Effects.{shown, stored_in}
-use Rattle.registry_tables.specs.Teams.{AreGrantedTo}
+use Rattle.registry_tables.proofs.Words.{sym, ap, subst, ◌∙◌, rules, IfOk-weaker, Caller, User, shown, stored_in, AreGrantedTo}
 use Rattle.registry_tables.proofs.EffectFacts.{as_it_was, reads_nothing_new}
 use Rattle.registry_tables.proofs.StandingFacts.{members_grants, no_grants}
 use Rattle.registry_tables.proofs.standing.load_granted.Goals as goal

@@ -1,15 +1,6 @@
-use Rattle.std.proofs.Common.{◌≡◌, ◌||◌, ◌∙◌, not, true, arith, is_some, ap, sym}
-use Rattle.sqlite.specs.Effect.{Database}
-use Rattle.sqlite.specs.State.{HasCleanDisk}
-use Rattle.registry_access.specs.Callers.{is_maintainer}
-use Rattle.registry_access.specs.Levels.{is_owner_or_admin}
-use Rattle.registry_access.specs.Positions.{has_scope, scope_role}
+use Rattle.registry_tables.proofs.Words.{◌≡◌, ◌||◌, ◌∙◌, not, true, arith, is_some, ap, sym, Database, HasCleanDisk, is_maintainer, is_owner_or_admin, has_scope, scope_role, scope_of, Reads}
+use Rattle.registry_tables.proofs.Words.{access_of, contents, shown, schema}
 use Rattle.registry_access.specs.RowsFor.{is_owners}
-use Rattle.registry_names.specs.Names.{scope_of}
-use Rattle.registry_rows.specs.Ready.{Reads}
-use Rattle.registry_tables.specs.Contents.{access_of, contents}
-use Rattle.registry_tables.specs.Effects.{shown}
-use Rattle.registry_tables.specs.Schema.{schema}
 use Rattle.registry_tables.proofs.EffectFacts.{reads_as_before}
 use Rattle.registry_tables.proofs.StandingFacts.{all_told, counts_asked, counts_follower, grants_before, public_told, scope_there}
 use Rattle.registry_tables.proofs.standing.load_standing.Goals as goal
@@ -54,27 +45,3 @@ pub returns-then-sees_public-clause-loads : goal.returns-then-sees_public-clause
 returns-then-sees_public-clause-loads g c clean =
     let status = c.in_ok-status.ensures.loads clean in
     (status.0, λ sound. public_told _ _ c.args.caller.now c.args.name.now c.args.ask.now (sym c.sees_public.ensures ∙ c.if-sees_public.true) status.1)
-
-pub has_scope-requires : goal.has_scope-requires
-has_scope-requires g c = record {
-  in_form = λ clean _.
-      let at_status : HasCleanDisk (shown g.S.Store c.load_status.new.tx) = omega (arith, c.load_scope_role.ensures.stays.survives.clean, clean) in
-      (c.in_ok-role.ensures.knows clean).0.ready (c.in_ok-status.ensures.loads at_status).0.ready;
-}
-
-pub maintains_for-requires : goal.maintains_for-requires
-maintains_for-requires g c = record {
-  in_form = λ clean _.
-      let at_role : HasCleanDisk (shown g.S.Store c.load_scope_role.new.tx) = omega (arith, c.has_scope.ensures.stays.survives.clean, clean) in
-      let at_status : HasCleanDisk (shown g.S.Store c.load_status.new.tx) = omega (arith, c.load_scope_role.ensures.stays.survives.clean, at_role) in
-      (c.in_ok-organisation.ensures.knows clean).0.ready ((c.in_ok-role.ensures.knows at_role).0.ready (c.in_ok-status.ensures.loads at_status).0.ready);
-}
-
-pub load_granted-requires : goal.load_granted-requires
-load_granted-requires g c = record {
-  in_form = λ clean _.
-      let at_organisation : HasCleanDisk (shown g.S.Store c.has_scope.new.tx) = omega (arith, c.maintains_for.ensures.stays.survives.clean, clean) in
-      let at_role : HasCleanDisk (shown g.S.Store c.load_scope_role.new.tx) = omega (arith, c.has_scope.ensures.stays.survives.clean, at_organisation) in
-      let at_status : HasCleanDisk (shown g.S.Store c.load_status.new.tx) = omega (arith, c.load_scope_role.ensures.stays.survives.clean, at_role) in
-      (c.in_ok-maintainer.ensures.knows clean).0.ready ((c.in_ok-organisation.ensures.knows at_organisation).0.ready ((c.in_ok-role.ensures.knows at_role).0.ready (c.in_ok-status.ensures.loads at_status).0.ready));
-}

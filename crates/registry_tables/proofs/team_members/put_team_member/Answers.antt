@@ -1,5 +1,4 @@
-use Rattle.registry_rows.proofs.QuietFacts.{on_answer}
-use Rattle.registry_tables.specs.Effects.{shown}
+use Rattle.registry_tables.proofs.Words.{on_answer, shown}
 use Rattle.registry_tables.proofs.TeamMemberFacts.{team_member_put, team_member_was_new}
 use Rattle.registry_tables.proofs.team_members.put_team_member.Goals as goal
 

@@ -1,12 +1,6 @@
-use Rattle.std.proofs.Common.{◌≡◌, ◌∙◌, Bool, true, false, Ok, refl, ap}
-use Rattle.std.specs.Prelude.{is_ok}
-use Rattle.registry_access.specs.Levels.{reads}
+use Rattle.registry_tables.proofs.Words.{◌≡◌, ◌∙◌, Bool, true, false, Ok, refl, ap, is_ok, reads, level_in, Text, access_of, stored_in}
 use Rattle.registry_access.specs.Policy.{where_found}
-use Rattle.registry_access.specs.Positions.{level_in}
-use Rattle.registry_names.specs.Texts.{Text}
 use Rattle.registry_names.specs.declared.refusal.Rule.TheVariants.{A8}
-use Rattle.registry_tables.specs.Contents.{access_of}
-use Rattle.registry_tables.specs.Effects.{stored_in}
 use Rattle.registry_tables.proofs.team_packages.is_read.Goals as goal
 
 allowed_where_found : (b : Bool) → is_ok (where_found b (Ok A8)) ≡ b

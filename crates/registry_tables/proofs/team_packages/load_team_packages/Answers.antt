@@ -1,10 +1,4 @@
-use Rattle.std.proofs.Common.{◌∙◌, ap, arith, map, subst, sym}
-use Rattle.std.proofs.lemmas.Result.{IfOk-weaker}
-use Rattle.sqlite.specs.Effect.{Database}
-use Rattle.sqlite.specs.State.{HasCleanDisk}
-use Rattle.registry_tables.specs.Contents.{contents}
-use Rattle.registry_tables.specs.Effects.{shown, stored_in}
-use Rattle.registry_tables.specs.Teams.{AreTeamsSound, granted_entry, readable}
+use Rattle.registry_tables.proofs.Words.{◌∙◌, ap, arith, map, subst, sym, IfOk-weaker, Database, HasCleanDisk, contents, shown, stored_in, AreTeamsSound, granted_entry, readable}
 use Rattle.registry_tables.proofs.EffectFacts.{reads_as_before}
 use Rattle.registry_tables.proofs.team_packages.load_team_packages.Goals as goal
 

@@ -1,14 +1,6 @@
-use Rattle.std.proofs.Common.{◌≡◌, List, ◌∷◌, ◌++◌, ◌∙◌, map, sym, ap, subst, arith, length}
-use Rattle.std.specs.Vec.Iter.{into_iter_items}
-use Rattle.sqlite.specs.Effect.{Database}
-use Rattle.sqlite.specs.State.{HasCleanDisk}
-use Rattle.registry_access.specs.Levels.{reads}
-use Rattle.registry_access.specs.Positions.{level_in}
+use Rattle.registry_tables.proofs.Words.{◌≡◌, List, ◌∷◌, ◌++◌, ◌∙◌, map, sym, ap, subst, arith, length, into_iter_items, Database, HasCleanDisk, reads, level_in, stays_then, access_of, contents}
+use Rattle.registry_tables.proofs.Words.{shown, stored_in, AreTeamsSound, granted_entry, readable}
 use Rattle.registry_packument.specs.declared.list.Granted.{Granted}
-use Rattle.registry_rows.proofs.QuietFacts.{stays_then}
-use Rattle.registry_tables.specs.Contents.{access_of, contents}
-use Rattle.registry_tables.specs.Effects.{shown, stored_in}
-use Rattle.registry_tables.specs.Teams.{AreTeamsSound, granted_entry, readable}
 use Rattle.registry_tables.proofs.EffectFacts.{before_then, reads_nothing_new}
 use Rattle.registry_tables.proofs.ReadableFacts.{next_taken}
 use Rattle.registry_tables.proofs.team_packages.read_by.Goals as goal

@@ -1,9 +1,4 @@
-use Rattle.std.proofs.Common.{◌≡◌, ◌++◌, length, map}
-use Rattle.std.specs.Vec.Iter.{into_iter_items, into_iter_len}
-use Rattle.sqlite.specs.State.{HasCleanDisk}
-use Rattle.registry_rows.specs.Frames.{Stays}
-use Rattle.registry_tables.specs.Effects.{IsAsBefore, shown, stored_in}
-use Rattle.registry_tables.specs.Teams.{AreTeamsSound, granted_entry, readable}
+use Rattle.registry_tables.proofs.Words.{◌≡◌, ◌++◌, length, map, into_iter_items, into_iter_len, HasCleanDisk, Stays, IsAsBefore, shown, stored_in, AreTeamsSound, granted_entry, readable}
 use Rattle.registry_tables.proofs.team_packages.read_by.Given as goal
 
 -- of the grants so far there are those that the caller reads, and nothing has changed

@@ -1,7 +1,4 @@
-use Rattle.std.proofs.Common.{◌∙◌, Some, ap, sym}
-use Rattle.std.proofs.lemmas.Iterator.Adapters.{option_map_id}
-use Rattle.registry_names.specs.Maps.{at}
-use Rattle.registry_tables.specs.Effects.{stored_in}
+use Rattle.registry_tables.proofs.Words.{◌∙◌, Some, ap, sym, option_map_id, at, stored_in}
 use Rattle.registry_tables.proofs.QueryFacts.{is_query}
 use Rattle.registry_tables.proofs.TokenFacts.{find_means, user_of_found}
 use Rattle.registry_tables.proofs.tokens.load_token_user.Goals as goal

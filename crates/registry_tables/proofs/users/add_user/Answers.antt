@@ -1,5 +1,4 @@
-use Rattle.registry_rows.proofs.QuietFacts.{on_answer}
-use Rattle.registry_tables.specs.Effects.{shown}
+use Rattle.registry_tables.proofs.Words.{on_answer, shown}
 use Rattle.registry_tables.proofs.UserFacts.{user_put, user_was_new}
 use Rattle.registry_tables.proofs.users.add_user.Goals as goal
 

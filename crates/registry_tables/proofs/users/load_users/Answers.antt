@@ -1,10 +1,4 @@
-use Rattle.std.proofs.Common.{◌∙◌, ap, arith, map}
-use Rattle.std.proofs.lemmas.Result.{IfOk-weaker}
-use Rattle.sqlite.specs.Effect.{Database}
-use Rattle.sqlite.specs.State.{HasCleanDisk}
-use Rattle.registry_tables.specs.Contents.{contents}
-use Rattle.registry_tables.specs.Effects.{shown, stored_in}
-use Rattle.registry_tables.specs.Overviews.{counted}
+use Rattle.registry_tables.proofs.Words.{◌∙◌, ap, arith, map, IfOk-weaker, Database, HasCleanDisk, contents, shown, stored_in, counted}
 use Rattle.registry_tables.proofs.EffectFacts.{reads_as_before}
 use Rattle.registry_tables.proofs.users.load_users.Goals as goal
 

@@ -1,11 +1,4 @@
-use Rattle.std.proofs.Common.{◌≡◌, ◌∷◌, ap, subst, arith, length}
-use Rattle.std.specs.Vec.Iter.{into_iter_items}
-use Rattle.sqlite.specs.Effect.{Database}
-use Rattle.sqlite.specs.State.{HasCleanDisk}
-use Rattle.registry_rows.proofs.QuietFacts.{stays_then}
-use Rattle.registry_tables.specs.Contents.{contents}
-use Rattle.registry_tables.specs.Effects.{shown, stored_in}
-use Rattle.registry_tables.specs.Overviews.{counted}
+use Rattle.registry_tables.proofs.Words.{◌≡◌, ◌∷◌, ap, subst, arith, length, into_iter_items, Database, HasCleanDisk, stays_then, contents, shown, stored_in, counted}
 use Rattle.registry_tables.proofs.EffectFacts.{before_then, reads_nothing_new}
 use Rattle.registry_tables.proofs.OverviewFacts.{next_listed}
 use Rattle.registry_tables.proofs.users.with_counts.Goals as goal

@@ -1,9 +1,4 @@
-use Rattle.std.proofs.Common.{◌≡◌, ◌++◌, length, map}
-use Rattle.std.specs.Vec.Iter.{into_iter_items, into_iter_len}
-use Rattle.sqlite.specs.State.{HasCleanDisk}
-use Rattle.registry_rows.specs.Frames.{Stays}
-use Rattle.registry_tables.specs.Effects.{IsAsBefore, shown, stored_in}
-use Rattle.registry_tables.specs.Overviews.{counted}
+use Rattle.registry_tables.proofs.Words.{◌≡◌, ◌++◌, length, map, into_iter_items, into_iter_len, HasCleanDisk, Stays, IsAsBefore, shown, stored_in, counted}
 use Rattle.registry_tables.proofs.users.with_counts.Given as goal
 
 -- each row so far is of its name, and nothing has changed

@@ -1,5 +1,4 @@
-use Rattle.std.proofs.Common.{◌≡◌, map, take}
-use Rattle.registry_names.specs.Versions.{text_of_version}
+use Rattle.registry_tables.proofs.Words.{◌≡◌, map, take, text_of_version}
 use Rattle.registry_tables.proofs.versions.all_parsed.Given as goal
 
 -- the texts so far are read

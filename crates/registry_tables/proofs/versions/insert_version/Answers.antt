@@ -1,8 +1,4 @@
-use Rattle.std.proofs.Common.{SFits, w64, rules}
-use Rattle.std.proofs.lemmas.Int.{to_z-of_z}
-use Rattle.registry_rules.specs.Actions.{version_of}
-use Rattle.registry_rows.proofs.QuietFacts.{on_answer}
-use Rattle.registry_tables.specs.Effects.{shown}
+use Rattle.registry_tables.proofs.Words.{SFits, w64, rules, to_z-of_z, version_of, on_answer, shown}
 use Rattle.registry_tables.proofs.ParentFacts.{version_has_package}
 use Rattle.registry_tables.proofs.VersionFacts.{version_inserted, version_is_new}
 use Rattle.registry_tables.proofs.versions.insert_version.Goals as goal

@@ -1,4 +1,4 @@
-use Rattle.std.proofs.Common.{◌≡◌, map, take}
+use Rattle.registry_tables.proofs.Words.{◌≡◌, map, take}
 use Rattle.registry_packument.specs.Heads.{time_entry}
 use Rattle.registry_rules.specs.Facts.{since_of}
 use Rattle.registry_tables.proofs.versions.with_moments.Given as goal

@@ -1,5 +1,4 @@
-use Rattle.std.proofs.Common.{refl}
-use Rattle.std.proofs.lemmas.Result.{IfOk-weaker}
+use Rattle.registry_tables.proofs.Words.{refl, IfOk-weaker}
 use Rattle.registry_tables.proofs.WalkSourceFacts.{asked_begins, asked_left, asked_same, is_asked, refused_alone}
 use Rattle.registry_tables.proofs.walk.walk_versions.Goals as goal
 

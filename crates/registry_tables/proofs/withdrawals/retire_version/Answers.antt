@@ -1,10 +1,4 @@
-use Rattle.std.proofs.Common.{◌≡◌, ◌∙◌, arith, ap, sym}
-use Rattle.sqlite.specs.Effect.{Database}
-use Rattle.sqlite.specs.State.{HasCleanDisk}
-use Rattle.registry_names.specs.Maps.{PairMap, at}
-use Rattle.registry_rows.proofs.QuietFacts.{on_answer, stays_then}
-use Rattle.registry_tables.specs.Contents.{Contents, SpentVersion, contents}
-use Rattle.registry_tables.specs.Effects.{shown, stored_in}
+use Rattle.registry_tables.proofs.Words.{◌≡◌, ◌∙◌, arith, ap, sym, Database, HasCleanDisk, PairMap, at, on_answer, stays_then, Contents, SpentVersion, contents, shown, stored_in}
 use Rattle.registry_tables.proofs.ReferenceFacts.{version_there}
 use Rattle.registry_tables.proofs.withdrawals.retire_version.Goals as goal
 

@@ -1,4 +1,4 @@
-use Rattle.registry_tables.specs.Walks.{documents_of, shown_by}
+use Rattle.registry_tables.proofs.Words.{documents_of, shown_by}
 use Rattle.registry_tables.proofs.WalkFacts.{rows_back}
 use Rattle.registry_tables.proofs.walk.version_walk.VersionWalk.over.Goals as goal
 

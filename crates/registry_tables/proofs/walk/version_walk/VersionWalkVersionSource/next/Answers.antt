@@ -1,4 +1,4 @@
-use Rattle.std.proofs.Common.{◌≡◌, ◌+◌, rules}
+use Rattle.registry_tables.proofs.Words.{◌≡◌, ◌+◌, rules}
 use Rattle.registry_tables.proofs.WalkSourceFacts.{goes_on, is_over, none_given, over_none, some_given}
 use Rattle.registry_tables.proofs.walk.version_walk.VersionWalkVersionSource.next.Goals as goal
 
