@@ -98,17 +98,25 @@ class Registry:
         return Server(self, options, errors)
 
 
+def free_port():
+    with socket.create_server(('127.0.0.1', 0)) as door:
+        return door.getsockname()[1]
+
+
+def started(registry, port, options=(), errors=None):
+    """`registry serve` on a registry's file, which may not listen yet."""
+    return subprocess.Popen([registry.program, '--db', registry.db, 'serve', '--port', str(port), *options],
+                            stdout=subprocess.PIPE, stderr=errors)
+
+
 class Server:
     """`registry serve` on a registry's file. It listens, and `opened` is how long that took. What it
     says on standard error goes to `errors`."""
 
     def __init__(self, registry, options=(), errors=None):
-        self.registry = registry
-        with socket.create_server(('127.0.0.1', 0)) as door:
-            self.port = door.getsockname()[1]
+        self.registry, self.port = registry, free_port()
         began = time.perf_counter()
-        self.process = subprocess.Popen([registry.program, '--db', registry.db, 'serve', '--port', str(self.port), *options],
-                                        stdout=subprocess.PIPE, stderr=errors)
+        self.process = started(registry, self.port, options, errors)
         if self.process.stdout.readline() != f'listening 127.0.0.1:{self.port}\n'.encode():
             fail('the server does not listen')
         self.opened = time.perf_counter() - began
@@ -212,13 +220,13 @@ def more(connection):
 
 
 class Publication:
-    """A version with an archive of its own of so many bytes, a manifest of 1 kB like npm's, and
-    seven packages that it needs; and the body that publishes it. Its description has so many
-    bytes more."""
+    """A version with an archive of so many bytes, which is its own where no other seed is given, a
+    manifest of 1 kB like npm's, and seven packages that it needs; and the body that publishes it.
+    Its description has so many bytes more."""
 
-    def __init__(self, name, version, archive_len, needs=(), more=0):
+    def __init__(self, name, version, archive_len, needs=(), more=0, seed=None):
         self.name, self.version = name, version
-        self.archive = random.Random(f'{name} {version}').randbytes(archive_len)
+        self.archive = random.Random(seed or f'{name} {version}').randbytes(archive_len)
         file = f'{name}-{version}.tgz'
         body = {
             '_id': name, 'name': name, 'dist-tags': {'latest': version},

@@ -1,5 +1,5 @@
-"""What `measure_limits` and `soak` share: tries that pass or fail, registries to try them on, and
-what a client sees of its connection."""
+"""What `measure_limits`, `soak` and `kill` share: tries that pass or fail, registries to try them
+on, and what a client sees of its connection."""
 
 import contextlib
 import os
@@ -136,6 +136,18 @@ def publish_all(port, publications, batch=100):
 
 def publish_of(publication, token=TOKEN):
     return request_of('PUT', '/' + publication.name.replace('/', '%2f'), publication.body, token)
+
+
+def archives(port, versions, batch=100):
+    """Asks for the archives of versions, of which so many are asked for at once. Gives the response
+    to each."""
+    for first in range(0, len(versions), batch):
+        some = versions[first:first + batch]
+        with connect(port) as connection:
+            connection.sendall(b''.join(request_of('GET', f'/{name}/-/{name}-{version}.tgz') for name, version in some))
+            responses = Responses(connection)
+            for _ in some:
+                yield responses.next()
 
 
 # ---- what a client sees
