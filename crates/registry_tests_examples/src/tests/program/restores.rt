@@ -68,6 +68,9 @@ const COPY: &str = "files_of_copies/copy.db";
 
 const MADE: &str = "files_of_copies/made.db";
 
+/// The log of an earlier file, which an open of the file would take for its own.
+const LOG: &str = "files_of_copies/made.db-wal";
+
 const ADD_ANN: &str = "--db files_of_copies/copy.db --operator user-add ann";
 
 const RESTORE: &str = "--db files_of_copies/made.db restore files_of_copies/copy.db";
@@ -82,7 +85,7 @@ const CHANGE: &str = "INSERT INTO orgs (name) VALUES ('lab')";
 const BROKEN: &str =
     "wrong: organisation lab has no owner\nwrong: organisation lab has no team developers\n";
 
-/// A file that is there stays.
+/// A file that is there stays, and so does a log.
 const TAKEN: &str =
     "fault: File\nthe registry's file is there, or its -wal, -part or -part-wal: move it away first\n";
 
@@ -94,6 +97,9 @@ fn a_copy_that_breaks_a_rule_is_not_put_in_place(rt: HostRuntime) {
     leaves(&rt, &rt, RESTORE, (1, "", BROKEN));
     let is_there = fs::exists(&rt, MADE).expect(&rt, "a look at the folder");
     same(&rt, "a file is there", is_there, false);
+    fs::write(&rt, LOG, b"").expect(&rt, "a log");
+    leaves(&rt, &rt, RESTORE_UNCHECKED, (3, "", TAKEN));
+    fs::remove_file(&rt, LOG).expect(&rt, "no log");
     leaves(&rt, &rt, RESTORE_UNCHECKED, DONE);
     leaves(&rt, &rt, RESTORE_UNCHECKED, (3, "", TAKEN));
     end(&rt, "files_of_copies");
