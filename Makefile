@@ -38,7 +38,7 @@ help:
 	@echo '  make beside   runs commands beside a server, and kills, halts and stops it meanwhile: 4 minutes'
 	@echo '  make socket   serves at a Unix socket: who may connect, takeovers, stops: ten seconds'
 	@echo '  make log      keeps a log of requests: moves it away, and fills its disk: half a minute'
-	@echo '  make kill     kills a server 500 times while 16 clients publish at once: 6 minutes'
+	@echo '  make kill     kills a server 500 times while 16 clients publish at once: 7 minutes'
 	@echo '  make files    fills a disk, opens files that hold no registry, and restores copies'
 	@echo '  make older    migrates files of older schemas, and kills that at any moment: two minutes'
 	@echo '  make limits   tries the limits of connections, and hostile clients: 5 minutes'
