@@ -1,13 +1,8 @@
 -- What a connection has that is taken over: it was open.
-use Rattle.std.proofs.Common.{ℕ, zero, suc, arith, inl, inr, List, IsTrue, subst}
+use Rattle.registry_desk.proofs.Words.{ℕ, zero, suc, arith, inl, inr, List, IsTrue, subst, Shown, HasCleanDisk, Ghosts, Wrote, shown}
 use Rattle.std.proofs.lemmas.Bool.{cases_Bool}
-use Rattle.sqlite.specs.State.{State as Shown, HasCleanDisk, Survives}
 use Rattle.sqlite.specs.declared.transaction.Transaction.{Transaction}
-use Rattle.sqlite_trees.specs.Tree.{Trees}
-use Rattle.sqlite_trees.specs.declared.store.Store.{Ghosts}
 use Rattle.sqlite_value.specs.Order.{Row}
-use Rattle.registry_rows.specs.Frames.{Wrote}
-use Rattle.registry_tables.specs.Effects.{shown}
 use Rattle.registry_tables.specs.Opening.{HasCreated, HasRun}
 
 -- a statement that was run in a transaction found the connection open
@@ -32,17 +27,3 @@ module _ {S : Type 0} (store : Ghosts S) where
       let mid = shown store made.0 in
       let were : HasCleanDisk mid = omega (arith, made.2.1.survives.clean, clean) in
       ran_open _ old made.0 made.1 were (wrote_open _ _ mid (shown store new) made.2 clean)
-
--- what may be committed may be said with more
-pub survives_more : (old new : Shown) (P Q : Trees → Type 0) → ((db : Trees) → P db → Q db) → Survives old new P → Survives old new Q
-survives_more old new P Q more it = record {
-  clean = it.clean;
-  shield = it.shield;
-  counts = it.counts;
-  limit = it.limit;
-  closes = it.closes;
-  crash = λ clean db left. elim (it.crash clean db left) [
-    | inl before ↦ inl before
-    | inr made ↦ inr (more db made)
-  ];
-}

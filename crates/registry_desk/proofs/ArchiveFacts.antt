@@ -1,34 +1,16 @@
 -- The archives that are kept stay those of the live versions.
-use Rattle.std.proofs.Common.{◌≡◌, inl, inr, ℕ, Bool, true, false, cond, ◌==◌, ◌&&◌, ◌||◌, List, [], ◌∷◌, ◌++◌, Option, Some, None, option_map, unwrap_or, is_some, refl, sym, ap, ap₂, ◌∙◌, subst, true≢false}
-use Rattle.std.specs.List.{list_all, list_any}
-use Rattle.registry_access.specs.declared.caller.Caller.{Caller}
+use Rattle.registry_desk.proofs.Words.{◌≡◌, inl, inr, ℕ, Bool, true, false, cond, ◌==◌, ◌&&◌, List, [], ◌∷◌, ◌++◌, Option, Some, None, option_map, unwrap_or, is_some, refl, sym, ap, ap₂, ◌∙◌, subst}
+use Rattle.registry_desk.proofs.Words.{true≢false, list_all, list_any, Caller, pair_is, at, IsName, is_name_char, Text, is, VersionParts, text_of_version, Refusal, pair_key, at-erase_other}
+use Rattle.registry_desk.proofs.Words.{at-put_other, at-revise, Cache, kept, is_command, version_of, Change, AddUser, AddToken, DropToken, AddOrg, PutMember, DropMember, AddTeam, PutTeamMember}
+use Rattle.registry_desk.proofs.Words.{DropTeamMember, DropTeam, PutGrant, DropGrant, PutOwner, DropOwner, PutStatus, AddVersion, RetireVersion, PutDeprecation, PutTag, DropTag, all_made, made}
+use Rattle.registry_desk.proofs.Words.{release_of, Release, State, Reply, Bytes, Refused, Action, Archive, HeldAreStored, all_stored, Contents, registry_of, changes_make, archive_in, reply_to}
+use Rattle.registry_desk.proofs.Words.{AreArchives, KeepsArchive, KeepsNoMore, LeavesArchivesRight, archive_key, moves, without_moved}
 use Rattle.registry_names.specs.Idents.{is_ident_char}
-use Rattle.registry_names.specs.Keys.{pair_is}
-use Rattle.registry_names.specs.Maps.{at}
-use Rattle.registry_names.specs.Names.{IsName, is_name_char}
-use Rattle.registry_names.specs.Texts.{Text, is}
-use Rattle.registry_names.specs.Versions.{VersionParts, text_of_version}
-use Rattle.registry_names.specs.declared.refusal.Refusal.{Refusal}
-use Rattle.registry_names.proofs.KeyFacts.{pair_key}
-use Rattle.registry_names.proofs.MapFacts.{at-erase_other, at-put_other, at-revise}
 use Rattle.registry_names.proofs.NameFacts.{and_left, and_right}
 use Rattle.registry_names.proofs.TextFacts.{is_same, is_true}
-use Rattle.registry_cache.specs.Caches.{Cache, kept}
-use Rattle.registry_rules.specs.Actions.{is_command, version_of}
-use Rattle.registry_rules.specs.Changes.{Change, AddUser, AddToken, DropToken, AddOrg, PutMember, DropMember, AddTeam, PutTeamMember, DropTeamMember, DropTeam, PutGrant, DropGrant, PutOwner, DropOwner, PutStatus, AddVersion, RetireVersion, PutDeprecation, PutTag, DropTag, all_made, made, release_of}
 use Rattle.registry_rules.specs.Operations.{moved, regranted, restated, with_grant, with_member, with_role, with_status, with_tag}
-use Rattle.registry_rules.specs.State.{Release, State}
-use Rattle.registry_rules.specs.declared.reply.Reply.{Reply}
-use Rattle.registry_rules.specs.declared.reply.Reply.TheVariants.{Bytes, Refused}
-use Rattle.registry_rules.specs.declared.request.Action.{Action}
-use Rattle.registry_rules.specs.declared.request.Action.TheVariants.{Archive}
-use Rattle.registry_tables.specs.Archives.{HeldAreStored}
-use Rattle.registry_tables.specs.Changes.{all_stored}
-use Rattle.registry_tables.specs.Contents.{Contents, registry_of}
-use Rattle.registry_tables.proofs.StepFacts.{changes_make}
-use Rattle.registry_laws_history.specs.Answers.{archive_in, reply_to}
-use Rattle.registry_desk.specs.Caches.{AreArchives, KeepsArchive, KeepsNoMore, LeavesArchivesRight, archive_key, moves, without_moved}
 use Rattle.registry_desk.proofs.CacheFacts.{more_kept, untouched_found}
+use Rattle.registry_desk.proofs.LivingFacts.{neither}
 
 -- ---- the name of a package has no space
 
@@ -115,10 +97,6 @@ made_archive S (PutDeprecation q w message) p v e =
 made_archive S (PutTag q t w stands) p v e =
     either_archive stands S (moved S q t w) (with_tag S q t w) p v (either_archive (is_some (at S.tags (q, t))) S (with_tag S q t w) S p v refl refl) refl
 made_archive S (DropTag q t) p v e = refl
-
-neither : (a b : Bool) → (a || b) ≡ false → (a ≡ false) × (b ≡ false)
-neither true b e = absurd (true≢false e)
-neither false b e = (refl, e)
 
 all_made_archive : (S : State) (cs : List Change) (p v : Text) → list_any (λ change. moves change (archive_key p v)) cs ≡ false → archive_in (all_made S cs) p v ≡ archive_in S p v
 all_made_archive S [] p v e = refl

@@ -1,22 +1,14 @@
 -- The texts that are kept stay the packuments of what is stored.
-use Rattle.std.proofs.Common.{◌≡◌, ◌⊎◌, inl, inr, ◌<◌, ◌+◌, ℕ, Bool, true, false, cond, not, ◌&&◌, ◌||◌, List, [], ◌∷◌, ◌++◌, length, map, take, get_or, MatchBool, Option, Some, None, Result, Ok, Err, OnOk, OnErr, IfNone, IfSome, refl, sym, ap, ◌∙◌, subst, subst₂}
-use Rattle.std.specs.List.{list_any}
-use Rattle.std.proofs.lemmas.List.{map-append, take_more}
+use Rattle.registry_desk.proofs.Words.{◌≡◌, ◌⊎◌, inl, inr, ◌<◌, ◌+◌, ℕ, Bool, true, false, cond, not, ◌&&◌, ◌||◌, List, [], ◌∷◌, ◌++◌, length, map, take, get_or, MatchBool, Option, Some, None, Result}
+use Rattle.registry_desk.proofs.Words.{Ok, Err, OnOk, OnErr, IfNone, IfSome, refl, sym, ap, ◌∙◌, subst, subst₂, list_any, map-append, take_more, Text, is, Cache, asked, forgotten, kept, with_room}
+use Rattle.registry_desk.proofs.Words.{with_text, Change, change_of, HeldAreStored, all_stored, Contents, registry_of, changes_make, ArePackuments, IsPut, KeepsLatest, KeepsNoMore, LeavesTextsRight}
+use Rattle.registry_desk.proofs.Words.{live_packument, without_touched, changes_view, View}
 use Rattle.std.proofs.lemmas.List.Folds.{list_any-append}
-use Rattle.registry_names.specs.Texts.{Text, is}
-use Rattle.registry_cache.specs.Caches.{Cache, asked, forgotten, kept, with_room, with_text}
 use Rattle.registry_cache.proofs.CacheFacts.{kept-asked, kept-kept_where, kept_where-all, kept_where-same, kept_where-twice, limit-with_room, limit-with_text, put_keeps_right, room_keeps_right}
 use Rattle.registry_names.proofs.TextFacts.{is_sym, is_true}
-use Rattle.registry_rules.specs.Changes.{Change, change_of}
 use Rattle.registry_rules.specs.declared.change.Change as declared
-use Rattle.registry_tables.specs.Archives.{HeldAreStored}
-use Rattle.registry_tables.specs.Changes.{all_stored}
-use Rattle.registry_tables.specs.Contents.{Contents, registry_of}
-use Rattle.registry_tables.proofs.StepFacts.{changes_make}
-use Rattle.registry_desk.specs.Caches.{ArePackuments, IsPut, KeepsLatest, KeepsNoMore, LeavesTextsRight, live_packument, without_touched}
-use Rattle.registry_desk.specs.Views.{changes_view}
-use Rattle.registry_desk.specs.declared.view.View.{View}
 use Rattle.registry_desk.proofs.LivingFacts.{live_of_others}
+use Rattle.registry_rows.proofs.ListFacts.{not-or}
 
 -- ---- what is forgotten
 
@@ -30,10 +22,6 @@ same_no_more s = record { limit = refl; before = λ p text h. h }
 or_none : (b : Bool) → (b || false) ≡ b
 or_none true = refl
 or_none false = refl
-
-not_either : (a b : Bool) → (not a && not b) ≡ not (a || b)
-not_either true b = refl
-not_either false b = refl
 
 module _ (touches : Change → Text → Bool) where
   abbrev touched : List Change → Text → Bool
@@ -63,7 +51,7 @@ module _ (touches : Change → Text → Bool) where
   touched_then cs c s =
       kept_where-twice s (λ q. not (touched cs q)) (λ q. not (touched (c ∷ []) q))
       ∙ kept_where-same s (λ q. not (touched cs q) && not (touched (c ∷ []) q)) (λ q. not (touched (cs ++ c ∷ []) q))
-      (λ q. not_either (touched cs q) (touched (c ∷ []) q) ∙ ap not (sym (list_any-append (λ d. touches d q) cs (c ∷ []))))
+      (λ q. not-or (touched cs q) (touched (c ∷ []) q) ∙ ap not (sym (list_any-append (λ d. touches d q) cs (c ∷ []))))
 
   module _ (xs : List declared.Change) (i : ℕ) (x : declared.Change) (below : i < length xs) (is_next : x ≡ get_or xs i x) where
     more : map change_of (take i xs) ++ change_of x ∷ [] ≡ map change_of (take (i + 1) xs)

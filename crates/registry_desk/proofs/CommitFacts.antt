@@ -1,38 +1,14 @@
 -- The first tables, and what a commit leaves.
-use Rattle.std.proofs.Common.{◌≡◌, ◌⊎◌, ◌∙◌, ◌+◌, ◌-◌, ◌^◌, ◌≤◌, Bool, min, arith, inl, inr, IfErr, IsTrue, OnErr, OnOk, Result, Ok, Err, true, false, true≢false, refl, sym, ap, subst}
-use Rattle.std.specs.List.{AllByRecursion}
-use Rattle.sqlite.specs.Effect.{Database, IsDatabase}
-use Rattle.sqlite.specs.Held.{Held, state}
-use Rattle.sqlite.specs.State.{State as Shown, HasCleanDisk, IsRolledBack, KeepsCommit, Shows}
-use Rattle.sqlite.specs.Steps.{FailsToCommit, IsEmpty}
-use Rattle.sqlite.specs.declared.error.Error.{Error}
+use Rattle.registry_desk.proofs.Words.{◌≡◌, ◌⊎◌, ◌∙◌, ◌+◌, ◌-◌, ◌^◌, ◌≤◌, Bool, min, arith, inl, inr, IfErr, IsTrue, OnErr, OnOk, Result, Ok, Err, true, false, true≢false, refl, sym, ap, subst}
+use Rattle.registry_desk.proofs.Words.{AllByRecursion, Database, IsDatabase, Held, state, survives_begin, survives_then, Shown, HasCleanDisk, IsRolledBack, KeepsCommit, Shows, Survives, Error, Trees}
+use Rattle.registry_desk.proofs.Words.{Ghosts, Fault, IsSound, State, nothing_sound, CommitFails, IsCommitted, IsReady, Leaves, Ready, Contents, contents, no_tables, stored, fresh, schema}
+use Rattle.registry_desk.proofs.Words.{fresh_is_nothing, CanBeAdopted, IsHandedBack, IsSettled, IsUndone, LeavesCommitted, IsSure, GrantsInScope, IsAsWritten, IsRegistryOf, Rests}
+use Rattle.sqlite.specs.Steps.{FailsToCommit}
 use Rattle.sqlite_catalog.specs.Listing as listing
 use Rattle.sqlite_schema.specs.declared.schema.Schema.{Schema}
-use Rattle.sqlite_trees.specs.Tree.{Trees}
-use Rattle.sqlite_trees.specs.declared.store.Store.{Ghosts}
-use Rattle.registry_names.specs.declared.stop.Fault.{Fault}
-use Rattle.registry_rules.specs.Kept.{IsSound}
-use Rattle.registry_rules.specs.State.{State}
-use Rattle.registry_rules.proofs.SoundSteps.{nothing_sound}
-use Rattle.registry_rows.specs.Frames.{CommitFails, IsCommitted}
-use Rattle.registry_rows.specs.Ready.{IsReady, Leaves, Ready}
 use Rattle.registry_rows.specs.Rows.{HasRowids}
-use Rattle.registry_tables.specs.Contents.{Contents, contents}
-use Rattle.registry_rows.specs.Tables.{no_tables}
-use Rattle.registry_tables.specs.Effects.{stored}
-use Rattle.registry_tables.specs.Fresh.{fresh}
-use Rattle.registry_tables.specs.Schema.{schema}
-use Rattle.registry_tables.proofs.LiveFacts.{fresh_is_nothing}
 use Rattle.registry_tables.proofs.TeamFacts.{sound_teams}
-use Rattle.registry_desk.specs.Adopted.{CanBeAdopted, IsHandedBack, IsSettled, IsUndone, LeavesCommitted}
-use Rattle.registry_desk.specs.Promises.{IsSure}
-use Rattle.registry_tables.specs.Teams.{GrantsInScope}
 use Rattle.registry_tables.proofs.RangeFacts.{fresh_in_range}
-use Rattle.registry_desk.specs.Resting.{IsAsWritten, IsRegistryOf, Rests}
-
--- an empty database has no tables
-pub empty_ready : (s : Shown) → IsEmpty s → Ready no_tables s
-empty_ready s empty clean on = record { schema_is = empty.2; sound = (empty.1 on).0; rowids = tt }
 
 -- so it is once a transaction is begun
 pub begun_empty : {S : Type 0} (store : Ghosts S) (h : Held S) → Ready no_tables (state store h) → Ready no_tables (state store (record h { in_transaction = true }))
@@ -129,6 +105,18 @@ commit_undone (Ok done) old mid new before fails = tt
 commit_undone (Err fault) old mid new before fails = λ clean on.
     let were = before clean in
     undone_is old mid new were.0 (λ again. failed_undone mid new (fails again).0 were.1 (fails again).1) clean on
+
+-- ---- a transaction that is broken off
+
+module _ {S : Type 0} (store : Ghosts S) (old : Held S) (mid : Shown) (dropped left : Held S) where
+  pub drop_survives : (P : Trees → Type 0) → dropped ≡ left → Survives (state store (record old { in_transaction = true })) mid (λ _. ⊥) → Survives mid (state store dropped) (λ _. ⊥) → Survives (state store old) (state store left) P
+  drop_survives P same first last =
+      subst (λ h. Survives (state store old) (state store h) P) same
+      (survives_then (state store old) mid (state store dropped) _ _ P (λ _ _ none. absurd none) (λ _ _ none. absurd none) (survives_begin store old mid _ first) last)
+
+  pub drop_undone : dropped ≡ left → Survives mid (state store dropped) (λ _. ⊥) → (HasCleanDisk mid → KeepsCommit (state store old) mid) → (HasCleanDisk (state store dropped) → IsRolledBack mid (state store dropped))
+      → IsUndone (state store old) (state store left)
+  drop_undone same last keeps back = subst (λ h. IsUndone (state store old) (state store h)) same (λ clean on. undone_is (state store old) mid (state store dropped) (keeps (omega (arith, last.clean, clean))) back clean on)
 
 -- ---- a connection that is given away
 

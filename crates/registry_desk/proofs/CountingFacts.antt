@@ -1,16 +1,7 @@
 -- For what SQLite counts.
-use Rattle.std.proofs.Common.{◌≡◌, ◌∙◌, inl, inr, List, [], ◌∷◌, Option, None, Some, true, false, refl, ap, if◌then◌else◌}
-use Rattle.registry_names.specs.declared.refusal.Refusal.{Refusal}
-use Rattle.registry_rules.specs.Changes.{Change}
-use Rattle.registry_rules.specs.Effects.{effects_of}
-use Rattle.registry_rules.specs.Refusals.{refusal}
-use Rattle.registry_rules.specs.declared.request.Request.{Request}
-use Rattle.registry_tables.specs.Changes.{all_stored, stored_by}
-use Rattle.registry_tables.specs.Contents.{Contents, registry_of}
-use Rattle.registry_tables.proofs.StepFacts.{change_counts}
-use Rattle.registry_laws_history.specs.Runs.{enters}
+use Rattle.registry_desk.proofs.Words.{◌≡◌, ◌∙◌, inl, inr, List, [], ◌∷◌, Option, None, Some, true, false, refl, ap, if◌then◌else◌, Refusal, Change, effects_of, refusal, Request, all_stored}
+use Rattle.registry_desk.proofs.Words.{stored_by, Contents, registry_of, change_counts, enters, stepped, unless}
 use Rattle.registry_desk.specs.Counting.{OpensCountArchivesAlone, OutcomesKeepCounters, StopsKeepCounters}
-use Rattle.registry_desk.specs.Resting.{stepped, unless}
 
 changes_count : (changes : List Change) (c : Contents) → (all_stored changes c).counters ≡ c.counters
 changes_count [] c = refl

@@ -1,42 +1,20 @@
 -- What is refused early, and what was found otherwise.
-use Rattle.std.proofs.Common.{◌≡◌, ◌∙◌, ◌⊎◌, ◌&&◌, ◌||◌, ℕ, Bool, true, false, not, cond, if◌then◌else◌, List, [], ◌∷◌, filter, map, ap, inl, inr, refl, sym, subst, Option, Some, None, option_map, Result, Ok, Err, IfOk, IsOkAnd, MatchResult, unwrap_or}
-use Rattle.std.specs.List.{list_any}
-use Rattle.std.specs.Option.{option_or}
-use Rattle.registry_names.specs.Keys.{Pair}
-use Rattle.registry_names.specs.Maps.{at, entries, keep, keys, of}
-use Rattle.registry_names.specs.Texts.{Text, is}
-use Rattle.registry_names.specs.declared.refusal.Refusal.{Refusal}
-use Rattle.registry_names.specs.declared.refusal.Refusal.TheVariants.{NotFound, TooLate, Depended}
-use Rattle.registry_names.specs.declared.dist_tag.DistTag.{DistTag}
-use Rattle.registry_names.specs.declared.stop.Fault.{Fault}
+use Rattle.registry_desk.proofs.Words.{◌≡◌, ◌∙◌, ◌⊎◌, ◌&&◌, ◌||◌, ℕ, Bool, true, false, not, cond, if◌then◌else◌, List, [], ◌∷◌, filter, map, ap, inl, inr, refl, sym, subst, Option, Some, None}
+use Rattle.registry_desk.proofs.Words.{option_map, Result, Ok, Err, IfOk, IsOkAnd, MatchResult, unwrap_or, list_any, option_or, Pair, at, entries, keep, keys, of, Text, is, Refusal, NotFound, TooLate}
+use Rattle.registry_desk.proofs.Words.{Depended, DistTag, Fault, RowsTell, Caller, caller_of, AboutTells, since_of, refuse, refusal, refusal_for, state_refusal, withdraw_all_refusal, withdraw_refusal}
+use Rattle.registry_desk.proofs.Words.{State, Release, is_empty, all_tags, is_any_depended, is_depended, is_need_of, is_too_old, live_since, live_versions, needs_in, published_at, About, LiveVersion}
+use Rattle.registry_desk.proofs.Words.{Action, Request, VersionParts, pair_key, same_self, text_key, at-keep, same_part, Contents, registry_of, tag_entry, AreTeamsSound, EarlyRefusalsStand}
+use Rattle.registry_desk.proofs.Words.{FoundTells, IsFound, TellsSome, asked_organisation, early_refusal}
 use Rattle.registry_access.specs.Access.{Access}
 use Rattle.registry_access.specs.Agreement.{SameOrganisation}
 use Rattle.registry_access.specs.RowMaps.{state_of}
-use Rattle.registry_access.specs.RowsFor.{RowsTell}
 use Rattle.registry_access.specs.declared.ask.Ask.{Ask}
 use Rattle.registry_access.specs.declared.ask.Ask.TheVariants as asks
-use Rattle.registry_access.specs.declared.caller.Caller.{Caller}
 use Rattle.registry_access.specs.declared.rows.AccessRows.{AccessRows}
-use Rattle.registry_rules.specs.Callers.{caller_of}
-use Rattle.registry_rules.specs.Facts.{AboutTells, since_of}
-use Rattle.registry_rules.specs.Refusals.{refuse, refusal, refusal_for, state_refusal, withdraw_all_refusal, withdraw_refusal}
-use Rattle.registry_rules.specs.State.{State, Release, is_empty}
-use Rattle.registry_rules.specs.Withdrawals.{all_tags, is_any_depended, is_depended, is_need_of, is_too_old, live_since, live_versions, needs_in, published_at, versions_in}
-use Rattle.registry_rules.specs.declared.facts.About.{About}
-use Rattle.registry_rules.specs.declared.facts.LiveVersion.{LiveVersion}
-use Rattle.registry_rules.specs.declared.request.Action.{Action}
+use Rattle.registry_rules.specs.Withdrawals.{versions_in}
 use Rattle.registry_rules.specs.declared.request.Action.TheVariants as asked
-use Rattle.registry_rules.specs.declared.request.Request.{Request}
-use Rattle.registry_names.specs.Versions.{VersionParts}
 use Rattle.registry_names.proofs.EntryFacts.{entries-keep}
-use Rattle.registry_names.proofs.KeyFacts.{pair_key, same_self, text_key}
-use Rattle.registry_names.proofs.MapFacts.{at-keep}
-use Rattle.registry_names.proofs.PartFacts.{same_part}
-use Rattle.registry_tables.specs.Contents.{Contents, registry_of}
-use Rattle.registry_tables.specs.Spelled.{tag_entry}
-use Rattle.registry_tables.specs.Teams.{AreTeamsSound}
 use Rattle.registry_tables.specs.Withdrawals.{version_text}
-use Rattle.registry_desk.specs.Early.{EarlyRefusalsStand, FoundTells, IsFound, TellsSome, asked_organisation, early_refusal}
 use Rattle.registry_desk.specs.declared.policy.Found.{Found}
 use Rattle.registry_desk.specs.declared.policy.Found.TheVariants as found
 
@@ -48,16 +26,16 @@ IsNothing (Some x) = ⊥
 -- ---- an early refusal is that of the machine
 
 -- the first of two reasons
-first_stays : (first second : Option Refusal) (why : Refusal) → first ≡ Some why → option_or first second ≡ Some why
-first_stays first second why e = ap (λ o. option_or o second) e
+pub or_first : (first second : Option Refusal) (why : Refusal) → first ≡ Some why → option_or first second ≡ Some why
+or_first first second why e = ap (λ o. option_or o second) e
 
 pub early_refusals_stand : EarlyRefusalsStand
-early_refusals_stand S now who (asked.TokensRemove u) why e = first_stays _ (state_refusal S now (asked.TokensRemove u)) why e
-early_refusals_stand S now who (asked.OrgSet o u role) why e = first_stays _ (state_refusal S now (asked.OrgSet o u role)) why e
-early_refusals_stand S now who (asked.OrgRemove o u) why e = first_stays _ (state_refusal S now (asked.OrgRemove o u)) why e
-early_refusals_stand S now who (asked.OwnerRemove p u) why e = first_stays _ (state_refusal S now (asked.OwnerRemove p u)) why e
-early_refusals_stand S now who (asked.Publish f) why e = first_stays _ (state_refusal S now (asked.Publish f)) why e
-early_refusals_stand S now who (asked.Deprecate p selector message) why e = first_stays _ (state_refusal S now (asked.Deprecate p selector message)) why e
+early_refusals_stand S now who (asked.TokensRemove u) why e = or_first _ (state_refusal S now (asked.TokensRemove u)) why e
+early_refusals_stand S now who (asked.OrgSet o u role) why e = or_first _ (state_refusal S now (asked.OrgSet o u role)) why e
+early_refusals_stand S now who (asked.OrgRemove o u) why e = or_first _ (state_refusal S now (asked.OrgRemove o u)) why e
+early_refusals_stand S now who (asked.OwnerRemove p u) why e = or_first _ (state_refusal S now (asked.OwnerRemove p u)) why e
+early_refusals_stand S now who (asked.Publish f) why e = or_first _ (state_refusal S now (asked.Publish f)) why e
+early_refusals_stand S now who (asked.Deprecate p selector message) why e = or_first _ (state_refusal S now (asked.Deprecate p selector message)) why e
 early_refusals_stand S now who (asked.Withdraw p v) why e = e
 early_refusals_stand S now who (asked.WithdrawAll p) why e = e
 early_refusals_stand S now who _ why e = absurd (subst IsNothing e tt)
@@ -65,11 +43,6 @@ early_refusals_stand S now who _ why e = absurd (subst IsNothing e tt)
 -- the request of a known caller is refused so
 pub known_refused : (S : State) (who : Caller) (r : Request) (why : Refusal) → Some who ≡ caller_of S r.who → early_refusal S r.at who r.what ≡ Some why → refusal S r ≡ Some why
 known_refused S who r why known e = ap (λ (asker : Option Caller). refusal_for S r.at asker r.what) (sym known) ∙ early_refusals_stand S r.at who r.what why e
-
--- what isn't something is nothing
-pub nothing_left : (o : Option Refusal) → ((why : Refusal) → ¬ (o ≡ Some why)) → o ≡ None
-nothing_left None none = refl
-nothing_left (Some why) none = absurd (none why refl)
 
 -- ---- what was found
 
@@ -79,9 +52,6 @@ neither first second one two = ap (λ o. option_or o second) one ∙ two
 
 pub or_second : (first second : Option Refusal) (why : Refusal) → first ≡ None → second ≡ Some why → option_or first second ≡ Some why
 or_second first second why one two = ap (λ o. option_or o second) one ∙ two
-
-pub or_first : (first second : Option Refusal) (why : Refusal) → first ≡ Some why → option_or first second ≡ Some why
-or_first = first_stays
 
 -- all that was said of an action of which nothing is refused early is said of the one that is asked
 module _ (reads : Type 0) (c : Contents) (now : ℕ) (who : Caller) (what : Action) where

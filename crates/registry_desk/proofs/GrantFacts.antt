@@ -1,40 +1,21 @@
 -- Each grant stays on a package of its organisation's scope, whatever is asked.
-use Rattle.std.specs.Option.{option_to_list}
+use Rattle.registry_desk.proofs.Words.{option_to_list, ◌≡◌, ◌∙◌, ℕ, Bool, true, false, cond, List, [], ◌∷◌, ◌++◌, map, is_some, refl, sym, ap, subst, true≢false, Option, Some, None, at, put, scope_of}
+use Rattle.registry_desk.proofs.Words.{latest, Text, is, text_of_version, triple_key, at-erase, at-keep, Caller, version_of, caller_of, Change, AddVersion, DropGrant, DropTag, DropTeam, PutGrant}
+use Rattle.registry_desk.proofs.Words.{PutTag, RetireVersion, deprecation, effects, effects_for, effects_of, ending, first_right, freed, joining, maintaining, membership, put_status, right_to}
+use Rattle.registry_desk.proofs.Words.{withdrawal, withdrawal_of_all, refusal, refusal_by, refusal_for, State, has_maintainer, has_team, is_in_team, is_published, tokens_of, all_tags, live_since}
+use Rattle.registry_desk.proofs.Words.{live_versions, others, published_at, selected, tags_of, Action, OrgSet, TeamAdd, OwnerAdd, Publish, Withdraw, WithdrawAll, Deprecate, Request, all_stored}
+use Rattle.registry_desk.proofs.Words.{stored_by, Contents, registry_of, GrantsInScope, Outcome, IsAnswer, enters, accepted, next_stored, stepped}
 use Rattle.std.specs.Prelude.{IsSome}
-use Rattle.std.proofs.Common.{◌≡◌, ◌∙◌, ℕ, Bool, true, false, cond, List, [], ◌∷◌, ◌++◌, map, is_some, refl, sym, ap, subst, true≢false, Option, Some, None}
 use Rattle.registry_names.specs.Greatest.{greatest}
-use Rattle.registry_names.specs.Maps.{at, put}
-use Rattle.registry_names.specs.Names.{scope_of}
-use Rattle.registry_names.specs.Tags.{latest}
-use Rattle.registry_names.specs.Texts.{Text, is}
-use Rattle.registry_names.specs.Versions.{text_of_version}
 use Rattle.registry_names.specs.declared.status.Status.{Status}
-use Rattle.registry_names.proofs.KeyFacts.{triple_key}
-use Rattle.registry_names.proofs.MapFacts.{at-erase, at-keep}
 use Rattle.registry_names.proofs.PutFacts.{some_before}
-use Rattle.registry_access.specs.declared.caller.Caller.{Caller}
 use Rattle.registry_access.specs.declared.caller.Caller.TheVariants.{Operator, User, Anonymous}
 use Rattle.registry_access.specs.declared.role.Role.{Role}
 use Rattle.registry_publish.specs.Form.{FormParts}
-use Rattle.registry_rules.specs.Actions.{version_of}
-use Rattle.registry_rules.specs.Callers.{caller_of}
-use Rattle.registry_rules.specs.Changes.{Change, AddVersion, DropGrant, DropTag, DropTeam, PutGrant, PutTag, RetireVersion}
-use Rattle.registry_rules.specs.Effects.{deprecation, effects, effects_for, effects_of, ending, first_right, freed, joining, maintaining, membership, put_status, right_to, withdrawal, withdrawal_of_all}
-use Rattle.registry_rules.specs.Refusals.{refusal, refusal_by, refusal_for}
-use Rattle.registry_rules.specs.State.{State, has_maintainer, has_team, is_in_team, is_published, tokens_of}
-use Rattle.registry_rules.specs.Withdrawals.{all_tags, live_since, live_versions, others, published_at, selected, tags_of}
-use Rattle.registry_rules.specs.declared.request.Action.{Action}
 use Rattle.registry_rules.specs.declared.request.Action.TheVariants as command
-use Rattle.registry_rules.specs.declared.request.Action.TheVariants.{OrgSet, TeamAdd, OwnerAdd, Publish, Withdraw, WithdrawAll, Deprecate}
-use Rattle.registry_rules.specs.declared.request.Request.{Request}
 use Rattle.registry_rules.proofs.AllowedFacts.{may_grant, state_passed}
-use Rattle.registry_tables.specs.Changes.{all_stored, stored_by}
-use Rattle.registry_tables.specs.Contents.{Contents, registry_of}
+use Rattle.registry_rules.proofs.SoundFacts.{was_left}
 use Rattle.registry_tables.specs.Numbers.{grant_number}
-use Rattle.registry_tables.specs.Teams.{GrantsInScope}
-use Rattle.registry_laws_history.specs.Runs.{Outcome, IsAnswer, enters}
-use Rattle.registry_laws_history.proofs.RunFacts.{accepted}
-use Rattle.registry_desk.specs.Resting.{next_stored, stepped}
 
 -- ---- changes
 
@@ -46,10 +27,6 @@ IsInScope _ = Unit {0}
 abbrev AreInScope : List Change → Type 0
 AreInScope [] = Unit {0}
 AreInScope (change ∷ changes) = IsInScope change × AreInScope changes
-
-left_there : {X : Type 0} (b : Bool) (old : Option X) → IsSome (cond b None old) → IsSome old
-left_there true old h = absurd (true≢false (sym h))
-left_there false old h = h
 
 kept_there : {X : Type 0} (b : Bool) (old : Option X) → IsSome (cond b old None) → IsSome old
 kept_there true old h = h
@@ -66,7 +43,7 @@ change_keeps (PutGrant o t p grant true) c within scoped = amended_keeps (is_som
     amended_keeps true = put_keeps c o t p (grant_number grant) within scoped
     amended_keeps false = scoped
 change_keeps (PutGrant o t p grant false) c within scoped = put_keeps c o t p (grant_number grant) within scoped
-change_keeps (DropGrant o t p) c within scoped = λ r s q there. scoped r s q (left_there _ _ (sym (ap is_some (at-erase triple_key c.grants (o, (t, p)) (r, (s, q)))) ∙ there))
+change_keeps (DropGrant o t p) c within scoped = λ r s q there. scoped r s q (was_left _ _ (sym (ap is_some (at-erase triple_key c.grants (o, (t, p)) (r, (s, q)))) ∙ there))
 change_keeps (DropTeam o t) c within scoped = λ r s q there. scoped r s q (kept_there _ _ (sym (ap is_some (at-keep triple_key c.grants _ (r, (s, q)))) ∙ there))
 change_keeps _ c within scoped = scoped
 

@@ -1,22 +1,11 @@
 -- What a caller asks who has no level on a package leaves the rest as on the registry without it.
-use Rattle.std.proofs.Common.{◌≡◌, ◌∙◌, ◌&&◌, Bool, true, false, if◌then◌else◌, List, [], ◌∷◌, Ok, Err, ap, refl, sym, subst}
-use Rattle.registry_names.specs.Texts.{Text}
-use Rattle.registry_names.specs.declared.stop.Fault.{Fault}
-use Rattle.registry_rules.specs.Actions.{is_command}
-use Rattle.registry_rules.specs.Effects.{step}
-use Rattle.registry_rules.specs.State.{State}
-use Rattle.registry_rules.specs.declared.reply.Reply.{Reply}
-use Rattle.registry_rules.specs.declared.request.Request.{Request}
-use Rattle.registry_laws_history.specs.Answers.{answer}
+use Rattle.registry_desk.proofs.Words.{◌≡◌, ◌∙◌, ◌&&◌, Bool, true, false, if◌then◌else◌, List, [], ◌∷◌, Ok, Err, ap, refl, sym, subst, Text, Fault, is_command, step, State, Reply, Request, answer}
+use Rattle.registry_desk.proofs.Words.{HaveOutcomes, IsAnswer, Outcome, grown, next, legal_grown, state_without, HideAlong, LeavesTheRest}
 use Rattle.registry_laws_history.specs.History.{Entry, Legal, after}
-use Rattle.registry_laws_history.specs.Runs.{HaveOutcomes, IsAnswer, Outcome, grown, next}
-use Rattle.registry_laws_history.proofs.RunFacts.{legal_grown}
 use Rattle.registry_laws_hidden.specs.Concerns.{is_shown}
 use Rattle.registry_laws_hidden.specs.Levels.{IsStranger}
-use Rattle.registry_laws_hidden.specs.Without.{state_without}
 use Rattle.registry_laws_hidden.proofs.LeftFacts.{rests_are_alike}
 use Rattle.registry_laws_hidden.proofs.UnheardFacts.{replies_are_alike, without_twice}
-use Rattle.registry_desk.specs.Promises.{HideAlong, LeavesTheRest}
 
 -- where two registries give the same answer, what answers for one answers for the other
 pub same_answer : (S T : State) (r : Request) (o : Outcome) → answer S r ≡ answer T r → IsAnswer S r o → IsAnswer T r o

@@ -1,30 +1,9 @@
 -- All that is kept stays right: the texts of packuments, and the archives.
-use Rattle.std.proofs.Common.{◌≡◌, ℕ, false, List, [], Option, Some, Ok, Err, OnOk, IfOk, IsTrue, refl, sym, ap, ◌∙◌, subst}
-use Rattle.sqlite.specs.State.{State as Shown, HasCleanDisk}
-use Rattle.registry_access.specs.declared.caller.Caller.{Caller}
-use Rattle.registry_names.specs.Texts.{Text}
-use Rattle.registry_names.specs.Versions.{VersionParts, text_of_version}
-use Rattle.registry_names.specs.declared.refusal.Refusal.{Refusal}
-use Rattle.registry_rules.specs.Actions.{is_command}
-use Rattle.registry_rules.specs.Changes.{Change}
-use Rattle.registry_rules.specs.declared.reply.Reply.{Reply}
-use Rattle.registry_rules.specs.declared.reply.Reply.TheVariants.{Bytes, Doc, Refused}
-use Rattle.registry_rules.specs.declared.request.Action.{Action}
-use Rattle.registry_rules.specs.declared.request.Action.TheVariants.{Archive, Packument, AbbreviatedPackument, RevisedPackument, TeamPackages, OrgPackages, MyPackages}
-use Rattle.registry_tables.specs.Archives.{HeldAreStored}
-use Rattle.registry_tables.specs.Changes.{all_stored}
-use Rattle.registry_tables.specs.Contents.{Contents, registry_of}
-use Rattle.registry_tables.specs.Effects.{stored}
-use Rattle.registry_tables.specs.Teams.{AreTeamsSound}
-use Rattle.registry_laws_history.specs.Answers.{archive_in, reply_to}
-use Rattle.registry_laws_history.specs.Apart.{is_about, is_read_in}
-use Rattle.registry_laws_history.specs.Runs.{Outcome}
-use Rattle.registry_desk.specs.Caches.{AreAnswers, AreLeftBy, ArePackuments, HasAnswers, IsSoundFor, KeepNoMore, KeepsReply, LeavesCacheRight, live_packument, moves, texts_of}
-use Rattle.registry_desk.specs.Sending.{IsAnyPackument}
-use Rattle.registry_desk.specs.Views.{asks_packument}
-use Rattle.registry_desk.specs.declared.cache.Caches.{Caches}
-use Rattle.registry_desk.specs.declared.view.View.{View}
-use Rattle.registry_desk.specs.declared.view.View.TheVariants.{Full, Abbreviated, Revised}
+use Rattle.registry_desk.proofs.Words.{◌≡◌, ℕ, false, List, [], Option, Some, Ok, Err, OnOk, IfOk, IsTrue, refl, sym, ap, ◌∙◌, subst, Shown, HasCleanDisk, Caller, Text, VersionParts, text_of_version}
+use Rattle.registry_desk.proofs.Words.{Refusal, is_command, Change, Reply, Bytes, Doc, Refused, Action, Archive, Packument, AbbreviatedPackument, RevisedPackument, TeamPackages, OrgPackages}
+use Rattle.registry_desk.proofs.Words.{MyPackages, HeldAreStored, all_stored, Contents, registry_of, stored, AreTeamsSound, archive_in, reply_to, is_about, is_read_in, Outcome, AreAnswers, AreLeftBy}
+use Rattle.registry_desk.proofs.Words.{ArePackuments, HasAnswers, IsSoundFor, KeepNoMore, KeepsReply, LeavesCacheRight, live_packument, moves, texts_of, IsAnyPackument, asks_packument, Caches, View}
+use Rattle.registry_desk.proofs.Words.{Full, Abbreviated, Revised}
 use Rattle.registry_desk.proofs.ArchiveFacts.{archive_limit_stays, archives_answered, archives_kept, archives_leave, archives_refused, archives_unchanged}
 use Rattle.registry_desk.proofs.CacheFacts.{more_kept, same_no_more, texts_answered, texts_kept, texts_leave, texts_refused, texts_unchanged, untouched_no_more}
 

@@ -22,3 +22,4 @@ mod StopFacts
 pub mod StoredFacts
 mod KeptFacts
 mod TakenFacts
+pub mod Words

@@ -1,33 +1,10 @@
 -- What lives of a registry come to.
-use Rattle.std.proofs.Common.{◌≡◌, ◌⊎◌, ◌∙◌, ◌++◌, ◌&&◌, cond, inl, inr, Bool, true, false, List, [], ◌∷◌, Ok, Err, IsTrue, refl, sym, ap, subst, append-nil, append_assoc}
+use Rattle.registry_desk.proofs.Words.{◌≡◌, ◌⊎◌, ◌∙◌, ◌++◌, ◌&&◌, cond, inl, inr, Bool, true, false, List, [], ◌∷◌, Ok, Err, IsTrue, refl, sym, ap, subst, append-nil, append_assoc, AllByRecursion}
+use Rattle.registry_desk.proofs.Words.{Shown, HasCleanDisk, Trees, Fault, is_command, Change, effects_of, step, State, Reply, Request, HeldAreStored, HoldsArchives, all_stored, stored_by, Contents}
+use Rattle.registry_desk.proofs.Words.{registry_of, stored, fresh, HoldsNeeds, GrantsInScope, fresh_holds, fresh_archives, fresh_is_nothing, change_keeps, answer, Outcome, HaveOutcomes, IsAnswer, Ran}
+use Rattle.registry_desk.proofs.Words.{end_of, enters, next, headline_from, run_says, HasRun, IsRegistryOf, end_stored, left_by, next_stored, settled_by, stepped}
 use Rattle.std.proofs.lemmas.Bool.{cases_Bool}
-use Rattle.std.specs.List.{AllByRecursion}
-use Rattle.sqlite.specs.State.{State as Shown, HasCleanDisk}
-use Rattle.sqlite_trees.specs.Tree.{Trees}
-use Rattle.registry_names.specs.declared.stop.Fault.{Fault}
-use Rattle.registry_rules.specs.Actions.{is_command}
-use Rattle.registry_rules.specs.Changes.{Change}
-use Rattle.registry_rules.specs.Effects.{effects_of, step}
 use Rattle.registry_rules.specs.Requests.{IsInForm}
-use Rattle.registry_rules.specs.State.{State}
-use Rattle.registry_rules.specs.declared.reply.Reply.{Reply}
-use Rattle.registry_rules.specs.declared.request.Request.{Request}
-use Rattle.registry_tables.specs.Archives.{HeldAreStored, HoldsArchives}
-use Rattle.registry_tables.specs.Changes.{all_stored, stored_by}
-use Rattle.registry_tables.specs.Contents.{Contents, registry_of}
-use Rattle.registry_tables.specs.Effects.{stored}
-use Rattle.registry_tables.specs.Fresh.{fresh}
-use Rattle.registry_tables.specs.Needs.{HoldsNeeds}
-use Rattle.registry_tables.specs.Teams.{GrantsInScope}
-use Rattle.registry_tables.proofs.HeldNeedFacts.{fresh_holds}
-use Rattle.registry_tables.proofs.KeptArchiveFacts.{fresh_archives}
-use Rattle.registry_tables.proofs.LiveFacts.{fresh_is_nothing}
-use Rattle.registry_tables.proofs.StepFacts.{change_keeps}
-use Rattle.registry_laws_history.specs.Answers.{answer}
-use Rattle.registry_laws_history.specs.Runs.{Outcome, HaveOutcomes, IsAnswer, Ran, end_of, enters, next}
-use Rattle.registry_laws_history.proofs.RunFacts.{headline_from, run_says}
-use Rattle.registry_desk.specs.Promises.{HasRun}
-use Rattle.registry_desk.specs.Resting.{IsRegistryOf, end_stored, left_by, next_stored, settled_by, stepped}
 use Rattle.registry_desk.specs.Lives.{AreFaults, AreInForm, AreLives, AskedInTurn, ComesTo, Did, DidAll, Follows, HasLived, IsInOrder, IsOpenedAgain, Life, LivesAreOneRun, LivesComeToRuns, LivesHaveHeadline, StopsKeepOutcomes, StopsLeaveAllOrNothing, TurnsAreRuns}
 use Rattle.registry_desk.proofs.GrantFacts.{grants_next}
 use Rattle.registry_desk.proofs.KeepingFacts.{archives_kept, holds_next, needs_kept, registry_next}

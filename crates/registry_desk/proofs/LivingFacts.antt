@@ -1,23 +1,12 @@
 -- Whether a version of a package lives, and its packument where one does.
-use Rattle.std.proofs.Common.{◌≡◌, Bool, true, false, cond, if◌then◌else◌, ◌&&◌, ◌||◌, List, [], ◌∷◌, not, is_some, Option, Some, None, option_map, refl, ap, ap₂, ◌∙◌, true≢false}
-use Rattle.std.specs.List.{list_any}
-use Rattle.registry_names.specs.Keys.{pair_is}
-use Rattle.registry_names.specs.Texts.{Text, is}
-use Rattle.registry_names.specs.Maps.{at, of}
-use Rattle.registry_names.proofs.KeyFacts.{text_key, pair_key}
-use Rattle.registry_names.proofs.MapFacts.{at-revise}
-use Rattle.registry_names.proofs.PartFacts.{part-put, part-erase, same_part}
+use Rattle.registry_desk.proofs.Words.{◌≡◌, Bool, true, false, cond, if◌then◌else◌, ◌&&◌, ◌||◌, List, [], ◌∷◌, not, is_some, Option, Some, None, option_map, refl, ap, ap₂, ◌∙◌, true≢false, list_any}
+use Rattle.registry_desk.proofs.Words.{pair_is, Text, is, at, of, text_key, pair_key, at-revise, part-put, part-erase, same_part, version_of, Change, AddUser, AddToken, DropToken, AddOrg, PutMember}
+use Rattle.registry_desk.proofs.Words.{DropMember, AddTeam, PutTeamMember, DropTeamMember, DropTeam, PutGrant, DropGrant, PutOwner, DropOwner, PutStatus, AddVersion, RetireVersion, PutDeprecation}
+use Rattle.registry_desk.proofs.Words.{PutTag, DropTag, made, all_made, release_of, State, Release, has_live, is_empty, are_about, is_about, live_packument, changes_view, viewed, View, Full}
+use Rattle.registry_desk.proofs.Words.{Abbreviated, Revised}
 use Rattle.registry_packument.specs.declared.form.PackForm.TheVariants as form
-use Rattle.registry_rules.specs.Actions.{version_of}
-use Rattle.registry_rules.specs.Changes.{Change, AddUser, AddToken, DropToken, AddOrg, PutMember, DropMember, AddTeam, PutTeamMember, DropTeamMember, DropTeam, PutGrant, DropGrant, PutOwner, DropOwner, PutStatus, AddVersion, RetireVersion, PutDeprecation, PutTag, DropTag, made, all_made, release_of}
 use Rattle.registry_rules.specs.Operations.{with_member, with_role, with_grant, regranted, with_status, restated, with_tag, moved}
-use Rattle.registry_rules.specs.State.{State, Release, has_live, is_empty}
-use Rattle.registry_laws_history.specs.Apart.{are_about, is_about}
 use Rattle.registry_laws_history.proofs.ApartFacts.{changes_of_others, none_about, revised_after_others}
-use Rattle.registry_desk.specs.Caches.{live_packument}
-use Rattle.registry_desk.specs.Views.{changes_view, viewed}
-use Rattle.registry_desk.specs.declared.view.View.{View}
-use Rattle.registry_desk.specs.declared.view.View.TheVariants.{Full, Abbreviated, Revised}
 
 -- ---- the packument of a package of which a version lives
 
@@ -67,7 +56,7 @@ same_live S (PutDeprecation q v message) p e =
 same_live S (PutTag q t v stands) p e = either stands S (moved S q t v) (with_tag S q t v) p (either (is_some (at S.tags (q, t))) S (with_tag S q t v) S p refl refl) refl
 same_live S (DropTag q t) p e = refl
 
-neither : (a b : Bool) → (a || b) ≡ false → (a ≡ false) × (b ≡ false)
+pub neither : (a b : Bool) → (a || b) ≡ false → (a ≡ false) × (b ≡ false)
 neither true b e = absurd (true≢false e)
 neither false b e = (refl, e)
 

@@ -1,22 +1,17 @@
 -- What a connection shows where a statement is compiled, which isn't run.
-use Rattle.std.proofs.Common.{◌≡◌, ◌⊎◌, ◌∙◌, ◌≤◌, arith, ℕ, Bool, List, [], length, Result, Ok, Err, IfErr, IfOk, IsTrue, true, false, true≢false, inl, inr, refl, sym, ap, subst, codes}
+use Rattle.registry_desk.proofs.Words.{◌≡◌, ◌⊎◌, ◌∙◌, ◌≤◌, arith, ℕ, Bool, List, [], length, Result, Ok, Err, IfErr, IfOk, IsTrue, true, false, true≢false, inl, inr, refl, sym, ap, subst, codes}
+use Rattle.registry_desk.proofs.Words.{Database, Shown, HasCleanDisk, HasCause, Fails, IsNoStatement, IsRolledBack, IsUnchanged, store_error, Error, Fault, contents, stored, schema, IsAsWritten}
+use Rattle.registry_desk.proofs.Words.{Rests}
 use Rattle.sqlite_disk.specs.Disk.{MoreFaults}
 use Rattle.sqlite_resolve.specs.declared.compiled.Compiled.{Compiled}
 use Rattle.sqlite_resolve.specs.declared.error.CompileError.{CompileError}
 use Rattle.sqlite_tied.specs.Compute.{everything}
 use Rattle.sqlite_trees.specs.declared.error.StoreError.{StoreError}
 use Rattle.sqlite_trees.specs.declared.error.StoreError.TheVariants.{OutOfMemory, Io, Corrupt, Full, Broken, Unstorable}
-use Rattle.sqlite.specs.Effect.{Database}
 use Rattle.sqlite.specs.Listing.{understood}
-use Rattle.sqlite.specs.State.{State as Shown, HasCleanDisk, HasCause, Fails, IsNoStatement, IsNotRun, IsRolledBack, IsUnchanged, store_error}
-use Rattle.sqlite.specs.declared.error.Error.{Error}
-use Rattle.registry_names.specs.declared.stop.Fault.{Fault}
+use Rattle.sqlite.specs.State.{IsNotRun}
 use Rattle.registry_names.specs.declared.stop.Fault.TheVariants as fault
-use Rattle.registry_tables.specs.Contents.{contents}
-use Rattle.registry_tables.specs.Effects.{stored}
-use Rattle.registry_tables.specs.Schema.{schema}
 use Rattle.registry_desk.specs.Promises.{seen_by}
-use Rattle.registry_desk.specs.Resting.{IsAsWritten, Rests}
 use Rattle.registry_desk.proofs.CommitFacts.{ready_again}
 
 -- ---- the text is a statement, so that only the store can fail

@@ -1,14 +1,15 @@
 -- What an open finds in files: rows whose rowids rise.
-use Rattle.std.proofs.Common.{◌≡◌, ◌⊎◌, ◌∙◌, ℕ, filter, true, List, [], inl, inr, ap, sym, subst, IsOk, IsTrue, OnOk, MatchResult, Result, Ok, Err, length, refl, arith}
+use Rattle.registry_desk.proofs.Words.{◌≡◌, ◌⊎◌, ◌∙◌, ℕ, filter, true, List, [], inl, inr, ap, sym, subst, IsOk, IsTrue, OnOk, MatchResult, Result, Ok, Err, length, refl, arith, AllByRecursion, Trees}
+use Rattle.registry_desk.proofs.Words.{AreFoundIn, Finds, HoldsDatabase, file_state, image_of, Held, Database, IsDatabase, Shown, HasCleanDisk, IsLive, Opens, Survives, store_error, Error, Fault}
+use Rattle.registry_desk.proofs.Words.{Ready, no_tables, Contents, stored, fresh, schema_of, CanBeAdopted, IsMade, LeavesCommitted, SurvivesAdoption, GivesFound, HoldsEach, HoldsFound, IsFreshIfEmpty}
+use Rattle.registry_desk.proofs.Words.{IsLeftOf, LeavesFound, LeavesMigrated}
 use Rattle.std.proofs.Math.Logic.{∥∥₁_elim}
-use Rattle.std.specs.List.{AllByRecursion}
 use Rattle.sqlite_rules.specs.Lists.{Has}
 use Rattle.sqlite_rules.proofs.ListLemmas.{all_from}
 use Rattle.sqlite_schema.specs.declared.schema.Schema.{Schema}
 use Rattle.sqlite_schema.specs.declared.schema.Table.{Table}
 use Rattle.sqlite_catalog.specs.Listing.{IsSound, IsTableRow, is_table_row}
 use Rattle.sqlite_catalog.proofs.LayoutLemmas.{table_shape, zipped_left}
-use Rattle.sqlite_trees.specs.Tree.{Trees}
 use Rattle.sqlite_trees.specs.Objects.{IsListed, catalog_tree}
 use Rattle.sqlite_trees.specs.View.{IsOrdered, IsShaped}
 use Rattle.sqlite_trees.specs.Props.{IsOrdered-prop}
@@ -19,34 +20,21 @@ use Rattle.sqlite_store.proofs.ListingLemmas.{all_ordered}
 use Rattle.sqlite_pages.specs.PageMap.{PageMap}
 use Rattle.sqlite_pool.specs.File.{in_use, version_in}
 use Rattle.sqlite_wal.specs.Recovery.{Image}
-use Rattle.sqlite.specs.Files.{AreFoundIn, Finds, HoldsDatabase, file_state, image_of}
-use Rattle.sqlite.specs.Held.{Held}
 use Rattle.sqlite_disk.specs.declared.Disk as disk
 use Rattle.sqlite_disk.specs.declared.Files.{Files}
 use Rattle.sqlite_store.specs.declared.store.FileStore.{FileStore}
-use Rattle.sqlite.specs.Effect.{Database, IsDatabase}
 use Rattle.sqlite.specs.Start.{FindsIn}
 use Rattle.sqlite.specs.Opening.{FailsAs}
-use Rattle.sqlite.specs.State.{State as Shown, HasCleanDisk, IsLive, Opens, Survives, store_error}
-use Rattle.sqlite.specs.declared.error.Error.{Error}
 use Rattle.sqlite_disk.specs.Disk.{MoreFaults}
 use Rattle.sqlite_trees.specs.declared.error.StoreError.{StoreError}
 use Rattle.sqlite_trees.specs.declared.error.StoreError.TheVariants as kinds
-use Rattle.registry_names.specs.declared.stop.Fault.{Fault}
 use Rattle.registry_names.specs.declared.stop.Fault.TheVariants as faults
 use Rattle.registry_rows.specs.Faults.{as_fault}
-use Rattle.registry_rows.specs.Ready.{Ready}
 use Rattle.registry_rows.specs.Rows.{HasRowids}
-use Rattle.registry_rows.specs.Tables.{no_tables}
-use Rattle.registry_tables.specs.Contents.{Contents}
-use Rattle.registry_tables.specs.Effects.{stored}
-use Rattle.registry_tables.specs.Fresh.{fresh}
 use Rattle.registry_tables.specs.Schema as ours
-use Rattle.registry_migration.specs.Older.{schema_of}
 use Rattle.registry_migration.specs.declared.older.Older.{Older}
 use Rattle.registry_migration.specs.declared.older.Older.TheVariants.{First, Second}
-use Rattle.registry_desk.specs.Adopted.{CanBeAdopted, IsMade, LeavesCommitted, SurvivesAdoption}
-use Rattle.registry_desk.specs.Opened.{GivesFound, HoldsEach, HoldsFound, IsFreshIfEmpty, IsLeftOf, IsMadeOf, LeavesFound, LeavesMigrated}
+use Rattle.registry_desk.specs.Opened.{IsMadeOf}
 
 -- ---- rowids
 
@@ -88,10 +76,6 @@ older_ready older s rises live is clean on = record {
   sound = (live on).0;
   rowids = subst (λ (schema : Schema). AllByRecursion (λ t. HasRowids (s.now.trees t.tree)) schema.tables) is (rises clean on);
 }
-
--- and where there is none
-pub none_ready : (s : Shown) → IsLive s → s.now.schema ≡ no_tables → Ready no_tables s
-none_ready s live is clean on = record { schema_is = is; sound = (live on).0; rowids = tt }
 
 -- what a migration may leave is left of the tables of an older schema
 pub migrated_left : (older : Older) (old new : Shown) → old.now.schema ≡ schema_of older → Survives old new (λ db. IsTrue old.is_open × LeavesMigrated older old.now.trees db) → SurvivesAdoption old new

@@ -1,28 +1,10 @@
 -- A query for a packument that is answered as one text: its reply is the machine's, and changes
 -- nothing that is stored.
-use Rattle.std.proofs.Common.{◌≡◌, ◌∙◌, ℕ, false, List, [], Option, Some, Ok, Err, Result, IfOk, OnOk, refl, sym, ap, subst, subst₂}
-use Rattle.sqlite.proofs.StateLemmas.{survives_weaker}
-use Rattle.sqlite.specs.State.{State as Shown}
-use Rattle.registry_names.specs.Texts.{Text}
-use Rattle.registry_packument.specs.Counted.{Takes}
+use Rattle.registry_desk.proofs.Words.{◌≡◌, ◌∙◌, ℕ, false, List, [], Option, Some, Ok, Err, Result, IfOk, OnOk, refl, sym, ap, subst, subst₂, survives_weaker, Shown, Text, Takes, is_command, State}
+use Rattle.registry_desk.proofs.Words.{Reply, Doc, Action, AbbreviatedPackument, Packument, RevisedPackument, Request, stored, answer, Outcome, live_packument, Stepped, SurvivesOne, Unchanged}
+use Rattle.registry_desk.proofs.Words.{IsAnyPackument, IsFrom, IsMadeOf, IsOrigin, IsShownBy, LeavesAll, ShowsAlone, front_names, asks_packument, text_behind, View, Full, Abbreviated, Revised}
 use Rattle.registry_packument.specs.declared.opener.Sent.{Sent}
 use Rattle.registry_packument.specs.declared.opener.Sent.TheVariants.{Whole}
-use Rattle.registry_rules.specs.Actions.{is_command}
-use Rattle.registry_rules.specs.State.{State}
-use Rattle.registry_rules.specs.declared.reply.Reply.{Reply}
-use Rattle.registry_rules.specs.declared.reply.Reply.TheVariants.{Doc}
-use Rattle.registry_rules.specs.declared.request.Action.{Action}
-use Rattle.registry_rules.specs.declared.request.Action.TheVariants.{AbbreviatedPackument, Packument, RevisedPackument}
-use Rattle.registry_rules.specs.declared.request.Request.{Request}
-use Rattle.registry_tables.specs.Effects.{stored}
-use Rattle.registry_laws_history.specs.Answers.{answer}
-use Rattle.registry_laws_history.specs.Runs.{Outcome}
-use Rattle.registry_desk.specs.Caches.{live_packument}
-use Rattle.registry_desk.specs.Promises.{Stepped, SurvivesOne, Unchanged}
-use Rattle.registry_desk.specs.Sending.{IsAnyPackument, IsFrom, IsMadeOf, IsOrigin, IsShownBy, LeavesAll, ShowsAlone, front_names}
-use Rattle.registry_desk.specs.Views.{asks_packument, text_behind}
-use Rattle.registry_desk.specs.declared.view.View.{View}
-use Rattle.registry_desk.specs.declared.view.View.TheVariants.{Full, Abbreviated, Revised}
 use Rattle.registry_desk.specs.declared.sending.Origin.{Origin}
 use Rattle.registry_desk.specs.declared.sending.Origin.TheVariants as origin
 use Rattle.registry_desk.proofs.LivingFacts.{live_shown}

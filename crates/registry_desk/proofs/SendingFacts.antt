@@ -1,97 +1,35 @@
 -- What a packument that is sent comes to: it is a query that is answered, and leaves all as it was.
-use Rattle.std.specs.Option.{option_or}
-use Rattle.std.proofs.Common.{◌≡◌, ◌⊎◌, ◌∙◌, ◌&&◌, arith, inl, inr, ℕ, Bool, true, false, if◌then◌else◌, List, [], map, Option, Some, None, Ok, Err, unwrap_or, IsTrue, refl, sym, ap, ap₂, subst}
-use Rattle.sqlite.proofs.Callers.{survives_begin}
-use Rattle.sqlite.proofs.InsideLemmas.{keeps_then}
-use Rattle.sqlite.proofs.StateLemmas.{survives_then, survives_weaker}
-use Rattle.sqlite.specs.Effect.{Database}
-use Rattle.sqlite.specs.Held.{Held, state}
-use Rattle.sqlite.specs.State.{State as Shown, HasCleanDisk, IsRolledBack, KeepsCommit, Survives}
-use Rattle.sqlite_trees.specs.Tree.{Trees}
+use Rattle.registry_desk.proofs.Words.{option_or, ◌≡◌, ◌⊎◌, ◌∙◌, ◌&&◌, arith, inl, inr, ℕ, Bool, true, false, if◌then◌else◌, List, [], map, Option, Some, None, Ok, Err, unwrap_or, IsTrue, refl, sym}
+use Rattle.registry_desk.proofs.Words.{ap, ap₂, subst, survives_begin, survives_then, survives_weaker, Database, Held, state, Shown, HasCleanDisk, IsRolledBack, KeepsCommit, Survives, Trees, Ghosts}
+use Rattle.registry_desk.proofs.Words.{of, seen, Text, Refusal, Fault, Cache, asked, Caller, IsUnbroken, Takes, pack_text, VersionRow, IsCommitted, Reads, is_command, caller_of, step, IsKept, refusal}
+use Rattle.registry_desk.proofs.Words.{refusal_by, refusal_for, state_refusal, unless_allowed, unless_there, State, has_live, Doc, Action, Packument, Request, HoldsArchives, Contents, contents}
+use Rattle.registry_desk.proofs.Words.{live_of, registry_of, registry_in, stored, HoldsNeeds, schema, document, row_entry, IsLeftAlone, answer, packument_in, reply_to, IsAnswer, Outcome, accepts}
+use Rattle.registry_desk.proofs.Words.{enters, entered, grown, next, history_says, state_without, HasAnswers, KeepNoMore, KeepsNoMore, Answered, Applied, HoldsReferences, LeavesOne, Served}
+use Rattle.registry_desk.proofs.Words.{IsAsWritten, IsRegistryOf, Rests, next_stored, settled_by, stepped, BrokenBeginTheAnswer, IsOrigin, IsShownBy, LeavesAll, MayAnswer, Sends, SentAreAsked}
+use Rattle.registry_desk.proofs.Words.{answers_as_apply, front_names, head_in, versions_in, asks_packument, form_of, names_in_front, text_behind, viewed, Caches, View, Full, Abbreviated, Revised}
 use Rattle.sqlite_trees.specs.View.{doubt}
-use Rattle.sqlite_trees.specs.declared.store.Store.{Ghosts}
-use Rattle.registry_names.specs.Maps.{of, seen}
-use Rattle.registry_names.specs.Texts.{Text}
-use Rattle.registry_names.specs.declared.refusal.Refusal.{Refusal}
-use Rattle.registry_names.specs.declared.stop.Fault.{Fault}
 use Rattle.registry_names.proofs.ByteStreamFacts.{Writes-nothing}
-use Rattle.registry_cache.specs.Caches.{Cache, asked}
 use Rattle.registry_cache.proofs.CacheFacts.{kept-asked}
-use Rattle.registry_access.specs.declared.caller.Caller.{Caller}
-use Rattle.registry_packument.specs.Counted.{IsUnbroken, Takes}
 use Rattle.registry_packument.specs.Heads.{HeadParts}
-use Rattle.registry_packument.specs.Packuments.{pack_text}
 use Rattle.registry_packument.specs.declared.opener.Sent.{Sent}
-use Rattle.registry_packument.specs.declared.packument.VersionRow.{VersionRow}
 use Rattle.registry_packument.specs.declared.opener.Sent.TheVariants.{Refused, Whole, WriteFault, Broken}
-use Rattle.registry_rows.specs.Frames.{IsCommitted}
-use Rattle.registry_rows.specs.Ready.{Reads}
 use Rattle.registry_packument.specs.declared.form.PackForm.{PackForm}
 use Rattle.registry_packument.specs.declared.form.PackForm.TheVariants as form
-use Rattle.registry_rules.specs.Actions.{is_command}
-use Rattle.registry_rules.specs.Callers.{caller_of}
-use Rattle.registry_rules.specs.Effects.{step}
-use Rattle.registry_rules.specs.Kept.{IsKept}
 use Rattle.registry_rules.specs.Permissions.{permission}
-use Rattle.registry_rules.specs.Refusals.{refusal, refusal_by, refusal_for, state_refusal, unless_allowed, unless_there}
-use Rattle.registry_rules.specs.State.{State, has_live}
 use Rattle.registry_rules.specs.declared.reply.Reply.TheVariants as reply
-use Rattle.registry_rules.specs.declared.reply.Reply.TheVariants.{Doc}
-use Rattle.registry_rules.specs.declared.request.Action.{Action}
-use Rattle.registry_rules.specs.declared.request.Action.TheVariants.{Packument}
-use Rattle.registry_rules.specs.declared.request.Request.{Request}
-use Rattle.registry_tables.specs.Archives.{HoldsArchives}
-use Rattle.registry_tables.specs.Contents.{Contents, contents, live_of, registry_of}
-use Rattle.registry_tables.specs.Effects.{IsAsBefore, registry_in, stored}
-use Rattle.registry_tables.specs.Needs.{HoldsNeeds}
-use Rattle.registry_tables.specs.Schema.{schema}
-use Rattle.registry_tables.specs.Spelled.{document, row_entry}
-use Rattle.registry_tables.specs.Walks.{IsLeftAlone}
 use Rattle.registry_laws_history.specs.Answers as answers
-use Rattle.registry_laws_history.specs.Answers.{answer, packument_in, reply_to}
 use Rattle.registry_laws_history.specs.History.{Entry, after}
-use Rattle.registry_laws_history.specs.Runs.{IsAnswer, Outcome, accepts, enters, entered, grown, next}
 use Rattle.registry_laws_history.specs.Says.{Says}
-use Rattle.registry_laws_history.proofs.RunFacts.{history_says}
 use Rattle.registry_laws_hidden.specs.Laws.{RepliesAreAlike}
-use Rattle.registry_laws_hidden.specs.Without.{state_without}
-use Rattle.registry_desk.specs.Caches.{HasAnswers, KeepNoMore, KeepsNoMore}
-use Rattle.registry_desk.specs.Promises.{Answered, Applied, HoldsReferences, LeavesOne, Served}
-use Rattle.registry_desk.specs.Resting.{IsAsWritten, IsRegistryOf, Rests, next_stored, settled_by, stepped}
-use Rattle.registry_desk.specs.Sending.{BrokenBeginTheAnswer, IsOrigin, IsShownBy, LeavesAll, MayAnswer, Sends, SentAreAsked, answers_as_apply, front_names, head_in, versions_in}
-use Rattle.registry_desk.specs.Views.{asks_packument, form_of, names_in_front, text_behind, viewed}
-use Rattle.registry_desk.specs.declared.cache.Caches.{Caches}
 use Rattle.registry_desk.specs.declared.sending.Front.{Front}
 use Rattle.registry_desk.specs.declared.sending.Origin.{Origin}
 use Rattle.registry_desk.specs.declared.sending.Origin.TheVariants as origin
-use Rattle.registry_desk.specs.declared.view.View.{View}
-use Rattle.registry_desk.specs.declared.view.View.TheVariants.{Full, Abbreviated, Revised}
 use Rattle.registry_desk.proofs.AnswerFacts.{refused, unrefused, versions_are}
 use Rattle.registry_desk.proofs.KeptFacts.{right_unchanged}
 use Rattle.registry_desk.proofs.CommitFacts.{commit_rests, ready_again, registry_left, rests_sure, undone_open, undone_rests, undone_stored}
 use Rattle.registry_desk.proofs.LivingFacts.{live_so}
 use Rattle.registry_desk.proofs.HiddenFacts.{leaves_the_rest, same_answer}
 use Rattle.registry_desk.proofs.SettlingFacts.{settled_next}
-
--- ---- reading, where a part may need no statement
-
-pub before_reads : (a b c : Shown) → IsAsBefore a b → Reads schema b c → Reads schema a c
-before_reads a b c before reads = record {
-  was_open = before.committed.was_open reads.was_open;
-  ready = reads.ready;
-  same = reads.same ∙ before.same;
-  mode = reads.mode ∙ before.mode;
-  committed = keeps_then a b c before.committed reads.committed;
-}
-
-pub reads_before : (a b c : Shown) → Reads schema a b → IsAsBefore b c → Reads schema a c
-reads_before a b c reads before = record {
-  was_open = reads.was_open;
-  ready = before.ready reads.ready;
-  same = before.same ∙ reads.same;
-  mode = before.mode ∙ reads.mode;
-  committed = keeps_then a b c reads.committed before.committed;
-}
 
 -- ---- what a packument comes from
 

@@ -1,29 +1,14 @@
 -- What is found again after a stop.
-use Rattle.std.proofs.Common.{◌≡◌, ◌∙◌, ℕ, suc, List, [], ◌∷◌, length, filter, arith, inl, inr, ap, refl, sym, subst}
-use Rattle.std.specs.List.{AllZip}
-use Rattle.sqlite.specs.State.{State as Shown, HasCleanDisk}
+use Rattle.registry_desk.proofs.Words.{◌≡◌, ◌∙◌, ℕ, suc, List, [], ◌∷◌, length, filter, arith, inl, inr, ap, refl, sym, subst, AllZip, Shown, HasCleanDisk, Trees, no_tables, IsKept, HoldsArchives}
+use Rattle.registry_desk.proofs.Words.{Contents, registry_of, stored, fresh, HoldsNeeds, GrantsInScope, schema_of, GivesFound, IsMigrated, IsMade, HoldsReferences, IsRegistryOf, Rests}
 use Rattle.sqlite_catalog.specs.Listing.{IsSound, IsTableRow, is_table_row}
 use Rattle.sqlite_catalog.proofs.LayoutLemmas.{zipped_left, zipped_right}
 use Rattle.sqlite_trees.specs.Objects.{catalog_tree}
-use Rattle.sqlite_trees.specs.Tree.{Trees}
-use Rattle.registry_rows.specs.Tables.{no_tables}
-use Rattle.registry_rules.specs.Kept.{IsKept}
-use Rattle.registry_tables.specs.Archives.{HoldsArchives}
-use Rattle.registry_tables.specs.Contents.{Contents, registry_of}
-use Rattle.registry_tables.specs.Effects.{stored}
-use Rattle.registry_tables.specs.Fresh.{fresh}
-use Rattle.registry_tables.specs.Needs.{HoldsNeeds}
 use Rattle.registry_tables.specs.Schema as ours
-use Rattle.registry_tables.specs.Teams.{GrantsInScope}
-use Rattle.registry_migration.specs.Older.{schema_of}
 use Rattle.registry_migration.specs.declared.older.Older.{Older}
 use Rattle.registry_migration.specs.declared.older.Older.TheVariants.{First, Second}
 use Rattle.registry_desk.proofs.CommitFacts.{registry_left}
 use Rattle.registry_desk.proofs.OpenedFacts.{gives_found, has_users, holds_each}
-use Rattle.registry_desk.specs.Opened.{GivesFound, IsMigrated}
-use Rattle.registry_desk.specs.Adopted.{IsMade}
-use Rattle.registry_desk.specs.Promises.{HoldsReferences}
-use Rattle.registry_desk.specs.Resting.{IsRegistryOf, Rests}
 use Rattle.registry_desk.specs.Stops.{AdoptionsAreOpens, GoesOn, HoldsMigrated, MigrationsLoseNothing, ReleasesAreAdopted, StoppedOpensLoseNothing, StopsAreAdopted, StopsInARowLoseNothing, StopsLoseNothing}
 
 -- a database with a registry's tables isn't one without tables

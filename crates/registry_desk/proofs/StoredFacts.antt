@@ -1,23 +1,10 @@
 -- Runs, one request at a time, and what they leave of all that is stored.
-use Rattle.std.proofs.Common.{◌≡◌, ◌⊎◌, inl, inr, ◌∙◌, arith, Bool, true, false, List, [], ◌∷◌, ◌++◌, Ok, Err, OnOk, IsTrue, true≢false, length-append, refl, sym, ap, subst}
-use Rattle.sqlite.specs.State.{State as Shown, HasCleanDisk}
-use Rattle.sqlite.proofs.StateLemmas.{survives_then}
-use Rattle.sqlite_trees.specs.Tree.{Trees}
-use Rattle.registry_rules.specs.State.{State}
-use Rattle.registry_rules.specs.declared.request.Action.{Action}
-use Rattle.registry_rules.specs.declared.request.Action.TheVariants.{Withdraw, WithdrawAll}
-use Rattle.registry_rules.specs.declared.request.Request.{Request}
-use Rattle.registry_tables.specs.Contents.{Contents}
-use Rattle.registry_tables.specs.Effects.{registry_in, stored}
-use Rattle.registry_tables.specs.Needs.{HoldsNeeds}
-use Rattle.registry_rows.proofs.QuietFacts.{on_answer}
-use Rattle.registry_desk.specs.Found.{NeedsFor}
-use Rattle.registry_desk.specs.Promises.{Applied, HasHeadline, HasRun, HidesUnreadRun, NeedsForEach, RanTo, WritesHistory}
-use Rattle.registry_desk.specs.Resting.{IsRegistryOf, Serves, end_stored, left_by, next_stored, settled_by}
+use Rattle.registry_desk.proofs.Words.{◌≡◌, ◌⊎◌, inl, inr, ◌∙◌, arith, Bool, true, false, List, [], ◌∷◌, ◌++◌, Ok, Err, OnOk, IsTrue, true≢false, length-append, refl, sym, ap, subst, Shown}
+use Rattle.registry_desk.proofs.Words.{HasCleanDisk, survives_then, Trees, State, Action, Withdraw, WithdrawAll, Request, Contents, registry_in, stored, HoldsNeeds, on_answer, NeedsFor, Applied}
+use Rattle.registry_desk.proofs.Words.{HasHeadline, HasRun, HidesUnreadRun, NeedsForEach, RanTo, WritesHistory, IsRegistryOf, Serves, end_stored, left_by, next_stored, settled_by, Outcome}
+use Rattle.registry_desk.proofs.Words.{HaveOutcomes, IsAnswer, next, headline_from, ran_none, ran_push, run_says}
 use Rattle.registry_desk.proofs.HiddenFacts.{hide_along}
 use Rattle.registry_desk.proofs.SettlingFacts.{faulted_next}
-use Rattle.registry_laws_history.specs.Runs.{Outcome, HaveOutcomes, IsAnswer, next}
-use Rattle.registry_laws_history.proofs.RunFacts.{headline_from, ran_none, ran_push, run_says}
 
 -- ---- what decides requests
 

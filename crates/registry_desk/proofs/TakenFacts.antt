@@ -1,20 +1,8 @@
 -- What is known of a package without being asked for.
-use Rattle.std.proofs.Common.{◌≡◌, ◌||◌, List, [], ◌∷◌, Bool, true, false, not, Option, Some, None, is_some, refl, sym, ap, ◌∙◌, true≢false}
-use Rattle.sqlite.specs.Effect.{Database}
-use Rattle.sqlite.specs.State.{State as Shown}
-use Rattle.registry_names.specs.Maps.{among, at, keys, of}
-use Rattle.registry_names.specs.Tags.{latest}
-use Rattle.registry_names.specs.Texts.{Text, is}
-use Rattle.registry_names.proofs.KeyFacts.{text_key}
-use Rattle.registry_names.proofs.PartFacts.{any-part}
-use Rattle.registry_rules.specs.State.{State, Release, Withdrawal, has_live, is_empty, is_live, is_spent, stands}
-use Rattle.registry_rules.specs.Withdrawals.{last_of, last_withdrawal}
-use Rattle.registry_rows.specs.Ready.{IsReady}
-use Rattle.registry_tables.specs.Contents.{contents, registry_of}
-use Rattle.registry_tables.specs.Effects.{stored}
-use Rattle.registry_tables.specs.Schema.{schema}
-use Rattle.registry_tables.proofs.LiveFacts.{lives_as_row}
-use Rattle.registry_tables.proofs.ReferenceFacts.{named_lives}
+use Rattle.registry_desk.proofs.Words.{◌≡◌, ◌||◌, List, [], ◌∷◌, Bool, true, false, not, Option, Some, None, is_some, refl, sym, ap, ◌∙◌, true≢false, Database, Shown, among, at, keys, of, latest}
+use Rattle.registry_desk.proofs.Words.{Text, is, text_key, any-part, State, Release, Withdrawal, has_live, is_empty, is_live, is_spent, stands, last_withdrawal, IsReady, contents, registry_of, stored}
+use Rattle.registry_desk.proofs.Words.{schema, lives_as_row, named_lives}
+use Rattle.registry_rules.specs.Withdrawals.{last_of}
 
 -- a version of a package lives where this one does
 pub one_lives : (S : State) (p v : Text) → is_live S p v ≡ true → has_live S p ≡ true

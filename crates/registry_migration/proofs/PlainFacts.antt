@@ -27,7 +27,7 @@ none_is : {X : Type 0} (xs : List X) → is_empty xs ≡ true → xs ≡ []
 none_is [] is = refl
 none_is (x ∷ xs) is = absurd (true≢false (sym is))
 
-all_of : {X : Type 0} (P : X → Type 0) (test : X → Bool) → ((x : X) → test x ≡ true → P x) → (xs : List X) → list_all test xs ≡ true → All P xs
+pub all_of : {X : Type 0} (P : X → Type 0) (test : X → Bool) → ((x : X) → test x ≡ true → P x) → (xs : List X) → list_all test xs ≡ true → All P xs
 all_of P test tells [] pass = All-nil P
 all_of P test tells (x ∷ xs) pass = let both = and_parts (test x) (list_all test xs) pass in All-cons P x xs (tells x both.0) (all_of P test tells xs both.1)
 
@@ -37,10 +37,10 @@ has_no_default column = is_null column.default
 abbrev has_no_stamps : Table → Bool
 has_no_stamps table = is_empty table.stamps.places && (is_empty table.stamps.terms && is_empty table.stamps.formats)
 
-abbrev is_plain : Table → Bool
+abbrev pub is_plain : Table → Bool
 is_plain table = list_all has_no_default table.columns && (is_empty table.checks && (is_empty table.computed && has_no_stamps table))
 
-table_plain : (table : Table) → is_plain table ≡ true → IsPlainTable table
+pub table_plain : (table : Table) → is_plain table ≡ true → IsPlainTable table
 table_plain table is =
     let columns = and_parts (list_all has_no_default table.columns) (is_empty table.checks && (is_empty table.computed && has_no_stamps table)) is in
     let checks = and_parts (is_empty table.checks) (is_empty table.computed && has_no_stamps table) columns.1 in

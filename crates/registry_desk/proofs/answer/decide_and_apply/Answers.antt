@@ -1,18 +1,6 @@
-use Rattle.std.proofs.Common.{◌∙◌, arith, ap, refl, sym, subst, Option, Err, map}
-use Rattle.std.proofs.lemmas.Result.{IfOk-weaker}
-use Rattle.registry_names.specs.declared.refusal.Refusal.{Refusal}
+use Rattle.registry_desk.proofs.Words.{◌∙◌, arith, ap, refl, sym, subst, Option, Err, map, IfOk-weaker, Refusal, Caller, on_answer, change_of, Refused, all_stored, registry_of, stored_in}
+use Rattle.registry_desk.proofs.Words.{GrantsInScope, held_stored, reply_to, LeavesCacheRight}
 use Rattle.registry_names.specs.declared.stop.Stop.{Stop}
-use Rattle.registry_access.specs.declared.caller.Caller.{Caller}
-use Rattle.registry_rows.proofs.QuietFacts.{on_answer}
-use Rattle.registry_rules.specs.Changes.{change_of}
-use Rattle.registry_rules.specs.declared.reply.Reply.TheVariants.{Refused}
-use Rattle.registry_tables.specs.Changes.{all_stored}
-use Rattle.registry_tables.specs.Contents.{registry_of}
-use Rattle.registry_tables.specs.Effects.{stored_in}
-use Rattle.registry_tables.specs.Teams.{GrantsInScope}
-use Rattle.registry_tables.proofs.ReferenceFacts.{held_stored}
-use Rattle.registry_laws_history.specs.Answers.{reply_to}
-use Rattle.registry_desk.specs.Caches.{LeavesCacheRight}
 use Rattle.registry_desk.proofs.AnswerFacts.{refused, unrefused}
 use Rattle.registry_desk.proofs.OpenedFacts.{both_ok}
 use Rattle.registry_desk.proofs.GrantFacts.{made_in_scope}
@@ -51,12 +39,6 @@ returns-in-Ok-clause-written g c T stands written clean =
     })
     (c.reply_and_apply.ensures.makes clean) (c.reply_and_apply.ensures.in_range written.numbers clean)
 
-pub returns-in-Err-Refused-clause-written : goal.returns-in-Err-Refused-clause-written
-returns-in-Err-Refused-clause-written g c T stands written clean = written
-
-pub returns-in-Ok-clause-goes_on : goal.returns-in-Ok-clause-goes_on
-returns-in-Ok-clause-goes_on g c clean = on_answer c.reply_and_apply.result (λ left. record { holds = refl; ready = left.ready; mode = left.mode }) (c.reply_and_apply.ensures.makes clean)
-
 pub returns-in-Err-Refused-clause-answers : goal.returns-in-Err-Refused-clause-answers
 returns-in-Err-Refused-clause-answers g c stands sound clean =
     let S = registry_of (stored_in g.S.Store c.args.tx.now) in
@@ -71,18 +53,12 @@ returns-in-Err-Refused-clause-settles g c stands clean =
     let refused_so = (c.decide.ensures.refused (registry_of was) stands c.in-Err-Refused.refusal).1 (c.in-Err-Refused.is ∙ ap (λ (stop : Stop). Err stop) c.in-Err-Refused.field-0-is) in
     record { holds = sym (refused_settles was c.args.request.now c.in-Err-Refused.refusal refused_so); ready = left.ready; mode = left.mode }
 
-pub returns-in-Err-Refused-clause-goes_on : goal.returns-in-Err-Refused-clause-goes_on
-returns-in-Err-Refused-clause-goes_on g c clean = c.requires.under_way clean
-
 -- what isn't refused is accepted, so a request that isn't entered is a query, and has no changes
 pub returns-in-Ok-clause-unchanged : goal.returns-in-Ok-clause-unchanged
 returns-in-Ok-clause-unchanged g c clean =
     query_changes_nothing (stored_in g.S.Store c.args.tx.now) (stored_in g.S.Store c.reply_and_apply.new.tx) c.args.request.now (map change_of c.deref.result.now) c.reply_and_apply.result _
     (λ query. ap (map change_of) (c.deref.ensures.value ∙ c.in-Ok.ensures.query query)) (λ left. left.holds)
     (c.reply_and_apply.ensures.accepts c.requires.known) (c.reply_and_apply.ensures.makes clean)
-
-pub returns-in-Err-Refused-clause-unchanged : goal.returns-in-Err-Refused-clause-unchanged
-returns-in-Err-Refused-clause-unchanged g c clean none = refl
 
 pub returns-in-Ok-clause-right : goal.returns-in-Ok-clause-right
 returns-in-Ok-clause-right g c clean =

@@ -1,14 +1,5 @@
-use Rattle.std.proofs.Common.{◌≡◌, ◌∙◌, Option, Some, Result, Ok, Err, IfOk, ap, sym}
-use Rattle.registry_access.specs.declared.caller.Caller.{Caller}
-use Rattle.registry_names.specs.declared.stop.Fault.{Fault}
-use Rattle.registry_rules.specs.State.{State}
-use Rattle.registry_rules.specs.declared.reply.Reply.{Reply}
-use Rattle.registry_rules.specs.declared.request.Action.{Action}
-use Rattle.registry_tables.specs.Contents.{registry_of}
-use Rattle.registry_tables.specs.Effects.{stored_in}
+use Rattle.registry_desk.proofs.Words.{◌≡◌, ◌∙◌, Option, Some, Result, Ok, Err, IfOk, ap, sym, Caller, Fault, State, Reply, Action, registry_of, stored_in, AreRowsOf, Rows}
 use Rattle.registry_laws_history.specs.Answers as answers
-use Rattle.registry_desk.specs.Found.{AreRowsOf}
-use Rattle.registry_desk.specs.declared.rows.Rows.{Rows}
 use Rattle.registry_desk.proofs.answer.load_reply.Goals as goal
 
 -- the reply that is made of the rows is the one to the caller

@@ -1,15 +1,7 @@
-use Rattle.std.proofs.Common.{◌∙◌, ap, arith, map, subst, sym, take_all}
-use Rattle.registry_rows.proofs.QuietFacts.{stays_then}
-use Rattle.registry_rules.specs.Changes.{change_of}
-use Rattle.registry_tables.specs.Changes.{all_stored}
-use Rattle.registry_tables.specs.Effects.{stored_in}
-use Rattle.registry_tables.specs.Ranges.{HasNumbersInRange}
+use Rattle.registry_desk.proofs.Words.{◌∙◌, ap, arith, map, subst, sym, take_all, stays_then, change_of, all_stored, stored_in, HasNumbersInRange}
 use Rattle.registry_tables.proofs.RangeFacts.{change_in_range}
 use Rattle.registry_desk.proofs.MakingFacts.{changes_next}
 use Rattle.registry_desk.proofs.answer.make_all.Goals as goal
-
-pub make-requires : goal.make-requires
-make-requires g c = record { in_form = λ clean on. (c.loop-change.invariant.made clean).ready }
 
 pub loop-change-preserved : goal.loop-change-preserved
 loop-change-preserved g c = record {

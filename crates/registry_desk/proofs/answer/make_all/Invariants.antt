@@ -1,13 +1,4 @@
-use Rattle.std.proofs.Common.{map, take}
-use Rattle.sqlite.specs.State.{HasCleanDisk}
-use Rattle.registry_rows.specs.Frames.{Stays}
-use Rattle.registry_rows.specs.Ready.{Leaves}
-use Rattle.registry_rules.specs.Changes.{change_of}
-use Rattle.registry_tables.specs.Changes.{all_stored}
-use Rattle.registry_tables.specs.Contents.{contents}
-use Rattle.registry_tables.specs.Effects.{shown, stored_in}
-use Rattle.registry_tables.specs.Ranges.{HasNumbersInRange}
-use Rattle.registry_tables.specs.Schema.{schema}
+use Rattle.registry_desk.proofs.Words.{map, take, HasCleanDisk, Stays, Leaves, change_of, all_stored, contents, shown, stored_in, HasNumbersInRange, schema}
 use Rattle.registry_desk.proofs.answer.make_all.Given as goal
 
 -- the changes so far are made

@@ -1,11 +1,4 @@
-use Rattle.std.proofs.Common.{ap, arith, map, subst, sym}
-use Rattle.sqlite.specs.Effect.{Database}
-use Rattle.sqlite.specs.State.{HasCleanDisk}
-use Rattle.registry_rows.proofs.QuietFacts.{stays_then}
-use Rattle.registry_rules.specs.Changes.{change_of}
-use Rattle.registry_tables.specs.Contents.{contents}
-use Rattle.registry_tables.specs.Effects.{shown}
-use Rattle.registry_tables.specs.Ranges.{HasNumbersInRange}
+use Rattle.registry_desk.proofs.Words.{map, stays_then, change_of}
 use Rattle.registry_desk.proofs.CacheFacts.{same_no_more}
 use Rattle.registry_desk.proofs.KeptFacts.{left_no_more}
 use Rattle.registry_desk.proofs.answer.reply_and_apply.Goals as goal
@@ -28,11 +21,3 @@ returns-in_err-make_all-clause-no_more g c =
 pub returns-clause-no_more : goal.returns-clause-no_more
 returns-clause-no_more g c =
     left_no_more (map change_of c.args.changes.now) c.args.caches.now _ (record { packuments = c.forget_packuments.ensures; abbreviated = c.forget_packuments-2.ensures; revised = c.forget_revised.ensures; archives = c.in_ok-forget_archives.ensures.ok })
-
-pub returns-clause-forgets : goal.returns-clause-forgets
-returns-clause-forgets g c = record { packuments = c.forget_packuments.ensures; abbreviated = c.forget_packuments-2.ensures; revised = c.forget_revised.ensures; archives = c.in_ok-forget_archives.ensures.ok }
-
-pub returns-clause-in_range : goal.returns-clause-in_range
-returns-clause-in_range g c held clean =
-    let were : HasCleanDisk (shown g.S.Store c.load_reply.new.tx) = omega (arith, c.make_all.ensures.stays.survives.clean, clean) in
-    c.in_ok-make_all.ensures.in_range (subst HasNumbersInRange (sym (ap (λ (d : Database). contents d.trees) (c.in_ok-reply.ensures.knows were).0.same)) held) clean

@@ -1,8 +1,4 @@
-use Rattle.std.proofs.Common.{◌∙◌, ap, ap₂}
-use Rattle.registry_names.specs.Versions.{text_of_version}
-use Rattle.registry_cache.specs.Caches.{forgotten}
-use Rattle.registry_rules.specs.Changes.{change_of}
-use Rattle.registry_desk.specs.Caches.{archive_key, moves}
+use Rattle.registry_desk.proofs.Words.{◌∙◌, ap, ap₂, text_of_version, forgotten, change_of, archive_key, moves}
 use Rattle.registry_desk.proofs.CacheFacts.{forgets_none, forgets_one}
 use Rattle.registry_desk.proofs.cache.forget_archive.Goals as goal
 

@@ -1,7 +1,5 @@
-use Rattle.std.proofs.Common.{◌∙◌, List, ap, map, take, take_all}
-use Rattle.registry_rules.specs.Changes.{change_of}
+use Rattle.registry_desk.proofs.Words.{◌∙◌, List, ap, map, take, take_all, change_of, moves, without_moved}
 use Rattle.registry_rules.specs.declared.change.Change.{Change}
-use Rattle.registry_desk.specs.Caches.{moves, without_moved}
 use Rattle.registry_desk.proofs.CacheFacts.{forgets_next, untouched_no_more, untouched_none}
 use Rattle.registry_desk.proofs.cache.forget_archives.Goals as goal
 

@@ -1,8 +1,5 @@
-use Rattle.std.proofs.Common.{◌∙◌, List, ap, map, take_all}
-use Rattle.registry_rules.specs.Changes.{change_of}
+use Rattle.registry_desk.proofs.Words.{◌∙◌, List, ap, map, take_all, change_of, is_about, without_changed}
 use Rattle.registry_rules.specs.declared.change.Change.{Change}
-use Rattle.registry_laws_history.specs.Apart.{is_about}
-use Rattle.registry_desk.specs.Caches.{without_changed}
 use Rattle.registry_desk.proofs.CacheFacts.{forgets_next, untouched_none}
 use Rattle.registry_desk.proofs.cache.forget_packuments.Goals as goal
 

@@ -1,6 +1,4 @@
-use Rattle.std.proofs.Common.{◌≡◌, map, take}
-use Rattle.registry_rules.specs.Changes.{change_of}
-use Rattle.registry_desk.specs.Caches.{without_changed}
+use Rattle.registry_desk.proofs.Words.{◌≡◌, map, take, change_of, without_changed}
 use Rattle.registry_desk.proofs.cache.forget_packuments.Given as goal
 
 -- the packages of the changes so far are forgotten

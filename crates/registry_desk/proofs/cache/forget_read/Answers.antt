@@ -1,7 +1,4 @@
-use Rattle.std.proofs.Common.{◌∙◌, ap}
-use Rattle.registry_rules.specs.Changes.{change_of}
-use Rattle.registry_cache.specs.Caches.{forgotten}
-use Rattle.registry_laws_history.specs.Apart.{is_read_in}
+use Rattle.registry_desk.proofs.Words.{◌∙◌, ap, change_of, forgotten, is_read_in}
 use Rattle.registry_desk.proofs.CacheFacts.{forgets_none, forgets_one}
 use Rattle.registry_desk.proofs.cache.forget_read.Goals as goal
 

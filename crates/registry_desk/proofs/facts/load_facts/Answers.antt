@@ -1,11 +1,5 @@
-use Rattle.std.proofs.Common.{refl, subst, sym}
-use Rattle.registry_rows.specs.Ready.{Reads}
-use Rattle.registry_rules.specs.Facts.{AboutTells}
-use Rattle.registry_rules.specs.declared.facts.About.{About}
+use Rattle.registry_desk.proofs.Words.{refl, subst, sym, Reads, AboutTells, About, registry_of, shown, stored_in, schema}
 use Rattle.registry_rules.specs.declared.request.Action.TheVariants as asked
-use Rattle.registry_tables.specs.Contents.{registry_of}
-use Rattle.registry_tables.specs.Effects.{shown, stored_in}
-use Rattle.registry_tables.specs.Schema.{schema}
 use Rattle.registry_desk.proofs.EarlyFacts.{found_about, found_either, found_so, found_some}
 use Rattle.registry_desk.proofs.facts.load_facts.Goals as goal
 

@@ -1,17 +1,5 @@
-use Rattle.std.proofs.Common.{arith, subst, subst₂}
-use Rattle.sqlite.specs.Effect.{Database}
-use Rattle.sqlite.specs.State.{HasCleanDisk}
-use Rattle.registry_names.specs.Texts.{Text}
-use Rattle.registry_rows.proofs.QuietFacts.{stays_then, reads_then}
-use Rattle.registry_rules.specs.Facts.{AreGrantFacts}
-use Rattle.registry_tables.specs.Contents.{contents, registry_of}
-use Rattle.registry_tables.specs.Effects.{shown}
-use Rattle.registry_tables.specs.Schema.{schema}
-use Rattle.registry_desk.specs.Found.{IsGrantable}
+use Rattle.registry_desk.proofs.Words.{arith, subst, subst₂, Database, HasCleanDisk, Text, stays_then, reads_then, AreGrantFacts, contents, registry_of, shown, schema, IsGrantable}
 use Rattle.registry_desk.proofs.grants.facts_about_grant.Goals as goal
-
-pub find_grantable-requires : goal.find_grantable-requires
-find_grantable-requires g c = record { in_form = λ clean on. (c.in_ok-rows.ensures.loads clean).0.ready }
 
 pub returns-in_err-grantable-clause-stays : goal.returns-in_err-grantable-clause-stays
 returns-in_err-grantable-clause-stays g c = stays_then g.S.Store c.args.tx.now c.load_access.new.tx c.find_grantable.new.tx c.load_access.ensures.stays c.find_grantable.ensures.stays

@@ -1,19 +1,6 @@
-use Rattle.std.proofs.Common.{◌∙◌, arith, ap, is_some}
-use Rattle.sqlite.specs.Effect.{Database}
-use Rattle.sqlite.specs.State.{HasCleanDisk}
-use Rattle.registry_rows.proofs.QuietFacts.{stays_then, reads_then}
-use Rattle.registry_rules.specs.State.{has_grant, is_published}
-use Rattle.registry_tables.specs.Contents.{contents, registry_of}
-use Rattle.registry_tables.specs.Effects.{shown}
-use Rattle.registry_tables.specs.Schema.{schema}
+use Rattle.registry_desk.proofs.Words.{◌∙◌, arith, ap, is_some, Database, HasCleanDisk, stays_then, reads_then, has_grant, is_published, contents, registry_of, shown, schema}
 use Rattle.registry_desk.proofs.LoadedFacts.{three_stay}
 use Rattle.registry_desk.proofs.grants.find_grantable.Goals as goal
-
-pub load_status-requires : goal.load_status-requires
-load_status-requires g c = record { in_form = λ clean on. (c.in_ok-has_team.ensures.loads clean).0.ready }
-
-pub has_grant-requires : goal.has_grant-requires
-has_grant-requires g c = record { in_form = λ clean on. (c.in_ok-load_status.ensures.loads clean).0.ready }
 
 pub returns-in_err-load_status-clause-stays : goal.returns-in_err-load_status-clause-stays
 returns-in_err-load_status-clause-stays g c = stays_then g.S.Store c.args.tx.now c.has_team.new.tx c.load_status.new.tx c.has_team.ensures.stays c.load_status.ensures.stays

@@ -1,4 +1,4 @@
-use Rattle.sqlite.specs.Held.{state}
+use Rattle.registry_desk.proofs.Words.{state}
 use Rattle.registry_desk.proofs.LifeFacts.{stops_keep_outcomes, stops_leave_all_or_nothing}
 use Rattle.registry_desk.proofs.laws.stops_leave_all_or_nothing.Goals as goal
 

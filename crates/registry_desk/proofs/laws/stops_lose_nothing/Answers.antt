@@ -1,4 +1,4 @@
-use Rattle.sqlite.specs.Held.{state}
+use Rattle.registry_desk.proofs.Words.{state}
 use Rattle.registry_desk.proofs.StopFacts.{stops_lose_nothing}
 use Rattle.registry_desk.proofs.laws.stops_lose_nothing.Goals as goal
 

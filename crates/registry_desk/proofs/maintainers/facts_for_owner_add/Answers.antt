@@ -1,15 +1,5 @@
-use Rattle.std.proofs.Common.{arith, subst₂}
-use Rattle.sqlite.specs.Effect.{Database}
-use Rattle.registry_names.specs.Texts.{Text}
-use Rattle.registry_rows.proofs.QuietFacts.{reads_then, stays_then}
-use Rattle.registry_tables.specs.Contents.{contents, registry_of}
-use Rattle.registry_tables.specs.Effects.{shown}
-use Rattle.registry_tables.specs.Schema.{schema}
-use Rattle.registry_desk.specs.Found.{IsNewcomer}
+use Rattle.registry_desk.proofs.Words.{arith, subst₂, Database, Text, reads_then, stays_then, contents, registry_of, shown, schema, IsNewcomer}
 use Rattle.registry_desk.proofs.maintainers.facts_for_owner_add.Goals as goal
-
-pub find_newcomer-requires : goal.find_newcomer-requires
-find_newcomer-requires g c = record { in_form = λ clean on. (c.in_ok-standing.ensures.loads clean).0.ready }
 
 pub returns-in_err-newcomer-clause-stays : goal.returns-in_err-newcomer-clause-stays
 returns-in_err-newcomer-clause-stays g c = stays_then g.S.Store c.args.tx.now c.load_standing.new.tx c.find_newcomer.new.tx c.load_standing.ensures.stays c.find_newcomer.ensures.stays

@@ -1,15 +1,5 @@
-use Rattle.std.proofs.Common.{arith, subst₂}
-use Rattle.sqlite.specs.Effect.{Database}
-use Rattle.registry_names.specs.Texts.{Text}
-use Rattle.registry_rows.proofs.QuietFacts.{reads_then, stays_then}
-use Rattle.registry_tables.specs.Contents.{contents, registry_of}
-use Rattle.registry_tables.specs.Effects.{shown}
-use Rattle.registry_tables.specs.Schema.{schema}
-use Rattle.registry_desk.specs.Found.{IsLeaver}
+use Rattle.registry_desk.proofs.Words.{arith, subst₂, Database, Text, reads_then, stays_then, contents, registry_of, shown, schema, IsLeaver}
 use Rattle.registry_desk.proofs.maintainers.facts_for_owner_remove.Goals as goal
-
-pub find_leaver-requires : goal.find_leaver-requires
-find_leaver-requires g c = record { in_form = λ clean on. (c.in_ok-standing.ensures.loads clean).0.ready }
 
 pub returns-in_err-leaver-clause-stays : goal.returns-in_err-leaver-clause-stays
 returns-in_err-leaver-clause-stays g c = stays_then g.S.Store c.args.tx.now c.standing_if_allowed.new.tx c.find_leaver.new.tx c.standing_if_allowed.ensures.stays c.find_leaver.ensures.stays
@@ -27,8 +17,3 @@ returns-clause-loads g c clean =
           let leaver = subst₂ (λ (d : Database) (u : Text). IsLeaver c.in_ok-leaver.leaver (registry_of (contents d.trees)) c.args.name.now u) stands.0.same c.text.ensures.text found.1 in
           (allowed.0, record { standing_tells = allowed.1; is_maintainer = leaver.is_maintainer; other_maintainer = leaver.other_maintainer }),
     )
-
-pub returns-in-Err-clause-loads : goal.returns-in-Err-clause-loads
-returns-in-Err-clause-loads g c clean =
-    let placed = c.in_ok-standing.ensures.loads clean in
-    (placed.0, λ at sound. rw c.in-Err.is at (placed.1 sound))

@@ -1,15 +1,5 @@
-use Rattle.std.proofs.Common.{◌∙◌, arith, ap}
-use Rattle.sqlite.specs.Effect.{Database}
-use Rattle.sqlite.specs.State.{HasCleanDisk}
-use Rattle.registry_rows.proofs.QuietFacts.{stays_then, reads_then}
-use Rattle.registry_rules.specs.State.{has_other_maintainer}
-use Rattle.registry_tables.specs.Contents.{contents, registry_of}
-use Rattle.registry_tables.specs.Effects.{shown}
-use Rattle.registry_tables.specs.Schema.{schema}
+use Rattle.registry_desk.proofs.Words.{◌∙◌, arith, ap, Database, HasCleanDisk, stays_then, reads_then, has_other_maintainer, contents, registry_of, shown, schema}
 use Rattle.registry_desk.proofs.maintainers.find_leaver.Goals as goal
-
-pub has_other_maintainer-requires : goal.has_other_maintainer-requires
-has_other_maintainer-requires g c = record { in_form = λ clean on. (c.in_ok-is_maintainer.ensures.loads clean).0.ready }
 
 pub returns-in_err-has_other_maintainer-clause-stays : goal.returns-in_err-has_other_maintainer-clause-stays
 returns-in_err-has_other_maintainer-clause-stays g c = stays_then g.S.Store c.args.tx.now c.is_maintainer.new.tx c.has_other_maintainer.new.tx c.is_maintainer.ensures.stays c.has_other_maintainer.ensures.stays

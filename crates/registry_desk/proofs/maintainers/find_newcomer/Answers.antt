@@ -1,15 +1,5 @@
-use Rattle.std.proofs.Common.{◌∙◌, arith, ap}
-use Rattle.sqlite.specs.Effect.{Database}
-use Rattle.sqlite.specs.State.{HasCleanDisk}
-use Rattle.registry_rows.proofs.QuietFacts.{stays_then, reads_then}
-use Rattle.registry_rules.specs.State.{has_maintainer}
-use Rattle.registry_tables.specs.Contents.{contents, registry_of}
-use Rattle.registry_tables.specs.Effects.{shown}
-use Rattle.registry_tables.specs.Schema.{schema}
+use Rattle.registry_desk.proofs.Words.{◌∙◌, arith, ap, Database, HasCleanDisk, stays_then, reads_then, has_maintainer, contents, registry_of, shown, schema}
 use Rattle.registry_desk.proofs.maintainers.find_newcomer.Goals as goal
-
-pub is_maintainer-requires : goal.is_maintainer-requires
-is_maintainer-requires g c = record { in_form = λ clean on. (c.in_ok-has_user.ensures.loads clean).0.ready }
 
 pub returns-in_err-is_maintainer-clause-stays : goal.returns-in_err-is_maintainer-clause-stays
 returns-in_err-is_maintainer-clause-stays g c = stays_then g.S.Store c.args.tx.now c.has_user.new.tx c.is_maintainer.new.tx c.has_user.ensures.stays c.is_maintainer.ensures.stays

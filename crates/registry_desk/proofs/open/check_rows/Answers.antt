@@ -1,13 +1,5 @@
-use Rattle.std.proofs.Common.{◌∙◌, ap, arith, refl, subst, sym}
-use Rattle.sqlite.specs.Effect.{Database}
-use Rattle.sqlite.specs.State.{HasCleanDisk}
-use Rattle.registry_rows.proofs.QuietFacts.{on_answer, reads_then, stays_then}
-use Rattle.registry_tables.specs.Contents.{contents}
-use Rattle.registry_tables.specs.Effects.{shown, stored_in}
-use Rattle.registry_tables.specs.Schema.{schema}
-use Rattle.registry_tables.proofs.EffectFacts.{on_any}
+use Rattle.registry_desk.proofs.Words.{◌∙◌, ap, arith, refl, subst, sym, Database, HasCleanDisk, on_answer, reads_then, stays_then, contents, shown, stored_in, schema, on_any, IsAsWritten}
 use Rattle.registry_migration.proofs.StayFacts.{no_more, stays_going}
-use Rattle.registry_desk.specs.Resting.{IsAsWritten}
 use Rattle.registry_desk.proofs.open.check_rows.Goals as goal
 
 pub counts_archives_alone-requires : goal.counts_archives_alone-requires

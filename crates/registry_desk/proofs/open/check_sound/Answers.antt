@@ -1,17 +1,6 @@
-use Rattle.std.proofs.Common.{arith, refl, subst}
-use Rattle.sqlite.specs.Effect.{Database}
-use Rattle.sqlite.specs.State.{HasCleanDisk}
-use Rattle.registry_rows.proofs.QuietFacts.{reads_then, stays_then}
-use Rattle.registry_tables.specs.Contents.{contents}
-use Rattle.registry_tables.specs.Effects.{shown}
-use Rattle.registry_tables.specs.Ranges.{HasNumbersInRange}
-use Rattle.registry_tables.specs.Schema.{schema}
-use Rattle.registry_tables.proofs.EffectFacts.{on_any}
+use Rattle.registry_desk.proofs.Words.{arith, refl, subst, Database, HasCleanDisk, reads_then, stays_then, contents, shown, HasNumbersInRange, schema, on_any}
 use Rattle.registry_desk.proofs.OpenedFacts.{when_ok}
 use Rattle.registry_desk.proofs.open.check_sound.Goals as goal
-
-pub numbers_are_in_range-requires : goal.numbers_are_in_range-requires
-numbers_are_in_range-requires g c = record { in_form = λ clean _. (c.in_ok-are_grants_in_scope.ensures.loads clean).0.ready }
 
 pub returns-clause-stays : goal.returns-clause-stays
 returns-clause-stays g c = stays_then g.S.Store c.args.tx.now c.are_grants_in_scope.new.tx c.numbers_are_in_range.new.tx c.are_grants_in_scope.ensures.stays c.numbers_are_in_range.ensures.stays

@@ -1,5 +1,4 @@
-use Rattle.std.proofs.Common.{◌∙◌, subst, sym}
-use Rattle.sqlite.proofs.Callers.{memory_is_clean}
+use Rattle.registry_desk.proofs.Words.{◌∙◌, subst, sym, memory_is_clean}
 use Rattle.registry_migration.specs.Plain.{IsPlain}
 use Rattle.registry_desk.proofs.PlainFacts.{schema_plain}
 use Rattle.registry_desk.proofs.open.has_our_tables.Goals as goal

@@ -1,14 +1,4 @@
-use Rattle.std.proofs.Common.{◌≡◌, ◌∙◌, ap, inl, inr, sym, OnOk}
-use Rattle.sqlite.specs.Effect.{Database}
-use Rattle.sqlite.specs.Held.{state}
-use Rattle.registry_rows.proofs.QuietFacts.{on_answer}
-use Rattle.registry_tables.specs.Contents.{contents}
-use Rattle.registry_tables.specs.Effects.{stored}
-use Rattle.registry_tables.specs.Fresh.{CountsArchivesAlone}
-use Rattle.registry_tables.specs.Schema.{schema}
-use Rattle.registry_migration.specs.Older.{schema_of}
-use Rattle.registry_desk.specs.Opened.{IsOurs}
-use Rattle.registry_desk.specs.Resting.{IsAsWritten}
+use Rattle.registry_desk.proofs.Words.{◌≡◌, ◌∙◌, ap, inl, inr, sym, OnOk, Database, state, on_answer, contents, stored, CountsArchivesAlone, schema, schema_of, IsOurs, IsAsWritten}
 use Rattle.registry_desk.proofs.OpenedFacts.{both_ok, migrated_left, older_ready}
 use Rattle.registry_desk.proofs.open.settle.Goals as goal
 

@@ -1,17 +1,5 @@
-use Rattle.std.proofs.Common.{arith, subst, subst₂}
-use Rattle.sqlite.specs.Effect.{Database}
-use Rattle.sqlite.specs.State.{HasCleanDisk}
-use Rattle.registry_names.specs.Texts.{Text}
-use Rattle.registry_rows.proofs.QuietFacts.{stays_then, reads_then}
-use Rattle.registry_rules.specs.Facts.{AreMemberFacts}
-use Rattle.registry_tables.specs.Contents.{contents, registry_of}
-use Rattle.registry_tables.specs.Effects.{shown}
-use Rattle.registry_tables.specs.Schema.{schema}
-use Rattle.registry_desk.specs.Found.{IsCandidate}
+use Rattle.registry_desk.proofs.Words.{arith, subst, subst₂, Database, HasCleanDisk, Text, stays_then, reads_then, AreMemberFacts, contents, registry_of, shown, schema, IsCandidate}
 use Rattle.registry_desk.proofs.organisations.facts_about_member.Goals as goal
-
-pub find_candidate-requires : goal.find_candidate-requires
-find_candidate-requires g c = record { in_form = λ clean on. (c.in_ok-rows.ensures.loads clean).0.ready }
 
 pub returns-in_err-candidate-clause-stays : goal.returns-in_err-candidate-clause-stays
 returns-in_err-candidate-clause-stays g c = stays_then g.S.Store c.args.tx.now c.rows_if_allowed.new.tx c.find_candidate.new.tx c.rows_if_allowed.ensures.stays c.find_candidate.ensures.stays
@@ -39,8 +27,3 @@ returns-clause-loads g c clean =
           } in
           (λ rank. (allowed.0, told), (allowed.0, told)),
     )
-
-pub returns-in-Err-clause-loads : goal.returns-in-Err-clause-loads
-returns-in-Err-clause-loads g c clean =
-    let placed = c.in_ok-rows.ensures.loads clean in
-    (placed.0, λ at. (λ rank. rw c.in-Err.is at placed.1, rw c.in-Err.is at placed.1))

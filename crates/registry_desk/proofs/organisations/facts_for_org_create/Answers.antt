@@ -1,16 +1,5 @@
-use Rattle.std.proofs.Common.{◌∙◌, arith, ap}
-use Rattle.sqlite.specs.Effect.{Database}
-use Rattle.sqlite.specs.State.{HasCleanDisk}
-use Rattle.registry_access.specs.Positions.{has_organisation}
-use Rattle.registry_rows.proofs.QuietFacts.{reads_then, stays_then}
-use Rattle.registry_rules.specs.State.{has_user}
-use Rattle.registry_tables.specs.Contents.{contents, registry_of}
-use Rattle.registry_tables.specs.Effects.{shown}
-use Rattle.registry_tables.specs.Schema.{schema}
+use Rattle.registry_desk.proofs.Words.{◌∙◌, arith, ap, Database, HasCleanDisk, has_organisation, reads_then, stays_then, has_user, contents, registry_of, shown, schema}
 use Rattle.registry_desk.proofs.organisations.facts_for_org_create.Goals as goal
-
-pub has_organisation-requires : goal.has_organisation-requires
-has_organisation-requires g c = record { in_form = λ clean on. (c.in_ok-has_user.ensures.loads clean).0.ready }
 
 pub returns-in_err-has_organisation-clause-stays : goal.returns-in_err-has_organisation-clause-stays
 returns-in_err-has_organisation-clause-stays g c = stays_then g.S.Store c.args.tx.now c.has_user.new.tx c.has_organisation.new.tx c.has_user.ensures.stays c.has_organisation.ensures.stays

@@ -1,20 +1,6 @@
-use Rattle.std.proofs.Common.{◌∙◌, arith, ap}
-use Rattle.sqlite.specs.Effect.{Database}
-use Rattle.sqlite.specs.State.{HasCleanDisk}
-use Rattle.registry_names.specs.Maps.{at}
-use Rattle.registry_rows.proofs.QuietFacts.{stays_then, reads_then}
-use Rattle.registry_rules.specs.State.{has_other_owner}
-use Rattle.registry_tables.specs.Contents.{contents, registry_of}
-use Rattle.registry_tables.specs.Effects.{shown}
-use Rattle.registry_tables.specs.Schema.{schema}
+use Rattle.registry_desk.proofs.Words.{◌∙◌, arith, ap, Database, HasCleanDisk, at, stays_then, reads_then, has_other_owner, contents, registry_of, shown, schema}
 use Rattle.registry_desk.proofs.LoadedFacts.{three_stay}
 use Rattle.registry_desk.proofs.organisations.find_candidate.Goals as goal
-
-pub load_role-requires : goal.load_role-requires
-load_role-requires g c = record { in_form = λ clean on. (c.in_ok-has_user.ensures.loads clean).0.ready }
-
-pub has_other_owner-requires : goal.has_other_owner-requires
-has_other_owner-requires g c = record { in_form = λ clean on. (c.in_ok-load_role.ensures.loads clean).0.ready }
 
 pub returns-in_err-load_role-clause-stays : goal.returns-in_err-load_role-clause-stays
 returns-in_err-load_role-clause-stays g c = stays_then g.S.Store c.args.tx.now c.has_user.new.tx c.load_role.new.tx c.has_user.ensures.stays c.load_role.ensures.stays

@@ -1,15 +1,5 @@
-use Rattle.std.proofs.Common.{◌∙◌, arith, ap}
-use Rattle.sqlite.specs.Effect.{Database}
-use Rattle.registry_names.specs.Versions.{text_of_version}
-use Rattle.registry_rows.proofs.QuietFacts.{reads_then, stays_then}
-use Rattle.registry_rules.specs.State.{is_live}
-use Rattle.registry_tables.specs.Contents.{contents, registry_of}
-use Rattle.registry_tables.specs.Effects.{shown, stored_in}
-use Rattle.registry_tables.specs.Schema.{schema}
+use Rattle.registry_desk.proofs.Words.{◌∙◌, arith, ap, Database, text_of_version, reads_then, stays_then, is_live, contents, registry_of, shown, stored_in, schema}
 use Rattle.registry_desk.proofs.packages.facts_about_archive.Goals as goal
-
-pub has_version-requires : goal.has_version-requires
-has_version-requires g c = record { in_form = λ clean on. (c.in_ok-load_standing.ensures.loads clean).0.ready }
 
 pub returns-in_err-has_version-clause-stays : goal.returns-in_err-has_version-clause-stays
 returns-in_err-has_version-clause-stays g c = stays_then g.S.Store c.args.tx.now c.load_standing.new.tx c.has_version.new.tx c.load_standing.ensures.stays c.has_version.ensures.stays

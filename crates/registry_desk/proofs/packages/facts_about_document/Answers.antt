@@ -1,15 +1,5 @@
-use Rattle.std.proofs.Common.{◌∙◌, arith, ap}
-use Rattle.sqlite.specs.Effect.{Database}
-use Rattle.sqlite.specs.State.{HasCleanDisk}
-use Rattle.registry_rows.proofs.QuietFacts.{reads_then, stays_then}
-use Rattle.registry_rules.specs.State.{asked_version, lives}
-use Rattle.registry_tables.specs.Contents.{contents, registry_of}
-use Rattle.registry_tables.specs.Effects.{shown}
-use Rattle.registry_tables.specs.Schema.{schema}
+use Rattle.registry_desk.proofs.Words.{◌∙◌, arith, ap, Database, HasCleanDisk, reads_then, stays_then, asked_version, lives, contents, registry_of, shown, schema}
 use Rattle.registry_desk.proofs.packages.facts_about_document.Goals as goal
-
-pub asked_lives-requires : goal.asked_lives-requires
-asked_lives-requires g c = record { in_form = λ clean on. (c.in_ok-standing.ensures.loads clean).0.ready }
 
 pub returns-in_err-lives-clause-stays : goal.returns-in_err-lives-clause-stays
 returns-in_err-lives-clause-stays g c = stays_then g.S.Store c.args.tx.now c.load_standing.new.tx c.asked_lives.new.tx c.load_standing.ensures.stays c.asked_lives.ensures.stays

@@ -1,14 +1,5 @@
-use Rattle.std.proofs.Common.{◌∙◌, arith, ap}
-use Rattle.sqlite.specs.Effect.{Database}
-use Rattle.registry_rows.proofs.QuietFacts.{reads_then, stays_then}
-use Rattle.registry_rules.specs.State.{has_live}
-use Rattle.registry_tables.specs.Contents.{contents, registry_of}
-use Rattle.registry_tables.specs.Effects.{shown}
-use Rattle.registry_tables.specs.Schema.{schema}
+use Rattle.registry_desk.proofs.Words.{◌∙◌, arith, ap, Database, reads_then, stays_then, has_live, contents, registry_of, shown, schema}
 use Rattle.registry_desk.proofs.packages.facts_about_package.Goals as goal
-
-pub has_live-requires : goal.has_live-requires
-has_live-requires g c = record { in_form = λ clean on. (c.in_ok-load_standing.ensures.loads clean).0.ready }
 
 pub returns-in_err-has_live-clause-stays : goal.returns-in_err-has_live-clause-stays
 returns-in_err-has_live-clause-stays g c = stays_then g.S.Store c.args.tx.now c.load_standing.new.tx c.has_live.new.tx c.load_standing.ensures.stays c.has_live.ensures.stays

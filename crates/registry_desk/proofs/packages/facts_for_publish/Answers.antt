@@ -1,21 +1,7 @@
-use Rattle.std.proofs.Common.{◌≡◌, arith, is_some, subst, None, Some}
-use Rattle.sqlite.specs.Effect.{Database}
-use Rattle.sqlite.specs.State.{HasCleanDisk}
-use Rattle.registry_names.specs.Texts.{Text}
-use Rattle.registry_rows.proofs.QuietFacts.{stays_then, reads_then}
-use Rattle.registry_names.specs.Names.{scope_of}
+use Rattle.registry_desk.proofs.Words.{◌≡◌, arith, is_some, subst, None, Database, HasCleanDisk, Text, stays_then, reads_then, scope_of, position_in, StandingTells, unless_allowed, contents}
+use Rattle.registry_desk.proofs.Words.{registry_of, shown, schema, AreTaken}
 use Rattle.registry_access.specs.Policy.{may_publish}
-use Rattle.registry_access.specs.Positions.{position_in}
-use Rattle.registry_access.specs.RowsFor.{StandingTells}
-use Rattle.registry_rules.specs.Refusals.{unless_allowed}
-use Rattle.registry_tables.specs.Contents.{contents, registry_of}
-use Rattle.registry_tables.specs.Effects.{shown}
-use Rattle.registry_tables.specs.Schema.{schema}
-use Rattle.registry_desk.specs.Found.{AreTaken}
 use Rattle.registry_desk.proofs.packages.facts_for_publish.Goals as goal
-
-pub find_taken-requires : goal.find_taken-requires
-find_taken-requires g c = record { in_form = λ clean on. (c.in_ok-standing.ensures.loads clean).0.ready }
 
 pub returns-in_err-taken-clause-stays : goal.returns-in_err-taken-clause-stays
 returns-in_err-taken-clause-stays g c = stays_then g.S.Store c.args.tx.now c.standing_if_allowed.new.tx c.find_taken.new.tx c.standing_if_allowed.ensures.stays c.find_taken.ensures.stays
@@ -46,13 +32,4 @@ returns-clause-loads g c clean =
               last_withdrawal = taken.last_withdrawal;
             },
           ),
-    )
-
-pub returns-in-Err-clause-loads : goal.returns-in-Err-clause-loads
-returns-in-Err-clause-loads g c clean =
-    let A = (registry_of (contents (shown g.S.Store c.args.tx.now).now.trees)).access in
-    let placed = c.in_ok-standing.ensures.loads clean in (
-      placed.0,
-      λ at sound.
-          subst (λ (q : Text). unless_allowed (may_publish c.args.caller.now (is_some (scope_of q)) (position_in A c.args.caller.now q)) ≡ Some c.in-Err.refusal) c.name-name.ensures.value (rw c.in-Err.is at (placed.1 sound)),
     )

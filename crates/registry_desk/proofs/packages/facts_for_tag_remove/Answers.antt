@@ -1,14 +1,5 @@
-use Rattle.std.proofs.Common.{◌∙◌, arith, ap}
-use Rattle.sqlite.specs.Effect.{Database}
-use Rattle.registry_rows.proofs.QuietFacts.{reads_then, stays_then}
-use Rattle.registry_rules.specs.State.{stands}
-use Rattle.registry_tables.specs.Contents.{contents, registry_of}
-use Rattle.registry_tables.specs.Effects.{shown, stored_in}
-use Rattle.registry_tables.specs.Schema.{schema}
+use Rattle.registry_desk.proofs.Words.{◌∙◌, arith, ap, Database, reads_then, stays_then, stands, contents, registry_of, shown, stored_in, schema}
 use Rattle.registry_desk.proofs.packages.facts_for_tag_remove.Goals as goal
-
-pub has_tag-requires : goal.has_tag-requires
-has_tag-requires g c = record { in_form = λ clean on. (c.in_ok-load_standing.ensures.loads clean).0.ready }
 
 pub returns-in_err-has_tag-clause-stays : goal.returns-in_err-has_tag-clause-stays
 returns-in_err-has_tag-clause-stays g c = stays_then g.S.Store c.args.tx.now c.load_standing.new.tx c.has_tag.new.tx c.load_standing.ensures.stays c.has_tag.ensures.stays

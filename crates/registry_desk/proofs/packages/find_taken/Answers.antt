@@ -1,42 +1,8 @@
-use Rattle.std.proofs.Common.{◌∙◌, arith, ap, ap₂, is_some, sym}
-use Rattle.sqlite.specs.Effect.{Database}
-use Rattle.sqlite.specs.State.{HasCleanDisk}
-use Rattle.registry_names.specs.Tags.{latest}
-use Rattle.registry_names.specs.Versions.{text_of_version}
-use Rattle.registry_rows.proofs.QuietFacts.{stays_then, reads_then}
-use Rattle.registry_rules.specs.State.{has_live, is_live, is_spent, stands}
-use Rattle.registry_rules.specs.Withdrawals.{last_withdrawal}
-use Rattle.registry_tables.specs.Contents.{contents, registry_of}
-use Rattle.registry_tables.specs.Effects.{shown}
-use Rattle.registry_tables.specs.Schema.{schema}
-use Rattle.registry_tables.proofs.EffectFacts.{reads_as_before}
+use Rattle.registry_desk.proofs.Words.{◌∙◌, arith, ap, ap₂, is_some, sym, Database, HasCleanDisk, latest, text_of_version, stays_then, reads_then, has_live, is_live, is_spent, stands, last_withdrawal}
+use Rattle.registry_desk.proofs.Words.{contents, registry_of, shown, schema, reads_as_before}
 use Rattle.registry_desk.proofs.LoadedFacts.{three_stay, four_stay, six_stay}
 use Rattle.registry_desk.proofs.TakenFacts.{known_lives, none_withdrawn}
 use Rattle.registry_desk.proofs.packages.find_taken.Goals as goal
-
-pub has_tag-requires : goal.has_tag-requires
-has_tag-requires g c = record { in_form = λ clean on. (c.in_ok-version_lives.ensures.loads clean).0.ready }
-
-pub has_latest-requires : goal.has_latest-requires
-has_latest-requires g c = record { in_form = λ clean on. (c.in_ok-tag_stands.ensures.loads clean).0.ready }
-
-pub has_some-requires : goal.has_some-requires
-has_some-requires g c = record {
-  in_form = λ clean on.
-      let tagged : HasCleanDisk (shown g.S.Store c.has_tag.new.tx) = omega (arith, c.has_latest.ensures.stays.survives.clean, clean) in
-      (c.in_ok-latest_stands.ensures.knows clean).0.ready (c.in_ok-tag_stands.ensures.loads tagged).0.ready;
-}
-
-pub load_last_withdrawal-requires : goal.load_last_withdrawal-requires
-load_last_withdrawal-requires g c = record {
-  in_form = λ clean on.
-      let newest : HasCleanDisk (shown g.S.Store c.has_latest.new.tx) = omega (arith, c.has_some.ensures.stays.survives.clean, clean) in
-      let tagged : HasCleanDisk (shown g.S.Store c.has_tag.new.tx) = omega (arith, c.has_latest.ensures.stays.survives.clean, newest) in
-      (c.in_ok-lives.ensures.knows clean).0.ready ((c.in_ok-latest_stands.ensures.knows newest).0.ready (c.in_ok-tag_stands.ensures.loads tagged).0.ready);
-}
-
-pub was_withdrawn-requires : goal.was_withdrawn-requires
-was_withdrawn-requires g c = record { in_form = λ clean on. (c.in_ok-last_withdrawal.ensures.loads clean).0.ready }
 
 pub returns-in_err-tag_stands-clause-stays : goal.returns-in_err-tag_stands-clause-stays
 returns-in_err-tag_stands-clause-stays g c = stays_then g.S.Store c.args.tx.now c.has_version.new.tx c.has_tag.new.tx c.has_version.ensures.stays c.has_tag.ensures.stays

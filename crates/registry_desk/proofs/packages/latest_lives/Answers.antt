@@ -1,18 +1,6 @@
-use Rattle.std.proofs.Common.{◌≡◌, ◌∙◌, arith, ap, sym, is_some, Some, Option}
-use Rattle.sqlite.specs.Effect.{Database}
-use Rattle.sqlite.specs.State.{HasCleanDisk}
-use Rattle.registry_names.specs.Maps.{at}
-use Rattle.registry_names.specs.Tags.{latest}
-use Rattle.registry_names.specs.Texts.{Text}
-use Rattle.registry_rows.proofs.QuietFacts.{reads_then, stays_then}
-use Rattle.registry_rules.specs.State.{lives}
-use Rattle.registry_tables.specs.Contents.{contents, live_of, registry_of}
-use Rattle.registry_tables.specs.Effects.{shown, stored_in}
-use Rattle.registry_tables.specs.Schema.{schema}
+use Rattle.registry_desk.proofs.Words.{◌≡◌, ◌∙◌, arith, ap, sym, is_some, Some, Option, Database, HasCleanDisk, at, latest, Text, reads_then, stays_then, lives, contents, live_of, registry_of, shown}
+use Rattle.registry_desk.proofs.Words.{stored_in, schema}
 use Rattle.registry_desk.proofs.packages.latest_lives.Goals as goal
-
-pub has_version-requires : goal.has_version-requires
-has_version-requires g c = record { in_form = λ clean on. (c.in_ok-version.ensures.loads clean).0.ready }
 
 pub returns-in_err-lives-in-Some-clause-stays : goal.returns-in_err-lives-in-Some-clause-stays
 returns-in_err-lives-in-Some-clause-stays g c = stays_then g.S.Store c.args.tx.now c.load_tag.new.tx c.has_version.new.tx c.load_tag.ensures.stays c.has_version.ensures.stays

@@ -1,15 +1,5 @@
-use Rattle.std.proofs.Common.{◌∙◌, arith, ap, is_some}
-use Rattle.sqlite.specs.Effect.{Database}
-use Rattle.sqlite.specs.State.{HasCleanDisk}
-use Rattle.registry_rows.proofs.QuietFacts.{stays_then, reads_then}
-use Rattle.registry_rules.specs.State.{has_token, has_user}
-use Rattle.registry_tables.specs.Contents.{contents, registry_of}
-use Rattle.registry_tables.specs.Effects.{shown}
-use Rattle.registry_tables.specs.Schema.{schema}
+use Rattle.registry_desk.proofs.Words.{◌∙◌, arith, ap, is_some, Database, HasCleanDisk, stays_then, reads_then, has_token, has_user, contents, registry_of, shown, schema}
 use Rattle.registry_desk.proofs.people.facts_for_token_add.Goals as goal
-
-pub load_token_user-requires : goal.load_token_user-requires
-load_token_user-requires g c = record { in_form = λ clean on. (c.in_ok-has_user.ensures.loads clean).0.ready }
 
 pub returns-in_err-load_token_user-clause-stays : goal.returns-in_err-load_token_user-clause-stays
 returns-in_err-load_token_user-clause-stays g c = stays_then g.S.Store c.args.tx.now c.has_user.new.tx c.load_token_user.new.tx c.has_user.ensures.stays c.load_token_user.ensures.stays

@@ -1,16 +1,5 @@
-use Rattle.std.proofs.Common.{◌∙◌, arith, ap, sym}
-use Rattle.sqlite.specs.Effect.{Database}
-use Rattle.sqlite.specs.State.{HasCleanDisk}
-use Rattle.registry_rows.proofs.QuietFacts.{stays_then, reads_then}
-use Rattle.registry_rules.specs.Refusals.{unless_allowed}
-use Rattle.registry_rules.specs.State.{has_user, tokens_of}
-use Rattle.registry_tables.specs.Contents.{contents, registry_of}
-use Rattle.registry_tables.specs.Effects.{shown}
-use Rattle.registry_tables.specs.Schema.{schema}
+use Rattle.registry_desk.proofs.Words.{◌∙◌, arith, ap, sym, Database, HasCleanDisk, stays_then, reads_then, unless_allowed, has_user, tokens_of, contents, registry_of, shown, schema}
 use Rattle.registry_desk.proofs.people.facts_for_tokens_remove.Goals as goal
-
-pub load_user_tokens-requires : goal.load_user_tokens-requires
-load_user_tokens-requires g c = record { in_form = λ clean on. (c.in_ok-user_exists.ensures.loads clean).0.ready }
 
 pub returns-in_err-digests-in-Ok-clause-stays : goal.returns-in_err-digests-in-Ok-clause-stays
 returns-in_err-digests-in-Ok-clause-stays g c = stays_then g.S.Store c.args.tx.now c.has_user.new.tx c.load_user_tokens.new.tx c.has_user.ensures.stays c.load_user_tokens.ensures.stays
@@ -34,8 +23,3 @@ returns-in_ok-digests-in-Ok-clause-loads g c clean =
         ),
       ),
     )
-
-pub returns-in-Err-clause-loads : goal.returns-in-Err-clause-loads
-returns-in-Err-clause-loads g c clean =
-    let user = c.in_ok-user_exists.ensures.loads clean in
-    (user.0, λ at. ap unless_allowed (sym c.may_operate.ensures ∙ c.in-Err.is))

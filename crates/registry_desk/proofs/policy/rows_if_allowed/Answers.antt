@@ -1,7 +1,4 @@
-use Rattle.std.proofs.Common.{◌∙◌, ap, sym}
-use Rattle.registry_rules.specs.Refusals.{unless_allowed}
-use Rattle.registry_tables.specs.Contents.{access_of}
-use Rattle.registry_tables.specs.Effects.{stored_in}
+use Rattle.registry_desk.proofs.Words.{◌∙◌, ap, sym, unless_allowed, access_of, stored_in}
 use Rattle.registry_desk.proofs.EarlyFacts.{rows_tell}
 use Rattle.registry_desk.proofs.policy.rows_if_allowed.Goals as goal
 

@@ -1,6 +1,4 @@
-use Rattle.std.proofs.Common.{◌≡◌, ◌≤◌, length, map, take}
-use Rattle.registry_names.specs.Versions.{text_of_version}
-use Rattle.registry_rules.specs.Withdrawals.{selected}
+use Rattle.registry_desk.proofs.Words.{◌≡◌, ◌≤◌, length, map, take, text_of_version, selected}
 use Rattle.registry_desk.proofs.reply.count.Given as goal
 
 -- so many of the versions so far are selected, and no more than these

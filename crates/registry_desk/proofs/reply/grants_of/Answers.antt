@@ -1,4 +1,4 @@
-use Rattle.std.proofs.lemmas.Result.{IfOk-weaker}
+use Rattle.registry_desk.proofs.Words.{IfOk-weaker}
 use Rattle.registry_desk.proofs.AnswerFacts.{grants_text_is}
 use Rattle.registry_desk.proofs.reply.grants_of.Goals as goal
 

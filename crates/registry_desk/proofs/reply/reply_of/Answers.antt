@@ -1,9 +1,4 @@
-use Rattle.std.proofs.Common.{◌∙◌, ap, sym, subst₂}
-use Rattle.registry_rules.specs.declared.reply.Reply.TheVariants.{Count}
-use Rattle.registry_rules.specs.declared.request.Action.{Action}
-use Rattle.registry_laws_history.specs.Answers.{reply}
-use Rattle.registry_desk.specs.Found.{AreRowsOf}
-use Rattle.registry_desk.specs.declared.rows.Rows.{Rows}
+use Rattle.registry_desk.proofs.Words.{◌∙◌, ap, sym, subst₂, Count, Action, reply, AreRowsOf, Rows}
 use Rattle.registry_desk.proofs.AnswerFacts.{count_is}
 use Rattle.registry_desk.proofs.reply.reply_of.Goals as goal
 

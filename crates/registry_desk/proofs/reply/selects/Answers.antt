@@ -1,4 +1,4 @@
-use Rattle.std.proofs.Common.{◌∙◌}
+use Rattle.registry_desk.proofs.Words.{◌∙◌}
 use Rattle.registry_rules.proofs.ListedFacts.{selects_by_text}
 use Rattle.registry_desk.proofs.reply.selects.Goals as goal
 

@@ -1,19 +1,7 @@
-use Rattle.std.proofs.Common.{◌≡◌, ◌∙◌, arith, ap, sym, Some, Option, option_map}
+use Rattle.registry_desk.proofs.Words.{◌≡◌, ◌∙◌, arith, ap, sym, Some, Option, option_map, Database, HasCleanDisk, at, latest, Text, reads_then, stays_then, contents, live_of, shown, stored_in}
+use Rattle.registry_desk.proofs.Words.{schema, document}
 use Rattle.std.specs.Prelude.{option_and_then}
-use Rattle.sqlite.specs.Effect.{Database}
-use Rattle.sqlite.specs.State.{HasCleanDisk}
-use Rattle.registry_names.specs.Maps.{at}
-use Rattle.registry_names.specs.Tags.{latest}
-use Rattle.registry_names.specs.Texts.{Text}
-use Rattle.registry_rows.proofs.QuietFacts.{reads_then, stays_then}
-use Rattle.registry_tables.specs.Contents.{contents, live_of}
-use Rattle.registry_tables.specs.Effects.{shown, stored_in}
-use Rattle.registry_tables.specs.Schema.{schema}
-use Rattle.registry_tables.specs.Spelled.{document}
 use Rattle.registry_desk.proofs.rows.load_latest.Goals as goal
-
-pub load_document-requires : goal.load_document-requires
-load_document-requires g c = record { in_form = λ clean on. (c.in_ok-version.ensures.loads clean).0.ready }
 
 pub returns-in_err-document-in-Some-clause-stays : goal.returns-in_err-document-in-Some-clause-stays
 returns-in_err-document-in-Some-clause-stays g c = stays_then g.S.Store c.args.tx.now c.load_tag.new.tx c.load_document.new.tx c.load_tag.ensures.stays c.load_document.ensures.stays

@@ -1,16 +1,6 @@
-use Rattle.std.proofs.Common.{◌∙◌, arith, ap}
-use Rattle.sqlite.specs.Effect.{Database}
-use Rattle.sqlite.specs.State.{HasCleanDisk}
-use Rattle.registry_rows.proofs.QuietFacts.{stays_then, reads_then}
-use Rattle.registry_rules.specs.Withdrawals.{last_withdrawal}
-use Rattle.registry_tables.specs.Contents.{contents, registry_of}
-use Rattle.registry_tables.specs.Effects.{shown}
-use Rattle.registry_tables.specs.Schema.{schema}
+use Rattle.registry_desk.proofs.Words.{◌∙◌, arith, ap, Database, HasCleanDisk, stays_then, reads_then, last_withdrawal, contents, registry_of, shown, schema}
 use Rattle.registry_desk.proofs.AnswerFacts.{times_are}
 use Rattle.registry_desk.proofs.rows.pack_times.Goals as goal
-
-pub load_last_withdrawal-requires : goal.load_last_withdrawal-requires
-load_last_withdrawal-requires g c = record { in_form = λ clean on. (c.in_ok-withdrawn.ensures.loads clean).0.ready }
 
 pub returns-in_err-last-clause-stays : goal.returns-in_err-last-clause-stays
 returns-in_err-last-clause-stays g c =

@@ -1,20 +1,9 @@
-use Rattle.std.proofs.Common.{◌≡◌, ◌∙◌, arith, subst, sym, Some, None}
-use Rattle.std.proofs.lemmas.Result.{IfOk-weaker}
-use Rattle.sqlite.specs.Effect.{Database}
-use Rattle.sqlite.specs.State.{HasCleanDisk}
-use Rattle.registry_names.specs.declared.refusal.Refusal.TheVariants.{NoCaller}
-use Rattle.registry_rules.specs.Callers.{caller_of}
+use Rattle.registry_desk.proofs.Words.{◌≡◌, ◌∙◌, arith, subst, sym, Some, None, IfOk-weaker, Database, HasCleanDisk, NoCaller, caller_of, unless_allowed, Packument, access_of, contents, registry_of}
+use Rattle.registry_desk.proofs.Words.{shown, stored_in, AreTeamsSound, ArePackuments, IsShownBy, before_reads, reads_as_before}
 use Rattle.registry_rules.specs.Permissions.{permission}
-use Rattle.registry_rules.specs.Refusals.{unless_allowed}
-use Rattle.registry_rules.specs.declared.request.Action.TheVariants.{Packument}
-use Rattle.registry_tables.specs.Contents.{access_of, contents, registry_of}
-use Rattle.registry_tables.specs.Effects.{shown, stored_in}
-use Rattle.registry_tables.specs.Teams.{AreTeamsSound}
-use Rattle.registry_desk.specs.Caches.{ArePackuments}
-use Rattle.registry_desk.specs.Sending.{IsShownBy}
 use Rattle.registry_desk.proofs.AnswerFacts.{nobody_is_refused, refused}
 use Rattle.registry_desk.proofs.QueryFacts.{shown_is_from}
-use Rattle.registry_desk.proofs.SendingFacts.{before_reads, origin_is, query_denied, reads_before}
+use Rattle.registry_desk.proofs.SendingFacts.{origin_is, query_denied}
 use Rattle.registry_desk.proofs.sending.find_origin.Goals as goal
 
 pub standing_if_allowed-requires-clause-in_form : goal.standing_if_allowed-requires-clause-in_form
@@ -72,7 +61,7 @@ returns-in-Ok-clause-loads g c clean =
     let reads = before_reads was one mid before.0 placed.0 in
     IfOk-weaker c.shown_from.result _ _
     (λ from it. (
-      reads_before was mid new reads it.0,
+      reads_as_before was mid new reads it.0,
       λ sound right.
           let allowed = rw c.in-Ok.is at (placed.1 (subst (λ (d : Database). AreTeamsSound (contents d.trees)) (sym before.0.same) sound)) in
           let may = subst (λ (d : Database). unless_allowed (permission (access_of (contents d.trees)) who (Packument p)) ≡ None) before.0.same allowed.0 in
@@ -82,12 +71,6 @@ returns-in-Ok-clause-loads g c clean =
     (c.shown_from.ensures.knows clean)
 
 -- ---- what it comes from, whatever is granted
-
-pub returns-in_default-clause-shows : goal.returns-in_default-clause-shows
-returns-in_default-clause-shows g c clean are = tt
-
-pub returns-clause-shows : goal.returns-clause-shows
-returns-clause-shows g c clean are = tt
 
 pub returns-in-Ok-clause-shows : goal.returns-in-Ok-clause-shows
 returns-in-Ok-clause-shows g c clean =

@@ -1,5 +1,4 @@
-use Rattle.std.proofs.Common.{◌∙◌, ap}
-use Rattle.registry_names.specs.Texts.{Text}
+use Rattle.registry_desk.proofs.Words.{◌∙◌, ap, Text}
 use Rattle.registry_desk.proofs.AnswerFacts.{head_is, head_of_rows}
 use Rattle.registry_desk.proofs.sending.head_of.Goals as goal
 

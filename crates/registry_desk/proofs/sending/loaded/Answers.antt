@@ -1,17 +1,6 @@
-use Rattle.std.proofs.Common.{◌≡◌, ◌∙◌, arith, ap}
-use Rattle.sqlite.specs.Effect.{Database}
-use Rattle.sqlite.specs.State.{HasCleanDisk}
+use Rattle.registry_desk.proofs.Words.{◌∙◌, arith, ap, Database, HasCleanDisk, stays_then, contents, registry_of, shown, head_in, names_in_front, reads_as_before}
 use Rattle.registry_packument.specs.declared.form.PackForm.{PackForm}
-use Rattle.registry_rows.proofs.QuietFacts.{stays_then}
-use Rattle.registry_tables.specs.Contents.{contents, registry_of}
-use Rattle.registry_tables.specs.Effects.{shown}
-use Rattle.registry_desk.specs.Sending.{head_in}
-use Rattle.registry_desk.specs.Views.{names_in_front}
-use Rattle.registry_desk.proofs.SendingFacts.{reads_before}
 use Rattle.registry_desk.proofs.sending.loaded.Goals as goal
-
-pub loaded_front-requires : goal.loaded_front-requires
-loaded_front-requires g c = record { in_form = λ clean on. (c.in_ok-head.ensures.loads clean).0.ready }
 
 pub returns-in_err-front-clause-stays : goal.returns-in_err-front-clause-stays
 returns-in_err-front-clause-stays g c = stays_then g.S.Store c.args.tx.now c.loaded_head.new.tx c.loaded_front.new.tx c.loaded_head.ensures.stays c.loaded_front.ensures.stays
@@ -26,7 +15,7 @@ returns-clause-loads g c clean =
     let clean_one : HasCleanDisk one = omega (arith, c.loaded_front.ensures.stays.survives.clean, clean) in
     let head = c.in_ok-head.ensures.loads clean_one in
     let front = c.in_ok-front.ensures.knows clean in (
-      reads_before was one (shown g.S.Store c.loaded_front.new.tx) head.0 front.0,
+      reads_as_before was one (shown g.S.Store c.loaded_front.new.tx) head.0 front.0,
       λ there. (
         there,
         (

@@ -1,22 +1,7 @@
-use Rattle.std.proofs.Common.{◌∙◌, arith, ap, subst, sym, map}
-use Rattle.sqlite.specs.Effect.{Database}
-use Rattle.sqlite.specs.State.{HasCleanDisk}
-use Rattle.registry_names.specs.Maps.{of, seen}
+use Rattle.registry_desk.proofs.Words.{◌∙◌, arith, ap, subst, sym, map, Database, HasCleanDisk, of, seen, stays_then, reads_then, contents, live_of, registry_of, shown, schema, published, AreTimesOf}
 use Rattle.registry_packument.specs.FormLaws.{in_form}
-use Rattle.registry_rows.proofs.QuietFacts.{stays_then, reads_then}
-use Rattle.registry_tables.specs.Contents.{contents, live_of, registry_of}
-use Rattle.registry_tables.specs.Effects.{shown}
-use Rattle.registry_tables.specs.Schema.{schema}
-use Rattle.registry_tables.specs.Spelled.{published}
-use Rattle.registry_desk.specs.Found.{AreTimesOf}
 use Rattle.registry_desk.proofs.LoadedFacts.{three_stay}
 use Rattle.registry_desk.proofs.sending.loaded_head.Goals as goal
-
-pub load_times-requires : goal.load_times-requires
-load_times-requires g c = record { in_form = λ clean on. (c.in_ok-tags.ensures.loads clean).0.ready }
-
-pub pack_times-requires : goal.pack_times-requires
-pack_times-requires g c = record { in_form = λ clean on. (c.in_ok-live.ensures.loads clean).0.ready }
 
 pub returns-in_err-live-clause-stays : goal.returns-in_err-live-clause-stays
 returns-in_err-live-clause-stays g c = stays_then g.S.Store c.args.tx.now c.load_tags.new.tx c.load_times.new.tx c.load_tags.ensures.stays c.load_times.ensures.stays

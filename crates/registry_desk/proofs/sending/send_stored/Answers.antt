@@ -1,14 +1,4 @@
-use Rattle.std.proofs.Common.{◌≡◌, ◌∙◌, arith, ap, sym, subst, Some}
-use Rattle.sqlite.specs.Held.{state}
-use Rattle.sqlite.specs.State.{HasCleanDisk}
-use Rattle.registry_names.proofs.ByteStreamFacts.{Writes-nothing}
-use Rattle.registry_names.specs.Texts.{Text}
-use Rattle.registry_packument.specs.Packuments.{pack_len, pack_text}
-use Rattle.registry_rules.specs.State.{State}
-use Rattle.registry_tables.specs.Contents.{registry_of}
-use Rattle.registry_tables.specs.Effects.{registry_in}
-use Rattle.registry_tables.specs.WalkLaws.{left_then}
-use Rattle.registry_desk.specs.Sending.{versions_in}
+use Rattle.registry_desk.proofs.Words.{◌≡◌, ◌∙◌, arith, ap, sym, subst, Some, state, HasCleanDisk, Text, pack_len, pack_text, State, registry_of, registry_in, versions_in}
 use Rattle.registry_desk.proofs.SendingFacts.{takes_as, walk_rests, walk_stored}
 use Rattle.registry_desk.proofs.sending.send_stored.Goals as goal
 
@@ -41,10 +31,6 @@ returns-in-Ok-Text-clause-takes g c =
 
 -- ---- a long one
 
-pub returns-in-Ok-Longer-clause-left : goal.returns-in-Ok-Longer-clause-left
-returns-in-Ok-Longer-clause-left g c =
-    left_then (state g.S.Store c.args.conn.now) (state g.S.Store c.stored_within.new.conn) (state g.S.Store c.send_again.new.conn) c.stored_within.ensures.left c.send_again.ensures.left
-
 pub returns-in-Ok-Longer-clause-takes : goal.returns-in-Ok-Longer-clause-takes
 returns-in-Ok-Longer-clause-takes g c =
     let old = state g.S.Store c.args.conn.now in
@@ -58,6 +44,3 @@ returns-in-Ok-Longer-clause-takes g c =
     let stays : registry_in mid ≡ registry_in old = ap registry_of (walk_stored old mid c.requires.rests c.stored_within.ensures.left were (rw c.in-Ok-Longer.is at (c.stored_within.ensures.unshut were))) in
     subst (λ (T : State). pack_text c.args.head.now (versions_in T c.args.name.now) ≡ Some text) stays (written clean))
     c.send_again.ensures.takes
-
-pub returns-in-Err-clause-takes : goal.returns-in-Err-clause-takes
-returns-in-Err-clause-takes g c = Writes-nothing _ _

@@ -1,13 +1,8 @@
-use Rattle.std.proofs.Common.{sym, subst}
-use Rattle.sqlite.specs.Held.{state}
-use Rattle.registry_desk.specs.Caches.{KeepsNoMore}
+use Rattle.registry_desk.proofs.Words.{sym, subst, state, KeepsNoMore}
 use Rattle.registry_desk.proofs.CacheFacts.{same_no_more}
 use Rattle.registry_desk.proofs.KeptFacts.{keep_same}
 use Rattle.registry_desk.proofs.SendingFacts.{asked_no_more, fault_sends, kept_sends, refused_sends, right_left, stored_sends, walk_leaves}
 use Rattle.registry_desk.proofs.sending.sent.Goals as goal
-
-pub origin_of-requires : goal.origin_of-requires
-origin_of-requires g c = record { rests = c.requires.rests; right = λ clean on. (c.requires.right clean on).packuments; asks = c.requires.asks }
 
 pub returns-in-Ok-Refused-clause-right : goal.returns-in-Ok-Refused-clause-right
 returns-in-Ok-Refused-clause-right g c =

@@ -1,13 +1,5 @@
-use Rattle.std.proofs.Common.{◌≡◌, rules, arith, ap, subst, IfOk}
-use Rattle.sqlite.specs.Effect.{Database}
-use Rattle.sqlite.specs.Held.{state}
-use Rattle.sqlite.specs.State.{HasCleanDisk}
+use Rattle.registry_desk.proofs.Words.{◌≡◌, rules, arith, ap, subst, IfOk, Database, state, HasCleanDisk, State, contents, registry_of, registry_in, shown_by, versions_in}
 use Rattle.registry_packument.specs.Within.{IsWithin}
-use Rattle.registry_rules.specs.State.{State}
-use Rattle.registry_tables.specs.Contents.{contents, registry_of}
-use Rattle.registry_tables.specs.Effects.{registry_in}
-use Rattle.registry_tables.specs.Walks.{shown_by}
-use Rattle.registry_desk.specs.Sending.{versions_in}
 use Rattle.registry_desk.proofs.sending.stored_within.Goals as goal
 
 pub returns-in-Ok-clause-within : goal.returns-in-Ok-clause-within

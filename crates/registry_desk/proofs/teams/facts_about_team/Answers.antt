@@ -1,16 +1,5 @@
-use Rattle.std.proofs.Common.{◌∙◌, arith, ap, ap₂}
-use Rattle.sqlite.specs.Effect.{Database}
-use Rattle.sqlite.specs.State.{HasCleanDisk}
-use Rattle.registry_rows.proofs.QuietFacts.{stays_then, reads_then}
-use Rattle.registry_rules.specs.Facts.{SayOf}
-use Rattle.registry_rules.specs.State.{has_team}
-use Rattle.registry_tables.specs.Contents.{contents, registry_of}
-use Rattle.registry_tables.specs.Effects.{shown}
-use Rattle.registry_tables.specs.Schema.{schema}
+use Rattle.registry_desk.proofs.Words.{◌∙◌, arith, ap, ap₂, Database, HasCleanDisk, stays_then, reads_then, SayOf, has_team, contents, registry_of, shown, schema}
 use Rattle.registry_desk.proofs.teams.facts_about_team.Goals as goal
-
-pub has_team-requires : goal.has_team-requires
-has_team-requires g c = record { in_form = λ clean on. (c.in_ok-load_access.ensures.loads clean).0.ready }
 
 pub returns-in_err-has_team-clause-stays : goal.returns-in_err-has_team-clause-stays
 returns-in_err-has_team-clause-stays g c = stays_then g.S.Store c.args.tx.now c.load_access.new.tx c.has_team.new.tx c.load_access.ensures.stays c.has_team.ensures.stays

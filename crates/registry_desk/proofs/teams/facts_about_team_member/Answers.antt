@@ -1,17 +1,5 @@
-use Rattle.std.proofs.Common.{arith, subst, subst₂}
-use Rattle.sqlite.specs.Effect.{Database}
-use Rattle.sqlite.specs.State.{HasCleanDisk}
-use Rattle.registry_names.specs.Texts.{Text}
-use Rattle.registry_rows.proofs.QuietFacts.{stays_then, reads_then}
-use Rattle.registry_rules.specs.Facts.{AreTeamMemberFacts}
-use Rattle.registry_tables.specs.Contents.{contents, registry_of}
-use Rattle.registry_tables.specs.Effects.{shown}
-use Rattle.registry_tables.specs.Schema.{schema}
-use Rattle.registry_desk.specs.Found.{IsPlace}
+use Rattle.registry_desk.proofs.Words.{arith, subst, subst₂, Database, HasCleanDisk, Text, stays_then, reads_then, AreTeamMemberFacts, contents, registry_of, shown, schema, IsPlace}
 use Rattle.registry_desk.proofs.teams.facts_about_team_member.Goals as goal
-
-pub find_place-requires : goal.find_place-requires
-find_place-requires g c = record { in_form = λ clean on. (c.in_ok-rows.ensures.loads clean).0.ready }
 
 pub returns-in_err-place-clause-stays : goal.returns-in_err-place-clause-stays
 returns-in_err-place-clause-stays g c = stays_then g.S.Store c.args.tx.now c.load_access.new.tx c.find_place.new.tx c.load_access.ensures.stays c.find_place.ensures.stays

@@ -1,19 +1,6 @@
-use Rattle.std.proofs.Common.{◌∙◌, arith, ap, is_some}
-use Rattle.sqlite.specs.Effect.{Database}
-use Rattle.sqlite.specs.State.{HasCleanDisk}
-use Rattle.registry_rows.proofs.QuietFacts.{stays_then, reads_then}
-use Rattle.registry_rules.specs.State.{is_in_team, is_member}
-use Rattle.registry_tables.specs.Contents.{contents, registry_of}
-use Rattle.registry_tables.specs.Effects.{shown}
-use Rattle.registry_tables.specs.Schema.{schema}
+use Rattle.registry_desk.proofs.Words.{◌∙◌, arith, ap, is_some, Database, HasCleanDisk, stays_then, reads_then, is_in_team, is_member, contents, registry_of, shown, schema}
 use Rattle.registry_desk.proofs.LoadedFacts.{three_stay}
 use Rattle.registry_desk.proofs.teams.find_place.Goals as goal
-
-pub load_role-requires : goal.load_role-requires
-load_role-requires g c = record { in_form = λ clean on. (c.in_ok-has_team.ensures.loads clean).0.ready }
-
-pub is_in_team-requires : goal.is_in_team-requires
-is_in_team-requires g c = record { in_form = λ clean on. (c.in_ok-load_role.ensures.loads clean).0.ready }
 
 pub returns-in_err-load_role-clause-stays : goal.returns-in_err-load_role-clause-stays
 returns-in_err-load_role-clause-stays g c = stays_then g.S.Store c.args.tx.now c.has_team.new.tx c.load_role.new.tx c.has_team.ensures.stays c.load_role.ensures.stays

@@ -1,21 +1,8 @@
-use Rattle.std.proofs.Common.{◌≡◌, ◌∙◌, arith, ap, sym, subst, Some}
-use Rattle.std.proofs.lemmas.Result.{IfOk-weaker}
-use Rattle.sqlite.specs.Held.{state}
-use Rattle.sqlite.specs.State.{HasCleanDisk}
-use Rattle.registry_packument.specs.Packuments.{pack_len, pack_text}
-use Rattle.registry_rules.specs.State.{State}
-use Rattle.registry_tables.specs.Contents.{registry_of}
-use Rattle.registry_tables.specs.Effects.{registry_in}
-use Rattle.registry_tables.specs.WalkLaws.{left_then}
-use Rattle.registry_desk.specs.Sending.{versions_in}
+use Rattle.registry_desk.proofs.Words.{◌≡◌, arith, ap, sym, subst, Some, IfOk-weaker, state, HasCleanDisk, pack_len, pack_text, State, registry_of, registry_in, versions_in}
 use Rattle.registry_desk.proofs.SendingFacts.{walk_rests, walk_stored}
 use Rattle.registry_desk.proofs.texts.made_text.Goals as goal
 
 -- ---- a short one
-
-pub returns-in-Text-clause-text : goal.returns-in-Text-clause-text
-returns-in-Text-clause-text g c clean =
-    IfOk-weaker c.exact.result _ _ (λ copy is. (rw c.in-Text.is at (c.in_ok-within.ensures.within clean)).0 ∙ ap Some (sym is)) c.exact.ensures
 
 -- ---- a long one
 
@@ -33,10 +20,6 @@ written_text-requires g c =
       empty = c.in_ok-room-in-Longer.ensures.empty;
       exact = c.in_ok-room-in-Longer.ensures.exact;
     }
-
-pub returns-in_ok-room-in-Longer-clause-left : goal.returns-in_ok-room-in-Longer-clause-left
-returns-in_ok-room-in-Longer-clause-left g c =
-    left_then (state g.S.Store c.args.conn.now) (state g.S.Store c.stored_within.new.conn) (state g.S.Store c.written_text.new.conn) c.stored_within.ensures.left c.written_text.ensures.left
 
 pub returns-in_ok-room-in-Longer-clause-text : goal.returns-in_ok-room-in-Longer-clause-text
 returns-in_ok-room-in-Longer-clause-text g c clean =

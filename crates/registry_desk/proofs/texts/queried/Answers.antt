@@ -1,7 +1,4 @@
-use Rattle.std.proofs.Common.{ap}
-use Rattle.sqlite.specs.Held.{state}
-use Rattle.registry_tables.specs.Contents.{registry_of}
-use Rattle.registry_tables.specs.Effects.{registry_in, stored}
+use Rattle.registry_desk.proofs.Words.{ap, state, registry_of, registry_in, stored}
 use Rattle.registry_desk.proofs.KeptFacts.{keep_same, reply_abbreviated_limit, reply_archive_limit, reply_limit, reply_revised_limit, right_kept, shown_packument, texts_right}
 use Rattle.registry_desk.proofs.QueryFacts.{alone_shows}
 use Rattle.registry_desk.proofs.SendingFacts.{right_left}
@@ -9,14 +6,6 @@ use Rattle.registry_desk.proofs.texts.queried.Goals as goal
 
 pub query_reply-requires : goal.query_reply-requires
 query_reply-requires g c = record { rests = c.requires.rests; right = λ clean on. rw c.texts.ensures (texts_right c.args.view (c.requires.right clean on)); asks = c.requires.asks }
-
-pub returns-clause-answer : goal.returns-clause-answer
-returns-clause-answer g c needs = c.in_ok-reply.ensures.told
-
-pub returns-clause-served : goal.returns-clause-served
-returns-clause-served g c clean =
-    let on = c.in_ok-reply.ensures.served clean in
-    (c.query_reply.ensures.left.opened clean on, on)
 
 -- ---- what is kept
 

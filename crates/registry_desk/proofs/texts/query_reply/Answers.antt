@@ -1,17 +1,7 @@
-use Rattle.std.proofs.Common.{◌≡◌, arith, ap, subst}
-use Rattle.std.proofs.lemmas.Result.{IfOk-weaker}
-use Rattle.sqlite.specs.Held.{state}
-use Rattle.sqlite.specs.State.{HasCleanDisk}
-use Rattle.registry_rules.specs.State.{State}
-use Rattle.registry_tables.specs.Contents.{registry_of}
-use Rattle.registry_tables.specs.Effects.{registry_in}
-use Rattle.registry_desk.specs.Sending.{IsMadeOf}
+use Rattle.registry_desk.proofs.Words.{◌≡◌, arith, ap, subst, IfOk-weaker, state, HasCleanDisk, State, registry_of, registry_in, IsMadeOf}
 use Rattle.registry_desk.proofs.QueryFacts.{made_shows, made_told}
 use Rattle.registry_desk.proofs.SendingFacts.{walk_leaves}
 use Rattle.registry_desk.proofs.texts.query_reply.Goals as goal
-
-pub reply_of-requires : goal.reply_of-requires
-reply_of-requires g c = record { rests = c.origin_of.ensures.left.rests; unshut = c.in_ok-origin.ensures.served }
 
 pub returns-clause-left : goal.returns-clause-left
 returns-clause-left g c =

@@ -1,17 +1,6 @@
-use Rattle.std.proofs.Common.{◌≡◌, ap, sym, subst, Some}
-use Rattle.std.proofs.lemmas.Result.{IfOk-weaker, on_ok_weaker}
-use Rattle.sqlite.specs.Held.{state}
-use Rattle.sqlite.specs.State.{HasCleanDisk}
-use Rattle.registry_names.specs.Texts.{Text}
-use Rattle.registry_packument.specs.Counted.{IsUnbroken}
-use Rattle.registry_packument.specs.Packuments.{pack_text}
-use Rattle.registry_tables.specs.Effects.{registry_in}
-use Rattle.registry_desk.specs.Sending.{versions_in}
+use Rattle.registry_desk.proofs.Words.{◌≡◌, ap, Some, IfOk-weaker, state, HasCleanDisk, Text, pack_text, registry_in, versions_in}
 use Rattle.registry_desk.proofs.QueryFacts.{taken_whole}
 use Rattle.registry_desk.proofs.texts.written_text.Goals as goal
-
-pub returns-clause-unshut : goal.returns-clause-unshut
-returns-clause-unshut g c clean = on_ok_weaker c.text_sent.result (λ whole. c.send_again-sent.ensures.unshut clean (subst IsUnbroken (sym whole) tt)) c.text_sent.ensures.whole
 
 pub returns-clause-text : goal.returns-clause-text
 returns-clause-text g c clean =

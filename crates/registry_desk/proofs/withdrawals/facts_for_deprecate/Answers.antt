@@ -1,15 +1,5 @@
-use Rattle.std.proofs.Common.{◌∙◌, arith, ap}
-use Rattle.sqlite.specs.Effect.{Database}
-use Rattle.sqlite.specs.State.{HasCleanDisk}
-use Rattle.registry_rows.proofs.QuietFacts.{stays_then, reads_then}
-use Rattle.registry_rules.specs.Withdrawals.{live_versions}
-use Rattle.registry_tables.specs.Contents.{contents, registry_of}
-use Rattle.registry_tables.specs.Effects.{shown}
-use Rattle.registry_tables.specs.Schema.{schema}
+use Rattle.registry_desk.proofs.Words.{◌∙◌, arith, ap, Database, HasCleanDisk, stays_then, reads_then, live_versions, contents, registry_of, shown, schema}
 use Rattle.registry_desk.proofs.withdrawals.facts_for_deprecate.Goals as goal
-
-pub load_live-requires : goal.load_live-requires
-load_live-requires g c = record { in_form = λ clean on. (c.in_ok-standing.ensures.loads clean).0.ready }
 
 pub returns-in_err-live-in-Ok-clause-stays : goal.returns-in_err-live-in-Ok-clause-stays
 returns-in_err-live-in-Ok-clause-stays g c = stays_then g.S.Store c.args.tx.now c.standing_if_allowed.new.tx c.load_live.new.tx c.standing_if_allowed.ensures.stays c.load_live.ensures.stays
@@ -29,8 +19,3 @@ returns-in_ok-live-in-Ok-clause-loads g c clean =
           let allowed = rw c.in-Ok.is at (placed.1 sound) in
           (allowed.0, (allowed.1, live.1 ∙ ap (λ (d : Database). live_versions (registry_of (contents d.trees)) c.args.name.now) placed.0.same)),
     )
-
-pub returns-in-Err-clause-loads : goal.returns-in-Err-clause-loads
-returns-in-Err-clause-loads g c clean =
-    let placed = c.in_ok-standing.ensures.loads clean in
-    (placed.0, λ selector message at sound. rw c.in-Err.is at (placed.1 sound))

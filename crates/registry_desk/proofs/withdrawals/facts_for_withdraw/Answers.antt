@@ -1,23 +1,7 @@
-use Rattle.std.proofs.Common.{◌≡◌, arith, subst, None}
-use Rattle.std.proofs.lemmas.Result.{IfOk-weaker}
-use Rattle.sqlite.specs.Effect.{Database}
-use Rattle.sqlite.specs.State.{HasCleanDisk}
-use Rattle.registry_access.specs.RowsFor.{StandingTells}
-use Rattle.registry_access.specs.declared.caller.Caller.{Caller}
-use Rattle.registry_rows.proofs.QuietFacts.{reads_then, stays_then}
+use Rattle.registry_desk.proofs.Words.{◌≡◌, arith, subst, None, IfOk-weaker, Database, HasCleanDisk, StandingTells, Caller, reads_then, stays_then, access_of, contents, shown, schema, IsFound, denial}
 use Rattle.registry_rules.specs.declared.request.Action.TheVariants as asked
-use Rattle.registry_tables.specs.Contents.{access_of, contents}
-use Rattle.registry_tables.specs.Effects.{shown}
-use Rattle.registry_tables.specs.Schema.{schema}
-use Rattle.registry_desk.specs.Early.{IsFound, denial}
 use Rattle.registry_desk.proofs.EarlyFacts.{or_first}
 use Rattle.registry_desk.proofs.withdrawals.facts_for_withdraw.Goals as goal
-
-pub facts_if_young-requires : goal.facts_if_young-requires
-facts_if_young-requires g c = record {
-  in_form = λ clean on. (c.in_ok-standing.ensures.loads clean).0.ready;
-  allowed = (c.args.caller.now, rw c.in-Ok.is at c.in_ok-standing.ensures.allowed);
-}
 
 pub returns-in-Ok-clause-stays : goal.returns-in-Ok-clause-stays
 returns-in-Ok-clause-stays g c = stays_then g.S.Store c.args.tx.now c.standing_if_allowed.new.tx c.facts_if_young.new.tx c.standing_if_allowed.ensures.stays c.facts_if_young.ensures.stays

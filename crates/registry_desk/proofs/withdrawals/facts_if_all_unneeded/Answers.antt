@@ -1,21 +1,9 @@
-use Rattle.std.proofs.Common.{◌≡◌, ◌∙◌, Bool, List, map, arith, ap, false, refl, sym}
-use Rattle.std.specs.List.{list_any}
-use Rattle.sqlite.specs.Effect.{Database}
-use Rattle.sqlite.specs.State.{HasCleanDisk}
-use Rattle.registry_rows.proofs.QuietFacts.{reads_then, stays_then}
-use Rattle.registry_rules.specs.Refusals.{withdraw_all_refusal}
-use Rattle.registry_rules.specs.Withdrawals.{all_tags, is_any_depended, is_depended, live_since, versions_in}
-use Rattle.registry_rules.specs.declared.facts.LiveVersion.{LiveVersion}
-use Rattle.registry_tables.specs.Contents.{contents, registry_of}
-use Rattle.registry_tables.specs.Effects.{shown}
-use Rattle.registry_tables.specs.Needs.{HoldsNeeds}
-use Rattle.registry_tables.specs.Schema.{schema}
+use Rattle.registry_desk.proofs.Words.{◌≡◌, ◌∙◌, Bool, List, map, arith, ap, false, refl, sym, list_any, Database, HasCleanDisk, reads_then, stays_then, withdraw_all_refusal, all_tags}
+use Rattle.registry_desk.proofs.Words.{is_any_depended, is_depended, live_since, LiveVersion, contents, registry_of, shown, HoldsNeeds, schema}
+use Rattle.registry_rules.specs.Withdrawals.{versions_in}
 use Rattle.registry_tables.specs.Withdrawals.{version_text}
 use Rattle.registry_desk.proofs.EarlyFacts.{all_depended, alone, neither, nothing_needs_any, or_second, same_since, texts_since}
 use Rattle.registry_desk.proofs.withdrawals.facts_if_all_unneeded.Goals as goal
-
-pub load_tag_names-requires : goal.load_tag_names-requires
-load_tag_names-requires g c = record { in_form = λ clean on. (c.in_ok-is_any_depended.ensures.loads clean).0.ready }
 
 pub returns-in_err-tags-clause-stays : goal.returns-in_err-tags-clause-stays
 returns-in_err-tags-clause-stays g c = stays_then g.S.Store c.args.tx.now c.is_any_depended.new.tx c.load_tag_names.new.tx c.is_any_depended.ensures.stays c.load_tag_names.ensures.stays

@@ -1,24 +1,8 @@
-use Rattle.std.proofs.Common.{◌≡◌, ◌∙◌, ℕ, map, arith, ap, false, sym, subst, List, None}
-use Rattle.std.proofs.lemmas.Result.{IfOk-weaker}
-use Rattle.sqlite.specs.Effect.{Database}
-use Rattle.sqlite.specs.State.{HasCleanDisk}
-use Rattle.registry_access.specs.RowsFor.{StandingTells}
-use Rattle.registry_access.specs.declared.caller.Caller.{Caller}
-use Rattle.registry_rows.proofs.QuietFacts.{reads_then, stays_then}
-use Rattle.registry_rules.specs.Facts.{since_of}
-use Rattle.registry_rules.specs.Refusals.{withdraw_all_refusal}
-use Rattle.registry_rules.specs.Withdrawals.{live_since}
-use Rattle.registry_rules.specs.declared.facts.LiveVersion.{LiveVersion}
+use Rattle.registry_desk.proofs.Words.{◌≡◌, ◌∙◌, ℕ, map, arith, ap, false, sym, subst, List, None, IfOk-weaker, Database, HasCleanDisk, StandingTells, Caller, reads_then, stays_then, since_of}
+use Rattle.registry_desk.proofs.Words.{withdraw_all_refusal, live_since, LiveVersion, access_of, contents, registry_of, shown, schema, IsFound, denial}
 use Rattle.registry_rules.specs.declared.request.Action.TheVariants as asked
-use Rattle.registry_tables.specs.Contents.{access_of, contents, registry_of}
-use Rattle.registry_tables.specs.Effects.{shown}
-use Rattle.registry_tables.specs.Schema.{schema}
-use Rattle.registry_desk.specs.Early.{IsFound, denial}
 use Rattle.registry_desk.proofs.EarlyFacts.{all_too_old, or_second}
 use Rattle.registry_desk.proofs.withdrawals.facts_if_all_young.Goals as goal
-
-pub facts_if_all_unneeded-requires : goal.facts_if_all_unneeded-requires
-facts_if_all_unneeded-requires g c = record { in_form = λ clean on. (c.in_ok-live.ensures.loads clean).0.ready; allowed = c.requires.allowed }
 
 pub returns-in-Some-clause-loads : goal.returns-in-Some-clause-loads
 returns-in-Some-clause-loads g c clean =

@@ -1,23 +1,8 @@
-use Rattle.std.proofs.Common.{◌≡◌, ◌∙◌, ℕ, Bool, arith, ap, false, refl, sym, Option}
-use Rattle.sqlite.specs.Effect.{Database}
-use Rattle.sqlite.specs.State.{HasCleanDisk}
-use Rattle.registry_names.specs.Versions.{text_of_version}
-use Rattle.registry_rows.proofs.QuietFacts.{reads_then, stays_then}
-use Rattle.registry_rules.specs.Refusals.{withdraw_refusal}
-use Rattle.registry_rules.specs.Withdrawals.{is_depended, live_versions, published_at, tags_of}
-use Rattle.registry_tables.specs.Contents.{contents, registry_of}
-use Rattle.registry_tables.specs.Effects.{shown}
-use Rattle.registry_tables.specs.Needs.{HoldsNeeds}
-use Rattle.registry_tables.specs.Schema.{schema}
+use Rattle.registry_desk.proofs.Words.{◌≡◌, ◌∙◌, ℕ, Bool, arith, ap, false, refl, sym, Option, Database, HasCleanDisk, text_of_version, reads_then, stays_then, withdraw_refusal, is_depended}
+use Rattle.registry_desk.proofs.Words.{live_versions, published_at, tags_of, contents, registry_of, shown, HoldsNeeds, schema}
 use Rattle.registry_desk.proofs.EarlyFacts.{alone, depended_is, neither, nothing_needs, or_second, same_moment, same_versions}
 use Rattle.registry_desk.proofs.LoadedFacts.{three_stay}
 use Rattle.registry_desk.proofs.withdrawals.facts_if_unneeded.Goals as goal
-
-pub load_version_tags-requires : goal.load_version_tags-requires
-load_version_tags-requires g c = record { in_form = λ clean on. (c.in_ok-is_depended.ensures.loads clean).0.ready }
-
-pub load_live-requires : goal.load_live-requires
-load_live-requires g c = record { in_form = λ clean on. (c.in_ok-tags.ensures.loads clean).0.ready }
 
 pub returns-in_err-tags-clause-stays : goal.returns-in_err-tags-clause-stays
 returns-in_err-tags-clause-stays g c = stays_then g.S.Store c.args.tx.now c.is_depended.new.tx c.load_version_tags.new.tx c.is_depended.ensures.stays c.load_version_tags.ensures.stays

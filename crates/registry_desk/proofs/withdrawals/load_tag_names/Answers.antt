@@ -1,5 +1,4 @@
-use Rattle.registry_tables.specs.Contents.{contents, registry_of}
-use Rattle.registry_tables.specs.Effects.{shown}
+use Rattle.registry_desk.proofs.Words.{contents, registry_of, shown}
 use Rattle.registry_desk.proofs.EarlyFacts.{names_are}
 use Rattle.registry_desk.proofs.withdrawals.load_tag_names.Goals as goal
 

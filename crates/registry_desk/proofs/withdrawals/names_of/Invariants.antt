@@ -1,6 +1,5 @@
-use Rattle.std.proofs.Common.{◌≡◌, ◌++◌, length, map}
+use Rattle.registry_desk.proofs.Words.{◌≡◌, ◌++◌, length, map, DistTag}
 use Rattle.std.specs.Vec.Iter.{into_iter_items, into_iter_len}
-use Rattle.registry_names.specs.declared.dist_tag.DistTag.{DistTag}
 use Rattle.registry_desk.proofs.withdrawals.names_of.Given as goal
 
 -- the tags so far are named

@@ -1,4 +1,4 @@
-use Rattle.std.proofs.Common.{◌∙◌, sym, true, false}
+use Rattle.registry_desk.proofs.Words.{◌∙◌, sym, true, false}
 use Rattle.registry_rules.proofs.ListedFacts.{refused_whole}
 use Rattle.registry_desk.proofs.withdrawals.refusal_by_ages.Goals as goal
 

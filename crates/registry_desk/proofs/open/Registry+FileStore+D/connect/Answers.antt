@@ -1,4 +1,4 @@
-use Rattle.sqlite.specs.Files.{file_state, image_of}
+use Rattle.registry_desk.proofs.Words.{file_state, image_of}
 use Rattle.registry_desk.proofs.OpenedFacts.{fails_as, finds_in, opened_rises}
 use Rattle.registry_desk.proofs.open.Registry+FileStore+D.connect.Goals as goal
 

@@ -1,6 +1,4 @@
-use Rattle.std.proofs.Common.{◌∙◌, arith}
-use Rattle.sqlite.specs.Files.{file_state, image_of}
-use Rattle.sqlite.specs.State.{HasCleanDisk}
+use Rattle.registry_desk.proofs.Words.{◌∙◌, arith, file_state, image_of, HasCleanDisk}
 use Rattle.sqlite_store.specs.Laws.{settled_at}
 use Rattle.registry_desk.proofs.OpenedFacts.{finds_in, fresh_if_empty, holds_each, holds_found, leaves_at_most}
 use Rattle.registry_desk.proofs.open.Registry+FileStore+D.open_files.Goals as goal

@@ -1,5 +1,4 @@
-use Rattle.std.proofs.Common.{◌≡◌, ℕ, Bool, List, ap₂, cond, false, subst, true}
-use Rattle.sqlite.specs.Files.{file_state}
+use Rattle.registry_desk.proofs.Words.{◌≡◌, ℕ, Bool, List, ap₂, cond, false, subst, true, file_state, HoldsEach, HoldsFound, IsFreshIfEmpty}
 use Rattle.sqlite_disk.specs.Events.{Event, replay}
 use Rattle.sqlite_disk.specs.declared.calls.Calls as calls
 use Rattle.sqlite_disk.specs.declared.files.Files.{Files}
@@ -9,7 +8,6 @@ use Rattle.sqlite_std_file.specs.File.{IsFresh}
 use Rattle.sqlite_std_file.specs.declared.host.Host.{Host}
 use Rattle.sqlite_wal.specs.Files.{image_at}
 use Rattle.sqlite_wal.specs.Recovery.{Image}
-use Rattle.registry_desk.specs.Opened.{HoldsEach, HoldsFound, IsFreshIfEmpty}
 use Rattle.registry_desk.proofs.open.Registry+FileStore+FileFrom+S.open_from.Goals as goal
 
 abbrev image : List ℕ → List ℕ → Image

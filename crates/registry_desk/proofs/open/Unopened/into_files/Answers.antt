@@ -1,4 +1,4 @@
-use Rattle.std.proofs.Common.{sym}
+use Rattle.registry_desk.proofs.Words.{sym}
 use Rattle.registry_desk.proofs.open.Unopened.into_files.Goals as goal
 
 pub returns-in-Ok : goal.returns-in-Ok

@@ -1,6 +1,4 @@
-use Rattle.std.proofs.Common.{◌∙◌, ap}
-use Rattle.sqlite.proofs.Callers.{memory_is_clean}
-use Rattle.registry_desk.specs.Resting.{end_stored}
+use Rattle.registry_desk.proofs.Words.{◌∙◌, ap, memory_is_clean, end_stored}
 use Rattle.registry_desk.proofs.CommitFacts.{stays_open}
 use Rattle.registry_desk.proofs.StoredFacts.{needs_for_each}
 use Rattle.registry_desk.proofs.registry.Registry+MemStore.run_in_memory.Goals as goal

@@ -1,9 +1,5 @@
-use Rattle.std.proofs.Common.{◌≡◌, ap, arith, false, refl, rules, subst, sym}
-use Rattle.sqlite.specs.Held.{state}
-use Rattle.sqlite.specs.State.{HasCleanDisk}
-use Rattle.registry_cache.specs.Caches.{AreRight, Cache}
+use Rattle.registry_desk.proofs.Words.{◌≡◌, ap, arith, false, refl, rules, subst, sym, state, HasCleanDisk, AreRight, Cache, IsSettled}
 use Rattle.registry_cache.proofs.RightFacts.{new_right}
-use Rattle.registry_desk.specs.Adopted.{IsSettled}
 use Rattle.registry_desk.proofs.CommitFacts.{committed_left, handed_back, rests_sure, rises_again}
 use Rattle.registry_desk.proofs.registry.Registry.adopt.Goals as goal
 

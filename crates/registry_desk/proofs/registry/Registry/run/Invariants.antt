@@ -1,6 +1,4 @@
-use Rattle.std.proofs.Common.{◌≡◌, ◌≤◌, length, take, vec_capacity}
-use Rattle.sqlite.specs.Held.{state}
-use Rattle.registry_desk.specs.Promises.{HasRun}
+use Rattle.registry_desk.proofs.Words.{◌≡◌, ◌≤◌, length, take, vec_capacity, state, HasRun}
 use Rattle.registry_desk.proofs.registry.Registry.run.Given as goal
 
 -- the outcomes so far are those of the requests so far, and there is room for the others
