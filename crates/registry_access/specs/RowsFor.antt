@@ -68,7 +68,7 @@ abbrev pub is_owners : Ask → Bool
 is_owners (Owners q) = true
 is_owners _ = false
 
--- what an ask about a package rests on
+-- what an ask rests on, if it is about this package
 abbrev pub TellsFor : Ask → Standing → Access → Caller → Text → Type 0
 TellsFor Operate standing S caller p = StandingTells standing S caller p
 TellsFor (OrgMembers o) standing S caller p = StandingTells standing S caller p

@@ -4,7 +4,7 @@ use crate::grant::Grant;
 use crate::role::Role;
 use registry_names::Status;
 
-/// What one caller is to one package.
+/// What one caller is to one package. Where a public package is to be seen, its status alone counts.
 #[derive(Drop)]
 pub struct Standing {
     /// Whether the organisation of the package's scope is there. It is false for a package without

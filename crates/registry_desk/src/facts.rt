@@ -26,8 +26,8 @@ use registry_rules::{Action, Request};
 use sqlite::{Alter, Transaction};
 use std::alloc::Global;
 
-/// Loads what decides a caller's request, and no more; or answers why it is refused before what is
-/// costly to load is loaded.
+/// Loads what decides a caller's request, or answers why it is refused before what is costly to load
+/// is loaded.
 pub(crate) fn load_facts<S: Alter>(
     alloc: Global,
     tx: &mut Transaction<'_, S>,

@@ -86,7 +86,7 @@ pub record RestoresOlder (found : Trees) (file : List ℕ) (checks : Bool) (line
   pub untold : lines ≡ []
   pub holds : ∥ HoldsDatabase (alone file) found ∥₁
 
--- The file alone holds what the copy held, which was this and nothing else
+-- The copy held these tables and no others, and the file alone holds the same
 pub record IsRestored (copy : Image) (file : List ℕ) (checks : Bool) (lines : List Text) : Type 0 where
   pub found : Trees
   pub was : AreFoundIn copy found

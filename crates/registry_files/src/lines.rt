@@ -83,7 +83,7 @@ fn print_lines<E: ByteOut>(errors: &mut E, lines: &[String])
     }
 }
 
-/// Prints the line on something that is wrong, as far as the stream takes it.
+/// Prints the line on something that is wrong. A part that the stream doesn't take is left out.
 pub fn print_wrong_line<E: ByteOut>(errors: &mut E, line: &str)
     ensures rises { Rises (E.failures errors.old) (E.failures errors.new) }
     ensures unknown { E.is_unknown errors.old ≡ true → E.is_unknown errors.new ≡ true }

@@ -91,8 +91,7 @@ pub record AreWithdrawAllFacts (standing : Standing) (needed : Bool) (named : Li
   pub tags : named ≡ all_tags S p
   pub live : map since_of living ≡ live_since S p
 
--- What is said of a caller's action holds. What is said of another kind of action agrees with no
--- state
+-- What is said of a caller's action holds. What is said of another subject agrees with no state
 abbrev pub AboutTells : About → State → Caller → Action → Type 0
 AboutTells (about.UserAdd exists) S who (UserAdd u) = exists ≡ has_user S u
 AboutTells (about.TokenAdd user_exists exists) S who (TokenAdd u digest) = (user_exists ≡ has_user S u) × (exists ≡ has_token S digest)

@@ -22,8 +22,8 @@ impl Drop for Facts {
     }
 }
 
-/// What the registry holds of what an action is about: for each kind of action, what decides it and
-/// what its changes need. Rows and standings are what the policy asks for: rows of the
+/// What the registry holds of what an action is about: for each subject, what decides the actions
+/// about it and what their changes need. Rows and standings are what the policy asks for: rows of the
 /// organisation, and of the caller's membership in it; the standing of the caller to the package.
 #[derive(Drop)]
 pub enum About {

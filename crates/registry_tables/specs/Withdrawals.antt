@@ -13,7 +13,7 @@ use Rattle.registry_tables.specs.Contents.{Archive, Contents, LiveVersion}
 
 -- ---- a withdrawal
 
--- a live version has the archive of this number
+-- a row of `held` names the archive of this number
 abbrev pub is_held : ℤ → Contents → Bool
 is_held n c = list_any (λ (e : Pair × ℤ). int_eq n e.1) (entries c.held)
 
