@@ -22,4 +22,5 @@ mod StopFacts
 pub mod StoredFacts
 mod KeptFacts
 mod TakenFacts
+mod TogetherFacts
 pub mod Words

@@ -2,15 +2,15 @@
 use Rattle.registry_desk.proofs.Words.{◌≡◌, ◌⊎◌, ◌∙◌, ◌++◌, ◌&&◌, cond, inl, inr, Bool, true, false, List, [], ◌∷◌, Ok, Err, IsTrue, refl, sym, ap, subst, append-nil, append_assoc, AllByRecursion}
 use Rattle.registry_desk.proofs.Words.{Shown, HasCleanDisk, Trees, Fault, is_command, Change, effects_of, step, State, Reply, Request, HeldAreStored, HoldsArchives, all_stored, stored_by, Contents}
 use Rattle.registry_desk.proofs.Words.{registry_of, stored, fresh, HoldsNeeds, GrantsInScope, fresh_holds, fresh_archives, fresh_is_nothing, change_keeps, answer, Outcome, HaveOutcomes, IsAnswer, Ran}
-use Rattle.registry_desk.proofs.Words.{end_of, enters, next, headline_from, run_says, HasRun, IsRegistryOf, end_stored, left_by, next_stored, settled_by, stepped}
+use Rattle.registry_desk.proofs.Words.{end_of, enters, next, headline_from, run_says, Applied, SurvivesOne, SurvivesRun, IsSure, NeedsForEach, registry_in, IsOpenOrLost, IsRegistryOf, end_stored, left_by, left_together, next_stored, settled_by, stepped}
 use Rattle.std.proofs.lemmas.Bool.{cases_Bool}
 use Rattle.registry_rules.specs.Requests.{IsInForm}
-use Rattle.registry_desk.specs.Lives.{AreFaults, AreInForm, AreLives, AskedInTurn, ComesTo, Did, DidAll, Follows, HasLived, IsInOrder, IsOpenedAgain, Life, LivesAreOneRun, LivesComeToRuns, LivesHaveHeadline, StopsKeepOutcomes, StopsLeaveAllOrNothing, TurnsAreRuns}
+use Rattle.registry_desk.specs.Lives.{AloneAreRuns, AreFaults, AreInForm, AreLives, AskedBy, ComesTo, Did, DidAll, DidLate, Follows, HasLived, IsInOrder, IsOpenedAgain, Life, LivesAreOneRun, LivesComeToRuns, LivesHaveHeadline, SomeOf, StopsKeepOutcomes, StopsLeaveAllOrNothing, SurvivesAs, TurnsAreRuns}
 use Rattle.registry_desk.proofs.GrantFacts.{grants_next}
 use Rattle.registry_desk.proofs.KeepingFacts.{archives_kept, holds_next, needs_kept, registry_next}
 use Rattle.registry_desk.proofs.SettlingFacts.{faulted_next, settled_next}
 use Rattle.registry_desk.proofs.StopFacts.{found_again, still_stored, stops_in_a_row_lose_nothing}
-use Rattle.registry_desk.proofs.StoredFacts.{has_run_more, has_run_none, needs_for_each}
+use Rattle.registry_desk.proofs.StoredFacts.{RunsTo, adds, has_run_more, has_run_none, needs_for_each, survives_run_more, survives_run_none}
 
 -- ---- one request
 
@@ -119,17 +119,91 @@ module _ (Opened : Type 0) where
   either_left P Q S [] (o ∷ os) c db answers left = absurd answers
   either_left P Q S (r ∷ rs) [] c db answers left = absurd answers
 
+-- ---- and where some may have shared a commit
+
+-- where more may be stored, more may be left after
+module _ (Opened : Type 0) (may : Trees → Type 0) where
+  more_stored : (P Q : Contents → Type 0) (S : State) (rs : List Request) (os : List Outcome) (c : Contents) (db : Trees) → HaveOutcomes S rs os → ((d : Contents) → P d → Q d)
+      → left_together Opened may P rs os c db → left_together Opened may Q rs os c db
+  more_stored P Q S [] [] c db answers more left = elim left [
+    | inl was ↦ inl was
+    | inr made ↦ inr (made.0, (made.1.0, more made.1.0 made.1.1, made.1.2))
+  ]
+  more_stored P Q S (r ∷ rs) (Ok reply ∷ os) c db answers more left = left
+  more_stored P Q S (r ∷ rs) (Err fault ∷ os) c db answers more left = more_stored (adds P r) (adds Q r) (next S r (Err fault)) rs os c db answers.1
+      (λ d either. elim either [
+        | inl was ↦ inl (more d was)
+        | inr made ↦ inr (made.0, more made.0 made.1, made.2)
+      ])
+      left
+  more_stored P Q S [] (o ∷ os) c db answers more left = absurd answers
+  more_stored P Q S (r ∷ rs) [] c db answers more left = absurd answers
+
+-- some of the requests, in their order, make the one of the other
+abbrev SomeMake : List Request → Contents → Contents → Type 0
+SomeMake [] c d = d ≡ c
+SomeMake (r ∷ rs) c d = SomeMake rs c d ⊎ SomeMake rs (settled_by r c) d
+
+-- nothing was answered since, and this was left: what some of the later requests make of Q
+record LeftOf (Q : Contents → Type 0) (rs : List Request) (os : List Outcome) (db : Trees) : Type 0 where
+  faults : AreFaults os
+  first : Contents
+  is_first : Q first
+  last : Contents
+  some : SomeMake rs first last
+  is : IsRegistryOf db last
+
+-- one more request met a fault
+left_of_more : (Q : Contents → Type 0) (r : Request) (fault : Fault) (rs : List Request) (os : List Outcome) (db : Trees) → LeftOf (adds Q r) rs os db → LeftOf Q (r ∷ rs) (Err fault ∷ os) db
+left_of_more Q r fault rs os db left = elim left.is_first [
+  | inl was ↦ record { faults = left.faults; first = left.first; is_first = was; last = left.last; some = inl left.some; is = left.is }
+  | inr made ↦ record { faults = left.faults; first = made.0; is_first = made.1; last = left.last; some = inr (subst (λ (e : Contents). SomeMake rs e left.last) made.2 left.some); is = left.is }
+]
+
+-- of two that may be stored, either is gone on from, and the second only where nothing was answered since
+either_stored : (Opened : Type 0) (may : Trees → Type 0) (P Q : Contents → Type 0) (S : State) (rs : List Request) (os : List Outcome) (c : Contents) (db : Trees) → HaveOutcomes S rs os
+    → left_together Opened may (λ d. P d ⊎ Q d) rs os c db → left_together Opened may P rs os c db ⊎ LeftOf Q rs os db
+either_stored Opened may P Q S [] [] c db answers left = elim left [
+  | inl was ↦ inl (inl was)
+  | inr made ↦ elim made.1.1 [
+    | inl first ↦ inl (inr (made.0, (made.1.0, first, made.1.2)))
+    | inr second ↦ inr (record { faults = tt; first = made.1.0; is_first = second; last = made.1.0; some = refl; is = made.1.2 })
+  ]
+]
+either_stored Opened may P Q S (r ∷ rs) (Ok reply ∷ os) c db answers left = inl left
+either_stored Opened may P Q S (r ∷ rs) (Err fault ∷ os) c db answers left =
+    elim (either_stored Opened may (adds P r) (adds Q r) (next S r (Err fault)) rs os c db answers.1
+    (more_stored Opened may (adds (λ d. P d ⊎ Q d) r) (λ d. adds P r d ⊎ adds Q r d) (next S r (Err fault)) rs os c db answers.1
+    (λ d either. elim either [
+      | inl was ↦ elim was [
+        | inl first ↦ inl (inl first)
+        | inr second ↦ inr (inl second)
+      ]
+      | inr made ↦ elim made.1 [
+        | inl first ↦ inl (inr (made.0, first, made.2))
+        | inr second ↦ inr (inr (made.0, second, made.2))
+      ]
+    ])
+    left)) [
+      | inl first ↦ inl first
+      | inr second ↦ inr (left_of_more Q r fault rs os db second)
+    ]
+either_stored Opened may P Q S [] (o ∷ os) c db answers left = absurd answers
+either_stored Opened may P Q S (r ∷ rs) [] c db answers left = absurd answers
+
+-- ---- what was done
+
 -- what was done of these requests, from what was stored before
-record DidFrom (c : Contents) (is_open : Bool) (rs : List Request) (os : List Outcome) : Type 0 where
+record DidFrom (c : Contents) (is_open together : Bool) (rs : List Request) (os : List Outcome) : Type 0 where
   requests : List Request
   replies : List Outcome
-  did : Did is_open rs os requests replies
+  did : Did is_open together rs os requests replies
   answers : HaveOutcomes (registry_of c) requests replies
 
 -- one more that was answered
-did_more : (c : Contents) (is_open : Bool) (r : Request) (reply : Reply) (rs : List Request) (os : List Outcome) → HeldAreStored c → IsAnswer (registry_of c) r (Ok reply) → DidFrom (next_stored r (Ok reply) c) is_open rs os
-    → DidFrom c is_open (r ∷ rs) (Ok reply ∷ os)
-did_more c is_open r reply rs os held answered rest = record {
+did_more : (c : Contents) (is_open together : Bool) (r : Request) (reply : Reply) (rs : List Request) (os : List Outcome) → HeldAreStored c → IsAnswer (registry_of c) r (Ok reply)
+    → DidFrom (next_stored r (Ok reply) c) is_open together rs os → DidFrom c is_open together (r ∷ rs) (Ok reply ∷ os)
+did_more c is_open together r reply rs os held answered rest = record {
   requests = r ∷ rest.requests;
   replies = Ok reply ∷ rest.replies;
   did = (rest.requests, rest.replies, rest.did, refl, refl);
@@ -137,8 +211,8 @@ did_more c is_open r reply rs os held answered rest = record {
 }
 
 -- a fault, and nothing was done
-did_nothing : (c : Contents) (is_open : Bool) (r : Request) (fault : Fault) (rs : List Request) (os : List Outcome) → DidFrom c is_open rs os → DidFrom c is_open (r ∷ rs) (Err fault ∷ os)
-did_nothing c is_open r fault rs os rest = record {
+did_nothing : (c : Contents) (is_open together : Bool) (r : Request) (fault : Fault) (rs : List Request) (os : List Outcome) → DidFrom c is_open together rs os → DidFrom c is_open together (r ∷ rs) (Err fault ∷ os)
+did_nothing c is_open together r fault rs os rest = record {
   requests = rest.requests;
   replies = rest.replies;
   did = inl rest.did;
@@ -146,59 +220,154 @@ did_nothing c is_open r fault rs os rest = record {
 }
 
 -- a fault that shut the registry, and all was done
-did_all : (c : Contents) (is_open : Bool) (r : Request) (fault : Fault) (rs : List Request) (os : List Outcome) → is_open ≡ false → AreFaults os → DidFrom c is_open (r ∷ rs) (Err fault ∷ os)
+did_all : (c : Contents) (is_open : Bool) (r : Request) (fault : Fault) (rs : List Request) (os : List Outcome) → is_open ≡ false → AreFaults os → DidFrom c is_open false (r ∷ rs) (Err fault ∷ os)
 did_all c is_open r fault rs os shut faults = record {
   requests = r ∷ [];
   replies = Ok (answer (registry_of c) r) ∷ [];
-  did = inr (shut, faults, answer (registry_of c) r, refl, refl);
+  did = inr (shut, faults, (answer (registry_of c) r, refl, refl));
   answers = (refl, tt);
 }
 
 -- what a crash leaves of a registry that was shut holds what was done
 left_after : (Opened : Type 0) (may : Trees → Type 0) (is_open : Bool) (rs : List Request) (os : List Outcome) (c : Contents) (db : Trees) → is_open ≡ false → ((d : Trees) → may d → IsRegistryOf d c) → HeldAreStored c
-    → HaveOutcomes (registry_of c) rs os → left_by Opened may rs os c db → (it : DidFrom c is_open rs os) × IsRegistryOf db (end_stored it.requests it.replies c)
+    → HaveOutcomes (registry_of c) rs os → left_by Opened may rs os c db → (it : DidFrom c is_open false rs os) × IsRegistryOf db (end_stored it.requests it.replies c)
 unfolding did_more did_nothing did_all
 left_after Opened may is_open [] [] c db shut sure held answers left = (record { requests = []; replies = []; did = (refl, refl); answers = tt }, sure db left)
 left_after Opened may is_open (r ∷ rs) (Ok reply ∷ os) c db shut sure held answers left =
     let later = next_stored r (Ok reply) c in
     let rest = left_after Opened (λ d. IsRegistryOf d later) is_open rs os later db shut (λ d is. is) (held_next c r (Ok reply) held) (rest_of c r (Ok reply) rs os held answers.1) left in
-    (did_more c is_open r reply rs os held answers.0 rest.0, rest.1)
+    (did_more c is_open false r reply rs os held answers.0 rest.0, rest.1)
 left_after Opened may is_open (r ∷ rs) (Err fault ∷ os) c db shut sure held answers left =
     elim (either_left Opened may (λ d. Opened × IsRegistryOf d (settled_by r c)) (next (registry_of c) r (Err fault)) rs os c db answers.1 left) [
       | inl before ↦
           let rest = left_after Opened may is_open rs os c db shut sure held (after_fault (registry_of c) r fault rs os answers.1) before in
-          (did_nothing c is_open r fault rs os rest.0, rest.1)
+          (did_nothing c is_open false r fault rs os rest.0, rest.1)
       | inr made ↦ (did_all c is_open r fault rs os shut made.0, subst (IsRegistryOf db) (settled_next c r (answer (registry_of c) r) refl) made.1.1)
     ]
 left_after Opened may is_open [] (o ∷ os) c db shut sure held answers left = absurd answers
 left_after Opened may is_open (r ∷ rs) [] c db shut sure held answers left = absurd answers
 
+-- some of the requests, with replies, from what was stored before
+record DidSome (c : Contents) (rs : List Request) : Type 0 where
+  requests : List Request
+  replies : List Outcome
+  some : SomeOf rs requests replies
+  answers : HaveOutcomes (registry_of c) requests replies
+
+-- what a request that nothing refused has made
+settles : (c : Contents) (r : Request) → settled_by r c ≡ next_stored r (Ok (answer (registry_of c) r)) c
+settles c r = settled_next c r (answer (registry_of c) r) refl
+
+-- not this one
+some_less : (c : Contents) (r : Request) (rs : List Request) → DidSome c rs → DidSome c (r ∷ rs)
+some_less c r rs rest = record {
+  requests = rest.requests;
+  replies = rest.replies;
+  some = inl rest.some;
+  answers = rest.answers;
+}
+
+-- this one, too
+some_more : (c : Contents) (r : Request) (rs : List Request) → HeldAreStored c → DidSome (next_stored r (Ok (answer (registry_of c) r)) c) rs → DidSome c (r ∷ rs)
+some_more c r rs held rest = record {
+  requests = r ∷ rest.requests;
+  replies = Ok (answer (registry_of c) r) ∷ rest.replies;
+  some = inr (answer (registry_of c) r, rest.requests, rest.replies, rest.some, refl, refl);
+  answers = (refl, back_to c r (Ok (answer (registry_of c) r)) rest.requests rest.replies held rest.answers);
+}
+
+-- those that make it are done
+some_done : (rs : List Request) (c d : Contents) → HeldAreStored c → SomeMake rs c d → (it : DidSome c rs) × (d ≡ end_stored it.requests it.replies c)
+unfolding some_less some_more
+some_done [] c d held same = (record { requests = []; replies = []; some = (refl, refl); answers = tt }, same)
+some_done (r ∷ rs) c d held (inl make) = let rest = some_done rs c d held make in (some_less c r rs rest.0, rest.1)
+some_done (r ∷ rs) c d held (inr make) =
+    let told = Ok (answer (registry_of c) r) in
+    let rest = some_done rs (next_stored r told c) d (held_next c r told held) (subst (λ (e : Contents). SomeMake rs e d) (settles c r) make) in
+    (some_more c r rs held rest.0, rest.1)
+
+-- a fault that shut the registry, and some were done of those that shared its commit
+did_several : (c : Contents) (is_open : Bool) (r : Request) (fault : Fault) (rs : List Request) (os : List Outcome) → is_open ≡ false → AreFaults os → HeldAreStored c
+    → DidSome (next_stored r (Ok (answer (registry_of c) r)) c) rs → DidFrom c is_open true (r ∷ rs) (Err fault ∷ os)
+did_several c is_open r fault rs os shut faults held rest = record {
+  requests = r ∷ rest.requests;
+  replies = Ok (answer (registry_of c) r) ∷ rest.replies;
+  did = inr (shut, faults, (answer (registry_of c) r, rest.requests, rest.replies, rest.some, refl, refl));
+  answers = (refl, back_to c r (Ok (answer (registry_of c) r)) rest.requests rest.replies held rest.answers);
+}
+
+-- what a crash leaves of a registry that was shut holds what was done, where some may have shared a commit
+together_after : (Opened : Type 0) (may : Trees → Type 0) (is_open : Bool) (rs : List Request) (os : List Outcome) (c : Contents) (db : Trees) → is_open ≡ false → ((d : Trees) → may d → IsRegistryOf d c) → HeldAreStored c
+    → HaveOutcomes (registry_of c) rs os → left_together Opened may (λ d. d ≡ c) rs os c db → (it : DidFrom c is_open true rs os) × IsRegistryOf db (end_stored it.requests it.replies c)
+unfolding did_more did_nothing did_several
+together_after Opened may is_open [] [] c db shut sure held answers left =
+    let is : IsRegistryOf db c = elim left [
+      | inl was ↦ sure db was
+      | inr made ↦ subst (IsRegistryOf db) made.1.1 made.1.2
+    ] in
+    (record { requests = []; replies = []; did = (refl, refl); answers = tt }, is)
+together_after Opened may is_open (r ∷ rs) (Ok reply ∷ os) c db shut sure held answers left =
+    let later = next_stored r (Ok reply) c in
+    let rest = together_after Opened (λ d. IsRegistryOf d later) is_open rs os later db shut (λ d is. is) (held_next c r (Ok reply) held) (rest_of c r (Ok reply) rs os held answers.1) left in
+    (did_more c is_open true r reply rs os held answers.0 rest.0, rest.1)
+together_after Opened may is_open (r ∷ rs) (Err fault ∷ os) c db shut sure held answers left =
+    elim (either_stored Opened may (λ d. d ≡ c) (λ d. (e : Contents) × (e ≡ c) × (d ≡ settled_by r e)) (next (registry_of c) r (Err fault)) rs os c db answers.1 left) [
+      | inl before ↦
+          let rest = together_after Opened may is_open rs os c db shut sure held (after_fault (registry_of c) r fault rs os answers.1) before in
+          (did_nothing c is_open true r fault rs os rest.0, rest.1)
+      | inr made ↦
+          let told = Ok (answer (registry_of c) r) in
+          let first : made.first ≡ next_stored r told c = made.is_first.2 ∙ ap (settled_by r) made.is_first.1 ∙ settles c r in
+          let rest = some_done rs (next_stored r told c) made.last (held_next c r told held) (subst (λ (e : Contents). SomeMake rs e made.last) first made.some) in
+          (did_several c is_open r fault rs os shut made.faults held rest.0, subst (IsRegistryOf db) rest.1 made.is)
+    ]
+together_after Opened may is_open [] (o ∷ os) c db shut sure held answers left = absurd answers
+together_after Opened may is_open (r ∷ rs) [] c db shut sure held answers left = absurd answers
+
+-- either way
+shut_after : (together is_open : Bool) (first last : Shown) (rs : List Request) (os : List Outcome) (db : Trees) → is_open ≡ false → IsSure first → HeldAreStored (stored first)
+    → HaveOutcomes (registry_in first) rs os → NeedsForEach rs (stored first) → HasCleanDisk last → last.may_leave db → SurvivesAs together first last rs os
+    → (it : DidFrom (stored first) is_open together rs os) × IsRegistryOf db (end_stored it.requests it.replies (stored first))
+shut_after false is_open first last rs os db shut sure held answers needs clean left survives =
+    left_after (IsTrue first.is_open) first.may_leave is_open rs os (stored first) db shut sure held answers (survives needs clean db left)
+shut_after true is_open first last rs os db shut sure held answers needs clean left survives =
+    together_after (IsOpenOrLost first) first.may_leave is_open rs os (stored first) db shut sure held answers (survives needs clean db left)
+
 -- an open registry has done what it answered, and nothing else
-kept_after : (is_open : Bool) (rs : List Request) (os : List Outcome) (c : Contents) → HeldAreStored c → HaveOutcomes (registry_of c) rs os
-    → (it : DidFrom c is_open rs os) × (end_stored rs os c ≡ end_stored it.requests it.replies c)
+kept_after : (is_open together : Bool) (rs : List Request) (os : List Outcome) (c : Contents) → HeldAreStored c → HaveOutcomes (registry_of c) rs os
+    → (it : DidFrom c is_open together rs os) × (end_stored rs os c ≡ end_stored it.requests it.replies c)
 unfolding did_more did_nothing
-kept_after is_open [] [] c held answers = (record { requests = []; replies = []; did = (refl, refl); answers = tt }, refl)
-kept_after is_open (r ∷ rs) (Ok reply ∷ os) c held answers =
-    let rest = kept_after is_open rs os (next_stored r (Ok reply) c) (held_next c r (Ok reply) held) (rest_of c r (Ok reply) rs os held answers.1) in
-    (did_more c is_open r reply rs os held answers.0 rest.0, rest.1)
-kept_after is_open (r ∷ rs) (Err fault ∷ os) c held answers =
-    let rest = kept_after is_open rs os c held (after_fault (registry_of c) r fault rs os answers.1) in
-    (did_nothing c is_open r fault rs os rest.0, ap (end_stored rs os) (sym (faulted_next c r fault)) ∙ rest.1)
-kept_after is_open [] (o ∷ os) c held answers = absurd answers
-kept_after is_open (r ∷ rs) [] c held answers = absurd answers
+kept_after is_open together [] [] c held answers = (record { requests = []; replies = []; did = (refl, refl); answers = tt }, refl)
+kept_after is_open together (r ∷ rs) (Ok reply ∷ os) c held answers =
+    let rest = kept_after is_open together rs os (next_stored r (Ok reply) c) (held_next c r (Ok reply) held) (rest_of c r (Ok reply) rs os held answers.1) in
+    (did_more c is_open together r reply rs os held answers.0 rest.0, rest.1)
+kept_after is_open together (r ∷ rs) (Err fault ∷ os) c held answers =
+    let rest = kept_after is_open together rs os c held (after_fault (registry_of c) r fault rs os answers.1) in
+    (did_nothing c is_open together r fault rs os rest.0, ap (end_stored rs os) (sym (faulted_next c r fault)) ∙ rest.1)
+kept_after is_open together [] (o ∷ os) c held answers = absurd answers
+kept_after is_open together (r ∷ rs) [] c held answers = absurd answers
 
 -- what was done was asked
-did_form : (is_open : Bool) (rs : List Request) (os : List Outcome) (ds : List Request) (ps : List Outcome) → AllByRecursion IsInForm rs → Did is_open rs os ds ps → AllByRecursion IsInForm ds
-did_form is_open [] os ds ps forms did = subst (AllByRecursion IsInForm) (sym did.0) tt
-did_form is_open (r ∷ rs) [] ds ps forms did = subst (AllByRecursion IsInForm) (sym did.0) tt
-did_form is_open (r ∷ rs) (Ok reply ∷ os) ds ps forms did = subst (AllByRecursion IsInForm) (sym did.3) (forms.0, did_form is_open rs os did.0 did.1 forms.1 did.2)
-did_form is_open (r ∷ rs) (Err fault ∷ os) ds ps forms (inl did) = did_form is_open rs os ds ps forms.1 did
-did_form is_open (r ∷ rs) (Err fault ∷ os) ds ps forms (inr did) = subst (AllByRecursion IsInForm) (sym did.3) (forms.0, tt)
+some_form : (rs ds : List Request) (ps : List Outcome) → AllByRecursion IsInForm rs → SomeOf rs ds ps → AllByRecursion IsInForm ds
+some_form [] ds ps forms did = subst (AllByRecursion IsInForm) (sym did.0) tt
+some_form (r ∷ rs) ds ps forms (inl did) = some_form rs ds ps forms.1 did
+some_form (r ∷ rs) ds ps forms (inr did) = subst (AllByRecursion IsInForm) (sym did.4) (forms.0, some_form rs did.1 did.2 forms.1 did.3)
+
+late_form : (together : Bool) (r : Request) (rs ds : List Request) (ps : List Outcome) → AllByRecursion IsInForm (r ∷ rs) → DidLate together r rs ds ps → AllByRecursion IsInForm ds
+late_form false r rs ds ps forms did = subst (AllByRecursion IsInForm) (sym did.1) (forms.0, tt)
+late_form true r rs ds ps forms did = subst (AllByRecursion IsInForm) (sym did.4) (forms.0, some_form rs did.1 did.2 forms.1 did.3)
+
+did_form : (is_open together : Bool) (rs : List Request) (os : List Outcome) (ds : List Request) (ps : List Outcome) → AllByRecursion IsInForm rs → Did is_open together rs os ds ps → AllByRecursion IsInForm ds
+did_form is_open together [] os ds ps forms did = subst (AllByRecursion IsInForm) (sym did.0) tt
+did_form is_open together (r ∷ rs) [] ds ps forms did = subst (AllByRecursion IsInForm) (sym did.0) tt
+did_form is_open together (r ∷ rs) (Ok reply ∷ os) ds ps forms did = subst (AllByRecursion IsInForm) (sym did.3) (forms.0, did_form is_open together rs os did.0 did.1 forms.1 did.2)
+did_form is_open together (r ∷ rs) (Err fault ∷ os) ds ps forms (inl did) = did_form is_open together rs os ds ps forms.1 did
+did_form is_open together (r ∷ rs) (Err fault ∷ os) ds ps forms (inr did) = late_form together r rs ds ps forms did.2
 
 -- ---- one life
 
 -- what was done, and what was stored then, is what the life comes to
-comes_to : (life : Life) (c d : Contents) → HeldAreStored c → (it : DidFrom c life.is_open life.requests life.outcomes) → d ≡ end_stored it.requests it.replies c → ComesTo life c d
+comes_to : (life : Life) (c d : Contents) → HeldAreStored c → (it : DidFrom c life.is_open life.together life.requests life.outcomes) → d ≡ end_stored it.requests it.replies c → ComesTo life c d
 comes_to life c d held it same = record {
   requests = it.requests;
   replies = it.replies;
@@ -220,15 +389,15 @@ module _ (first last next : Shown) (life : Life) (lived : HasLived first last li
   left_open : HasCleanDisk last → IsTrue last.is_open → stored next ≡ stored last → ComesTo life before (stored next)
   left_open was_clean on same =
       let needs = needs_for_each life.requests before order.needs in
-      let it = kept_after life.is_open life.requests life.outcomes before order.archives.stored (lived.ran needs was_clean).answers in
+      let it = kept_after life.is_open life.together life.requests life.outcomes before order.archives.stored (lived.ran needs was_clean).answers in
       comes_to life before (stored next) order.archives.stored it.0 (same ∙ lived.stored needs was_clean on ∙ it.1)
 
   -- one that a fault has shut
   left_shut : (again : IsOpenedAgain last next) → last.is_open ≡ false → ComesTo life before (stored next)
   left_shut again shut =
       let needs = needs_for_each life.requests before order.needs in
-      let it = left_after (IsTrue first.is_open) first.may_leave life.is_open life.requests life.outcomes before again.db (lived.ends ∙ shut) lived.sure order.archives.stored
-      (lived.ran needs again.was_clean).answers (lived.survives needs again.was_clean again.db again.left) in
+      let it = shut_after life.together life.is_open first last life.requests life.outcomes again.db (lived.ends ∙ shut) lived.sure order.archives.stored
+      (lived.ran needs again.was_clean).answers needs again.was_clean again.left lived.survives in
       comes_to life before (stored next) order.archives.stored it.0 (found_after last next _ again clean it.1)
 
   comes : Follows last next → ComesTo life before (stored next)
@@ -264,7 +433,7 @@ all_lived [] c d order forms same =
 all_lived (life ∷ lives) c d order forms are =
     let next = are.0 in
     let one = are.1 order in
-    let form = did_form life.is_open life.requests life.outcomes one.requests one.replies forms.0 one.did in
+    let form = did_form life.is_open life.together life.requests life.outcomes one.requests one.replies forms.0 one.did in
     let done : IsInOrder next = subst IsInOrder (sym one.same) (still_in_order one.requests one.replies c form one.ran.answers order) in
     let granted : GrantsInScope c → GrantsInScope next = λ scoped. subst GrantsInScope (sym one.same) (still_granted one.requests one.replies c form one.ran.answers order scoped) in
     let rest = all_lived lives next d done forms.1 are.2 in
@@ -324,20 +493,32 @@ module _ {C D : Type 0} (show : C → Shown) (show_next : D → Shown) where
   stops_keep_outcomes first last next r o needs step durable on again clean =
       found_after (show last) (show_next next) (stored (show last)) again clean (durable again.was_clean on again.db again.left) ∙ step needs again.was_clean on
 
-module _ {C : Type 0} (show : C → Shown) where
-  -- requests that are asked after a run make it longer
-  run_goes_on : (first mid last : C) (qs : List Request) (ps : List Outcome) (rs : List Request) (os : List Outcome) → HasRun (show first) (show mid) qs ps → AskedInTurn show rs os mid last
-      → HasRun (show first) (show last) (qs ++ rs) (ps ++ os)
-  run_goes_on first mid last qs ps [] [] run same =
-      subst (λ (e : C). HasRun (show first) (show e) (qs ++ []) (ps ++ [])) (sym same)
-      (subst (λ (xs : List Request). HasRun (show first) (show mid) xs (ps ++ [])) (sym (append-nil qs)) (subst (λ (xs : List Outcome). HasRun (show first) (show mid) qs xs) (sym (append-nil ps)) run))
-  run_goes_on first mid last qs ps (r ∷ rs) (o ∷ os) run asked =
-      let longer = has_run_more (show first) (show mid) (show asked.0) qs ps r o run asked.1 in
-      let all = run_goes_on first asked.0 last (qs ++ r ∷ []) (ps ++ o ∷ []) rs os longer asked.2 in
-      subst (λ (xs : List Request). HasRun (show first) (show last) xs (ps ++ o ∷ os)) (append_assoc qs (r ∷ []) rs)
-      (subst (λ (xs : List Outcome). HasRun (show first) (show last) ((qs ++ r ∷ []) ++ rs) xs) (append_assoc ps (o ∷ []) os) all)
-  run_goes_on first mid last qs ps [] (o ∷ os) run asked = absurd asked
-  run_goes_on first mid last qs ps (r ∷ rs) [] run asked = absurd asked
+-- what holds of a run, and goes on with each request, holds of those that are asked after it
+module _ {C : Type 0} (asks : C → Request → Outcome → C → Type 0) (P : C → List Request → List Outcome → Type 0)
+    (more : (mid next : C) (qs : List Request) (ps : List Outcome) (r : Request) (o : Outcome) → P mid qs ps → asks mid r o next → P next (qs ++ r ∷ []) (ps ++ o ∷ [])) where
+  goes_on : (mid last : C) (qs : List Request) (ps : List Outcome) (rs : List Request) (os : List Outcome) → P mid qs ps → AskedBy asks rs os mid last → P last (qs ++ rs) (ps ++ os)
+  goes_on mid last qs ps [] [] run same =
+      subst (λ (e : C). P e (qs ++ []) (ps ++ [])) (sym same)
+      (subst (λ (xs : List Request). P mid xs (ps ++ [])) (sym (append-nil qs)) (subst (λ (xs : List Outcome). P mid qs xs) (sym (append-nil ps)) run))
+  goes_on mid last qs ps (r ∷ rs) (o ∷ os) run asked =
+      let all = goes_on asked.0 last (qs ++ r ∷ []) (ps ++ o ∷ []) rs os (more mid asked.0 qs ps r o run asked.1) asked.2 in
+      subst (λ (xs : List Request). P last xs (ps ++ o ∷ os)) (append_assoc qs (r ∷ []) rs)
+      (subst (λ (xs : List Outcome). P last ((qs ++ r ∷ []) ++ rs) xs) (append_assoc ps (o ∷ []) os) all)
+  goes_on mid last qs ps [] (o ∷ os) run asked = absurd asked
+  goes_on mid last qs ps (r ∷ rs) [] run asked = absurd asked
 
+module _ {C : Type 0} (show : C → Shown) where
   pub turns_are_runs : TurnsAreRuns show
-  turns_are_runs first last rs os = run_goes_on first first last [] [] rs os (has_run_none (show first))
+  turns_are_runs first last rs os asked =
+      (goes_on (λ M r o N. Applied (show M) (show N) r o) (λ N qs ps. RunsTo (show first) (show N) qs ps) (λ mid next qs ps r o run made. has_run_more (show first) (show mid) (show next) qs ps r o run made)
+      first last [] [] rs os (has_run_none (show first)) asked).run
+
+  pub alone_are_runs : AloneAreRuns show
+  alone_are_runs first last rs os asked =
+      let all = goes_on (λ M r o N. Applied (show M) (show N) r o × SurvivesOne (show M) (show N) r) (λ N qs ps. RunsTo (show first) (show N) qs ps × SurvivesRun (show first) (show N) qs ps)
+      (λ mid next qs ps r o run made. (
+        has_run_more (show first) (show mid) (show next) qs ps r o run.0 made.0,
+        survives_run_more (show first) (show mid) (show next) qs ps r o run.0 made.0 run.1 made.1,
+      ))
+      first last [] [] rs os (has_run_none (show first), survives_run_none (show first)) asked in
+      (all.0.run, all.1)

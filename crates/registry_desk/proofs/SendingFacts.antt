@@ -4,7 +4,7 @@ use Rattle.registry_desk.proofs.Words.{ap, ap₂, subst, survives_begin, survive
 use Rattle.registry_desk.proofs.Words.{of, seen, Text, Refusal, Fault, Cache, asked, Caller, IsUnbroken, Takes, pack_text, VersionRow, IsCommitted, Reads, is_command, caller_of, step, IsKept, refusal}
 use Rattle.registry_desk.proofs.Words.{refusal_by, refusal_for, state_refusal, unless_allowed, unless_there, State, has_live, Doc, Action, Packument, Request, HoldsArchives, Contents, contents}
 use Rattle.registry_desk.proofs.Words.{live_of, registry_of, registry_in, stored, HoldsNeeds, schema, document, row_entry, IsLeftAlone, answer, packument_in, reply_to, IsAnswer, Outcome, accepts}
-use Rattle.registry_desk.proofs.Words.{enters, entered, grown, next, history_says, state_without, HasAnswers, KeepNoMore, KeepsNoMore, Answered, Applied, HoldsReferences, LeavesOne, Served}
+use Rattle.registry_desk.proofs.Words.{enters, entered, grown, next, history_says, state_without, HasAnswers, KeepNoMore, KeepsNoMore, Answered, Applied, HoldsReferences, LeavesOne, Served, SurvivesOne}
 use Rattle.registry_desk.proofs.Words.{IsAsWritten, IsRegistryOf, Rests, next_stored, settled_by, stepped, BrokenBeginTheAnswer, IsOrigin, IsShownBy, LeavesAll, MayAnswer, Sends, SentAreAsked}
 use Rattle.registry_desk.proofs.Words.{answers_as_apply, front_names, head_in, versions_in, asks_packument, form_of, names_in_front, text_behind, viewed, Caches, View, Full, Abbreviated, Revised}
 use Rattle.sqlite_trees.specs.View.{doubt}
@@ -30,6 +30,7 @@ use Rattle.registry_desk.proofs.CommitFacts.{commit_rests, ready_again, registry
 use Rattle.registry_desk.proofs.LivingFacts.{live_so}
 use Rattle.registry_desk.proofs.HiddenFacts.{leaves_the_rest, same_answer}
 use Rattle.registry_desk.proofs.SettlingFacts.{settled_next}
+use Rattle.registry_desk.proofs.StoredFacts.{turns_of_apply}
 
 -- ---- what a packument comes from
 
@@ -118,8 +119,11 @@ module _ (r : Request) (query : is_command r.what ≡ false) where
 -- a query that leaves all that was stored is answered as `apply` answers it
 module _ {S : Type 0} (store : Ghosts S) (old : Shown) (h : Held S) (settled : (db : Trees) → IsTrue (state store h).is_open → (state store h).may_leave db → db ≡ (state store h).committed.trees)
     (replies : RepliesAreAlike) (r : Request) (query : is_command r.what ≡ false) (left : LeavesAll old (state store h)) where
-  pub answered_as : (o : Outcome) → Answered old (state store h) r o → Served old (state store h) o → Applied old (state store h) r o
-  answered_as o told served =
+  survives_alone : SurvivesOne old (state store h) r
+  survives_alone = survives_weaker old (state store h) _ _ (λ clean db it. query_leaves r query old db it) left.survives
+
+  applied_as : (o : Outcome) → Answered old (state store h) r o → Served old (state store h) o → Applied old (state store h) r o
+  applied_as o told served =
       let new = state store h in
       let state_stays = λ (clean : HasCleanDisk new) (on : IsTrue new.is_open). ap registry_of (left.same clean on) in
       record {
@@ -142,9 +146,12 @@ module _ {S : Type 0} (store : Ghosts S) (old : Shown) (h : Held S) (settled : (
         refers = λ needed clean on holds. subst HoldsReferences (sym (left.same clean on)) holds;
         archives = λ needed clean on holds. subst HoldsArchives (sym (left.same clean on)) holds;
         form = λ needs clean on kept. subst IsKept (sym (state_stays clean on)) kept;
-        survives = survives_weaker old new _ _ (λ clean db it. query_leaves r query old db it) left.survives;
+        survives = turns_of_apply old new r survives_alone left.rests.idle;
         durable = λ clean on. rests_sure store h (λ db. settled db on) left.rests clean on;
       }
+
+  pub answered_as : (o : Outcome) → Answered old (state store h) r o → Served old (state store h) o → Applied old (state store h) r o × SurvivesOne old (state store h) r
+  answered_as o told served = (applied_as o told served, survives_alone)
 
 -- what is left alone is left as it is
 leaves_itself : (s : Shown) → Rests s → LeavesAll s s
@@ -201,7 +208,7 @@ sends_by A opens M N r a b s IsText WriteFault whole fails may takes = (takes.0,
 sends_by A opens M N r a b s IsText (Broken fault false) whole fails may takes = (fails fault, takes)
 sends_by A opens M N r a b s IsText (Broken fault true) whole fails may takes = (fails fault, (takes.0, may fault takes.0 takes.1.0, takes.1.1))
 
-is_clean : (b : Bool) → (doubt b ≡ 0) ⊎ (doubt b ≡ 0 → ⊥)
+pub is_clean : (b : Bool) → (doubt b ≡ 0) ⊎ (doubt b ≡ 0 → ⊥)
 unfolding doubt
 is_clean true = inl refl
 is_clean false = inr (λ e. absurd (omega (arith, e)))
@@ -368,5 +375,5 @@ sent_are_asked store opens M N r (Broken fault true) a b s it = (Err fault, refl
 -- the disk was as clean where the document may have been answered
 pub broken_begin : {S : Type 0} (store : Ghosts S) → BrokenBeginTheAnswer store
 broken_begin store opens M N r fault a b s (failed, (text, may, wrote)) needs clean =
-    let were : HasCleanDisk (state store may.0) = omega (arith, may.2.survives.clean, clean) in
-    (text, sym (may.1.answer needs were), wrote)
+    let were : HasCleanDisk (state store may.0) = omega (arith, may.2.1.clean, clean) in
+    (text, sym (may.1.0.answer needs were), wrote)

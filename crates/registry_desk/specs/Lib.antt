@@ -10,4 +10,5 @@ pub mod Stops
 pub mod Early
 pub mod Sending
 pub mod TokenUsers
+pub mod Together
 pub mod Views

@@ -22,18 +22,19 @@ use Rattle.registry_laws_history.specs.Says.{Says}
 use Rattle.registry_desk.specs.Adopted.{IsMade}
 use Rattle.registry_desk.specs.Opened.{HoldsEach}
 use Rattle.registry_desk.specs.Found.{NeedsFor}
-use Rattle.registry_desk.specs.Promises.{Applied, HasRun, IsSure, RanTo, StaysSure, Stepped, Stored, SurvivesOne, SurvivesRun}
+use Rattle.registry_desk.specs.Promises.{Applied, HasRun, IsSure, RanTo, StaysSure, Stepped, Stored, SurvivesOne, SurvivesRun, SurvivesTurns}
 use Rattle.registry_desk.specs.Resting.{Rests, end_stored, next_stored, settled_by}
 use Rattle.registry_desk.specs.Stops.{AreLeft}
 
 -- ---- what a life does
 
--- what is asked of a registry in a life, the oldest first, what comes of each, and whether the
--- registry is open at the end
+-- what is asked of a registry in a life, the oldest first, what comes of each, whether the registry is
+-- open at the end, and whether some of the requests may have shared a commit
 pub record Life : Type 0 where
   pub requests : List Request
   pub outcomes : List Outcome
   pub is_open : Bool
+  pub together : Bool
 
 -- nothing was answered any more
 abbrev pub AreFaults : List Outcome → Type 0
@@ -41,21 +42,32 @@ AreFaults [] = Unit {0}
 AreFaults (Ok reply ∷ os) = ⊥
 AreFaults (Err fault ∷ os) = AreFaults os
 
+-- some of these requests, in their order, with replies
+abbrev pub SomeOf : List Request → List Request → List Outcome → Type 0
+SomeOf [] ds ps = (ds ≡ []) × (ps ≡ [])
+SomeOf (r ∷ rs) ds ps = SomeOf rs ds ps ⊎ ((reply : Reply) × (es : List Request) × (qs : List Outcome) × SomeOf rs es qs × (ds ≡ r ∷ es) × (ps ≡ Ok reply ∷ qs))
+
+-- What may be done, from this request on, of those that met a fault when nothing was answered any
+-- more: this one or, where requests may have shared a commit, this one and some of the later ones
+abbrev pub DidLate : Bool → Request → List Request → List Request → List Outcome → Type 0
+DidLate false r rs ds ps = (reply : Reply) × (ds ≡ r ∷ []) × (ps ≡ Ok reply ∷ [])
+DidLate true r rs ds ps = (reply : Reply) × (es : List Request) × (qs : List Outcome) × SomeOf rs es qs × (ds ≡ r ∷ es) × (ps ≡ Ok reply ∷ qs)
+
 -- What was done, with its replies: each request that was answered, with its reply, in their order.
 -- What met a fault wasn't done, as long as the registry is open at the end. Where a fault of the
 -- disk has shut it, one of the requests that met a fault when nothing was answered any more may be
--- done
-abbrev pub Did : Bool → List Request → List Outcome → List Request → List Outcome → Type 0
-Did is_open [] os ds ps = (ds ≡ []) × (ps ≡ [])
-Did is_open (r ∷ rs) [] ds ps = (ds ≡ []) × (ps ≡ [])
-Did is_open (r ∷ rs) (Ok reply ∷ os) ds ps = (es : List Request) × (qs : List Outcome) × Did is_open rs os es qs × (ds ≡ r ∷ es) × (ps ≡ Ok reply ∷ qs)
-Did is_open (r ∷ rs) (Err fault ∷ os) ds ps = Did is_open rs os ds ps ⊎ ((is_open ≡ false) × AreFaults os × (reply : Reply) × (ds ≡ r ∷ []) × (ps ≡ Ok reply ∷ []))
+-- done, and others with it if they may have shared its commit
+abbrev pub Did : Bool → Bool → List Request → List Outcome → List Request → List Outcome → Type 0
+Did is_open together [] os ds ps = (ds ≡ []) × (ps ≡ [])
+Did is_open together (r ∷ rs) [] ds ps = (ds ≡ []) × (ps ≡ [])
+Did is_open together (r ∷ rs) (Ok reply ∷ os) ds ps = (es : List Request) × (qs : List Outcome) × Did is_open together rs os es qs × (ds ≡ r ∷ es) × (ps ≡ Ok reply ∷ qs)
+Did is_open together (r ∷ rs) (Err fault ∷ os) ds ps = Did is_open together rs os ds ps ⊎ ((is_open ≡ false) × AreFaults os × DidLate together r rs ds ps)
 
 -- what was done in one life after another
 abbrev pub DidAll : List Life → List Request → List Outcome → Type 0
 DidAll [] ds ps = (ds ≡ []) × (ps ≡ [])
 DidAll (life ∷ lives) ds ps = (es : List Request) × (qs : List Outcome) × (fs : List Request) × (ss : List Outcome)
-    × Did life.is_open life.requests life.outcomes es qs × DidAll lives fs ss × (ds ≡ es ++ fs) × (ps ≡ qs ++ ss)
+    × Did life.is_open life.together life.requests life.outcomes es qs × DidAll lives fs ss × (ds ≡ es ++ fs) × (ps ≡ qs ++ ss)
 
 -- each request is in form, as every value of `Request` is
 abbrev pub AreInForm : List Life → Type 0
@@ -63,13 +75,18 @@ AreInForm = AllByRecursion (λ (life : Life). AllByRecursion IsInForm life.reque
 
 -- ---- one life
 
+-- what a crash leaves after requests of which some may have shared a commit, or none
+abbrev pub SurvivesAs : Bool → Shown → Shown → List Request → List Outcome → Type 0
+SurvivesAs false old new rs os = SurvivesRun old new rs os
+SurvivesAs true old new rs os = SurvivesTurns old new rs os
+
 -- A life: a registry of which a crash leaves what it holds and nothing else, as of one that was
--- just opened, is asked requests, by `run`, by `apply` in turn, or over HTTP
+-- just opened, is asked requests, by `run`, by `apply` or together in turn, or over HTTP
 pub record HasLived (first last : Shown) (life : Life) : Type 0 where
   pub sure : IsSure first
   pub ran : RanTo first last life.requests life.outcomes
   pub stored : Stored first last life.requests life.outcomes
-  pub survives : SurvivesRun first last life.requests life.outcomes
+  pub survives : SurvivesAs life.together first last life.requests life.outcomes
   pub durable : StaysSure last
   pub ends : life.is_open ≡ last.is_open
 
@@ -112,7 +129,7 @@ pub record IsInOrder (c : Contents) : Type 0 where
 pub record ComesTo (life : Life) (before last : Contents) : Type 0 where
   pub requests : List Request
   pub replies : List Outcome
-  pub did : Did life.is_open life.requests life.outcomes requests replies
+  pub did : Did life.is_open life.together life.requests life.outcomes requests replies
   pub ran : Ran (registry_of before) requests replies true (registry_of last)
   pub same : last ≡ end_stored requests replies before
 
@@ -144,17 +161,30 @@ abbrev pub LivesHaveHeadline : Type 0
 LivesHaveHeadline = (lives : List Life) (last : Contents) → AreInForm lives → AreLives lives fresh last
     → (run : AreOneRun lives fresh last) × Headline run.requests run.replies (registry_of last)
 
-module _ {C : Type 0} (show : C → Shown) where
-  -- requests are asked by `apply`, one after another
-  abbrev pub AskedInTurn : List Request → List Outcome → C → C → Type 0
-  AskedInTurn [] [] first last = last ≡ first
-  AskedInTurn (r ∷ rs) (o ∷ os) first last = (next : C) × Applied (show first) (show next) r o × AskedInTurn rs os next last
-  AskedInTurn [] (o ∷ os) first last = ⊥
-  AskedInTurn (r ∷ rs) [] first last = ⊥
+module _ {C : Type 0} (asks : C → Request → Outcome → C → Type 0) where
+  -- requests are asked so, one after another
+  abbrev pub AskedBy : List Request → List Outcome → C → C → Type 0
+  AskedBy [] [] first last = last ≡ first
+  AskedBy (r ∷ rs) (o ∷ os) first last = (next : C) × asks first r o next × AskedBy rs os next last
+  AskedBy [] (o ∷ os) first last = ⊥
+  AskedBy (r ∷ rs) [] first last = ⊥
 
-  -- requests that are asked by `apply` in turn are a run
+module _ {C : Type 0} (show : C → Shown) where
+  -- requests are asked one after another, each alone or with others that share its commit
+  abbrev pub AskedInTurn : List Request → List Outcome → C → C → Type 0
+  AskedInTurn = AskedBy (λ M r o N. Applied (show M) (show N) r o)
+
+  -- they are asked by `apply`, so that no commit is shared
+  abbrev pub AskedAlone : List Request → List Outcome → C → C → Type 0
+  AskedAlone = AskedBy (λ M r o N. Applied (show M) (show N) r o × SurvivesOne (show M) (show N) r)
+
+  -- requests that are asked in turn are a run
   abbrev pub TurnsAreRuns : Type 0
   TurnsAreRuns = (first last : C) (rs : List Request) (os : List Outcome) → AskedInTurn rs os first last → HasRun (show first) (show last) rs os
+
+  -- those that are asked by `apply` are one of which all holds that `run` promises
+  abbrev pub AloneAreRuns : Type 0
+  AloneAreRuns = (first last : C) (rs : List Request) (os : List Outcome) → AskedAlone rs os first last → HasRun (show first) (show last) rs os × SurvivesRun (show first) (show last) rs os
 
 -- The next registry may be over another store: the files that another run of the program opens have
 -- another type

@@ -22,19 +22,24 @@
 -- | form      | a r | each text that is held stays in form                            | N, open   |
 -- | survives  | a   | what a crash leaves: tables in form, and of a query all as it was |         |
 -- |           |     | and of a command what it makes                                  | N         |
+-- | survives  | t   | the same, or what it makes of what earlier requests of the same | N         |
+-- |           |     | commit made, where a fault of the disk ended that commit        |           |
 -- | survives  | r   | what a crash leaves, by the outcomes; no reply is lost          | N         |
+-- | survives  | ts  | the same, where a fault may have ended a commit of several      | N         |
 -- | durable   | a   | a crash leaves what is stored, and nothing else                 | open      |
 -- | durable   | r   | it still does, where it did at the entry                        | open      |
 -- | closes    | r   | only a fault of the disk shuts it                               |           |
 --
--- Of: a is `Registry::apply`, and r is `Registry::run`. Needs: each clause supposes a clean disk at
--- the exit (`HasCleanDisk`), and also
+-- Of: a is `Registry::apply`, and r is `Registry::run`. Of a request that is asked in turn, alone or
+-- with others that share its commit, all rows of a hold (`Applied`), and of several such requests all
+-- of r (`HasRun`), but for `survives`: t is such a request, and ts are several. Needs: each clause
+-- supposes a clean disk at the exit (`HasCleanDisk`), and also
 --   N     where a withdrawal is asked for, at the entry the needs that are stored are those of live
 --         versions (`NeedsFor`, `NeedsForEach`): it is decided by them;
 --   open  the registry is open at the exit: a fault of the disk may have shut it.
 -- A new registry has N of every request (`HoldsSound`), and every request keeps that by `needs`.
 -- That grants are in scope is read at an open, and is known of every registry (`Rests`).
-use Rattle.std.specs.Prelude.{◌≡◌, false, Bool, List, ◌∷◌, length, IfErr, IfOk, OnOk, Result, Ok, Err, IsTrue}
+use Rattle.std.specs.Prelude.{◌≡◌, ◌⊎◌, false, Bool, List, ◌∷◌, length, IfErr, IfOk, OnOk, Result, Ok, Err, IsTrue}
 use Rattle.std.specs.List.{AllByRecursion}
 use Rattle.sqlite_trees.specs.Tree.{Trees}
 use Rattle.sqlite.specs.State.{State as Shown, HasCleanDisk, Survives}
@@ -63,7 +68,7 @@ use Rattle.registry_laws_hidden.specs.Concerns.{is_shown}
 use Rattle.registry_laws_hidden.specs.Levels.{IsStranger}
 use Rattle.registry_laws_hidden.specs.Without.{state_without}
 use Rattle.registry_desk.specs.Found.{NeedsFor}
-use Rattle.registry_desk.specs.Resting.{HasTables, HoldsAsWritten, IsRegistryOf, Serves, end_stored, left_by, next_stored, settled_by}
+use Rattle.registry_desk.specs.Resting.{HasTables, HoldsAsWritten, IsRegistryOf, Serves, end_stored, left_by, left_together, next_stored, settled_by}
 
 -- an open after a crash finds what is stored now, and nothing else
 abbrev pub IsSure : Shown → Type 0
@@ -97,6 +102,31 @@ pub record LeavesOne (r : Request) (old : Shown) (db : Trees) : Type 0 where
   pub form : HasTables db
   pub query : is_command r.what ≡ false → contents db ≡ stored old
   pub settled : NeedsFor r.what (stored old) → contents db ≡ settled_by r (stored old)
+
+-- ---- requests that share a commit
+
+-- Some requests of one commit were asked, and then a fault of the disk ended that commit: the registry
+-- is shut, and its transaction still shows what they made. So it is only in the middle of such
+-- requests (`Together`): between requests a registry has no transaction
+abbrev pub IsLost : Shown → Type 0
+IsLost s = (s.is_open ≡ false) × IsTrue s.in_transaction
+
+-- a crash may leave what further requests make
+abbrev pub IsOpenOrLost : Shown → Type 0
+IsOpenOrLost s = IsTrue s.is_open ⊎ IsLost s
+
+-- What a registry leaves of one more request of that commit: what it makes of what the earlier ones
+-- made, as long as what decides it holds
+pub record LeavesLater (r : Request) (old : Shown) (db : Trees) : Type 0 where
+  pub was_lost : IsLost old
+  pub form : HasTables db
+  pub settled : NeedsFor r.what (stored old) → contents db ≡ settled_by r (stored old)
+
+-- What one more request of that commit finds, and what it makes
+pub record LosesInTurn (r : Request) (old new : Shown) : Type 0 where
+  pub was : IsOpenOrLost old
+  pub made : NeedsFor r.what (stored old) → stored new ≡ settled_by r (stored old)
+  pub needs : NeedsFor r.what (stored old) → HoldsNeeds (stored old) → HoldsNeeds (stored new)
 
 -- ---- a package that a caller doesn't read
 
@@ -169,6 +199,14 @@ module _ (old new : Shown) where
   abbrev pub SurvivesOne : Request → Type 0
   SurvivesOne r = Survives old new (LeavesOne r old)
 
+  -- No fault is forgotten, and only one of the disk shuts the registry. Where it is shut, a crash leaves
+  -- what it could have left before, or what the request makes: of what an open registry held, or of
+  -- what the earlier requests of one commit made
+  pub record SurvivesInTurn (r : Request) : Type 0 where
+    pub closes : Survives old new (λ db. Unit {0})
+    pub shut : HasCleanDisk new → new.is_open ≡ false → (db : Trees) → new.may_leave db → old.may_leave db ⊎ (LeavesOne r old db ⊎ LeavesLater r old db)
+    pub lost : HasCleanDisk new → IsLost new → LosesInTurn r old new
+
   -- ---- a look at whether it is open
 
   -- it was open or shut before, as the look says, and is so after it
@@ -225,6 +263,12 @@ module _ (old new : Shown) where
   abbrev pub SurvivesRun : List Request → List Outcome → Type 0
   SurvivesRun rs os = NeedsForEach rs (stored old) → HasCleanDisk new → (db : Trees) → new.may_leave db → left_by (IsTrue old.is_open) old.may_leave rs os (stored old) db
 
+  -- The same where some of the requests may have shared a commit: after faults a crash leaves what it
+  -- could have left before them, or what some of the requests that met them make, one after another
+  abbrev pub SurvivesTurns : List Request → List Outcome → Type 0
+  SurvivesTurns rs os = NeedsForEach rs (stored old) → HasCleanDisk new → (db : Trees) → new.may_leave db
+      → left_together (IsOpenOrLost old) old.may_leave (λ d. d ≡ stored old) rs os (stored old) db
+
   -- where a crash left what was stored and nothing else, as long as it was open, it still does
   abbrev pub KeepsSure : Type 0
   KeepsSure = StaysSure old → StaysSure new
@@ -235,7 +279,8 @@ module _ (old new : Shown) where
 
 -- ---- all of this
 
--- all that `apply` promises of a request
+-- All that is promised of a request that is asked in turn: alone by `apply`, which promises more of a
+-- crash (`SurvivesOne`), or with others that share its commit
 pub record Applied (old new : Shown) (r : Request) (o : Outcome) : Type 0 where
   pub answer : Answered old new r o
   pub served : Served old new o
@@ -250,11 +295,11 @@ pub record Applied (old new : Shown) (r : Request) (o : Outcome) : Type 0 where
   pub refers : Keeps old new r HoldsReferences
   pub archives : Keeps old new r HoldsArchives
   pub form : KeepsForm old new r
-  pub survives : SurvivesOne old new r
+  pub survives : SurvivesInTurn old new r
   pub durable : StaysSure new
 
--- All that `run` promises of requests. Where what is stored was as requests write it before it, it is
--- after it
+-- All that is promised of requests that are asked in turn. `run` promises more of a crash
+-- (`SurvivesRun`). Where what is stored was as requests write it before it, it is after it
 pub record HasRun (old new : Shown) (rs : List Request) (os : List Outcome) : Type 0 where
   pub many : length os ≡ length rs
   pub headline : HasHeadline old new rs os
@@ -269,7 +314,7 @@ pub record HasRun (old new : Shown) (rs : List Request) (os : List Outcome) : Ty
   pub refers : KeepsRun old new rs HoldsReferences
   pub archives : KeepsRun old new rs HoldsArchives
   pub form : KeepsFormRun old new rs
-  pub survives : SurvivesRun old new rs os
+  pub survives : SurvivesTurns old new rs os
   pub durable : KeepsSure old new
   pub closes : ShutByFaults old new
 

@@ -27,7 +27,7 @@ use Rattle.registry_laws_history.specs.Answers.{answer, head_of, version_row}
 use Rattle.registry_laws_history.specs.Runs.{Outcome}
 use Rattle.registry_desk.specs.Caches.{live_packument}
 use Rattle.registry_desk.specs.Found.{NeedsFor}
-use Rattle.registry_desk.specs.Promises.{Applied, KeepsStored, WasOpen}
+use Rattle.registry_desk.specs.Promises.{Applied, KeepsStored, SurvivesOne, WasOpen}
 use Rattle.registry_desk.specs.Resting.{IsRegistryOf, Rests}
 use Rattle.registry_desk.specs.Views.{asks_packument, form_of, names_in_front, text_behind, viewed}
 use Rattle.registry_desk.specs.declared.sending.Front.{Front}
@@ -48,7 +48,7 @@ IsAnyPackument what = (view : View) × (name : Text) × (what ≡ asks_packument
 
 -- all that `apply` promises of a request, of the connections at the entry and at the exit
 abbrev pub answers_as_apply : {S : Type 0} → Ghosts S → Held S → Request → Outcome → Held S → Type 0
-answers_as_apply store M r o N = Applied (state store M) (state store N) r o
+answers_as_apply store M r o N = Applied (state store M) (state store N) r o × SurvivesOne (state store M) (state store N) r
 
 module _ {D : Type 0} (answers : D → Request → Outcome → D → Type 0) where
   -- a document that may be answered, and a fault after it, which leaves N
@@ -75,10 +75,10 @@ IsOutcomeOf WriteFault o = (text : Text) × (o ≡ Ok (Doc text))
 IsOutcomeOf (Broken fault has_started) o = o ≡ Err fault
 
 -- A packument that was sent is a request that was asked, with the outcome that it came to: so it
--- may stand anywhere among requests that are asked by `apply`, and they are a run (`TurnsAreRuns`)
+-- may stand anywhere among requests that are asked by `apply`, and they are a run (`AloneAreRuns`)
 abbrev pub SentAreAsked : {S : Type 0} → Ghosts S → Type 0
 SentAreAsked {S} store = (opens : ℕ → List ℕ) (M N : Held S) (r : Request) (sent : Sent) (out out2 : Option (List ℕ)) (unknown : Bool)
-    → Sends (answers_as_apply store) opens M r sent N out out2 unknown → (o : Outcome) × IsOutcomeOf sent o × Applied (state store M) (state store N) r o
+    → Sends (answers_as_apply store) opens M r sent N out out2 unknown → (o : Outcome) × IsOutcomeOf sent o × answers_as_apply store M r o N
 
 -- Of a packument that the machine broke off after its first byte, over a disk that is clean, what
 -- was written is a part of what opens the answer to the query, and of the answer

@@ -1,9 +1,11 @@
 //! A registry over a connection to its tables.
 
 ghost use Rattle.std.specs.Prelude.{◌≡◌, ◌≢◌, false, true, length, IfErr, IfNone, IfOk, IfSome, IsTrue, OnErr, OnOk};
+ghost use Rattle.std.specs.List.{AllByRecursion};
 ghost use Rattle.sqlite.specs.Held.{state};
 ghost use Rattle.sqlite.specs.State.{HasCleanDisk, Survives};
 ghost use Rattle.sqlite.specs.Steps.{over_memory};
+ghost use Rattle.registry_rules.specs.Actions.{is_command};
 ghost use Rattle.registry_rules.specs.Kept.{IsKept};
 ghost use Rattle.registry_rules.specs.State.{nothing};
 ghost use Rattle.registry_rows.specs.Ready.{Ready};
@@ -19,6 +21,7 @@ ghost use Rattle.registry_desk.specs.Resting.{HoldsAsWritten, IsRegistryOf, Rest
 ghost use Rattle.registry_desk.specs.Adopted.{CanBeAdopted, IsUndone};
 ghost use Rattle.registry_desk.specs.Caches.{HasAnswers, KeepNoMore, KeepsAnswer};
 ghost use Rattle.registry_desk.specs.Sending.{IsAnyPackument, IsPackument, Sends, answers_as_apply};
+ghost use Rattle.registry_desk.specs.Together.{AnsweredTogether};
 ghost use Rattle.registry_desk.specs.Views.{asks_packument};
 ghost use Rattle.registry_packument.specs.Sendings.{failures_after};
 ghost use Rattle.registry_packument.specs.declared.opener.Sent.TheVariants.{WriteFault};
@@ -27,6 +30,7 @@ use crate::answer::identify_and_answer;
 use crate::cache::{Caches, keep_reply};
 use crate::sending::sent;
 use crate::texts::queried;
+use crate::together::answer_together;
 use crate::view::View;
 use registry_names::{ByteOut, Fault, Name};
 use registry_packument::{Opener, Sent};
@@ -252,6 +256,7 @@ impl<S: Alter> Registry<S> {
         let mut outcomes = Vec::with_capacity(alloc, requests.len())?;
         for request in requests {
             let outcome = self.apply(alloc, request);
+            self.between_requests();
             match outcomes.push(outcome) {
                 Ok(()) => {}
                 Err(_) => unreachable!(),
@@ -260,12 +265,47 @@ impl<S: Alter> Registry<S> {
         Ok(outcomes)
     }
 
+    /// Answers commands together: in one transaction, which is committed once, before any of them is
+    /// answered. Their outcomes take the places of `outcomes`, of which there are as many.
+    ///
+    /// All are answered, or all meet one fault: `Memory` where there was none for one of them, and
+    /// `Database` where the tables failed. A fault changes nothing, as long as the registry is
+    /// open. Each outcome is that of [`apply`](Registry::apply), asked in its turn: what the
+    /// earlier commands made is seen, and a command that is refused changes nothing and leaves the
+    /// others as they are.
+    ///
+    /// A crash leaves what is stored, as long as the registry is open. Where a fault of the disk has
+    /// shut it, a crash leaves what it could have left before or, if the registry was open before,
+    /// what all of them make, and never what only some of them make.
+    ///
+    /// A command alone costs what `apply` costs. Where nothing is asked, nothing is done.
+    pub fn run_together(
+        &mut self,
+        alloc: Global,
+        requests: &[Request],
+        outcomes: &mut [Result<Reply, Fault>],
+    )
+        requires each { length outcomes.old ≡ length requests.now }
+        requires commands { AllByRecursion (λ r. is_command r.what ≡ true) requests.now }
+        ensures many { length outcomes.new ≡ length requests.now }
+        ensures together { AnsweredTogether S.Store self.old self.new requests.now outcomes.new }
+    {
+        answer_together(alloc, &mut self.conn, &mut self.caches, requests, outcomes);
+    }
+
     /// From now on each text of a packument and each archive that is kept keeps its digest, and so
     /// does each that is answered. Nothing else changes.
     pub fn make_digests(&mut self)
         ensures { self.new ≡ self.old }
     {
         self.caches.makes_digests = true;
+    }
+
+    /// A law: between requests no transaction is begun.
+    pub fn between_requests(&self)
+        ensures { (state S.Store self.now).in_transaction ≡ false }
+    {
+        let _conn = &self.conn;
     }
 
     // A law: so it is of each registry between requests.

@@ -39,10 +39,13 @@ returns-in-None-clause-settles g c sound needs clean =
     record {
       holds = ap (λ (d : Database). contents d.trees) reads.same ∙ sym (refused_settles was r NoCaller (nobody_is_refused (registry_of was) r (sym c.in-None.is ∙ it.1)));
       ready = reads.ready;
-      mode = reads.mode ∙ c.requires.begun;
+      mode = reads.mode ∙ c.requires.begun (omega (arith, c.load_caller.ensures.stays.survives.clean, clean));
     }
 
 pub returns-in-None-clause-right : goal.returns-in-None-clause-right
 returns-in-None-clause-right g c clean =
     leaves_refused (stored_in g.S.Store c.args.tx.now) (stored_in g.S.Store c.load_caller.new.tx) c.args.request.now.what c.args.caches.now NoCaller
     (ap (λ (d : Database). contents d.trees) (c.in_ok-caller.ensures.knows clean).0.same)
+
+pub load_facts_and_answer-requires-clause-begun : goal.load_facts_and_answer-requires-clause-begun
+load_facts_and_answer-requires-clause-begun g c clean = (c.in_ok-caller.ensures.knows clean).0.mode ∙ c.requires.begun (omega (arith, c.load_caller.ensures.stays.survives.clean, clean))
