@@ -1,3 +1,4 @@
+pub mod FaultFacts
 pub mod HidingFacts
 pub mod LookFacts
 pub mod RunningFacts
@@ -6,3 +7,4 @@ pub mod ExchangeFacts
 pub mod UnseenFacts
 pub mod AloneFacts
 pub mod SeekingFacts
+pub mod TogetherFacts

@@ -3,17 +3,17 @@ use Rattle.std.proofs.Common.{◌≡◌, ◌++◌, ◌∷◌, [], List, Option, 
 use Rattle.sqlite.specs.State.{State as Shown}
 use Rattle.registry_rules.specs.declared.request.Request.{Request}
 use Rattle.registry_laws_history.specs.Runs.{Outcome}
-use Rattle.registry_desk.specs.Promises.{HasRun, IsOneRun}
-use Rattle.registry_desk.proofs.StoredFacts.{has_run_more, has_run_none}
+use Rattle.registry_desk.specs.Promises.{IsOneRun}
+use Rattle.registry_desk.proofs.StoredFacts.{RunsTo, has_run_more, has_run_none}
 use Rattle.registry_service.specs.Courses.{Follow}
 use Rattle.registry_service.specs.Histories.{LogEntry, FollowAll}
 use Rattle.registry_service.specs.Turns.{AnswersEach, Cause, Dialect, Exchange, IsTurnFor, Turn, asked_in, bad_input, no_memory, outcomes_in, request, spoken}
 use Rattle.registry_service.specs.declared.turning.End.{End}
 use Rattle.registry_http.specs.Services.{AskAll, LogRuns, TurnsRun, applied, exchanges_of, turns_in}
 
--- these exchanges are a run
+-- these exchanges are a run, which may end in the middle of requests that share a commit
 abbrev pub RunsFor : Shown → Shown → List Exchange → Type 0
-RunsFor old new es = HasRun old new (asked_in es) (outcomes_in es)
+RunsFor old new es = RunsTo old new (asked_in es) (outcomes_in es)
 
 -- what is asked after exchanges, and what it comes to
 pub asked-append : (xs es : List Exchange) → asked_in (xs ++ es) ≡ asked_in xs ++ asked_in es
@@ -26,22 +26,22 @@ outcomes-append (x ∷ xs) es = ap (λ (os : List Outcome). x.outcome ∷ os) (o
 
 module _ {D : Type 0} (show : D → Shown) where
   -- all that is asked in a turn goes on with a run
-  pub each-run-on : (M K N : D) (rs : List Request) (os : List Outcome) (es : List Exchange) → HasRun (show M) (show K) rs os → AnswersEach (applied show) K es N
-      → HasRun (show M) (show N) (rs ++ asked_in es) (os ++ outcomes_in es)
+  pub each-run-on : (M K N : D) (rs : List Request) (os : List Outcome) (es : List Exchange) → RunsTo (show M) (show K) rs os → AnswersEach (applied show) K es N
+      → RunsTo (show M) (show N) (rs ++ asked_in es) (os ++ outcomes_in es)
   each-run-on M K N rs os [] run same =
-      subst (λ (rs : List Request). HasRun (show M) (show N) rs (os ++ [])) (sym (append-nil rs))
-      (subst (λ (os : List Outcome). HasRun (show M) (show N) rs os) (sym (append-nil os))
-      (subst (λ (N : D). HasRun (show M) (show N) rs os) (sym same) run))
+      subst (λ (rs : List Request). RunsTo (show M) (show N) rs (os ++ [])) (sym (append-nil rs))
+      (subst (λ (os : List Outcome). RunsTo (show M) (show N) rs os) (sym (append-nil os))
+      (subst (λ (N : D). RunsTo (show M) (show N) rs os) (sym same) run))
   each-run-on M K N rs os (e ∷ es) run (L, first, rest) =
       let more = has_run_more (show M) (show K) (show L) rs os e.asked e.outcome run first in
       let all = each-run-on M L N (rs ++ e.asked ∷ []) (os ++ e.outcome ∷ []) es more rest in
-      subst (λ (rs : List Request). HasRun (show M) (show N) rs (os ++ e.outcome ∷ outcomes_in es)) (append_assoc rs (e.asked ∷ []) (asked_in es))
-      (subst (λ (os : List Outcome). HasRun (show M) (show N) ((rs ++ e.asked ∷ []) ++ asked_in es) os) (append_assoc os (e.outcome ∷ []) (outcomes_in es)) all)
+      subst (λ (rs : List Request). RunsTo (show M) (show N) rs (os ++ e.outcome ∷ outcomes_in es)) (append_assoc rs (e.asked ∷ []) (asked_in es))
+      (subst (λ (os : List Outcome). RunsTo (show M) (show N) ((rs ++ e.asked ∷ []) ++ asked_in es) os) (append_assoc os (e.outcome ∷ []) (outcomes_in es)) all)
 
   each-run : (M K N : D) (xs es : List Exchange) → RunsFor (show M) (show K) xs → AnswersEach (applied show) K es N → RunsFor (show M) (show N) (xs ++ es)
   each-run M K N xs es run asks =
-      subst (λ (rs : List Request). HasRun (show M) (show N) rs (outcomes_in (xs ++ es))) (sym (asked-append xs es))
-      (subst (λ (os : List Outcome). HasRun (show M) (show N) (asked_in xs ++ asked_in es) os) (sym (outcomes-append xs es))
+      subst (λ (rs : List Request). RunsTo (show M) (show N) rs (outcomes_in (xs ++ es))) (sym (asked-append xs es))
+      (subst (λ (os : List Outcome). RunsTo (show M) (show N) (asked_in xs ++ asked_in es) os) (sym (outcomes-append xs es))
       (each-run-on M K N (asked_in xs) (outcomes_in xs) es run asks))
 
 module _ (speaks : Dialect) {D : Type 0} (show : D → Shown) where
@@ -73,7 +73,7 @@ one-run old new ts run = record {
   requests = asked_in (exchanges_of ts);
   outcomes = outcomes_in (exchanges_of ts);
   asked = (refl, refl);
-  run = run;
+  run = run.run;
 }
 
 pub turns-run : (speaks : Dialect) {D : Type 0} (show : D → Shown) → TurnsRun speaks show

@@ -201,7 +201,7 @@ module _ (speaks : Dialect) {D : Type 0} (show : D → Shown) where
   pub have-run : (M : D) (w : World D) (h : List Entry) (es : List LogEntry) → IsWorldOf speaks show M w h es → Have (after h) (exchanges_of (turns_in es))
   have-run M w h es world =
       let run : RunsFor (show M) (show w.service) (exchanges_of (turns_in es)) = log-follow_run speaks show M w.service es (follow-log M w h es world) in
-      subst (λ U. Have U (exchanges_of (turns_in es))) world.left (run.ran world.needs world.clean).answers
+      subst (λ U. Have U (exchanges_of (turns_in es))) world.left (run.run.ran world.needs world.clean).answers
 
   sent : (M : D) (w : World D) (h : List Entry) (es : List LogEntry) → IsWorldOf speaks show M w h es → (k : ℕ) → (w.transcripts k).out ≡ written speaks (turns_of k es)
   sent M w h es world k = ((history M w h es world).transcripts k).answered ∙ ap (λ x. written speaks (turns_of k x)) world.log

@@ -1,6 +1,7 @@
 -- A registry as the service that connections ask, and the run that turns come to.
-use Rattle.std.specs.Prelude.{◌≡◌, ◌⊎◌, ◌++◌, ◌∷◌, [], Bool, false, true, IfErr, List, map, Ok, Err, refl}
-use Rattle.std.specs.Coded.{Coded, code_by, coded×, coded_bool}
+use Rattle.std.specs.Prelude.{◌≡◌, ◌⊎◌, ◌++◌, ◌∷◌, [], Bool, false, true, IfErr, List, map, Option, Some, None, Ok, Err, refl}
+use Rattle.std.specs.List.{AllByRecursion}
+use Rattle.std.specs.Coded.{Coded, code_by, coded×, coded_bool, coded_option}
 use Rattle.sqlite.specs.Held.{Held, held_code, state}
 use Rattle.sqlite.specs.State.{State as Shown, HasCleanDisk}
 use Rattle.sqlite_trees.specs.declared.store.Store.{Ghosts}
@@ -12,27 +13,55 @@ use Rattle.registry_packument.specs.declared.opener.Sent.TheVariants.{Broken}
 use Rattle.registry_rules.specs.declared.request.Request.{Request}
 use Rattle.registry_laws_history.specs.Runs.{Outcome}
 use Rattle.registry_desk.specs.Promises.{Applied, IsOneRun}
+use Rattle.registry_desk.specs.Together.{Counts, as_committed, as_lost, as_shown, shown_at}
 use Rattle.registry_service.specs.Courses.{Follow}
 use Rattle.registry_service.specs.Histories.{LogEntry, FollowAll}
 use Rattle.registry_service.specs.Turns.{Answering, Dialect, Exchange, Turn, asked_in, outcomes_in, spoken}
 
--- all that is promised of a request to a registry, of the connections at the entry and at the exit
-abbrev pub applies_over : {S : Type 0} → Ghosts S → Answering (Held S)
-applies_over store M r o N = Applied (state store M) (state store N) r o
-
 -- ---- a registry that is served
 
--- the connection of a registry, and whether the service is over
+-- The connection of a registry, whether the service is over, and how the connection counts. Between
+-- requests it counts as what it shows; in the middle of requests that share a commit, as each of them
+-- is promised to find it and to leave it
 pub record Serving (S : Type 0) : Type 0 where
   pub registry : Held S
   pub is_over : Bool
+  pub counts : Counts S
 
-abbrev pub serving_code : {S : Type 0} → Coded S → Coded (Serving S)
-serving_code {S} store = code_by (Held S × Bool) (coded× (held_code store) coded_bool) (λ s. (s.registry, s.is_over)) (λ p. record { registry = p.0; is_over = p.1 }) (λ _. refl)
+-- so it is between requests
+abbrev pub serving : {S : Type 0} → Held S → Bool → Serving S
+serving conn is_over = record { registry = conn; is_over = is_over; counts = as_shown }
 
 -- what the registry of a service shows
 abbrev pub shown : {S : Type 0} → Ghosts S → Serving S → Shown
-shown store s = state store s.registry
+shown store s = shown_at store (record { conn = s.registry; counts = s.counts })
+
+-- ---- the code of such a value
+
+module _ {S : Type 0} where
+  abbrev pub in_options : Counts S → Option (Option (Held S))
+  in_options as_shown = None
+  in_options as_committed = Some None
+  in_options (as_lost end) = Some (Some end)
+
+  abbrev pub from_options : Option (Option (Held S)) → Counts S
+  from_options None = as_shown
+  from_options (Some None) = as_committed
+  from_options (Some (Some end)) = as_lost end
+
+  pub from_in_options : (c : Counts S) → from_options (in_options c) ≡ c
+  from_in_options as_shown = refl
+  from_in_options as_committed = refl
+  from_in_options (as_lost end) = refl
+
+  abbrev pub counts_code : Coded S → Coded (Counts S)
+  counts_code store = code_by (Option (Option (Held S))) (coded_option (coded_option (held_code store))) in_options from_options from_in_options
+
+  abbrev pub serving_code : Coded S → Coded (Serving S)
+  serving_code store = code_by (Held S × (Bool × Counts S)) (coded× (held_code store) (coded× coded_bool (counts_code store))) (λ s. (s.registry, (s.is_over, s.counts)))
+      (λ p. record { registry = p.0; is_over = p.1.0; counts = p.1.1 }) (λ _. refl)
+
+-- ---- how it ends
 
 -- the fault of the tables ends the service, where it was met in a registry that the disk has shut
 abbrev pub EndsShut : Shown → Bool → Fault → Type 0
@@ -52,6 +81,13 @@ module _ {S : Type 0} (store : Ghosts S) where
   EndsByFault old new (Ok reply) = new.is_over ≡ old.is_over
   EndsByFault old new (Err fault) = EndsBy (shown store old) (shown store new) old.is_over new.is_over fault
 
+  -- the same of commands that are answered together, whatever came of each
+  abbrev pub EachEndsIfShut : Serving S → List Outcome → Type 0
+  EachEndsIfShut new os = AllByRecursion (EndsIfShut new) os
+
+  abbrev pub EachEndsByFault : Serving S → Serving S → List Outcome → Type 0
+  EachEndsByFault old new os = AllByRecursion (EndsByFault old new) os
+
   -- the same of a packument that is sent
   abbrev pub SendsIfShut : Serving S → Sent → Type 0
   SendsIfShut new (Broken fault has_started) = EndsShut (shown store new) new.is_over fault
@@ -60,6 +96,12 @@ module _ {S : Type 0} (store : Ghosts S) where
   abbrev pub SendsByFault : Serving S → Serving S → Sent → Type 0
   SendsByFault old new (Broken fault has_started) = EndsBy (shown store old) (shown store new) old.is_over new.is_over fault
   SendsByFault old new _ = new.is_over ≡ old.is_over
+
+-- Commands that were answered together failed where one of them, and so the first, met the fault of the
+-- tables
+abbrev pub failed : List Outcome → Bool
+failed (Err Database ∷ os) = true
+failed _ = false
 
 -- ---- the requests of turns
 

@@ -4,8 +4,8 @@ use Rattle.std.specs.Prelude.{unwrap_or}
 use Rattle.sqlite.specs.State.{State as Shown}
 use Rattle.registry_rules.specs.declared.request.Request.{Request}
 use Rattle.registry_laws_history.specs.Runs.{Outcome}
-use Rattle.registry_desk.specs.Promises.{HasRun, IsOneRun}
-use Rattle.registry_desk.proofs.StoredFacts.{has_run_none}
+use Rattle.registry_desk.specs.Promises.{IsOneRun}
+use Rattle.registry_desk.proofs.StoredFacts.{RunsTo, has_run_none}
 use Rattle.registry_service.specs.Histories.{FollowAll, LogEntry}
 use Rattle.registry_service.specs.Turns.{Answering, AnswersEach, Cause, Dialect, Exchange, IsTurnFor, Turn, asked_in, bad_input, exchange, no_memory, outcomes_in, request, spoken}
 use Rattle.registry_service.specs.declared.turning.End.{End}
@@ -74,9 +74,19 @@ module _ (speaks : Dialect) {D : Type 0} (answers : Answering D) (M : D) where
 
 -- ---- one run
 
+-- what was asked is one run, which may end in the middle of requests that share a commit
+record RunsTogether (old new : Shown) (Asked : List Request → List Outcome → Type 0) : Type 0 where
+  requests : List Request
+  outcomes : List Outcome
+  asked : Asked requests outcomes
+  run : RunsTo old new requests outcomes
+
+one-run : (old new : Shown) (Asked : List Request → List Outcome → Type 0) → RunsTogether old new Asked → IsOneRun old new Asked
+one-run old new Asked runs = record { requests = runs.requests; outcomes = runs.outcomes; asked = runs.asked; run = runs.run.run }
+
 module _ (speaks : Dialect) {D : Type 0} (show : D → Shown) (M : D) where
   -- a turn in which this was asked
-  asked-more : (K N : D) (t : AnyTurn) (ts : List AnyTurn) (es : List Exchange) → IsOneRun (show M) (show K) (AskAll ts) → AsksFor t es → AnswersEach (applied show) K es N → IsOneRun (show M) (show N) (AskAll (t ∷ ts))
+  asked-more : (K N : D) (t : AnyTurn) (ts : List AnyTurn) (es : List Exchange) → RunsTogether (show M) (show K) (AskAll ts) → AsksFor t es → AnswersEach (applied show) K es N → RunsTogether (show M) (show N) (AskAll (t ∷ ts))
   asked-more K N t ts es runs asks applies = record {
     requests = runs.requests ++ asked_in es;
     outcomes = runs.outcomes ++ outcomes_in es;
@@ -85,11 +95,11 @@ module _ (speaks : Dialect) {D : Type 0} (show : D → Shown) (M : D) where
   }
 
   -- a turn of a command in which nothing was asked
-  guest-none : (K N : D) (t : GuestTurn) (ts : List AnyTurn) → IsOneRun (show M) (show K) (AskAll ts) → CommandAsksAll t [] → N ≡ K → IsOneRun (show M) (show N) (AskAll (of_guest t ∷ ts))
+  guest-none : (K N : D) (t : GuestTurn) (ts : List AnyTurn) → RunsTogether (show M) (show K) (AskAll ts) → CommandAsksAll t [] → N ≡ K → RunsTogether (show M) (show N) (AskAll (of_guest t ∷ ts))
   guest-none K N t ts runs nothing same = asked-more K N (of_guest t) ts [] runs nothing same
 
-  of-connection : (K N : D) (c : Cause) (last : Bool) (es : List Exchange) (o : Outcome) (ended : Option End) (ts : List AnyTurn) → IsOneRun (show M) (show K) (AskAll ts)
-      → IsTurnFor (spoken speaks (applied show)) c K last es o ended N → IsOneRun (show M) (show N) (AskAll (of_connection (record { cause = c; exchanges = es; outcome = o; ended = ended }) ∷ ts))
+  of-connection : (K N : D) (c : Cause) (last : Bool) (es : List Exchange) (o : Outcome) (ended : Option End) (ts : List AnyTurn) → RunsTogether (show M) (show K) (AskAll ts)
+      → IsTurnFor (spoken speaks (applied show)) c K last es o ended N → RunsTogether (show M) (show N) (AskAll (of_connection (record { cause = c; exchanges = es; outcome = o; ended = ended }) ∷ ts))
   of-connection K N (request w at) last es o ended ts runs turn =
       asked-more K N (of_connection (record { cause = request w at; exchanges = es; outcome = o; ended = ended })) ts es runs refl turn.answered.1
   of-connection K N (bad_input r) last es o ended ts runs turn =
@@ -97,7 +107,7 @@ module _ (speaks : Dialect) {D : Type 0} (show : D → Shown) (M : D) where
   of-connection K N no_memory last es o ended ts runs turn =
       asked-more K N (of_connection (record { cause = no_memory; exchanges = es; outcome = o; ended = ended })) ts [] runs (sym turn.2) turn.1
 
-  of-guest : (K N : D) (t : GuestTurn) (ts : List AnyTurn) → IsOneRun (show M) (show K) (AskAll ts) → IsGuestTurn (applied show) K t.arguments t.body t.at (prints t.output) N → IsOneRun (show M) (show N) (AskAll (of_guest t ∷ ts))
+  of-guest : (K N : D) (t : GuestTurn) (ts : List AnyTurn) → RunsTogether (show M) (show K) (AskAll ts) → IsGuestTurn (applied show) K t.arguments t.body t.at (prints t.output) N → RunsTogether (show M) (show N) (AskAll (of_guest t ∷ ts))
   of-guest K N t ts runs turn =
       elim turn [
         | inl (command, asks) ↦
@@ -110,21 +120,21 @@ module _ (speaks : Dialect) {D : Type 0} (show : D → Shown) (M : D) where
         | inr (unasked, rests) ↦ guest-none K N t ts runs (inr (inr unasked, refl)) rests
       ]
 
-  of-any : (K N : D) (t : AnyTurn) (ts : List AnyTurn) → IsOneRun (show M) (show K) (AskAll ts) → TakesTurn speaks (applied show) K t N → IsOneRun (show M) (show N) (AskAll (t ∷ ts))
+  of-any : (K N : D) (t : AnyTurn) (ts : List AnyTurn) → RunsTogether (show M) (show K) (AskAll ts) → TakesTurn speaks (applied show) K t N → RunsTogether (show M) (show N) (AskAll (t ∷ ts))
   of-any K N (of_connection t) ts runs turn = of-connection K N t.cause turn.0 t.exchanges t.outcome t.ended ts runs turn.1
   of-any K N (of_guest t) ts runs turn = of-guest K N t ts runs turn
 
-  of-all : (N : D) (ts : List AnyTurn) → TakeTurns speaks (applied show) M ts N → IsOneRun (show M) (show N) (AskAll ts)
+  of-all : (N : D) (ts : List AnyTurn) → TakeTurns speaks (applied show) M ts N → RunsTogether (show M) (show N) (AskAll ts)
   of-all N [] same = record {
     requests = [];
     outcomes = [];
     asked = (refl, refl);
-    run = subst (λ (N : D). HasRun (show M) (show N) [] []) (sym same) (has_run_none (show M));
+    run = subst (λ (N : D). RunsTo (show M) (show N) [] []) (sym same) (has_run_none (show M));
   }
   of-all N (t ∷ ts) take = of-any take.0 N t ts (of-all take.0 ts take.1) take.2
 
 pub turns-run : (speaks : Dialect) {D : Type 0} (show : D → Shown) → TurnsRunBeside speaks show
-turns-run speaks show M = of-all speaks show M
+turns-run speaks show M N ts take = one-run (show M) (show N) (AskAll ts) (of-all speaks show M N ts take)
 
 pub log-run : (speaks : Dialect) {D : Type 0} (show : D → Shown) → LogRunsBeside speaks show
 log-run speaks show M K N log follow lead =

@@ -3,3 +3,4 @@ mod TargetFacts
 mod MaskFacts
 mod EndFacts
 mod NoteFacts
+mod KnownFacts

@@ -4,7 +4,7 @@ use Rattle.std.specs.Borrow.{Bor}
 use Rattle.std.specs.Prelude.{IfSome}
 use Rattle.registry_wire.specs.declared.wanted.Wanted.{Wanted}
 use Rattle.registry_service.specs.declared.turning.Turned.{Turned}
-use Rattle.registry_log.specs.Logs.{IsKept, IsNoted, IsPut, KeepsOthers, LacksUser, Logging, NotesTurn, turn_line, unnamed_turn}
+use Rattle.registry_log.specs.Logs.{IsKept, IsNoted, IsPut, KeepsOthers, LacksUser, Logging, NotesNext, NotesTurn, turn_line, unnamed_turn}
 use Rattle.registry_log.specs.Waitings.{Queue, losing}
 use Rattle.registry_log.specs.declared.log.Answered.{Answered}
 use Rattle.registry_log.specs.declared.unnamed.Unnamed.{Unnamed}
@@ -24,7 +24,7 @@ kept-as u old mid new waits same (inl kept) = inl (kept.0 ∙ waits, kept.1 ∙ 
 kept-as u old mid new waits same (inr lost) = inr (lost.0 ∙ ap (losing 1) waits, lost.1 ∙ same)
 
 module _ (wanted : Option (Bor Wanted)) (turned : Turned) (old mid new : Logging) (at : ℕ) (answered : Option Answered) (waits : mid.waiting ≡ old.waiting) (same : mid.unnamed ≡ old.unnamed)
-    (taken : mid.answered ≡ None) (was : answered ≡ old.answered) (asked : IfSome answered (λ a. at ≡ a.at)) where
+    (next : NotesNext old mid) (was : answered ≡ old.answered) (asked : IfSome answered (λ a. at ≡ a.at)) where
   asked-before : IfSome old.answered (λ a. at ≡ a.at)
   asked-before = subst (λ (o : Option Answered). IfSome o (λ a. at ≡ a.at)) was asked
 
@@ -41,18 +41,18 @@ module _ (wanted : Option (Bor Wanted)) (turned : Turned) (old mid new : Logging
     noted = (
       subst (λ (o : Option Answered). IsNoted (turn_line at o wanted turned) old.waiting new.waiting) was
           (subst (λ (q : Queue). IsNoted (turn_line at answered wanted turned) q new.waiting) waits noted),
-      keeps.1 ∙ same,
+      keeps.unnamed ∙ same,
     );
-    taken = keeps.0 ∙ taken;
+    next = record { answered = keeps.answered ∙ next.answered; later = keeps.later ∙ next.later };
   }
 
   -- a turn is kept until its user is looked up
-  pub notes-kept : (token : List ℕ) → LacksUser answered wanted (Some token) → IsKept (unnamed_turn at token wanted turned) mid new → new.answered ≡ mid.answered → NotesTurn wanted turned old new
-  notes-kept token lacks kept keeps = record {
+  pub notes-kept : (token : List ℕ) → LacksUser answered wanted (Some token) → IsKept (unnamed_turn at token wanted turned) mid new → new.answered ≡ mid.answered → new.later ≡ mid.later → NotesTurn wanted turned old new
+  notes-kept token lacks kept answers later = record {
     at = at;
     asked = asked-before;
     token = Some token;
     lacks = lacks-before (Some token) lacks;
     noted = kept-as (unnamed_turn at token wanted turned) old mid new waits same kept;
-    taken = keeps ∙ taken;
+    next = record { answered = answers ∙ next.answered; later = later ∙ next.later };
   }

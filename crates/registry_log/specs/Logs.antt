@@ -6,6 +6,7 @@ use Rattle.registry_names.specs.declared.stop.Stop.{Stop}
 use Rattle.registry_packument.specs.Calendar.{utc_text}
 use Rattle.registry_rules.specs.declared.request.Credential.{Credential}
 use Rattle.registry_rules.specs.declared.request.Credential.TheVariants.{Token}
+use Rattle.registry_rules.specs.declared.request.Request.{Request as AskedRequest}
 use Rattle.registry_wire.specs.declared.wanted.FieldValue.{FieldValue}
 use Rattle.registry_wire.specs.declared.wanted.Wanted.{Wanted}
 use Rattle.registry_service.specs.Callers.{reads_caller}
@@ -17,21 +18,56 @@ use Rattle.registry_log.specs.Waitings.{Queue, adding, has_room, losing, queue, 
 use Rattle.registry_log.specs.declared.entry.Kind.{Kind}
 use Rattle.registry_log.specs.declared.entry.Kind.TheVariants.{Request, Command, Unread}
 use Rattle.registry_log.specs.declared.log.Answered.{Answered}
+use Rattle.registry_log.specs.declared.log.Asked.{Asked}
 use Rattle.registry_log.specs.declared.unnamed.Unnamed.{Unnamed}
 
--- what waits to be written, what the registry answered that wasn't noted yet, and what was noted whose
--- user isn't looked up yet
+-- What waits to be written, what the registry answered that is noted next, what it answered together
+-- with that, which is noted after it, in this order, and what was noted whose user isn't looked up yet
 pub record Logging : Type 0 where
   pub waiting : Queue
   pub answered : Option Answered
+  pub later : List Answered
   pub unnamed : List Unnamed
 
-abbrev pub logging : Queue → Option Answered → List Unnamed → Logging
-logging waiting answered unnamed = record { waiting = waiting; answered = answered; unnamed = unnamed }
+abbrev pub logging : Queue → Option Answered → List Answered → List Unnamed → Logging
+logging waiting answered later unnamed = record { waiting = waiting; answered = answered; later = later; unnamed = unnamed }
 
 -- nothing is changed but what waits
-abbrev pub KeepsOthers : Logging → Logging → Type 0
-KeepsOthers old new = (new.answered ≡ old.answered) × (new.unnamed ≡ old.unnamed)
+pub record KeepsOthers (old new : Logging) : Type 0 where
+  pub answered : new.answered ≡ old.answered
+  pub later : new.later ≡ old.later
+  pub unnamed : new.unnamed ≡ old.unnamed
+
+-- ---- what was answered
+
+-- requests that were asked together, each for as long as all of them
+abbrev pub answered_each : ℕ → List Asked → List Answered
+answered_each micros [] = []
+answered_each micros (a ∷ others) = record { at = a.at; user = a.user; micros = micros } ∷ answered_each micros others
+
+-- these are known of the first of the requests, in their order
+abbrev pub AreFirstAsked : List AskedRequest → List Asked → Type 0
+AreFirstAsked rs [] = Unit {0}
+AreFirstAsked [] (a ∷ others) = ⊥
+AreFirstAsked (r ∷ rs) (a ∷ others) = (a.at ≡ r.at) × AreFirstAsked rs others
+
+-- the first of them, if there are any, and those after it
+abbrev pub first : List Answered → Option Answered
+first [] = None
+first (a ∷ others) = Some a
+
+abbrev pub rest : List Answered → List Answered
+rest [] = []
+rest (a ∷ others) = others
+
+-- all of them are to be noted, one after another
+abbrev pub remembering : List Answered → Queue → List Unnamed → Logging
+remembering answers waiting unnamed = logging waiting (first answers) (rest answers) unnamed
+
+-- what is noted next is what was answered together with what was noted
+pub record NotesNext (old new : Logging) : Type 0 where
+  pub answered : new.answered ≡ first old.later
+  pub later : new.later ≡ rest old.later
 
 -- ---- the line of a turn
 
@@ -146,7 +182,7 @@ pub record NotesTurn (wanted : Option (Bor Wanted)) (turned : Turned) (old new :
   pub token : Option (List ℕ)
   pub lacks : LacksUser old.answered wanted token
   pub noted : NotesFor token at wanted turned old new
-  pub taken : new.answered ≡ None
+  pub next : NotesNext old new
 
 -- what lacked a user has one, or nobody is known by its token: exactly its line waits, or is lost
 pub record NamesTurn (u : Unnamed) (user : Option Text) (old new : Logging) : Type 0 where
@@ -157,7 +193,7 @@ pub record NamesTurn (u : Unnamed) (user : Option Text) (old new : Logging) : Ty
 pub record NotesCommand (c : AnsweredCommand) (old new : Logging) : Type 0 where
   pub at : ℕ
   pub noted : IsNoted (command_line at old.answered c) old.waiting new.waiting
-  pub taken : new.answered ≡ None
+  pub next : NotesNext old new
   pub unnamed : new.unnamed ≡ old.unnamed
 
 -- a line that isn't a request's was noted, and what waits was written
@@ -171,8 +207,12 @@ pub record SaysLine (text : Text) (old new : Logging) : Type 0 where
 -- what the registry answered is known, until it is noted
 abbrev pub Remembers : ℕ → Option Text → ℕ → Logging → Logging → Type 0
 Remembers at user begun old new =
-    (now : ℕ) × (new ≡ logging old.waiting (Some (record { at = at; user = user; micros = now - begun })) old.unnamed)
+    (now : ℕ) × (new ≡ logging old.waiting (Some (record { at = at; user = user; micros = now - begun })) [] old.unnamed)
+
+-- and so are requests that it answered together, each for as long as it was asked all of them
+abbrev pub RemembersAll : List Asked → ℕ → Logging → Logging → Type 0
+RemembersAll asked begun old new = (now : ℕ) × (new ≡ remembering (answered_each (now - begun) asked) old.waiting old.unnamed)
 
 -- what waits was written, and no answer is to be noted any more
 abbrev pub Rests : Logging → Logging → Type 0
-Rests old new = IsWritten old.waiting new.waiting × (new.answered ≡ None) × (new.unnamed ≡ old.unnamed)
+Rests old new = IsWritten old.waiting new.waiting × (new.answered ≡ None) × (new.later ≡ []) × (new.unnamed ≡ old.unnamed)

@@ -1,9 +1,9 @@
 //! A log of what was answered.
 
-ghost use Rattle.std.specs.Prelude.{◌≡◌, ◌≤◌, [], length, string_bytes, None, IfErr, IfOk, IfSome, if◌then◌else◌};
+ghost use Rattle.std.specs.Prelude.{◌≡◌, ◌≤◌, ◌-◌, ℕ, [], length, string_bytes, None, IfErr, IfOk, IfSome, if◌then◌else◌};
 ghost use Rattle.registry_log.specs.Lines as lines;
 ghost use Rattle.registry_log.specs.Logs as spec;
-ghost use Rattle.registry_log.specs.Logs.{IsKept, IsNoted, IsPut, IsWritten, KeepsOthers, LacksUser, NamesTurn, NotesCommand, NotesTurn, Remembers, Rests, SaysLine, logging, turn_line};
+ghost use Rattle.registry_log.specs.Logs.{IsKept, IsNoted, IsPut, IsWritten, KeepsOthers, LacksUser, NamesTurn, NotesCommand, NotesTurn, Remembers, RemembersAll, Rests, SaysLine, logging, remembering, turn_line};
 ghost use Rattle.registry_log.specs.Waitings.{queue};
 
 use crate::entry::{Entry, Kind};
@@ -17,8 +17,16 @@ use registry_publish::TokenDigest;
 use registry_service::{AnsweredCommand, Turned};
 use registry_wire::Wanted;
 use std::alloc::{AllocError, Global};
+use std::collections::VecDeque;
 use std::marker::Model;
 use std::mem;
+
+/// A request that the registry is asked together with others: when, and by whom, if a user asks.
+#[derive(Drop)]
+pub(crate) struct Asked {
+    pub(crate) at: Moment,
+    pub(crate) user: Option<Ident>,
+}
 
 /// What the registry answered, and wasn't noted yet.
 #[derive(Drop)]
@@ -30,8 +38,8 @@ struct Answered {
 
 /// A log: lines that wait, and where they are written. No call of it fails: where there is no
 /// memory for a line, or it can't be written, it is lost, and the log says how many were lost once
-/// it can be written. Contracts see what waits, what was answered and wasn't noted yet, and what was
-/// noted whose user isn't looked up yet.
+/// it can be written. Contracts see what waits, what was answered and is noted next, what was answered
+/// together with it and is noted after it, and what was noted whose user isn't looked up yet.
 #[derive(Drop)]
 pub struct Log<K: LogClock, W: LineSink> {
     alloc: Global,
@@ -39,23 +47,27 @@ pub struct Log<K: LogClock, W: LineSink> {
     sink: W,
     waiting: Waiting,
     answered: Option<Answered>,
+    // What was answered together with that, and for how long all of it was asked.
+    later: VecDeque<Asked>,
+    micros: u64,
     unnamed: Vec<Unnamed>,
     // Whether what was written last ended within a line.
     is_cut: bool,
 }
 
 impl<K: LogClock, W: LineSink> Model for Log<K, W> {
-    ghost use Rattle.registry_log.specs.Logs.{Logging, logging};
+    ghost use Rattle.registry_log.specs.Logs.{Logging, answered_each, logging};
 
     ghost Value = { Logging };
 
-    ghost view = { λ l. logging l.waiting l.answered l.unnamed.items };
+    ghost view = { λ l. logging l.waiting l.answered (answered_each l.micros l.later.items)
+        l.unnamed.items };
 }
 
 impl<K: LogClock + Drop, W: LineSink + Drop> Log<K, W> {
     /// A log in which nothing was written. An error is returned where no memory is left.
     pub fn new(alloc: Global, clock: K, sink: W) -> Result<Log<K, W>, AllocError>
-        ensures { IfOk result (λ log. log ≡ logging (queue [] 0) None []) }
+        ensures { IfOk result (λ log. log ≡ logging (queue [] 0) None [] []) }
     {
         Ok(Log {
             alloc,
@@ -63,6 +75,8 @@ impl<K: LogClock + Drop, W: LineSink + Drop> Log<K, W> {
             sink,
             waiting: Waiting::new(alloc)?,
             answered: None,
+            later: VecDeque::new(alloc),
+            micros: 0,
             unnamed: Vec::new(alloc),
             is_cut: false,
         })
@@ -84,7 +98,7 @@ impl<K: LogClock, W: LineSink> Log<K, W> {
     }
 
     /// The microseconds that the clock shows as the registry begins to answer a request, for
-    /// [`answered`](Log::answered).
+    /// [`answered`](Log::answered) or [`answered_together`](Log::answered_together).
     pub fn start_micros(&mut self) -> u64
         ensures { self.new ≡ self.old }
     {
@@ -96,8 +110,19 @@ impl<K: LogClock, W: LineSink> Log<K, W> {
     pub fn answered(&mut self, at: Moment, user: Option<Ident>, begun: u64)
         ensures { Remembers at user begun self.old self.new }
     {
-        let micros = self.clock.micros().saturating_sub(begun);
+        let micros = self.micros_since(begun);
+        self.later.clear();
         self.answered = Some(Answered { at, user, micros });
+    }
+
+    /// The registry has answered these requests together, in this order, and began with that at
+    /// `begun`. The next turns are theirs. Each line says for how long all of them were asked.
+    pub(crate) fn answered_together(&mut self, asked: VecDeque<Asked>, begun: u64)
+        ensures { RemembersAll asked.items begun self.old self.new }
+    {
+        self.micros = self.micros_since(begun);
+        self.later = asked;
+        self.answered = self.next_answered();
     }
 
     /// A turn was taken for this request, or for input that isn't one. Its line waits. Where the
@@ -107,7 +132,7 @@ impl<K: LogClock, W: LineSink> Log<K, W> {
     pub fn note(&mut self, wanted: Option<&Wanted>, turned: &Turned)
         ensures { NotesTurn wanted.entry turned.now self.old self.new }
     {
-        let answered = self.answered.take();
+        let answered = self.take_answered();
         let at = self.moment(&answered);
         match lacking(&answered, wanted) {
             Some(token) => self.keep(at, token, wanted, turned),
@@ -120,7 +145,7 @@ impl<K: LogClock, W: LineSink> Log<K, W> {
     pub fn note_command(&mut self, command: &AnsweredCommand<'_>)
         ensures { NotesCommand command.now self.old self.new }
     {
-        let answered = self.answered.take();
+        let answered = self.take_answered();
         let at = self.clock.moment();
         match command_line(self.alloc, at, &answered, command) {
             Ok(line) => self.add(line.as_slice()),
@@ -131,7 +156,8 @@ impl<K: LogClock, W: LineSink> Log<K, W> {
     /// The requests whose users are to be looked up, in their order. They aren't kept any more.
     pub(crate) fn take_unnamed(&mut self) -> Vec<Unnamed>
         ensures taken { result.items ≡ self.old.unnamed }
-        ensures left { self.new ≡ logging self.old.waiting self.old.answered [] }
+        ensures left { self.new
+            ≡ logging self.old.waiting self.old.answered self.old.later [] }
     {
         mem::replace(&mut self.unnamed, Vec::new(self.alloc))
     }
@@ -153,7 +179,41 @@ impl<K: LogClock, W: LineSink> Log<K, W> {
     {
         // What was answered and isn't noted by now has no line.
         self.answered = None;
+        self.later.clear();
         self.write();
+    }
+
+    // For how many microseconds the registry was asked.
+    fn micros_since(&mut self, begun: u64) -> u64
+        ensures micros { (now : ℕ) × (result ≡ now - begun) }
+        ensures keeps { self.new ≡ self.old }
+    {
+        self.clock.micros().saturating_sub(begun)
+    }
+
+    // What was answered and is to be noted now. What was answered together with it is noted next.
+    fn take_answered(&mut self) -> Option<Answered>
+        ensures taken { result ≡ self.old.answered }
+        ensures left { self.new
+            ≡ remembering self.old.later self.old.waiting self.old.unnamed }
+    {
+        let next = self.next_answered();
+        mem::replace(&mut self.answered, next)
+    }
+
+    // The first of what is noted later, which it isn't any more.
+    fn next_answered(&mut self) -> Option<Answered>
+        ensures next { result ≡ spec.first self.old.later }
+        ensures left { self.new
+            ≡ logging self.old.waiting self.old.answered (spec.rest self.old.later)
+            self.old.unnamed }
+    {
+        let asked = self.later.pop_front()?;
+        Some(Answered {
+            at: asked.at,
+            user: asked.user,
+            micros: self.micros,
+        })
     }
 
     // The line of a turn waits, or is lost.
@@ -179,6 +239,7 @@ impl<K: LogClock, W: LineSink> Log<K, W> {
         ensures kept { IsKept (spec.unnamed_turn at token wanted.entry turned.now)
             self.old self.new }
         ensures answered { self.new.answered ≡ self.old.answered }
+        ensures later { self.new.later ≡ self.old.later }
     {
         let Ok(unnamed) = unnamed(self.alloc, at, token, wanted, turned) else {
             self.waiting.lose(1);

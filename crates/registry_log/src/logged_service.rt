@@ -1,13 +1,15 @@
 //! A registry as a service that may keep a log.
 
-ghost use Rattle.std.specs.Prelude.{◌≡◌, true};
-ghost use Rattle.sqlite.specs.State.{Survives};
-ghost use Rattle.registry_desk.specs.Promises.{KeepsStored, WasOpen};
-ghost use Rattle.registry_http.specs.Services.{EndsByFault, EndsIfShut, applied, shown};
+ghost use Rattle.std.specs.Prelude.{◌≡◌, ◌≤◌, length, true};
+ghost use Rattle.std.specs.List.{AllByRecursion};
+ghost use Rattle.registry_http.specs.Services.{EachEndsByFault, EachEndsIfShut, EndsByFault, EndsIfShut, applied, shown};
+ghost use Rattle.registry_log.specs.Logs.{AreFirstAsked};
+ghost use Rattle.registry_rules.specs.Actions.{is_command};
 ghost use Rattle.registry_service.proofs.DialectFacts.{profile_asks_queries};
-ghost use Rattle.registry_service.specs.Turns.{AnswersAsBefore, profile};
+ghost use Rattle.registry_service.specs.Dialects.{AsksOne};
+ghost use Rattle.registry_service.specs.Turns.{AnswersAsBefore, AnswersEach, exchanges, profile};
 
-use crate::log::Log;
+use crate::log::{Asked, Log};
 use crate::log_clock::LogClock;
 use crate::sink::LineSink;
 use registry_http::RegistryService;
@@ -18,6 +20,7 @@ use registry_service::{AnsweredCommand, HttpService, Service, Turned, turn};
 use registry_wire::Wanted;
 use sqlite::Alter;
 use std::alloc::Global;
+use std::collections::VecDeque;
 use std::marker::Model;
 
 /// A registry that is asked over HTTP, and the log of what was answered, if one is kept. Contracts see
@@ -95,6 +98,30 @@ impl<S: Alter, K: LogClock, W: LineSink> Service for LoggedService<S, K, W> {
         }
     }
 
+    /// Answers commands together as a [`RegistryService`] does. Where a log is kept, their callers are
+    /// looked up first, and their turns are to be noted in the order of the requests. Where there is no
+    /// memory to remember them all, the last ones are noted as if the registry hadn't been asked.
+    fn answer_together(
+        &mut self,
+        alloc: Global,
+        requests: &[Request],
+        outcomes: &mut [Result<Reply, Fault>],
+    )
+        requires each { length outcomes.old ≡ length requests.now }
+        requires commands { AllByRecursion (λ r. is_command r.what ≡ true) requests.now }
+        ensures many { length outcomes.new ≡ length requests.now }
+        ensures answers { AnswersEach (applied (shown S.Store)) self.old
+            (exchanges requests.now outcomes.new) self.new }
+        ensures shut { EachEndsIfShut S.Store self.new outcomes.new }
+        ensures ends { EachEndsByFault S.Store self.old self.new outcomes.new }
+        ensures latched { self.old.is_over ≡ true → self.new.is_over ≡ true }
+    {
+        match &mut self.log {
+            Some(log) => asked_together(alloc, &mut self.inner, log, requests, outcomes),
+            None => self.inner.answer_together(alloc, requests, outcomes),
+        }
+    }
+
     fn is_over(&self) -> bool {
         self.inner.is_over()
     }
@@ -137,6 +164,13 @@ impl<S: Alter, K: LogClock, W: LineSink> HttpService for LoggedService<S, K, W> 
         turn(alloc, self, wanted, at, is_last)
     }
 
+    /// Every command by these routes is asked alone.
+    fn asks_one(&self, _wanted: &Wanted) -> bool
+        ensures { result ≡ true → AsksOne profile _wanted.now }
+    {
+        true
+    }
+
     ghost asks_queries = { profile_asks_queries };
 }
 
@@ -159,6 +193,59 @@ fn asked<S: Alter, K: LogClock, W: LineSink>(
     outcome
 }
 
+// The outcomes of commands that are asked together, of which a log is kept.
+fn asked_together<S: Alter, K: LogClock, W: LineSink>(
+    alloc: Global,
+    inner: &mut RegistryService<S>,
+    log: &mut Log<K, W>,
+    requests: &[Request],
+    outcomes: &mut [Result<Reply, Fault>],
+)
+    requires each { length outcomes.old ≡ length requests.now }
+    requires commands { AllByRecursion (λ r. is_command r.what ≡ true) requests.now }
+    ensures many { length outcomes.new ≡ length requests.now }
+    ensures answers { AnswersEach (applied (shown S.Store)) inner.old
+        (exchanges requests.now outcomes.new) inner.new }
+    ensures shut { EachEndsIfShut S.Store inner.new outcomes.new }
+    ensures ends { EachEndsByFault S.Store inner.old inner.new outcomes.new }
+    ensures latched { inner.old.is_over ≡ true → inner.new.is_over ≡ true }
+{
+    // Where nothing is asked, nobody is looked up.
+    if requests.is_empty() {
+        return;
+    }
+    let asked = known(alloc, inner, requests);
+    let begun = log.start_micros();
+    inner.answer_together(alloc, requests, outcomes);
+    log.answered_together(asked, begun);
+}
+
+// Who asks these requests, and when. Where there is no memory for all of them, the last ones are left
+// out.
+fn known<S: Alter>(
+    alloc: Global,
+    inner: &mut RegistryService<S>,
+    requests: &[Request],
+) -> VecDeque<Asked>
+    ensures first { AreFirstAsked requests.now result.items }
+    ensures before { AnswersAsBefore (applied (shown S.Store)) inner.old inner.new }
+    ensures over { inner.new.is_over ≡ inner.old.is_over }
+    ensures faults { (shown S.Store inner.old).faults ≤ (shown S.Store inner.new).faults }
+{
+    let mut asked = VecDeque::new(alloc);
+    for request in requests {
+        let user = user_of(alloc, inner, &request.who);
+        let next = Asked {
+            at: request.at,
+            user,
+        };
+        if asked.push_back(next).is_err() {
+            return asked;
+        }
+    }
+    asked
+}
+
 // Looks up the users of the requests that lack one, and puts their lines.
 fn name_all<S: Alter, K: LogClock, W: LineSink>(
     alloc: Global,
@@ -175,16 +262,16 @@ fn name_all<S: Alter, K: LogClock, W: LineSink>(
     }
 }
 
-// The user whose token is shown. `None` where it isn't a user's, or that can't be looked up.
+// The user whose token is shown. `None` where it isn't a user's, or that can't be looked up. What may be
+// answered afterwards might have been answered before.
 fn user_of<S: Alter>(
     alloc: Global,
     inner: &mut RegistryService<S>,
     who: &Credential,
 ) -> Option<Ident>
-    ensures opened { WasOpen (shown S.Store inner.old) (shown S.Store inner.new) }
-    ensures stored { KeepsStored (shown S.Store inner.old) (shown S.Store inner.new) }
-    ensures survives { Survives (shown S.Store inner.old) (shown S.Store inner.new) (λ _. ⊥) }
+    ensures before { AnswersAsBefore (applied (shown S.Store)) inner.old inner.new }
     ensures over { inner.new.is_over ≡ inner.old.is_over }
+    ensures faults { (shown S.Store inner.old).faults ≤ (shown S.Store inner.new).faults }
 {
     match who {
         Credential::Token(digest) => found_user(alloc, inner, digest),
@@ -199,12 +286,11 @@ fn found_user<S: Alter>(
     inner: &mut RegistryService<S>,
     token: &TokenDigest,
 ) -> Option<Ident>
-    ensures opened { WasOpen (shown S.Store inner.old) (shown S.Store inner.new) }
-    ensures stored { KeepsStored (shown S.Store inner.old) (shown S.Store inner.new) }
-    ensures survives { Survives (shown S.Store inner.old) (shown S.Store inner.new) (λ _. ⊥) }
-    ensures over { inner.new.is_over ≡ inner.old.is_over }
     ensures before { AnswersAsBefore (applied (shown S.Store)) inner.old inner.new }
+    ensures over { inner.new.is_over ≡ inner.old.is_over }
+    ensures faults { (shown S.Store inner.old).faults ≤ (shown S.Store inner.new).faults }
 {
     let found = inner.user_of(alloc, token);
+    inner.between_requests();
     found.unwrap_or(None)
 }

@@ -8,6 +8,7 @@ pub mod FormFacts
 pub mod LabelFacts
 pub mod LawFacts
 pub mod NeverFacts
+pub mod OneFacts
 pub mod RightFacts
 pub mod ServiceFacts
 pub mod ShownFacts

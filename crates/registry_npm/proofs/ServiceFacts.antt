@@ -9,7 +9,7 @@ module _ {D E : Type 0} (answers : Answering D) (inner : E → D) (outer : D →
   abbrev pub held : Answering E
   held s r o t = answers (inner s) r o (inner t)
 
-  each : (M : E) (es : List Exchange) (N : E) → AnswersEach answers (inner M) es (inner N) → AnswersEach held M es N
+  pub each : (M : E) (es : List Exchange) (N : E) → AnswersEach answers (inner M) es (inner N) → AnswersEach held M es N
   each M [] N h = back M N h
   each M (e ∷ es) N (K, a, rest) = (outer K, subst (λ (k : D). answers (inner M) e.asked e.outcome k) (sym (there K)) a, each (outer K) es N (subst (λ (k : D). AnswersEach answers k es (inner N)) (sym (there K)) rest))
 

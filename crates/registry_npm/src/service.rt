@@ -3,7 +3,7 @@
 ghost use Rattle.registry_npm.specs.Npm.{npm};
 ghost use Rattle.registry_npm.specs.Queries.{npm_asks_queries};
 
-use crate::turning::npm_turn;
+use crate::turning::{asks_one, npm_turn};
 use registry_names::{Fault, Moment};
 use registry_rules::{Reply, Request};
 use registry_service::{AnsweredCommand, HttpService, Service, Turned};
@@ -23,6 +23,15 @@ impl<D: Service> Service for NpmService<D> {
 
     fn answer(&mut self, alloc: Global, request: &Request) -> Result<Reply, Fault> {
         self.service.answer(alloc, request)
+    }
+
+    fn answer_together(
+        &mut self,
+        alloc: Global,
+        requests: &[Request],
+        outcomes: &mut [Result<Reply, Fault>],
+    ) {
+        self.service.answer_together(alloc, requests, outcomes)
     }
 
     fn is_over(&self) -> bool {
@@ -52,6 +61,12 @@ impl<D: Service> HttpService for NpmService<D> {
     /// The turn of one of npm's own requests, or of any other as without them.
     fn turn(&mut self, alloc: Global, wanted: &Wanted, at: Moment, is_last: bool) -> Turned {
         npm_turn(alloc, &mut self.service, wanted, at, is_last)
+    }
+
+    /// It does by the registry's own routes, and where it publishes. A request of npm's own may ask
+    /// queries beside its command.
+    fn asks_one(&self, wanted: &Wanted) -> bool {
+        asks_one(wanted)
     }
 
     ghost asks_queries = { npm_asks_queries };

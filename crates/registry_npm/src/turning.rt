@@ -1,12 +1,14 @@
 //! One turn of npm's own requests, and of all others.
 
-ghost use Rattle.std.specs.Prelude.{◌≡◌};
+ghost use Rattle.std.specs.Prelude.{◌≡◌, true};
+ghost use Rattle.registry_service.specs.Dialects.{AsksOne};
 ghost use Rattle.registry_service.specs.Turns.{Turns, request, spoken};
 ghost use Rattle.registry_npm.specs.Npm as spec;
 ghost use Rattle.registry_npm.specs.Labels.{own_labels};
 ghost use Rattle.registry_npm.specs.Leading.{Comes};
 ghost use Rattle.registry_npm.specs.Npm.{npm, others};
 ghost use Rattle.registry_routes.specs.Readings.{values_view};
+ghost use Rattle.registry_routes.specs.declared.npm_endpoint.NpmEndpoint.TheVariants as by;
 
 use crate::body::begins_object;
 use crate::documents;
@@ -96,6 +98,24 @@ fn other_turn<D: Service>(
         }
         Err(stop) => turn_told(stopped(stop), Labels::none(), wanted, is_last),
     }
+}
+
+// Whether a document of a package is put by this route.
+fn is_document(endpoint: NpmEndpoint) -> bool
+    ensures { result ≡ true → endpoint ≡ by.Document }
+{
+    matches!(endpoint, NpmEndpoint::Document)
+}
+
+/// Whether a request that spells a command by the registry's own routes asks just that command: it
+/// isn't npm's own, or it puts a document, which is a publication then.
+pub(crate) fn asks_one(wanted: &Wanted) -> bool
+    ensures { result ≡ true → AsksOne npm wanted.now }
+{
+    let Some(route) = npm_route_of(wanted.method, wanted.target.as_slice()) else {
+        return true;
+    };
+    is_document(route.endpoint) || !is_npms(route.endpoint, wanted.body.as_slice())
 }
 
 /// The turn of a whole request, asked at this moment, where npm's own requests are served. Any other

@@ -8,3 +8,4 @@ pub mod HistoryFacts
 pub mod LawFacts
 pub mod LabelFacts
 pub mod ResponseFacts
+pub mod TogetherFacts

@@ -46,6 +46,11 @@ asked_in es = map (λ (e : Exchange). e.asked) es
 abbrev pub outcomes_in : List Exchange → List Outcome
 outcomes_in es = map (λ (e : Exchange). e.outcome) es
 
+-- requests with their outcomes, in their order
+abbrev pub exchanges : List Request → List Outcome → List Exchange
+exchanges (r ∷ rs) (o ∷ os) = exchange r o ∷ exchanges rs os
+exchanges _ _ = []
+
 -- a turn, with what was asked of the registry in it, one request after the other
 pub record Turn : Type 0 where
   pub cause : Cause

@@ -9,6 +9,7 @@ mod action;
 mod answer;
 mod body;
 mod caller;
+mod command;
 mod from_path;
 mod heading;
 pub mod laws;
@@ -22,6 +23,7 @@ mod turning;
 
 pub use crate::answer::{Answer, Body, Fronted};
 pub use crate::caller::credential;
+pub use crate::command::is_command;
 pub use crate::request::request_of;
 pub use crate::sending::PackumentService;
 pub use crate::serving::{Clock, Served, serve};

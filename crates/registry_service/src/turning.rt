@@ -1,13 +1,15 @@
 //! One turn of a connection.
 
-ghost use Rattle.std.specs.Prelude.{◌≡◌, Bool, List, true, Ok, Result};
+ghost use Rattle.std.specs.Prelude.{◌≡◌, Bool, List, true, length, Ok, Result};
 ghost use Rattle.registry_names.specs.declared.stop.Fault.{Fault};
+ghost use Rattle.std.specs.List.{AllByRecursion};
+ghost use Rattle.registry_rules.specs.Actions.{is_command};
 ghost use Rattle.registry_rules.specs.declared.reply.Reply.{Reply};
 ghost use Rattle.registry_rules.specs.declared.request.Request.{Request};
-ghost use Rattle.registry_service.specs.Dialects.{AsksQueriesByGet};
+ghost use Rattle.registry_service.specs.Dialects.{AsksOne, AsksQueriesByGet};
 ghost use Rattle.registry_service.specs.Servings.{IsTurnTold, IsTurnWith};
 ghost use Rattle.registry_service.specs.Turns as spec;
-ghost use Rattle.registry_service.specs.Turns.{AnswersAsBefore, Dialect, Exchange, IsAnswered, Turns, bad_input, no_memory, profile, request, spoken};
+ghost use Rattle.registry_service.specs.Turns.{AnswersAsBefore, AnswersEach, Dialect, Exchange, IsAnswered, Turns, bad_input, exchanges, no_memory, profile, request, spoken};
 
 use crate::answer::Answer;
 use crate::request::request_of;
@@ -45,6 +47,28 @@ pub trait Service {
     /// Answers one request.
     fn answer(&mut self, alloc: Global, request: &Request) -> Result<Reply, Fault>
         ensures { answers self.old request.now result self.new };
+
+    /// Answers commands that came together, as if each was asked alone, in their order. Their outcomes
+    /// take the places of `outcomes`, of which there are as many.
+    ///
+    /// An implementation may let them share what each alone would wait for, such as a sync of the
+    /// disk. The default asks one after the other.
+    fn answer_together(
+        &mut self,
+        alloc: Global,
+        requests: &[Request],
+        outcomes: &mut [Result<Reply, Fault>],
+    )
+        requires each { length outcomes.old ≡ length requests.now }
+        requires commands { AllByRecursion (λ r. is_command r.what ≡ true) requests.now }
+        ensures many { length outcomes.new ≡ length requests.now }
+        ensures answers { AnswersEach answers self.old (exchanges requests.now outcomes.new)
+            self.new }
+    {
+        for (i, request) in requests.iter().enumerate() {
+            outcomes[i] = self.answer(alloc, request);
+        }
+    }
 
     /// Whether it is over: nothing more may be asked of it.
     fn is_over(&self) -> bool
@@ -102,6 +126,14 @@ pub trait HttpService: Service {
     fn turn(&mut self, alloc: Global, wanted: &Wanted, at: Moment, is_last: bool) -> Turned
         ensures { Turns (spoken speaks Self.answers) self.old (request wanted.now at) is_last result
             self.new };
+
+    /// Whether a request that spells a command by the registry's own routes asks just that command,
+    /// so that it may be answered together with others. The default is that it doesn't.
+    fn asks_one(&self, _wanted: &Wanted) -> bool
+        ensures { result ≡ true → AsksOne speaks _wanted.now }
+    {
+        false
+    }
 
     // A request that begins as a query does asks nothing but queries.
     ghost asks_queries: { AsksQueriesByGet speaks };

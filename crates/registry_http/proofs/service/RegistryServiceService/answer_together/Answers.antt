@@ -1,0 +1,12 @@
+use Rattle.std.proofs.Common.{subst}
+use Rattle.registry_service.specs.Turns.{AnswersEach, exchanges}
+use Rattle.registry_http.specs.Services.{EachEndsByFault, applied, serving, shown}
+use Rattle.registry_http.proofs.service.RegistryServiceService.answer_together.Goals as goal
+
+pub returns-clause-answers : goal.returns-clause-answers
+returns-clause-answers g c =
+    subst (λ was. AnswersEach (applied (shown g.S.Store)) was (exchanges c.args.requests.now c.told_together.new.outcomes) (serving c.told_together.new.registry c.told_together.new.is_over)) c.self.view_is c.told_together.ensures.answers
+
+pub returns-clause-ends : goal.returns-clause-ends
+returns-clause-ends g c =
+    subst (λ was. EachEndsByFault g.S.Store was (serving c.told_together.new.registry c.told_together.new.is_over) c.told_together.new.outcomes) c.self.view_is c.told_together.ensures.ends

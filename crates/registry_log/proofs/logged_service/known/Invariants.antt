@@ -1,0 +1,16 @@
+use Rattle.std.proofs.Common.{◌≡◌, ◌≤◌, length}
+use Rattle.registry_http.specs.Services.{applied, shown}
+use Rattle.registry_log.specs.Logs.{AreFirstAsked}
+use Rattle.registry_service.specs.Turns.{AnswersAsBefore}
+use Rattle.registry_log.proofs.logged_service.known.Given as goal
+
+-- of the first requests it is known who asks, and whatever may be answered now might have been
+-- answered at first
+abbrev pub invariant-loop-request : goal.invariant-loop-request
+invariant-loop-request g l = record {
+  many : length l.asked.items ≡ l.request-index;
+  first : AreFirstAsked l.requests l.asked.items;
+  before : AnswersAsBefore (applied (shown g.S.Store)) l.fn.inner l.inner;
+  over : l.inner.is_over ≡ l.fn.inner.is_over;
+  faults : (shown g.S.Store l.fn.inner).faults ≤ (shown g.S.Store l.inner).faults;
+}

@@ -1,0 +1,9 @@
+use Rattle.std.proofs.Common.{refl, sym, ◌∙◌, Some, None}
+use Rattle.registry_routes.specs.Readings.{npm_route_view}
+use Rattle.registry_npm.proofs.OneFacts.{document-one, other-one}
+use Rattle.registry_npm.proofs.turning.asks_one.Goals as goal
+
+pub returns-then-is_document : goal.returns-then-is_document
+returns-then-is_document c puts =
+    let found = rw (c.in-Some.is, c.as_slice.ensures) at c.npm_route_of.ensures in
+    document-one _ c.args.wanted.now found (c.is_document.ensures puts)
