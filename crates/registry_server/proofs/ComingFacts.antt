@@ -5,9 +5,9 @@ use Rattle.std.proofs.lemmas.Bool.{false≢true}
 use Rattle.std.proofs.lemmas.List.Quantifiers.{position-Some}
 use Rattle.std.proofs.lemmas.Option.{slice_get_read}
 use Rattle.registry_service.specs.Turns.{Answering, Dialect, spoken}
-use Rattle.registry_server.specs.Connections.{OpenConnection, may_command}
+use Rattle.registry_server.specs.Connections.{OpenConnection}
 use Rattle.registry_server.specs.Phases.{idle_from, is_under_way}
-use Rattle.registry_server.specs.Pools.{AreWoken, ChoosesIf, EndsIdle, HoldsKeepCommands, IsBusyThere, IsFirstOfEarliest, IsPlaceFor, IsUnderWay, LetsIn, MayCommand, NewcomersLeaveBusy, ServesHeld, ServesQueries, Stay, VisitsAll, VisitsIf, at_place, chosen, chosen_of, command_with, emptied, emptied_of, idle_at, idle_ends, idle_in, idle_times, idle_with, is_crowd, is_free, is_held_back, is_looked, is_to_visit, may_choose, may_command_at, new_at, no_round, nobody_comes, one_comes, one_round, settled, woken}
+use Rattle.registry_server.specs.Pools.{AreWoken, ChoosesIf, HoldsKeepCommands, IsBusyThere, IsFirstOfEarliest, IsPlaceFor, IsUnderWay, LetsIn, MayCommand, NewcomersLeaveBusy, ServesQueries, Stay, VisitsAll, VisitsIf, at_place, chosen, chosen_of, command_with, emptied, emptied_of, idle_at, idle_ends, idle_times, idle_with, is_crowd, is_free, is_held_back, is_looked, is_to_visit, may_choose, may_command_at, new_at, no_round, nobody_comes, one_comes, one_round, settled, woken}
 use Rattle.registry_server.specs.Queries.{queries}
 use Rattle.registry_server.specs.declared.phase.Stage.{Stage}
 use Rattle.registry_server.specs.declared.phase.Stage.TheVariants.{Idle, Begun, Next, Sends, Drains}
@@ -168,22 +168,23 @@ module _ {S : Type 0} (received sent : S → Option (List ℕ)) (has_none is_ful
   waiting-stays true held now most p q M N r r2 not is v = absurd (false≢true (sym not))
   waiting-stays false held now most p q M N r r2 not is v = (ap (λ (x : Place S). x.connection) v.place, subst MayCommand (sym v.place) is)
 
-  visits-stay : (crowd : Bool) (now most : ℕ) (ps qs : List (Place S)) (M N : D) (r r2 : Option (List ℕ))
-      → VisitsAll received sent has_none is_full has_more is_ended is_broken (spoken speaks (queries answers)) over true crowd now most ps qs M N r r2 → Stay MayCommand ps qs
-  visits-stay crowd now most [] [] M N r r2 v = tt
-  visits-stay crowd now most [] (q ∷ qs) M N r r2 v = absurd v
-  visits-stay crowd now most (p ∷ ps) [] M N r r2 v = absurd v
-  visits-stay crowd now most (p ∷ ps) (q ∷ qs) M N r r2 v = (
+  visits-stay : (crowd : Bool) (now most : ℕ) (ps qs : List (Place S)) (M K L N : D) (r r1 s s2 : Option (List ℕ))
+      → VisitsAll received sent has_none is_full has_more is_ended is_broken (spoken speaks (queries answers)) over true crowd now most ps qs M K L N r r1 s s2 → Stay MayCommand ps qs
+  visits-stay crowd now most [] [] M K L N r r1 s s2 v = tt
+  visits-stay crowd now most [] (q ∷ qs) M K L N r r1 s s2 v = absurd v
+  visits-stay crowd now most (p ∷ ps) [] M K L N r r1 s s2 v = absurd v
+  visits-stay crowd now most (p ∷ ps) (q ∷ qs) M K L N r r1 s s2 (inl v) = (
     λ is. waiting-stays (is_to_visit true p && not (over M)) (is_held_back crowd p) now most p q M v.0 r v.1 (unvisited p.is_ready (may_command_at p) (not (over M)) is) is v.2,
-    visits-stay crowd now most ps qs v.0 N v.1 r2 v.3,
+    visits-stay crowd now most ps qs v.0 K L N v.1 r1 s s2 v.3,
   )
+  visits-stay crowd now most (p ∷ ps) (q ∷ qs) M K L N r r1 s s2 (inr v) = absurd (false≢true (sym v.0))
 
   serve-stays : (now most : ℕ) (old new : List (Place S)) (M N : D) (r r2 : Option (List ℕ))
       → ServesQueries received sent has_none is_full has_more is_ended is_broken speaks answers over now most old new M N r r2 → Stay MayCommand old new
   serve-stays now most old new M N r r2 x =
       stay-then MayCommand old x.visited new
       (stay-then MayCommand old x.round.looked x.visited (looked-stay (may_choose old) old x.round.looked x.round.looks)
-      (visits-stay (is_crowd old) now most x.round.looked x.visited M x.between r r2 x.round.visits))
+      (visits-stay (is_crowd old) now most x.round.looked x.visited M x.round.between x.round.between x.between r x.round.readings1 x.round.readings1 r2 x.round.visits))
       (commands-stay x.visited new (coming-stay now x.visited new x.comes))
 
   pub holds-keep-commands : HoldsKeepCommands received sent has_none is_full has_more is_ended is_broken speaks answers over

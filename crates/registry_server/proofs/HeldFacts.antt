@@ -207,16 +207,18 @@ module _ {S : Type 0} (received sent : S → Option (List ℕ)) (has_none is_ful
   }
   visited-few false held crowd now most p q M N r r2 is v = same-few crowd most p q (ap held_at v.place)
 
-  all-few : (paused crowd : Bool) (now most : ℕ) (ps qs : List (Place S)) (M N : D) (r r2 : Option (List ℕ))
-      → VisitsAll received sent has_none is_full has_more is_ended is_broken answers over paused crowd now most ps qs M N r r2 → HoldLittleMore crowd most ps qs
-  all-few paused crowd now most [] [] M N r r2 v = tt
-  all-few paused crowd now most (p ∷ ps) (q ∷ qs) M N r r2 v =
-      (visited-few (is_to_visit paused p && not (over M)) (is_held_back crowd p) crowd now most p q M v.0 r v.1 refl v.2, all-few paused crowd now most ps qs v.0 N v.1 r2 v.3)
-  all-few paused crowd now most [] (q ∷ qs) M N r r2 v = absurd v
-  all-few paused crowd now most (p ∷ ps) [] M N r r2 v = absurd v
+  all-few : (paused crowd : Bool) (now most : ℕ) (ps qs : List (Place S)) (M K L N : D) (r r1 s s2 : Option (List ℕ))
+      → VisitsAll received sent has_none is_full has_more is_ended is_broken answers over paused crowd now most ps qs M K L N r r1 s s2 → HoldLittleMore crowd most ps qs
+  all-few paused crowd now most [] [] M K L N r r1 s s2 v = tt
+  all-few paused crowd now most (p ∷ ps) (q ∷ qs) M K L N r r1 s s2 (inl v) =
+      (visited-few (is_to_visit paused p && not (over M)) (is_held_back crowd p) crowd now most p q M v.0 r v.1 refl v.2, all-few paused crowd now most ps qs v.0 K L N v.1 r1 s s2 v.3)
+  all-few paused crowd now most (p ∷ ps) (q ∷ qs) M K L N r r1 s s2 (inr v) =
+      (visited-few (is_to_visit paused p) (is_held_back crowd p) crowd now most p q L v.1 s v.2 refl v.3.0, all-few paused crowd now most ps qs M K v.1 N r r1 v.2 s2 v.4)
+  all-few paused crowd now most [] (q ∷ qs) M K L N r r1 s s2 v = absurd v
+  all-few paused crowd now most (p ∷ ps) [] M K L N r r1 s s2 v = absurd v
 
   pub rounds-hold-little-more : RoundsHoldLittleMore received sent has_none is_full has_more is_ended is_broken answers over
-  rounds-hold-little-more paused now most old new M N r r2 round = all-few paused (is_crowd old) now most round.looked new M N r r2 round.visits
+  rounds-hold-little-more paused now most old new M N r r2 round = all-few paused (is_crowd old) now most round.looked new M round.between round.between N r round.readings1 round.readings1 r2 round.visits
 
   after-same : (v : Visit) (p : Place S) (d : OpenConnection S) → (after_visit v p d).is_chosen ≡ p.is_chosen
   after-same Again p d = refl
@@ -234,23 +236,29 @@ module _ {S : Type 0} (received sent : S → Option (List ℕ)) (has_none is_ful
   visited-same true false now most p q M N r r2 v = there-same now most p p.connection q M N r r2 v
   visited-same false held now most p q M N r r2 v = ap (λ (x : Place S). x.is_chosen) v.place
 
-  all-chosen : (paused crowd : Bool) (now most : ℕ) (ps qs : List (Place S)) (M N : D) (r r2 : Option (List ℕ))
-      → VisitsAll received sent has_none is_full has_more is_ended is_broken answers over paused crowd now most ps qs M N r r2 → sum_by chosen_count qs ≡ sum_by chosen_count ps
-  all-chosen paused crowd now most [] [] M N r r2 v = refl
-  all-chosen paused crowd now most (p ∷ ps) (q ∷ qs) M N r r2 v =
-      let same : chosen_count q ≡ chosen_count p = ap {B = ℕ} (λ (b : Bool). cond b 1 0) (visited-same (is_to_visit paused p && not (over M)) (is_held_back crowd p) now most p q M v.0 r v.1 v.2) in
-      omega (arith, same, sum_by-cons chosen_count q qs, sum_by-cons chosen_count p ps, all-chosen paused crowd now most ps qs v.0 N v.1 r2 v.3)
-  all-chosen paused crowd now most [] (q ∷ qs) M N r r2 v = absurd v
-  all-chosen paused crowd now most (p ∷ ps) [] M N r r2 v = absurd v
+  chosen-step : (p q : Place S) (ps qs : List (Place S)) → q.is_chosen ≡ p.is_chosen → sum_by chosen_count qs ≡ sum_by chosen_count ps → sum_by chosen_count (q ∷ qs) ≡ sum_by chosen_count (p ∷ ps)
+  chosen-step p q ps qs is rest =
+      let same : chosen_count q ≡ chosen_count p = ap {B = ℕ} (λ (b : Bool). cond b 1 0) is in
+      omega (arith, same, sum_by-cons chosen_count q qs, sum_by-cons chosen_count p ps, rest)
 
-  visited-few-chosen : (paused crowd : Bool) (now most : ℕ) (ps qs : List (Place S)) (M N : D) (r r2 : Option (List ℕ)) → FewChosen ps
-      → VisitsAll received sent has_none is_full has_more is_ended is_broken answers over paused crowd now most ps qs M N r r2 → FewChosen qs
-  visited-few-chosen paused crowd now most ps qs M N r r2 few v = omega (arith, few, all-chosen paused crowd now most ps qs M N r r2 v)
+  all-chosen : (paused crowd : Bool) (now most : ℕ) (ps qs : List (Place S)) (M K L N : D) (r r1 s s2 : Option (List ℕ))
+      → VisitsAll received sent has_none is_full has_more is_ended is_broken answers over paused crowd now most ps qs M K L N r r1 s s2 → sum_by chosen_count qs ≡ sum_by chosen_count ps
+  all-chosen paused crowd now most [] [] M K L N r r1 s s2 v = refl
+  all-chosen paused crowd now most (p ∷ ps) (q ∷ qs) M K L N r r1 s s2 (inl v) =
+      chosen-step p q ps qs (visited-same (is_to_visit paused p && not (over M)) (is_held_back crowd p) now most p q M v.0 r v.1 v.2) (all-chosen paused crowd now most ps qs v.0 K L N v.1 r1 s s2 v.3)
+  all-chosen paused crowd now most (p ∷ ps) (q ∷ qs) M K L N r r1 s s2 (inr v) =
+      chosen-step p q ps qs (visited-same (is_to_visit paused p) (is_held_back crowd p) now most p q L v.1 s v.2 v.3.0) (all-chosen paused crowd now most ps qs M K v.1 N r r1 v.2 s2 v.4)
+  all-chosen paused crowd now most [] (q ∷ qs) M K L N r r1 s s2 v = absurd v
+  all-chosen paused crowd now most (p ∷ ps) [] M K L N r r1 s s2 v = absurd v
+
+  visited-few-chosen : (paused crowd : Bool) (now most : ℕ) (ps qs : List (Place S)) (M K L N : D) (r r1 s s2 : Option (List ℕ)) → FewChosen ps
+      → VisitsAll received sent has_none is_full has_more is_ended is_broken answers over paused crowd now most ps qs M K L N r r1 s s2 → FewChosen qs
+  visited-few-chosen paused crowd now most ps qs M K L N r r1 s s2 few v = omega (arith, few, all-chosen paused crowd now most ps qs M K L N r r1 s s2 v)
 
   pub rounds-read-few : RoundsReadFew received sent has_none is_full has_more is_ended is_broken answers over
   rounds-read-few paused now most old new M N r r2 few round =
       let looked = looked-few (is_crowd old && has_room old) (is_crowd old) old round.looked refl round.looks few in
-      (looked, visited-few-chosen paused (is_crowd old) now most round.looked new M N r r2 looked round.visits)
+      (looked, visited-few-chosen paused (is_crowd old) now most round.looked new M round.between round.between N r round.readings1 round.readings1 r2 looked round.visits)
 
 -- ---- what a visit adds
 
@@ -464,37 +472,49 @@ module _ {S : Type 0} (received sent : S → Option (List ℕ)) (has_none is_ful
   visited-counts true false now most p q M N r r2 is v = there-counts now most p p.connection q M N r r2 refl is v
   visited-counts false held now most p q M N r r2 is v = omega (arith, ap (counted_at most) v.place)
 
-  all-counts : (paused : Bool) (now most : ℕ) (ps qs : List (Place S)) (M N : D) (r r2 : Option (List ℕ))
-      → VisitsAll received sent has_none is_full has_more is_ended is_broken answers over paused true now most ps qs M N r r2 → sum_by (counted_at most) qs ≤ sum_by (counted_at most) ps
-  all-counts paused now most [] [] M N r r2 v = omega arith
-  all-counts paused now most (p ∷ ps) (q ∷ qs) M N r r2 v =
-      let one = visited-counts (is_to_visit paused p && not (over M)) (is_held_back true p) now most p q M v.0 r v.1 refl v.2 in
-      let rest = all-counts paused now most ps qs v.0 N v.1 r2 v.3 in
-      omega (arith, one, rest, sum_by-cons (counted_at most) q qs, sum_by-cons (counted_at most) p ps)
-  all-counts paused now most [] (q ∷ qs) M N r r2 v = absurd v
-  all-counts paused now most (p ∷ ps) [] M N r r2 v = absurd v
+  counts-step : (most : ℕ) (p q : Place S) (ps qs : List (Place S)) → counted_at most q ≤ counted_at most p → sum_by (counted_at most) qs ≤ sum_by (counted_at most) ps
+      → sum_by (counted_at most) (q ∷ qs) ≤ sum_by (counted_at most) (p ∷ ps)
+  counts-step most p q ps qs one rest = omega (arith, one, rest, sum_by-cons (counted_at most) q qs, sum_by-cons (counted_at most) p ps)
 
-  all-length : (paused crowd : Bool) (now most : ℕ) (ps qs : List (Place S)) (M N : D) (r r2 : Option (List ℕ))
-      → VisitsAll received sent has_none is_full has_more is_ended is_broken answers over paused crowd now most ps qs M N r r2 → length qs ≡ length ps
-  all-length paused crowd now most [] [] M N r r2 v = refl
-  all-length paused crowd now most (p ∷ ps) (q ∷ qs) M N r r2 v = omega (arith, all-length paused crowd now most ps qs v.0 N v.1 r2 v.3)
-  all-length paused crowd now most [] (q ∷ qs) M N r r2 v = absurd v
-  all-length paused crowd now most (p ∷ ps) [] M N r r2 v = absurd v
+  all-counts : (paused : Bool) (now most : ℕ) (ps qs : List (Place S)) (M K L N : D) (r r1 s s2 : Option (List ℕ))
+      → VisitsAll received sent has_none is_full has_more is_ended is_broken answers over paused true now most ps qs M K L N r r1 s s2 → sum_by (counted_at most) qs ≤ sum_by (counted_at most) ps
+  all-counts paused now most [] [] M K L N r r1 s s2 v = omega arith
+  all-counts paused now most (p ∷ ps) (q ∷ qs) M K L N r r1 s s2 (inl v) =
+      counts-step most p q ps qs (visited-counts (is_to_visit paused p && not (over M)) (is_held_back true p) now most p q M v.0 r v.1 refl v.2) (all-counts paused now most ps qs v.0 K L N v.1 r1 s s2 v.3)
+  all-counts paused now most (p ∷ ps) (q ∷ qs) M K L N r r1 s s2 (inr v) =
+      counts-step most p q ps qs (visited-counts (is_to_visit paused p) (is_held_back true p) now most p q L v.1 s v.2 refl v.3.0) (all-counts paused now most ps qs M K v.1 N r r1 v.2 s2 v.4)
+  all-counts paused now most [] (q ∷ qs) M K L N r r1 s s2 v = absurd v
+  all-counts paused now most (p ∷ ps) [] M K L N r r1 s s2 v = absurd v
 
-  -- each place counts little more than what was held there
-  all-added : (paused crowd : Bool) (now most : ℕ) (ps qs : List (Place S)) (M N : D) (r r2 : Option (List ℕ))
-      → VisitsAll received sent has_none is_full has_more is_ended is_broken answers over paused crowd now most ps qs M N r r2
-      → sum_by (counted_at most) qs ≤ sum_by held_at ps + length ps * added_at_most most
-  all-added paused crowd now most [] [] M N r r2 v = omega arith
-  all-added paused crowd now most (p ∷ ps) (q ∷ qs) M N r r2 v =
-      let few = visited-few received sent has_none is_full has_more is_ended is_broken answers over (is_to_visit paused p && not (over M)) (is_held_back crowd p) crowd now most p q M v.0 r v.1 refl v.2 in
-      let one : counted_at most q ≤ held_at p + added_at_most most = few-counted q.is_chosen (held_at q) (held_at p) most (held_before most) few.few in
-      let rest = all-added paused crowd now most ps qs v.0 N v.1 r2 v.3 in
+  all-length : (paused crowd : Bool) (now most : ℕ) (ps qs : List (Place S)) (M K L N : D) (r r1 s s2 : Option (List ℕ))
+      → VisitsAll received sent has_none is_full has_more is_ended is_broken answers over paused crowd now most ps qs M K L N r r1 s s2 → length qs ≡ length ps
+  all-length paused crowd now most [] [] M K L N r r1 s s2 v = refl
+  all-length paused crowd now most (p ∷ ps) (q ∷ qs) M K L N r r1 s s2 (inl v) = omega (arith, all-length paused crowd now most ps qs v.0 K L N v.1 r1 s s2 v.3)
+  all-length paused crowd now most (p ∷ ps) (q ∷ qs) M K L N r r1 s s2 (inr v) = omega (arith, all-length paused crowd now most ps qs M K v.1 N r r1 v.2 s2 v.4)
+  all-length paused crowd now most [] (q ∷ qs) M K L N r r1 s s2 v = absurd v
+  all-length paused crowd now most (p ∷ ps) [] M K L N r r1 s s2 v = absurd v
+
+  added-step : (most : ℕ) (p q : Place S) (ps qs : List (Place S)) → held_at q ≤ held_at p + most → sum_by (counted_at most) qs ≤ sum_by held_at ps + length ps * added_at_most most
+      → sum_by (counted_at most) (q ∷ qs) ≤ sum_by held_at (p ∷ ps) + suc (length ps) * added_at_most most
+  added-step most p q ps qs few rest =
+      let one : counted_at most q ≤ held_at p + added_at_most most = few-counted q.is_chosen (held_at q) (held_at p) most (held_before most) few in
       let step = many-step (counted_at most q) (sum_by (counted_at most) qs) (held_at p) (sum_by held_at ps) (length ps) (added_at_most most) one rest in
       subst (λ (n : ℕ). n ≤ sum_by held_at (p ∷ ps) + suc (length ps) * added_at_most most) (sym (sum_by-cons (counted_at most) q qs))
       (subst (λ (n : ℕ). counted_at most q + sum_by (counted_at most) qs ≤ n + suc (length ps) * added_at_most most) (sym (sum_by-cons held_at p ps)) step)
-  all-added paused crowd now most [] (q ∷ qs) M N r r2 v = absurd v
-  all-added paused crowd now most (p ∷ ps) [] M N r r2 v = absurd v
+
+  -- each place counts little more than what was held there
+  all-added : (paused crowd : Bool) (now most : ℕ) (ps qs : List (Place S)) (M K L N : D) (r r1 s s2 : Option (List ℕ))
+      → VisitsAll received sent has_none is_full has_more is_ended is_broken answers over paused crowd now most ps qs M K L N r r1 s s2
+      → sum_by (counted_at most) qs ≤ sum_by held_at ps + length ps * added_at_most most
+  all-added paused crowd now most [] [] M K L N r r1 s s2 v = omega arith
+  all-added paused crowd now most (p ∷ ps) (q ∷ qs) M K L N r r1 s s2 (inl v) =
+      let few = visited-few received sent has_none is_full has_more is_ended is_broken answers over (is_to_visit paused p && not (over M)) (is_held_back crowd p) crowd now most p q M v.0 r v.1 refl v.2 in
+      added-step most p q ps qs few.few (all-added paused crowd now most ps qs v.0 K L N v.1 r1 s s2 v.3)
+  all-added paused crowd now most (p ∷ ps) (q ∷ qs) M K L N r r1 s s2 (inr v) =
+      let few = visited-few received sent has_none is_full has_more is_ended is_broken answers over (is_to_visit paused p) (is_held_back crowd p) crowd now most p q L v.1 s v.2 refl v.3.0 in
+      added-step most p q ps qs few.few (all-added paused crowd now most ps qs M K v.1 N r r1 v.2 s2 v.4)
+  all-added paused crowd now most [] (q ∷ qs) M K L N r r1 s s2 v = absurd v
+  all-added paused crowd now most (p ∷ ps) [] M K L N r r1 s s2 v = absurd v
 
   there-request : (now most : ℕ) (p : Place S) (o : Option (OpenConnection S)) (q : Place S) (M N : D) (r r2 : Option (List ℕ)) → p.connection ≡ o
       → VisitsThere received sent has_none is_full has_more is_ended is_broken answers now most p o q M N r r2 → HoldsOneRequest most p → HoldsOneRequest most q
@@ -512,14 +532,17 @@ module _ {S : Type 0} (received sent : S → Option (List ℕ)) (has_none is_ful
   visited-request true false now most p q M N r r2 v h = there-request now most p p.connection q M N r r2 refl v h
   visited-request false held now most p q M N r r2 v h = let here = ap held_at v.place in omega (arith, here, h)
 
-  all-request : (paused crowd : Bool) (now most : ℕ) (ps qs : List (Place S)) (M N : D) (r r2 : Option (List ℕ)) → All (HoldsOneRequest most) ps
-      → VisitsAll received sent has_none is_full has_more is_ended is_broken answers over paused crowd now most ps qs M N r r2 → All (HoldsOneRequest most) qs
-  all-request paused crowd now most [] [] M N r r2 h v = h
-  all-request paused crowd now most (p ∷ ps) (q ∷ qs) M N r r2 h v = All-cons (HoldsOneRequest most) q qs
+  all-request : (paused crowd : Bool) (now most : ℕ) (ps qs : List (Place S)) (M K L N : D) (r r1 s s2 : Option (List ℕ)) → All (HoldsOneRequest most) ps
+      → VisitsAll received sent has_none is_full has_more is_ended is_broken answers over paused crowd now most ps qs M K L N r r1 s s2 → All (HoldsOneRequest most) qs
+  all-request paused crowd now most [] [] M K L N r r1 s s2 h v = h
+  all-request paused crowd now most (p ∷ ps) (q ∷ qs) M K L N r r1 s s2 h (inl v) = All-cons (HoldsOneRequest most) q qs
       (visited-request (is_to_visit paused p && not (over M)) (is_held_back crowd p) now most p q M v.0 r v.1 v.2 (All-head (HoldsOneRequest most) p ps h))
-      (all-request paused crowd now most ps qs v.0 N v.1 r2 (All-tail (HoldsOneRequest most) p ps h) v.3)
-  all-request paused crowd now most [] (q ∷ qs) M N r r2 h v = absurd v
-  all-request paused crowd now most (p ∷ ps) [] M N r r2 h v = absurd v
+      (all-request paused crowd now most ps qs v.0 K L N v.1 r1 s s2 (All-tail (HoldsOneRequest most) p ps h) v.3)
+  all-request paused crowd now most (p ∷ ps) (q ∷ qs) M K L N r r1 s s2 h (inr v) = All-cons (HoldsOneRequest most) q qs
+      (visited-request (is_to_visit paused p) (is_held_back crowd p) now most p q L v.1 s v.2 v.3.0 (All-head (HoldsOneRequest most) p ps h))
+      (all-request paused crowd now most ps qs M K v.1 N r r1 v.2 s2 (All-tail (HoldsOneRequest most) p ps h) v.4)
+  all-request paused crowd now most [] (q ∷ qs) M K L N r r1 s s2 h v = absurd v
+  all-request paused crowd now most (p ∷ ps) [] M K L N r r1 s s2 h v = absurd v
 
   after-little : (most : ℕ) (v : Visit) (p : Place S) (d : OpenConnection S) → (v ≢ Over → LeavesLittle most d) → HoldsLittleRest most (after_visit v p d)
   after-little most Again p d little = little (λ e. absurd (cc))
@@ -539,28 +562,31 @@ module _ {S : Type 0} (received sent : S → Option (List ℕ)) (has_none is_ful
   visited-little true false now most p q M N r r2 v h = there-little now most p p.connection q M N r r2 refl v h
   visited-little false held now most p q M N r r2 v h = subst (HoldsLittleRest most) (sym v.place) h
 
-  all-little : (paused crowd : Bool) (now most : ℕ) (ps qs : List (Place S)) (M N : D) (r r2 : Option (List ℕ)) → All (HoldsLittleRest most) ps
-      → VisitsAll received sent has_none is_full has_more is_ended is_broken answers over paused crowd now most ps qs M N r r2 → All (HoldsLittleRest most) qs
-  all-little paused crowd now most [] [] M N r r2 h v = h
-  all-little paused crowd now most (p ∷ ps) (q ∷ qs) M N r r2 h v = All-cons (HoldsLittleRest most) q qs
+  all-little : (paused crowd : Bool) (now most : ℕ) (ps qs : List (Place S)) (M K L N : D) (r r1 s s2 : Option (List ℕ)) → All (HoldsLittleRest most) ps
+      → VisitsAll received sent has_none is_full has_more is_ended is_broken answers over paused crowd now most ps qs M K L N r r1 s s2 → All (HoldsLittleRest most) qs
+  all-little paused crowd now most [] [] M K L N r r1 s s2 h v = h
+  all-little paused crowd now most (p ∷ ps) (q ∷ qs) M K L N r r1 s s2 h (inl v) = All-cons (HoldsLittleRest most) q qs
       (visited-little (is_to_visit paused p && not (over M)) (is_held_back crowd p) now most p q M v.0 r v.1 v.2 (All-head (HoldsLittleRest most) p ps h))
-      (all-little paused crowd now most ps qs v.0 N v.1 r2 (All-tail (HoldsLittleRest most) p ps h) v.3)
-  all-little paused crowd now most [] (q ∷ qs) M N r r2 h v = absurd v
-  all-little paused crowd now most (p ∷ ps) [] M N r r2 h v = absurd v
+      (all-little paused crowd now most ps qs v.0 K L N v.1 r1 s s2 (All-tail (HoldsLittleRest most) p ps h) v.3)
+  all-little paused crowd now most (p ∷ ps) (q ∷ qs) M K L N r r1 s s2 h (inr v) = All-cons (HoldsLittleRest most) q qs
+      (visited-little (is_to_visit paused p) (is_held_back crowd p) now most p q L v.1 s v.2 v.3.0 (All-head (HoldsLittleRest most) p ps h))
+      (all-little paused crowd now most ps qs M K v.1 N r r1 v.2 s2 (All-tail (HoldsLittleRest most) p ps h) v.4)
+  all-little paused crowd now most [] (q ∷ qs) M K L N r r1 s s2 h v = absurd v
+  all-little paused crowd now most (p ∷ ps) [] M K L N r r1 s s2 h v = absurd v
 
-  round-counts : (paused b : Bool) (now most : ℕ) (old looked new : List (Place S)) (M N : D) (r r2 : Option (List ℕ)) → is_crowd old ≡ b
+  round-counts : (paused b : Bool) (now most : ℕ) (old looked new : List (Place S)) (M K L N : D) (r r1 s s2 : Option (List ℕ)) → is_crowd old ≡ b
       → ChoosesIf (b && has_room old) (map settled old) looked
-      → VisitsAll received sent has_none is_full has_more is_ended is_broken answers over paused b now most looked new M N r r2
+      → VisitsAll received sent has_none is_full has_more is_ended is_broken answers over paused b now most looked new M K L N r r1 s s2
       → length old ≡ place_count → All (HoldsLittleRest most) old → sum_by (counted_at most) old ≤ held_limit + place_count * added_at_most most → sum_by (counted_at most) new ≤ held_limit + place_count * added_at_most most
-  round-counts paused true now most old looked new M N r r2 is looks v count little h =
+  round-counts paused true now most old looked new M K L N r r1 s s2 is looks v count little h =
       let each = All-weaker (HoldsLittleRest {S = S} most) (λ (p : Place S). counted_at most (settled p) ≤ counted_at most p)
       (λ (p : Place S) rest. settled-counts p.is_chosen (nat_lt body_least (held_at p)) (is_answered_at p) (held_at p) (held_before most) most refl rest (omega arith) (omega arith)) old little in
       let first = map-sum-all (counted_at {S = S} most) (counted_at most) settled old each in
       let second = looked-counts (has_room old) most (map settled old) looked looks in
-      let third = all-counts paused now most looked new M N r r2 v in
+      let third = all-counts paused now most looked new M K L N r r1 s s2 v in
       le_trans third (le_trans second (le_trans first h))
-  round-counts paused false now most old looked new M N r r2 is looks v count little h =
-      let added = all-added paused false now most looked new M N r r2 v in
+  round-counts paused false now most old looked new M K L N r r1 s s2 is looks v count little h =
+      let added = all-added paused false now most looked new M K L N r r1 s s2 v in
       let held : sum_by held_at looked ≤ sum_by held_at old =
       subst (λ (l : List (Place S)). sum_by held_at l ≤ sum_by held_at old) (sym looks) (map-sum (held_at {S = S}) held_at settled (λ (p : Place S). omega arith) old) in
       let low : sum_by held_at old < held_limit = leb-false held_limit (sum_by held_at old) is in
@@ -570,7 +596,7 @@ module _ {S : Type 0} (received sent : S → Option (List ℕ)) (has_none is_ful
 
   pub rounds-leave-little : RoundsLeaveLittle received sent has_none is_full has_more is_ended is_broken answers over
   rounds-leave-little paused now most old new M N r r2 h round =
-      let size : length new ≡ length old = all-length paused (is_crowd old) now most round.looked new M N r r2 round.visits
+      let size : length new ≡ length old = all-length paused (is_crowd old) now most round.looked new M round.between round.between N r round.readings1 round.readings1 r2 round.visits
       ∙ looked-length (is_crowd old && has_room old) (map settled old) round.looked round.looks ∙ map-length settled old in
       let crowd = is_crowd old in
       let each = looked-each (HoldsOneRequest {S = S} most) (λ (p : Place S) one. one) (crowd && has_room old) (map settled old) round.looked round.looks
@@ -580,9 +606,9 @@ module _ {S : Type 0} (received sent : S → Option (List ℕ)) (has_none is_ful
       record {
         size = size ∙ h.size;
         few = (rounds-read-few received sent has_none is_full has_more is_ended is_broken answers over paused now most old new M N r r2 h.few round).1;
-        each = all-request paused (is_crowd old) now most round.looked new M N r r2 each round.visits;
-        rest = all-little paused (is_crowd old) now most round.looked new M N r r2 rest round.visits;
-        counted = round-counts paused (is_crowd old) now most old round.looked new M N r r2 refl round.looks round.visits h.size h.rest h.counted;
+        each = all-request paused (is_crowd old) now most round.looked new M round.between round.between N r round.readings1 round.readings1 r2 each round.visits;
+        rest = all-little paused (is_crowd old) now most round.looked new M round.between round.between N r round.readings1 round.readings1 r2 rest round.visits;
+        counted = round-counts paused (is_crowd old) now most old round.looked new M round.between round.between N r round.readings1 round.readings1 r2 refl round.looks round.visits h.size h.rest h.counted;
       }
 
 -- ---- the other calls

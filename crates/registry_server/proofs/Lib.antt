@@ -1,4 +1,5 @@
 mod PoolFacts
+mod GroupFacts
 pub mod SocketFacts
 mod StateFacts
 mod VisitFacts

@@ -4,9 +4,9 @@ use Rattle.std.specs.List.{list_any}
 use Rattle.std.proofs.lemmas.Bool.{and_parts, false≢true}
 use Rattle.std.proofs.lemmas.Bool.Decides.{nat_tests}
 use Rattle.std.proofs.lemmas.Option.{slice_get_read}
-use Rattle.std.proofs.lemmas.List.{drop-drop, drop-set-lt, drop_all, get_or-drop, take_all, take_more, take_more_set}
+use Rattle.std.proofs.lemmas.List.{drop-drop, drop-set-lt, drop_all, take_all}
 use Rattle.registry_service.specs.Turns.{Dialogue}
-use Rattle.registry_server.specs.Pools.{ChoosesIf, ChoosesNext, EndsIdle, IsEarliestOf, IsFirstOfEarliest, LooksAtBodies, VisitsAll, VisitsAt, VisitsIf, VisitsThere, after_visit, at_place, body_with, chosen, command_with, earlier, emptied, has_body_at, has_room, held_at, held_limit, idle_at, idle_in, idle_times, is_busy, is_crowd, is_due, is_held_back, is_to_visit, may_command_at, read_count, read_together, settled, waiting_at, waiting_times, waits_since, waits_since_at, with_connection}
+use Rattle.registry_server.specs.Pools.{ChoosesIf, ChoosesNext, EndsIdle, IsEarliestOf, IsFirstOfEarliest, LooksAtBodies, VisitsAt, VisitsIf, VisitsThere, after_visit, at_place, body_with, chosen, command_with, earlier, emptied, has_body_at, has_room, held_at, held_limit, idle_at, idle_in, idle_times, is_busy, is_crowd, is_due, is_held_back, is_to_visit, may_command_at, read_count, read_together, settled, waiting_at, waiting_times, waits_since, waits_since_at, with_connection}
 use Rattle.registry_server.specs.Connections.{IsDone, IsLost, LeavesLittle, OpenConnection, Visits, has_body, has_body_in, may_command, must_wait}
 use Rattle.registry_server.specs.declared.connection.Visit.{Visit}
 use Rattle.registry_server.specs.declared.connection.Visit.TheVariants.{Again, Rests, Over}
@@ -189,7 +189,7 @@ no-command ready false command is waits = absurd (false≢true waits)
 pub query-there : {S : Type 0} (paused : Bool) (p : Place S) (c : OpenConnection S) → p.connection ≡ Some c → is_to_visit paused p ≡ true → paused ≡ true → may_command c ≡ false
 query-there paused p c at is waits = sym (ap command_with at) ∙ no-command p.is_ready paused (may_command_at p) is waits
 
--- ---- the visits of the places, one after the other
+-- ---- the visit of a place
 
 module _ {S : Type 0} (received sent : S → Option (List ℕ)) (has_none is_full has_more is_ended is_broken : S → Bool) {D : Type 0} (answers : Dialogue D) (over : D → Bool) where
   -- no connection is to be visited there, or the service is over
@@ -224,37 +224,6 @@ module _ {S : Type 0} (received sent : S → Option (List ℕ)) (has_none is_ful
       → VisitsAt received sent has_none is_full has_more is_ended is_broken answers over paused crowd now most p (after_visit v p d) M N r r2
   visits-there paused crowd now most p c d v M N r r2 is held at visits rests waits more over ends leaves = there paused crowd now most p (after_visit v p d) M N r r2 (Some c) is held at
       (record { connection = d; visits = visits; visit = v; place = refl; rests = rests; waits = waits; more = more; over = over; ends = ends; leaves = leaves })
-
-  visits-more : (paused crowd : Bool) (now most : ℕ) (ps qs : List (Place S)) (p q : Place S) (M m N : D) (r r1 r2 : Option (List ℕ))
-      → VisitsAll received sent has_none is_full has_more is_ended is_broken answers over paused crowd now most ps qs M m r r1 → VisitsAt received sent has_none is_full has_more is_ended is_broken answers over paused crowd now most p q m N r1 r2
-      → VisitsAll received sent has_none is_full has_more is_ended is_broken answers over paused crowd now most (ps ++ p ∷ []) (qs ++ q ∷ []) M N r r2
-  visits-more paused crowd now most [] [] p q M m N r r1 r2 all one = (
-    N,
-    r2,
-    subst (λ (d : D). VisitsAt received sent has_none is_full has_more is_ended is_broken answers over paused crowd now most p q d N r r2) all.0
-        (subst (λ (x : Option (List ℕ)). VisitsAt received sent has_none is_full has_more is_ended is_broken answers over paused crowd now most p q m N x r2) all.1 one),
-    (refl, refl),
-  )
-  visits-more paused crowd now most (a ∷ ps) (b ∷ qs) p q M m N r r1 r2 all one = (all.0, all.1, all.2, visits-more paused crowd now most ps qs p q all.0 m N all.1 r1 r2 all.3 one)
-  visits-more paused crowd now most [] (b ∷ qs) p q M m N r r1 r2 all one = absurd all
-  visits-more paused crowd now most (a ∷ ps) [] p q M m N r r1 r2 all one = absurd all
-
-  -- one more place was visited
-  pub visits-step : (paused crowd : Bool) (now most : ℕ) (old items : List (Place S)) (i : ℕ) (p q : Place S) (M m N : D) (r r1 r2 : Option (List ℕ))
-      → i < length old → length items ≡ length old → drop i items ≡ drop i old → p ≡ get_or items i p
-      → VisitsAll received sent has_none is_full has_more is_ended is_broken answers over paused crowd now most (take i old) (take i items) M m r r1
-      → VisitsAt received sent has_none is_full has_more is_ended is_broken answers over paused crowd now most p q m N r1 r2
-      → VisitsAll received sent has_none is_full has_more is_ended is_broken answers over paused crowd now most (take (i + 1) old) (take (i + 1) (set items i q)) M N r r2
-  visits-step paused crowd now most old items i p q M m N r r1 r2 within len rest is all one =
-      let none : i + 0 ≡ i = omega arith in
-      let first : get_or (drop i items) 0 p ≡ get_or items i p = get_or-drop i items 0 p ∙ ap (λ (n : ℕ). get_or items n p) none in
-      let second : get_or (drop i old) 0 p ≡ get_or old i p = get_or-drop i old 0 p ∙ ap (λ (n : ℕ). get_or old n p) none in
-      let here : p ≡ get_or old i p = is ∙ sym first ∙ ap (λ (l : List (Place S)). get_or l 0 p) rest ∙ second in
-      let before : take (i + 1) old ≡ take i old ++ p ∷ [] = take_more old i p within ∙ ap (λ (x : Place S). take i old ++ x ∷ []) (sym here) in
-      let after : take (i + 1) (set items i q) ≡ take i items ++ q ∷ [] = take_more_set items i q (omega (arith, within, len)) in
-      subst (λ (l : List (Place S)). VisitsAll received sent has_none is_full has_more is_ended is_broken answers over paused crowd now most l (take (i + 1) (set items i q)) M N r r2) (sym before)
-      (subst (λ (l : List (Place S)). VisitsAll received sent has_none is_full has_more is_ended is_broken answers over paused crowd now most (take i old ++ p ∷ []) l M N r r2) (sym after)
-      (visits-more paused crowd now most (take i old) (take i items) p q M m N r r1 r2 all one))
 
 -- the places that weren't visited yet are as they were
 pub rest-step : {A : Type 0} (old items : List A) (i : ℕ) (q : A) → drop i items ≡ drop i old → drop (i + 1) (set items i q) ≡ drop (i + 1) old

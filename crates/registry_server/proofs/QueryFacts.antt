@@ -16,12 +16,12 @@ use Rattle.registry_wire.specs.declared.wanted.Wanted.{Wanted}
 use Rattle.registry_wire.specs.Reading.{TakenOf}
 use Rattle.registry_service.specs.Courses.{taken_for}
 use Rattle.registry_service.specs.Dialects.{AreQueries, AsksQueriesByGet, IsReader}
-use Rattle.registry_service.specs.Turns.{Answering, AnswersAsBefore, AnswersEach, Cause, Dialect, Exchange, Turns, bad_input, no_memory, request, spoken}
+use Rattle.registry_service.specs.Turns.{Answering, AnswersAsBefore, AnswersEach, Cause, Dialect, Exchange, Turns, bad_input, exchange, no_memory, request, spoken}
 use Rattle.registry_service.specs.declared.turning.Turned.{Turned}
 use Rattle.registry_server.specs.ConnectionStates.{MayTakeTurn, Pending, holding}
 use Rattle.registry_server.specs.Connections.{IsInOrder, Keeps, LeavesLittle, OpenConnection, TakesOne, Visits, may_command, query_start}
 use Rattle.registry_server.specs.Phases.{HeardAt, is_under_way}
-use Rattle.registry_server.specs.Pools.{HoldsAskQueries, QueriesAreAnswers, ServesQueries, no_round, one_round, VisitsAll, VisitsIf, VisitsThere, is_crowd, is_held_back, is_to_visit}
+use Rattle.registry_server.specs.Pools.{AsksCommand, HoldsAskQueries, QueriesAreAnswers, ServesQueries, no_round, one_round, VisitsAll, VisitsIf, VisitsThere, is_crowd, is_held_back, is_to_visit}
 use Rattle.registry_server.specs.Queries.{AskQueries, IsQueried, one_more, queries, unasked}
 use Rattle.registry_server.specs.declared.phase.Phase.{Phase}
 use Rattle.registry_server.specs.declared.phase.Stage.{Stage}
@@ -81,6 +81,10 @@ module _ {D : Type 0} (answers : Answering D) where
   each-leaves K M (e ∷ es) N was (P, first, rest) = each-leaves K P es N (one_more M P e.asked e.outcome was first.0 first.1) rest
 
 module _ (speaks : Dialect) {D : Type 0} (answers : Answering D) where
+  -- so is a command
+  command-answered : (M N : D) → AsksCommand (spoken speaks (queries answers)) M N → AsksCommand (spoken speaks answers) M N
+  command-answered M N (r, o, is, asked) = (r, o, is, each-answered answers M (exchange r o ∷ []) N asked)
+
   -- where its request begins as a query does, it asks queries alone
   turn-query : AsksQueriesByGet speaks → (c : Cause) (M : D) (last : Bool) (t : Turned) (N : D) → ((w : Wanted) (at : ℕ) → c ≡ request w at → IsReader w.method)
       → Turns (spoken speaks answers) M c last t N → Turns (spoken speaks (queries answers)) M c last t N
@@ -273,24 +277,33 @@ module _ {S : Type 0} (received sent : S → Option (List ℕ)) (has_none is_ful
   visited-answered true false now most p q M N r r2 v = there-answered now most p p.connection q M N r r2 v
   visited-answered false held now most p q M N r r2 v = record { place = v.place; service = v.service; unasked = v.unasked }
 
-  all-answered : (paused crowd : Bool) (now most : ℕ) (ps qs : List (Place S)) (M N : D) (r r2 : Option (List ℕ))
-      → VisitsAll received sent has_none is_full has_more is_ended is_broken (spoken speaks (queries answers)) over paused crowd now most ps qs M N r r2
-      → VisitsAll received sent has_none is_full has_more is_ended is_broken (spoken speaks answers) over paused crowd now most ps qs M N r r2
-  all-answered paused crowd now most [] [] M N r r2 v = v
-  all-answered paused crowd now most (p ∷ ps) (q ∷ qs) M N r r2 v = (
+  all-answered : (paused crowd : Bool) (now most : ℕ) (ps qs : List (Place S)) (M K L N : D) (r r1 s s2 : Option (List ℕ))
+      → VisitsAll received sent has_none is_full has_more is_ended is_broken (spoken speaks (queries answers)) over paused crowd now most ps qs M K L N r r1 s s2
+      → VisitsAll received sent has_none is_full has_more is_ended is_broken (spoken speaks answers) over paused crowd now most ps qs M K L N r r1 s s2
+  all-answered paused crowd now most [] [] M K L N r r1 s s2 v = v
+  all-answered paused crowd now most (p ∷ ps) (q ∷ qs) M K L N r r1 s s2 (inl v) = inl (
     v.0,
     v.1,
     visited-answered (is_to_visit paused p && not (over M)) (is_held_back crowd p) now most p q M v.0 r v.1 v.2,
-    all-answered paused crowd now most ps qs v.0 N v.1 r2 v.3,
+    all-answered paused crowd now most ps qs v.0 K L N v.1 r1 s s2 v.3,
   )
-  all-answered paused crowd now most [] (q ∷ qs) M N r r2 v = absurd v
-  all-answered paused crowd now most (p ∷ ps) [] M N r r2 v = absurd v
+  all-answered paused crowd now most (p ∷ ps) (q ∷ qs) M K L N r r1 s s2 (inr v) = inr (
+    v.0,
+    v.1,
+    v.2,
+    (visited-answered (is_to_visit paused p) (is_held_back crowd p) now most p q L v.1 s v.2 v.3.0, command-answered speaks answers L v.1 v.3.1),
+    all-answered paused crowd now most ps qs M K v.1 N r r1 v.2 s2 v.4,
+  )
+  all-answered paused crowd now most [] (q ∷ qs) M K L N r r1 s s2 v = absurd v
+  all-answered paused crowd now most (p ∷ ps) [] M K L N r r1 s s2 v = absurd v
 
   pub queries-are-answers : QueriesAreAnswers received sent has_none is_full has_more is_ended is_broken speaks answers over
   queries-are-answers paused now most old new M N r r2 round = record {
     looked = round.looked;
     looks = round.looks;
-    visits = all-answered paused (is_crowd old) now most round.looked new M N r r2 round.visits;
+    between = round.between;
+    readings1 = round.readings1;
+    visits = all-answered paused (is_crowd old) now most round.looked new M round.between round.between N r round.readings1 round.readings1 r2 round.visits;
   }
 
   there-leaves : (K : D) (now most : ℕ) (p : Place S) (o : Option (OpenConnection S)) (q : Place S) (M N : D) (r r2 : Option (List ℕ)) → AskQueries answers K M
@@ -304,17 +317,25 @@ module _ {S : Type 0} (received sent : S → Option (List ℕ)) (has_none is_ful
   visited-leaves K true false now most p q M N r r2 was v = there-leaves K now most p p.connection q M N r r2 was v
   visited-leaves K false held now most p q M N r r2 was v = still answers K M N v.service was
 
-  all-leave : (K : D) (paused crowd : Bool) (now most : ℕ) (ps qs : List (Place S)) (M N : D) (r r2 : Option (List ℕ)) → AskQueries answers K M
-      → VisitsAll received sent has_none is_full has_more is_ended is_broken (spoken speaks (queries answers)) over paused crowd now most ps qs M N r r2 → AskQueries answers K N
-  all-leave K paused crowd now most [] [] M N r r2 was v = still answers K M N v.0 was
-  all-leave K paused crowd now most (p ∷ ps) (q ∷ qs) M N r r2 was v =
-      all-leave K paused crowd now most ps qs v.0 N v.1 r2 (visited-leaves K (is_to_visit paused p && not (over M)) (is_held_back crowd p) now most p q M v.0 r v.1 was v.2) v.3
-  all-leave K paused crowd now most [] (q ∷ qs) M N r r2 was v = absurd v
-  all-leave K paused crowd now most (p ∷ ps) [] M N r r2 was v = absurd v
+  -- the first visits, and then those that come later
+  all-leave : (B : D) (paused crowd : Bool) (now most : ℕ) (ps qs : List (Place S)) (M K L N : D) (r r1 s s2 : Option (List ℕ))
+      → VisitsAll received sent has_none is_full has_more is_ended is_broken (spoken speaks (queries answers)) over paused crowd now most ps qs M K L N r r1 s s2
+      → (AskQueries answers B M → AskQueries answers B K) × (AskQueries answers B L → AskQueries answers B N)
+  all-leave B paused crowd now most [] [] M K L N r r1 s s2 v = (λ was. still answers B M K v.0 was, λ was. still answers B L N v.2 was)
+  all-leave B paused crowd now most (p ∷ ps) (q ∷ qs) M K L N r r1 s s2 (inl v) =
+      let rest = all-leave B paused crowd now most ps qs v.0 K L N v.1 r1 s s2 v.3 in
+      (λ was. rest.0 (visited-leaves B (is_to_visit paused p && not (over M)) (is_held_back crowd p) now most p q M v.0 r v.1 was v.2), rest.1)
+  all-leave B paused crowd now most (p ∷ ps) (q ∷ qs) M K L N r r1 s s2 (inr v) =
+      let rest = all-leave B paused crowd now most ps qs M K v.1 N r r1 v.2 s2 v.4 in
+      (rest.0, λ was. rest.1 (visited-leaves B (is_to_visit paused p) (is_held_back crowd p) now most p q L v.1 s v.2 was v.3.0))
+  all-leave B paused crowd now most [] (q ∷ qs) M K L N r r1 s s2 v = absurd v
+  all-leave B paused crowd now most (p ∷ ps) [] M K L N r r1 s s2 v = absurd v
 
   serve-queried : (now most : ℕ) (old new : List (Place S)) (M N : D) (r r2 : Option (List ℕ)) (x : ServesQueries received sent has_none is_full has_more is_ended is_broken speaks answers over now most old new M N r r2)
       → AskQueries answers M x.between
-  serve-queried now most old new M N r r2 x = all-leave M true (is_crowd old) now most x.round.looked x.visited M x.between r r2 unasked x.round.visits
+  serve-queried now most old new M N r r2 x =
+      let leave = all-leave M true (is_crowd old) now most x.round.looked x.visited M x.round.between x.round.between x.between r x.round.readings1 x.round.readings1 r2 x.round.visits in
+      leave.1 (leave.0 unasked)
 
   -- queries after a look-up are queries without it, except that the last look-up may show later
   after-look : (M K N B : D) → AskQueries answers M K → AnswersAsBefore answers K N → AskQueries answers N B → IsQueried answers M B

@@ -1,5 +1,5 @@
 -- Whom a new connection ends.
-use Rattle.std.proofs.Common.{◌≡◌, ◌≤◌, ◌∷◌, ◌∙◌, [], ℕ, zero, suc, Bool, true, false, List, Option, None, Some, get_or, is_none, length, arith, refl, ap, subst, sym, if◌then◌else◌, ◌&&◌, not}
+use Rattle.std.proofs.Common.{◌≡◌, ◌≤◌, ◌∷◌, ◌∙◌, [], ℕ, zero, suc, Bool, true, false, List, Option, None, Some, get_or, is_none, length, arith, refl, ap, subst, sym, inl, inr, if◌then◌else◌, ◌&&◌, not}
 use Rattle.std.specs.Prelude.{All, MatchOption, is_some, map, position, slice_get}
 use Rattle.std.proofs.lemmas.Bool.{false≢true}
 use Rattle.std.proofs.lemmas.List.Elements.{All-cons, All-head, All-map, All-replicate, All-tail, All-weaker}
@@ -226,15 +226,18 @@ module _ {S : Type 0} (received sent : S → Option (List ℕ)) (has_none is_ful
   visited-rests true false now most p q M N r r2 h v = there-rests now most p p.connection q M N r r2 v
   visited-rests false held now most p q M N r r2 h v = subst (IsAtRest has_none is_full) (sym v.place) h
 
-  visited-rest : (paused crowd : Bool) (now most : ℕ) (ps qs : List (Place S)) (M N : D) (r r2 : Option (List ℕ)) → All (IsAtRest has_none is_full) ps
-      → VisitsAll received sent has_none is_full has_more is_ended is_broken answers over paused crowd now most ps qs M N r r2 → All (IsAtRest has_none is_full) qs
-  visited-rest paused crowd now most [] [] M N r r2 h v = h
-  visited-rest paused crowd now most (p ∷ ps) (q ∷ qs) M N r r2 h v = All-cons (IsAtRest has_none is_full) q qs
+  visited-rest : (paused crowd : Bool) (now most : ℕ) (ps qs : List (Place S)) (M K L N : D) (r r1 s s2 : Option (List ℕ)) → All (IsAtRest has_none is_full) ps
+      → VisitsAll received sent has_none is_full has_more is_ended is_broken answers over paused crowd now most ps qs M K L N r r1 s s2 → All (IsAtRest has_none is_full) qs
+  visited-rest paused crowd now most [] [] M K L N r r1 s s2 h v = h
+  visited-rest paused crowd now most (p ∷ ps) (q ∷ qs) M K L N r r1 s s2 h (inl v) = All-cons (IsAtRest has_none is_full) q qs
       (visited-rests (is_to_visit paused p && not (over M)) (is_held_back crowd p) now most p q M v.0 r v.1 (All-head (IsAtRest has_none is_full) p ps h) v.2)
-      (visited-rest paused crowd now most ps qs v.0 N v.1 r2 (All-tail (IsAtRest has_none is_full) p ps h) v.3)
-  visited-rest paused crowd now most [] (q ∷ qs) M N r r2 h v = absurd v
-  visited-rest paused crowd now most (p ∷ ps) [] M N r r2 h v = absurd v
+      (visited-rest paused crowd now most ps qs v.0 K L N v.1 r1 s s2 (All-tail (IsAtRest has_none is_full) p ps h) v.3)
+  visited-rest paused crowd now most (p ∷ ps) (q ∷ qs) M K L N r r1 s s2 h (inr v) = All-cons (IsAtRest has_none is_full) q qs
+      (visited-rests (is_to_visit paused p) (is_held_back crowd p) now most p q L v.1 s v.2 (All-head (IsAtRest has_none is_full) p ps h) v.3.0)
+      (visited-rest paused crowd now most ps qs M K v.1 N r r1 v.2 s2 (All-tail (IsAtRest has_none is_full) p ps h) v.4)
+  visited-rest paused crowd now most [] (q ∷ qs) M K L N r r1 s s2 h v = absurd v
+  visited-rest paused crowd now most (p ∷ ps) [] M K L N r r1 s s2 h v = absurd v
 
   pub visits-leave-rest : VisitsLeaveRest received sent has_none is_full has_more is_ended is_broken answers over
-  visits-leave-rest paused now most old new M N r r2 h round = visited-rest paused (is_crowd old) now most round.looked new M N r r2
+  visits-leave-rest paused now most old new M N r r2 h round = visited-rest paused (is_crowd old) now most round.looked new M round.between round.between N r round.readings1 round.readings1 r2
       (looked-rest has_none is_full (is_crowd old && has_room old) (map settled old) round.looked round.looks (settled-rest has_none is_full old h)) round.visits

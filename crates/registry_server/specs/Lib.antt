@@ -1,5 +1,6 @@
 pub mod ConnectionStates
 pub mod Connections
+pub mod Groups
 pub mod Listening
 pub mod Phases
 pub mod Pools

@@ -2,7 +2,10 @@
 use Rattle.std.specs.Prelude.{◌≡◌, ◌≢◌, ◌<◌, ◌≤◌, ◌+◌, ◌*◌, ◌∷◌, ◌⊎◌, ⊤, [], ℕ, zero, suc, Bool, true, false, List, Option, Some, None, is_none, is_some, All, count_by, length, map, max, nat_le, nat_lt, position, replicate, slice_get, sum_by, MatchOption, ◌&&◌, ◌||◌, not, if◌then◌else◌}
 use Rattle.std.specs.List.{list_all, list_any}
 use Rattle.registry_wire.specs.Spelling.{request_limit}
-use Rattle.registry_service.specs.Turns.{Answering, AnswersAsBefore, Dialect, Dialogue, spoken}
+use Rattle.registry_rules.specs.Actions.{is_command}
+use Rattle.registry_rules.specs.declared.request.Request.{Request}
+use Rattle.registry_service.specs.HttpAnswers.{Outcome}
+use Rattle.registry_service.specs.Turns.{Answering, AnswersAsBefore, Dialect, Dialogue, exchange, spoken}
 use Rattle.registry_server.specs.ConnectionStates.{fresh}
 use Rattle.registry_server.specs.Connections.{IsDone, IsLost, LeavesLittle, OpenConnection, Visits, body_least, body_since, connected, finishing, has_body, is_answered, may_command, must_wait, waiting}
 use Rattle.registry_server.specs.Queries.{IsQueried, queries}
@@ -339,6 +342,10 @@ module _ {S : Type 0} (received sent : S → Option (List ℕ)) (has_none is_ful
   VisitsIf true false now most old new M N readings readings2 = VisitsThere now most old old.connection new M N readings readings2
   VisitsIf false held now most old new M N readings readings2 = VisitsNone old new M N readings readings2
 
+-- the service is asked one command, and nothing else
+abbrev pub AsksCommand : {D : Type 0} → Dialogue D → D → D → Type 0
+AsksCommand answers M N = (r : Request) × (o : Outcome) × (is_command r.what ≡ true) × answers.answers M (exchange r o ∷ []) N
+
 module _ {S : Type 0} (received sent : S → Option (List ℕ)) (has_none is_full has_more is_ended is_broken : S → Bool) {D : Type 0} (answers : Dialogue D) (over : D → Bool) where
   -- A place is visited where it is to be and isn't held back, unless the service is over. `paused`
   -- says that commands wait.
@@ -346,23 +353,35 @@ module _ {S : Type 0} (received sent : S → Option (List ℕ)) (has_none is_ful
   VisitsAt paused crowd now most old new M N readings readings2 =
       VisitsIf received sent has_none is_full has_more is_ended is_broken answers (is_to_visit paused old && not (over M)) (is_held_back crowd old) now most old new M N readings readings2
 
-  -- Each connection that is to be visited and isn't held back is visited once, in the order of the
-  -- places, and no other is. After the visit in which the service is over, none is visited. At most
-  -- this many bytes are received from each.
-  abbrev pub VisitsAll : Bool → Bool → ℕ → ℕ → List (Place S) → List (Place S) → D → D → Option (List ℕ) → Option (List ℕ) → Type 0
-  VisitsAll paused crowd now most [] [] M N readings readings2 = (N ≡ M) × (readings2 ≡ readings)
-  VisitsAll paused crowd now most (p ∷ places) (q ∷ places2) M N readings readings2 =
-      (between : D) × (readings1 : Option (List ℕ)) × VisitsAt paused crowd now most p q M between readings readings1
-      × VisitsAll paused crowd now most places places2 between N readings1 readings2
-  VisitsAll paused crowd now most [] (q ∷ places2) M N readings readings2 = ⊥
-  VisitsAll paused crowd now most (p ∷ places) [] M N readings readings2 = ⊥
+  -- The same of a place that is visited later, for which the service is asked one command. Its visit
+  -- was begun before, and goes on even where the service is over by now.
+  abbrev pub VisitsLater : Bool → Bool → ℕ → ℕ → Place S → Place S → D → D → Option (List ℕ) → Option (List ℕ) → Type 0
+  VisitsLater paused crowd now most old new M N readings readings2 =
+      VisitsIf received sent has_none is_full has_more is_ended is_broken answers (is_to_visit paused old) (is_held_back crowd old) now most old new M N readings readings2 × AsksCommand answers M N
+
+  -- Each connection that is to be visited and isn't held back is visited once, and no other is: in the
+  -- order of the places, first or later. The first visits lead from M to K, and those that come later,
+  -- each for a command, from L to N. After the visit in which the service is over, none is visited
+  -- first. While commands wait, none is visited later. At most this many bytes are received from each.
+  abbrev pub VisitsAll : Bool → Bool → ℕ → ℕ → List (Place S) → List (Place S) → D → D → D → D → Option (List ℕ) → Option (List ℕ) → Option (List ℕ) → Option (List ℕ) → Type 0
+  VisitsAll paused crowd now most [] [] M K L N first first2 later later2 = (K ≡ M) × (first2 ≡ first) × (N ≡ L) × (later2 ≡ later)
+  VisitsAll paused crowd now most (p ∷ places) (q ∷ places2) M K L N first first2 later later2 =
+      ((between : D) × (first1 : Option (List ℕ)) × VisitsAt paused crowd now most p q M between first first1
+      × VisitsAll paused crowd now most places places2 between K L N first1 first2 later later2)
+      ⊎ ((paused ≡ false) × (between : D) × (later1 : Option (List ℕ)) × VisitsLater paused crowd now most p q L between later later1
+      × VisitsAll paused crowd now most places places2 M K between N first first2 later1 later2)
+  VisitsAll paused crowd now most [] (q ∷ places2) M K L N first first2 later later2 = ⊥
+  VisitsAll paused crowd now most (p ∷ places) [] M K L N first first2 later later2 = ⊥
 
   -- A round: first whether the connections are a crowd, then which bodies are read, and then the
-  -- visits.
+  -- visits. Commands may be answered together: they are visited after all others of the round, from
+  -- where the others leave the service and the clock.
   pub record VisitsRound (paused : Bool) (now most : ℕ) (old new : List (Place S)) (M N : D) (readings readings2 : Option (List ℕ)) : Type 0 where
     pub looked : List (Place S)
     pub looks : LooksAtBodies old looked
-    pub visits : VisitsAll paused (is_crowd old) now most looked new M N readings readings2
+    pub between : D
+    pub readings1 : Option (List ℕ)
+    pub visits : VisitsAll paused (is_crowd old) now most looked new M between between N readings readings1 readings1 readings2
 
 -- ---- who stays
 

@@ -1,21 +1,29 @@
 //! One open connection.
 
-ghost use Rattle.std.specs.Prelude.{◌≡◌, ◌≢◌, [], ℕ, List, Option, true, false, IfOk, IsSome, OnOk, OnErr, length};
+ghost use Rattle.std.specs.Prelude.{◌≡◌, ◌≢◌, [], ℕ, List, Option, None, Some, true, false, IfOk, IsSome, OnOk, OnErr, length};
 ghost use Rattle.registry_wire.specs.Spelling.{IsUnfinished};
 ghost use Rattle.registry_server.specs.ConnectionStates.{Does, MayTakeTurn, fresh};
 ghost use Rattle.registry_server.specs.Connections.{AnswersOnce, Drops, IsDone, IsLost, LeavesLittle, LeavesRest, Receives, SendsDue, StarvesOnce, Visits, body_since, connected, finishing, has_body, is_answered, may_command, must_wait, stage_after, waiting};
+ghost use Rattle.registry_server.specs.Groups.{Adds, AnswersAside, IsFirst, IsReady, IsSpelled, IsStill, SetsAside};
 ghost use Rattle.registry_server.specs.Phases as phases;
 ghost use Rattle.registry_service.specs.Turns.{spoken};
 ghost use Rattle.registry_server.specs.Queries.{queries};
+ghost use Rattle.registry_rules.specs.declared.request.Request.{Request};
+ghost use Rattle.registry_server.specs.declared.connection.Arrival.TheVariants as arrivals;
+ghost use Rattle.registry_server.specs.declared.connection.Visit.{Visit};
 ghost use Rattle.registry_server.specs.declared.connection.Visit.TheVariants as visits;
+ghost use Rattle.registry_server.specs.declared.group.Command.{Command};
 ghost use Rattle.registry_server.specs.declared.phase.Stage.TheVariants as stages;
 ghost use Rattle.registry_server.specs.declared.socket.Flow.TheVariants as flows;
 ghost use Rattle.registry_server.specs.declared.state.Progress.TheVariants as progress;
 
+use crate::group::{Command, Group};
 use crate::phase::{Phase, Stage};
 use crate::socket::{Flow, Socket};
 use crate::state::{ConnectionState, Progress};
-use registry_service::{Clock, HttpService, Service};
+use registry_names::Fault;
+use registry_rules::Reply;
+use registry_service::{Clock, HttpService, Service, turn_with};
 use registry_wire::HEAD_LIMIT;
 use std::alloc::{AllocError, Global};
 use std::marker::Model;
@@ -33,6 +41,15 @@ pub enum Visit {
     Rests,
     /// The connection has ended.
     Over,
+}
+
+// How a visit goes on once what has come was received.
+#[derive(Clone, Copy)]
+enum Arrival {
+    // A turn may be taken of what is held.
+    Ready,
+    // No turn is to be taken, and the visit has ended so.
+    Done(Visit),
 }
 
 /// An open connection: its socket, what is left to do on it, its stage and until when that may
@@ -168,16 +185,116 @@ impl<S: Socket> Connection<S> {
         ensures leaves { result ≢ visits.Over → LeavesLittle (length buffer.old) self.old
             → LeavesLittle (length buffer.old) self.new }
     {
+        match self.arrive(service, buffer, now) {
+            Arrival::Ready => self.answer(alloc, service, clock, now),
+            Arrival::Done(visit) => visit,
+        }
+    }
+
+    /// Goes on with the connection as [`visit`](Connection::visit) does. But where the request that is
+    /// to be answered is a command that may be answered together with others, and the group has room
+    /// for it, it is added there, and nothing is answered yet. Then `None` is returned, and
+    /// [`answer_command`](Connection::answer_command) goes on. `number` is the place of the connection.
+    pub(crate) fn visit_or_set_aside<D: HttpService, C: Clock>(
+        &mut self,
+        alloc: Global,
+        service: &mut D,
+        clock: &mut C,
+        buffer: &mut [u8],
+        now: u64,
+        number: usize,
+        group: &mut Group,
+    ) -> Option<Visit>
+        ensures visits { (visit : Visit) → result ≡ Some visit → Visits S.received S.sent (spoken D.speaks D.answers) now (length buffer.old) self.old self.new
+            service.old service.new (C.readings clock.old) (C.readings clock.new) }
+        ensures rests { result ≡ Some visits.Rests → self.new.phase.stage ≢ stages.Next }
+        ensures waits { result ≡ Some visits.Rests → must_wait S.has_none S.is_full self.new ≡ true }
+        ensures more { result ≡ Some visits.Again → self.new.phase.stage ≡ stages.Begun → S.has_more self.new.socket ≡ true }
+        ensures over { result ≡ Some visits.Over → IsLost S.is_ended S.is_broken self.new }
+        ensures ends { IsSome result → IsDone self.old.state → self.new.is_over ≡ true → result ≡ Some visits.Over }
+        ensures leaves { IsSome result → result ≢ Some visits.Over → LeavesLittle (length buffer.old) self.old
+            → LeavesLittle (length buffer.old) self.new }
+        ensures still { IsSome result → IsStill group.old group.new }
+        ensures aside { result ≡ None → (c : Command) × (r : Request) × Adds group.old group.new c r
+            × SetsAside S.received S.sent (spoken D.speaks D.answers) now (length buffer.old) self.old self.new number c r }
+        ensures service { result ≡ None → service.new ≡ service.old }
+        ensures clock { result ≡ None → C.readings clock.new ≡ C.readings clock.old }
+    {
+        match self.arrive(service, buffer, now) {
+            Arrival::Done(visit) => Some(visit),
+            Arrival::Ready if self.set_aside(alloc, service, number, group) => None,
+            Arrival::Ready => Some(self.answer(alloc, service, clock, now)),
+        }
+    }
+
+    // Adds its command to the group, where it has one that may be answered together with others, and
+    // the group has room for it.
+    fn set_aside<D: HttpService>(
+        &mut self,
+        alloc: Global,
+        service: &D,
+        number: usize,
+        group: &mut Group,
+    ) -> bool
+        ensures stays { self.new ≡ self.old }
+        ensures aside { result ≡ true → (c : Command) × (r : Request) × Adds group.old group.new c r
+            × IsFirst D.speaks self.old.state.held c × IsSpelled c r × (c.number ≡ number) }
+        ensures still { result ≡ false → IsStill group.old group.new }
+    {
+        if !group.has_room(self.held_len()) {
+            return false;
+        }
+        let Some((command, request)) = self.state.command(alloc, service, number) else {
+            return false;
+        };
+        group.add(command, request)
+    }
+
+    /// Answers the command that was set aside by this outcome, and begins to send the response.
+    pub(crate) fn answer_command<D: HttpService>(
+        &mut self,
+        alloc: Global,
+        service: &mut D,
+        command: &Command,
+        outcome: Result<Reply, Fault>,
+        now: u64,
+    ) -> Visit
+        ensures answers { phases.takes_turns self.old.phase.stage ≡ true → IsFirst D.speaks self.old.state.held command.now
+            → AnswersAside S.received S.sent S.has_none S.is_full S.has_more S.is_ended S.is_broken D.speaks D.answers now self.old self.new result command.now outcome }
+        ensures service { service.new ≡ service.old }
+    {
+        let is_last = self.state.is_last();
+        let turned = turn_with(outcome, is_last, command.wanted.closes);
+        service.note(Some(&command.wanted), &turned);
+        self.phase.enter(Stage::Sends, now);
+        self.state.answer_first(alloc, command.used, turned);
+        self.send(now)
+    }
+
+    // Receives what has come, or sends what is due, and says whether a turn may be taken then.
+    fn arrive<D: HttpService>(&mut self, service: &mut D, buffer: &mut [u8], now: u64) -> Arrival
+        ensures ready { result ≡ arrivals.Ready → IsReady S.received S.sent (spoken D.speaks D.answers) now (length buffer.old) self.old self.new }
+        ensures visits { result ≢ arrivals.Ready → (readings : Option (List ℕ)) → Visits S.received S.sent (spoken D.speaks D.answers) now (length buffer.old) self.old self.new
+            service.old service.new readings readings }
+        ensures rests { result ≡ arrivals.Done visits.Rests → self.new.phase.stage ≢ stages.Next }
+        ensures waits { result ≡ arrivals.Done visits.Rests → must_wait S.has_none S.is_full self.new ≡ true }
+        ensures more { result ≡ arrivals.Done visits.Again → self.new.phase.stage ≢ stages.Begun }
+        ensures over { result ≡ arrivals.Done visits.Over → IsLost S.is_ended S.is_broken self.new }
+        ensures ends { result ≢ arrivals.Ready → IsDone self.old.state → self.new.is_over ≡ true → result ≡ arrivals.Done visits.Over }
+        ensures leaves { result ≢ arrivals.Ready → result ≢ arrivals.Done visits.Over → LeavesLittle (length buffer.old) self.old
+            → LeavesLittle (length buffer.old) self.new }
+        ensures service { service.new ≡ service.old }
+    {
         match self.phase.stage {
             Stage::Idle | Stage::Begun => match self.receive(buffer, now) {
-                Ok(Flow::Moved(_) | Flow::Ended) => self.answer(alloc, service, clock, now),
-                Ok(Flow::Waits) => Visit::Rests,
-                Ok(Flow::Broken) => Visit::Over,
-                Err(_) => self.starve(service, now),
+                Ok(Flow::Moved(_) | Flow::Ended) => Arrival::Ready,
+                Ok(Flow::Waits) => Arrival::Done(Visit::Rests),
+                Ok(Flow::Broken) => Arrival::Done(Visit::Over),
+                Err(_) => Arrival::Done(self.starve(service, now)),
             },
-            Stage::Next => self.answer(alloc, service, clock, now),
-            Stage::Sends => self.send(now),
-            Stage::Drains => self.drain(buffer),
+            Stage::Next => Arrival::Ready,
+            Stage::Sends => Arrival::Done(self.send(now)),
+            Stage::Drains => Arrival::Done(self.drain(buffer)),
         }
     }
 

@@ -6,6 +6,12 @@
 //! So requests are answered one after the other, by one service, and a slow connection holds up no
 //! other.
 //!
+//! Small commands that are whole in the same round are answered together, after all other visits of
+//! the round, as if each was asked alone, in the order of their places; and then each response is
+//! sent. So they may share what each alone would wait for, such as a sync of the disk. These are
+//! commands whose connections hold at most [`COMMAND_LIMIT`] bytes, and at most [`GROUP_LIMIT`] bytes
+//! together. Other commands are answered in the visit in which they have come whole.
+//!
 //! A connection without its socket is a [`ConnectionState`]: it knows what came and what isn't sent
 //! yet, and its turns are those of `registry_service`. No contract says what sockets give.
 #![tactic(auto)]
@@ -13,6 +19,7 @@
 mod clocks;
 mod connection;
 mod gates;
+mod group;
 mod guests;
 pub mod laws;
 mod listener;
@@ -25,6 +32,7 @@ mod socket;
 mod state;
 
 pub use crate::connection::{BODY_LEAST, Connection, Visit};
+pub use crate::group::{COMMAND_LIMIT, GROUP_LIMIT};
 pub use crate::guests::{FIRST_GUEST, GUEST_TOKENS, Guests, NoGuests};
 pub use crate::listener::{ListenAt, UNCOUNTED};
 pub use crate::local_socket::{LocalSocket, SocketFile};

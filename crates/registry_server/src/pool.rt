@@ -1,17 +1,24 @@
 //! The open connections, and which of them can go on.
 
-ghost use Rattle.std.specs.Prelude.{◌≡◌, ◌≢◌, ◌&&◌, true, false, IfOk, is_none, length, map, position, replicate};
+ghost use Rattle.std.specs.Prelude.{◌≡◌, ◌≢◌, ◌&&◌, ℕ, List, Option, None, Some, true, false, IfOk, IsSome, is_none, length, map, position, replicate};
 ghost use Rattle.std.specs.List.{list_all, list_any};
 ghost use Rattle.registry_server.specs.Connections.{IsDone, IsLost, LeavesLittle, Visits, may_command, must_wait};
+ghost use Rattle.registry_server.specs.Groups.{Adds, AnswersNext, AnswersPlace, AnswersPlaces, AreSpelled, AskedEach, IsEmpty, IsStill, SetsAside, VisitsFirst, VisitsOrSetsAside, in_order};
 ghost use Rattle.registry_server.specs.Pools as spec;
-ghost use Rattle.registry_server.specs.Pools.{ChoosesIf, ChoosesNext, EndsIdle, IsFirstOfEarliest, IsPlaceFor, LooksAtBodies, VisitsAll, VisitsAt, VisitsRound, at_place, idle_times, new_at, place_count, waiting_times};
+ghost use Rattle.registry_server.specs.Pools.{ChoosesIf, ChoosesNext, EndsIdle, IsFirstOfEarliest, IsPlaceFor, LooksAtBodies, VisitsRound, at_place, idle_times, new_at, place_count, waiting_times};
+ghost use Rattle.registry_service.specs.HttpAnswers.{Outcome};
 ghost use Rattle.registry_service.specs.Turns.{spoken};
+ghost use Rattle.registry_rules.specs.declared.request.Request as spec_request;
+ghost use Rattle.registry_server.specs.declared.group.Command as spec_command;
 ghost use Rattle.registry_server.specs.Queries.{answering, queries};
 ghost use Rattle.registry_server.specs.declared.connection.Visit.TheVariants as visits;
 ghost use Rattle.registry_server.specs.declared.phase.Stage.TheVariants as stages;
 
 use crate::connection::{BODY_LEAST, Connection, Visit};
+use crate::group::{Command, Group};
 use crate::socket::Socket;
+use registry_names::Fault;
+use registry_rules::Reply;
 use registry_service::{Clock, HttpService};
 use std::alloc::{AllocError, Global};
 
@@ -160,7 +167,7 @@ impl<S: Socket> Place<S> {
     }
 
     // Visits the connection, if one is there and is to be visited, unless the service is over.
-    // Where it is held back, it waits instead.
+    // Where it is held back, it waits instead. Its command may be set aside. Its place has this number.
     fn visit<D: HttpService, C: Clock>(
         &mut self,
         alloc: Global,
@@ -170,10 +177,12 @@ impl<S: Socket> Place<S> {
         now: u64,
         commands_wait: bool,
         is_crowd: bool,
+        number: usize,
+        group: &mut Group,
     )
-        ensures { VisitsAt S.received S.sent S.has_none S.is_full S.has_more S.is_ended S.is_broken
-            (spoken D.speaks (answering commands_wait D.answers)) D.over commands_wait is_crowd now (length buffer.old) self.old self.new
-            service.old service.new (C.readings clock.old) (C.readings clock.new) }
+        ensures { VisitsOrSetsAside S.received S.sent S.has_none S.is_full S.has_more S.is_ended S.is_broken
+            D.speaks (answering commands_wait D.answers) D.over commands_wait is_crowd now (length buffer.old) number self.old self.new
+            group.old group.new service.old service.new (C.readings clock.old) (C.readings clock.new) }
     {
         if !self.is_to_visit(commands_wait) || service.is_over() {
             return;
@@ -194,10 +203,56 @@ impl<S: Socket> Place<S> {
             buffer,
             now,
             commands_wait,
+            number,
+            group,
         ) {
+            Some(Visit::Again) => self.is_ready = true,
+            Some(Visit::Rests) => {}
+            None => {}
+            Some(Visit::Over) => self.connection = None,
+        }
+    }
+
+    // Answers the command that was set aside.
+    fn answer<D: HttpService>(
+        &mut self,
+        alloc: Global,
+        service: &mut D,
+        command: &Command,
+        outcome: Result<Reply, Fault>,
+        now: u64,
+    )
+        ensures answers { AnswersPlace S.received S.sent S.has_none S.is_full S.has_more S.is_ended S.is_broken
+            D.speaks D.answers now self.old self.new command.now outcome }
+        ensures service { service.new ≡ service.old }
+    {
+        let Some(connection) = &mut self.connection else {
+            return;
+        };
+        match connection.answer_command(alloc, service, command, outcome, now) {
             Visit::Again => self.is_ready = true,
             Visit::Rests => {}
             Visit::Over => self.connection = None,
+        }
+    }
+
+    // Answers the command that was set aside here, if it is the next one of the group.
+    fn answer_next<D: HttpService>(
+        &mut self,
+        alloc: Global,
+        service: &mut D,
+        group: &mut Group,
+        number: usize,
+        now: u64,
+    )
+        requires { length group.old.outcomes.items ≡ length group.old.commands.items }
+        ensures answers { AnswersNext S.received S.sent S.has_none S.is_full S.has_more S.is_ended S.is_broken
+            D.speaks D.answers now number self.old self.new group.old group.new }
+        ensures many { length group.new.outcomes.items ≡ length group.new.commands.items }
+        ensures service { service.new ≡ service.old }
+    {
+        if let Some((command, outcome)) = group.take(number) {
+            self.answer(alloc, service, &command, outcome, now);
         }
     }
 
@@ -234,6 +289,7 @@ impl<S: Socket> Place<S> {
 }
 
 // Visits a connection. If commands wait, no request that may be a command is under way on it.
+// Otherwise its command may be set aside, and then `None` is returned.
 fn visited<S: Socket, D: HttpService, C: Clock>(
     connection: &mut Connection<S>,
     alloc: Global,
@@ -242,23 +298,31 @@ fn visited<S: Socket, D: HttpService, C: Clock>(
     buffer: &mut [u8],
     now: u64,
     commands_wait: bool,
-) -> Visit
+    number: usize,
+    group: &mut Group,
+) -> Option<Visit>
     requires query { commands_wait ≡ true → may_command connection.old ≡ false }
-    ensures visits { Visits S.received S.sent (spoken D.speaks (answering commands_wait D.answers)) now (length buffer.old)
+    ensures visits { (visit : Visit) → result ≡ Some visit → Visits S.received S.sent (spoken D.speaks (answering commands_wait D.answers)) now (length buffer.old)
         connection.old connection.new service.old service.new (C.readings clock.old) (C.readings clock.new) }
-    ensures rests { result ≡ visits.Rests → connection.new.phase.stage ≢ stages.Next }
-    ensures waits { result ≡ visits.Rests → must_wait S.has_none S.is_full connection.new ≡ true }
-    ensures more { result ≡ visits.Again → connection.new.phase.stage ≡ stages.Begun
+    ensures rests { result ≡ Some visits.Rests → connection.new.phase.stage ≢ stages.Next }
+    ensures waits { result ≡ Some visits.Rests → must_wait S.has_none S.is_full connection.new ≡ true }
+    ensures more { result ≡ Some visits.Again → connection.new.phase.stage ≡ stages.Begun
         → S.has_more connection.new.socket ≡ true }
-    ensures over { result ≡ visits.Over → IsLost S.is_ended S.is_broken connection.new }
-    ensures ends { IsDone connection.old.state → connection.new.is_over ≡ true → result ≡ visits.Over }
-    ensures leaves { result ≢ visits.Over → LeavesLittle (length buffer.old) connection.old
+    ensures over { result ≡ Some visits.Over → IsLost S.is_ended S.is_broken connection.new }
+    ensures ends { IsSome result → IsDone connection.old.state → connection.new.is_over ≡ true → result ≡ Some visits.Over }
+    ensures leaves { IsSome result → result ≢ Some visits.Over → LeavesLittle (length buffer.old) connection.old
         → LeavesLittle (length buffer.old) connection.new }
+    ensures still { IsSome result → IsStill group.old group.new }
+    ensures unpaused { result ≡ None → commands_wait ≡ false }
+    ensures aside { result ≡ None → (c : spec_command.Command) × (r : spec_request.Request) × Adds group.old group.new c r
+        × SetsAside S.received S.sent (spoken D.speaks (answering commands_wait D.answers)) now (length buffer.old) connection.old connection.new number c r }
+    ensures service { result ≡ None → service.new ≡ service.old }
+    ensures clock { result ≡ None → C.readings clock.new ≡ C.readings clock.old }
 {
     if commands_wait {
-        connection.visit_query(alloc, service, clock, buffer, now)
+        Some(connection.visit_query(alloc, service, clock, buffer, now))
     } else {
-        connection.visit(alloc, service, clock, buffer, now)
+        connection.visit_or_set_aside(alloc, service, clock, buffer, now, number, group)
     }
 }
 
@@ -272,6 +336,7 @@ fn visited<S: Socket, D: HttpService, C: Clock>(
 #[derive(Drop)]
 pub struct ConnectionPool<S: Socket> {
     places: Vec<Place<S>>,
+    group: Group,
 }
 
 impl<S: Socket> ConnectionPool<S> {
@@ -287,7 +352,10 @@ impl<S: Socket> ConnectionPool<S> {
                 is_chosen: false,
             })?;
         }
-        Ok(ConnectionPool { places })
+        Ok(ConnectionPool {
+            places,
+            group: Group::new(alloc)?,
+        })
     }
 
     /// Whether every place is free.
@@ -414,6 +482,16 @@ impl<S: Socket> ConnectionPool<S> {
     /// crowd; where the connection ends with the answer, as long as the body is held. Of a crowd,
     /// one more body is chosen where fewer are chosen than may be: of the connections to be
     /// visited, the one whose request began first, and of equal ones that at the lowest place.
+    ///
+    /// Small commands are answered together, after all other visits of the round. Where the request
+    /// that a visit would answer is a command and asks nothing else, its connection holds at most
+    /// [`COMMAND_LIMIT`](crate::COMMAND_LIMIT) bytes, and with those of the other connections these are
+    /// at most [`GROUP_LIMIT`](crate::GROUP_LIMIT), its visit stops there. After the other visits these
+    /// commands are asked in the order of their places, each at a moment of its own and as if it was
+    /// asked alone, by one call of
+    /// [`answer_together`](registry_service::Service::answer_together); and then each of these visits
+    /// goes on, and sends as much of the response as the socket takes at once. A command whose visit
+    /// stopped is answered even where the service is over by then.
     pub fn visit_all<D: HttpService, C: Clock>(
         &mut self,
         alloc: Global,
@@ -428,6 +506,7 @@ impl<S: Socket> ConnectionPool<S> {
     {
         let is_crowd = self.look_at_bodies();
         self.visit_each(alloc, service, clock, buffer, now, false, is_crowd);
+        self.answer_group(alloc, service, clock, now);
     }
 
     /// Visits connections as [`visit_all`](ConnectionPool::visit_all) does, while commands wait: a
@@ -449,7 +528,7 @@ impl<S: Socket> ConnectionPool<S> {
         self.visit_each(alloc, service, clock, buffer, now, true, is_crowd);
     }
 
-    // Visits each connection that is to be visited and isn't held back.
+    // Visits each connection that is to be visited and isn't held back. Commands may be set aside.
     fn visit_each<D: HttpService, C: Clock>(
         &mut self,
         alloc: Global,
@@ -460,13 +539,44 @@ impl<S: Socket> ConnectionPool<S> {
         commands_wait: bool,
         is_crowd: bool,
     )
-        ensures { VisitsAll S.received S.sent S.has_none S.is_full S.has_more S.is_ended S.is_broken
-            (spoken D.speaks (answering commands_wait D.answers)) D.over commands_wait is_crowd now (length buffer.old) self.old.places.items self.new.places.items
-            service.old service.new (C.readings clock.old) (C.readings clock.new) }
+        ensures visits { VisitsFirst S.received S.sent S.has_none S.is_full S.has_more S.is_ended S.is_broken
+            D.speaks (answering commands_wait D.answers) D.over commands_wait is_crowd now (length buffer.old) 0 self.old.places.items self.new.places.items
+            self.new.group.commands.items self.new.group.requests.items service.old service.new (C.readings clock.old) (C.readings clock.new) }
+        ensures many { length self.new.group.outcomes.items ≡ length self.new.group.commands.items }
     {
-        for place in self.places.iter_mut() {
-            place.visit(alloc, service, clock, buffer, now, commands_wait, is_crowd);
+        self.group.clear();
+        visit_places(
+            &mut self.places,
+            &mut self.group,
+            alloc,
+            service,
+            clock,
+            buffer,
+            now,
+            commands_wait,
+            is_crowd,
+        );
+    }
+
+    // Answers the commands that were set aside, and begins to send their responses.
+    fn answer_group<D: HttpService, C: Clock>(
+        &mut self,
+        alloc: Global,
+        service: &mut D,
+        clock: &mut C,
+        now: u64,
+    )
+        requires spelled { AreSpelled self.old.group.commands.items self.old.group.requests.items }
+        requires many { length self.old.group.outcomes.items ≡ length self.old.group.commands.items }
+        ensures { (os : List Outcome) × AskedEach D.answers self.old.group.commands.items os service.old service.new (C.readings clock.old) (C.readings clock.new)
+            × AnswersPlaces S.received S.sent S.has_none S.is_full S.has_more S.is_ended S.is_broken D.speaks D.answers now 0
+            self.old.places.items self.new.places.items self.old.group.commands.items os }
+    {
+        if self.group.is_empty() {
+            return;
         }
+        self.group.answer(alloc, service, clock);
+        send_answers(&mut self.places, &mut self.group, alloc, service, now);
     }
 
     // Looks whether the connections are a crowd, and then which bodies are read. Returns whether
@@ -517,6 +627,57 @@ impl<S: Socket> ConnectionPool<S> {
         for place in self.places.iter_mut() {
             place.end_late(now);
         }
+    }
+}
+
+// Visits each connection that is to be visited and isn't held back. Commands may be set aside.
+fn visit_places<S: Socket, D: HttpService, C: Clock>(
+    places: &mut [Place<S>],
+    group: &mut Group,
+    alloc: Global,
+    service: &mut D,
+    clock: &mut C,
+    buffer: &mut [u8],
+    now: u64,
+    commands_wait: bool,
+    is_crowd: bool,
+)
+    requires { IsEmpty group.old }
+    ensures visits { VisitsFirst S.received S.sent S.has_none S.is_full S.has_more S.is_ended S.is_broken
+        D.speaks (answering commands_wait D.answers) D.over commands_wait is_crowd now (length buffer.old) 0 places.old places.new
+        group.new.commands.items group.new.requests.items service.old service.new (C.readings clock.old) (C.readings clock.new) }
+    ensures many { length group.new.outcomes.items ≡ length group.new.commands.items }
+{
+    for (number, place) in places.iter_mut().enumerate() {
+        place.visit(
+            alloc,
+            service,
+            clock,
+            buffer,
+            now,
+            commands_wait,
+            is_crowd,
+            number,
+            group,
+        );
+    }
+}
+
+// Puts the responses of the commands that were answered, and begins to send them.
+fn send_answers<S: Socket, D: HttpService>(
+    places: &mut [Place<S>],
+    group: &mut Group,
+    alloc: Global,
+    service: &mut D,
+    now: u64,
+)
+    requires { length group.old.outcomes.items ≡ length group.old.commands.items }
+    ensures answers { AnswersPlaces S.received S.sent S.has_none S.is_full S.has_more S.is_ended S.is_broken D.speaks D.answers now 0
+        places.old places.new group.old.commands.items (in_order group.old) }
+    ensures service { service.new ≡ service.old }
+{
+    for (number, place) in places.iter_mut().enumerate() {
+        place.answer_next(alloc, service, group, number, now);
     }
 }
 

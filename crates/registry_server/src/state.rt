@@ -1,6 +1,6 @@
 //! One connection, apart from its socket.
 
-ghost use Rattle.std.specs.Prelude.{◌≡◌, ◌≤◌, ◌-◌, ◌==◌, ◌++◌, ◌∷◌, ◌↔◌, [], ℕ, length, drop, nat_eq, true, IfOk, IsTrue, OnOk, OnErr};
+ghost use Rattle.std.specs.Prelude.{◌≡◌, ◌≤◌, ◌-◌, ◌==◌, ◌++◌, ◌∷◌, ◌↔◌, [], ℕ, length, drop, nat_eq, true, IfOk, IfSome, IsTrue, OnOk, OnErr};
 ghost use Rattle.std.specs.List.{starts_with};
 ghost use Rattle.registry_wire.specs.Spelling.{EndsWith, IsUnfinished, Says};
 ghost use Rattle.registry_service.specs.Courses.{Gave};
@@ -9,11 +9,15 @@ ghost use Rattle.registry_service.specs.Turns.{Turns, request, spoken};
 ghost use Rattle.registry_server.specs.declared.state.Progress.TheVariants.{Answered, Closed};
 ghost use Rattle.registry_server.specs.ConnectionStates.{Does, IsStarved, MayTakeTurn, fresh, holding, lasting, pending, sending};
 ghost use Rattle.registry_server.specs.Connections.{query_start};
+ghost use Rattle.registry_server.specs.Groups.{IsFirst, IsSpelled};
 
+use crate::group::Command;
 use crate::outgoing::Outgoing;
-use registry_names::Fault;
+use registry_names::{Fault, Moment};
+use registry_rules::Request;
 use registry_service::{
-    Clock, End, HttpService, REQUESTS_PER_CONNECTION, Service, Turned, turn_away, turn_starved,
+    Clock, End, HttpService, REQUESTS_PER_CONNECTION, Service, Turned, is_command, request_of,
+    turn_away, turn_starved,
 };
 use registry_wire::{Ending, First, Incoming, Wanted, ending_of};
 use std::alloc::{AllocError, Global};
@@ -164,6 +168,62 @@ impl ConnectionState {
             },
             Err(_) => self.put(noted(service, turn_starved())),
         }
+    }
+
+    /// The command that comes first, and what it asks, where it has come whole and may be answered
+    /// together with others. `number` is the place of the connection.
+    pub(crate) fn command<D: HttpService>(
+        &mut self,
+        alloc: Global,
+        service: &D,
+        number: usize,
+    ) -> Option<(Command, Request)>
+        ensures first { IfSome result (λ found. IsFirst D.speaks self.old.held found.0) }
+        ensures spelled { IfSome result (λ found. IsSpelled found.0 found.1) }
+        ensures number { IfSome result (λ found. found.0.number ≡ number) }
+        ensures stays { self.new ≡ self.old }
+    {
+        if self.begins_query() {
+            return None;
+        }
+        let Ok(First::Whole(wanted, used)) = self.first(alloc) else {
+            return None;
+        };
+        if !service.asks_one(&wanted) {
+            return None;
+        }
+        let Ok(request) = request_of(alloc, &wanted, Moment::clamped(0)) else {
+            return None;
+        };
+        if !is_command(&request.what) {
+            return None;
+        }
+        Some((
+            Command {
+                number,
+                wanted,
+                used,
+            },
+            request,
+        ))
+    }
+
+    /// Whether the next request is the last that the connection may have.
+    pub(crate) fn is_last(&self) -> bool
+        ensures { result ≡ (self.now.left == 1) }
+    {
+        self.left == 1
+    }
+
+    /// The first request, which takes this many bytes, was answered: the response is to be sent.
+    pub(crate) fn answer_first(&mut self, alloc: Global, used: usize, turned: Turned)
+        ensures state { used ≤ length self.old.held
+            → self.new ≡ pending (drop used self.old.held) (bytes_of turned) (self.old.left - 1) turned.end }
+        ensures outgoing { self.new.outgoing ≡ bytes_of turned }
+    {
+        self.drop_first(alloc, used.min(self.held_len()));
+        self.left = self.left.saturating_sub(1);
+        let _answered = self.put(turned);
     }
 
     /// There was no memory to hold what came: the fault is answered, and the connection ends.

@@ -1,5 +1,4 @@
 use Rattle.std.proofs.Common.{Some, subst, sym}
-use Rattle.mio.specs.declared.net.stream.TcpStream.{TcpStream}
 use Rattle.registry_server.specs.Pools.{IsPlaceFor, LetsIn, is_looked, nobody_comes}
 use Rattle.registry_server.specs.declared.server.Server.{Server}
 use Rattle.registry_server.proofs.ComingFacts.{lets-then, newcomer-in}
