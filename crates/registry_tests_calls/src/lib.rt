@@ -49,6 +49,8 @@ mod talk;
 #[cfg(test)]
 mod texts;
 #[cfg(test)]
+mod together;
+#[cfg(test)]
 mod tokens;
 #[cfg(test)]
 mod told;

@@ -6,6 +6,7 @@ ghost use Rattle.std.specs.Prelude.{false};
 mod collaborators;
 mod documents;
 mod labels;
+mod together;
 
 use crate::outcome::same;
 use crate::parts::{as_text, blob, concat, method_of, string};

@@ -1,5 +1,6 @@
 //! Tests that need a registry and can't be told as stories: lists of requests that are answered by
-//! `run` as by `apply`, registries in the machine's files, and the program over streams that fail.
+//! `run`, or together, as by `apply`, registries in the machine's files, and the program over streams
+//! that fail.
 //!
 //! The stories of `registry_tests_stories` have what the program answers to requests. Calls on rows and
 //! tables are tested in `registry_tests_tables`, and files that stop in `registry_tests_stops`.

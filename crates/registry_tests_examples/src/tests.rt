@@ -17,3 +17,4 @@ mod program;
 mod revised;
 mod sent;
 mod served;
+mod together;

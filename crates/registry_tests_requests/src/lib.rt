@@ -5,5 +5,5 @@
 mod outcomes;
 mod requests;
 
-pub use crate::outcomes::{Outcome, outcome_of, outcomes_of};
+pub use crate::outcomes::{Outcome, answers_together, outcome_of, outcomes_of, outcomes_together};
 pub use crate::requests::{push_requests, request_of, requests_of};

@@ -5,7 +5,7 @@ use crate::disks::{Closed, close};
 use crate::outcome::same;
 use registry_desk::Registry;
 use registry_rules::Request;
-use registry_tests_requests::{Outcome, outcome_of, request_of, requests_of};
+use registry_tests_requests::{Outcome, outcome_of, outcomes_together, request_of, requests_of};
 use sqlite::{Alter, Connection, FileStore};
 use sqlite_disk::Disk;
 use std::alloc::Global;
@@ -36,6 +36,15 @@ pub(crate) enum Rows {
     Sound,
 }
 
+/// Requests, and how they are asked.
+#[derive(Clone, Copy)]
+pub(crate) enum Asks<'a> {
+    /// One after another.
+    InTurn(&'a [Request]),
+    /// Commands, of which so many are answered together, and then so many more.
+    Together(usize, &'a [Request]),
+}
+
 /// What a registry in files answers to lists of requests, one after another until one ends in a
 /// fault, and its files when it is closed. Only this function asks one or ends one, since each call
 /// that does takes a quarter of a minute to check.
@@ -44,7 +53,7 @@ pub(crate) fn asked<D: Disk + Drop>(
     alloc: Global,
     registry: Registry<FileStore<D>>,
     rows: Rows,
-    lists: &[&[Request]],
+    lists: &[Asks],
 ) -> (Vec<Outcome>, Closed<D>) {
     let (outcomes, connection) = asked_and_released(ends, alloc, registry, rows, lists);
     (outcomes, close(connection))
@@ -55,7 +64,7 @@ fn asked_and_released<S: Alter + Drop>(
     alloc: Global,
     registry: Registry<S>,
     rows: Rows,
-    lists: &[&[Request]],
+    lists: &[Asks],
 ) -> (Vec<Outcome>, Connection<S>) {
     let (outcomes, registry) = asked_of(ends, alloc, registry, rows, lists);
     (outcomes, registry.release())
@@ -67,21 +76,38 @@ pub(crate) fn asked_of<S: Alter + Drop>(
     alloc: Global,
     registry: Registry<S>,
     rows: Rows,
-    lists: &[&[Request]],
+    lists: &[Asks],
 ) -> (Vec<Outcome>, Registry<S>) {
     let mut registry = match rows {
         Rows::Any => registry,
         Rows::Sound => checked(ends, alloc, registry),
     };
     let mut outcomes = Vec::new(alloc);
-    for requests in lists {
-        push_outcomes(ends, alloc, &mut registry, requests, &mut outcomes);
+    for asks in lists {
+        push_outcomes(ends, alloc, &mut registry, *asks, &mut outcomes);
     }
     (outcomes, registry)
 }
 
-// Adds what a registry answers to requests, where none before them ended in a fault.
 fn push_outcomes<S: Alter>(
+    ends: &impl Abort,
+    alloc: Global,
+    registry: &mut Registry<S>,
+    asks: Asks,
+    outcomes: &mut Vec<Outcome>,
+) {
+    match asks {
+        Asks::InTurn(requests) => push_in_turn(ends, alloc, registry, requests, outcomes),
+        Asks::Together(count, commands) => {
+            for group in commands.chunks(count.max(1)) {
+                push_together(ends, alloc, registry, group, outcomes);
+            }
+        }
+    }
+}
+
+// Adds what a registry answers to requests, where none before them ended in a fault.
+fn push_in_turn<S: Alter>(
     ends: &impl Abort,
     alloc: Global,
     registry: &mut Registry<S>,
@@ -94,6 +120,33 @@ fn push_outcomes<S: Alter>(
             outcomes.push(outcome).expect(ends, "memory");
         }
     }
+}
+
+// Adds what a registry answers to commands together, where none before them ended in a fault. All are
+// answered, or all end in the same fault.
+fn push_together<S: Alter>(
+    ends: &impl Abort,
+    alloc: Global,
+    registry: &mut Registry<S>,
+    commands: &[Request],
+    outcomes: &mut Vec<Outcome>,
+) {
+    if matches!(outcomes.last(), Some(Err(_))) {
+        return;
+    }
+    match outcomes_together(alloc, registry, commands) {
+        Ok(more) => {
+            same(ends, "all or none", are_alike(&more), true);
+            outcomes.extend(more).expect(ends, "memory");
+        }
+        Err(_) => panic!(ends; "commands are not answered together"),
+    }
+}
+
+// Whether there is no fault among the outcomes, or one fault is all of them.
+fn are_alike(outcomes: &[Outcome]) -> bool {
+    let fault = outcomes.iter().find(|outcome| outcome.is_err());
+    fault.is_none() || outcomes.iter().all(|outcome| Some(outcome) == fault)
 }
 
 /// Checks that no request ended in a fault.

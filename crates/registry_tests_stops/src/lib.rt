@@ -4,7 +4,8 @@
 //!
 //! After each stop the files are opened again. No row of the tables breaks a rule of
 //! [`registry_check`]; what was answered is there; the request that was stopped was done whole or
-//! not at all; and the requests that follow are answered as in memory.
+//! not at all, and so were all those that are answered together; and the requests that follow are
+//! answered as in memory.
 //!
 //! A function that asks a registry has its store as a parameter, and one that opens and closes a
 //! registry has its disk. The check of a call from the second kind to the first takes a quarter of

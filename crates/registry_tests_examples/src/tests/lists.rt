@@ -350,3 +350,99 @@ pub(crate) const WITHDRAWALS: &str = r#"
 --at 259300 --as bob withdraw-all @lab/kit
 = refused TooLate
 "#;
+
+/// Commands, and their outcomes. Most rest on what those before them made.
+pub(crate) const SHARED: &str = r#"
+--operator user-add ann
+= done
+--operator user-add ann
+= refused Exists
+--operator user-add bob
+= done
+--operator user-add eve
+= done
+--operator token-add bob npm_bob_000000001
+= done
+--operator token-add eve npm_bob_000000001
+= refused Exists
+--operator org-create lab ann
+= done
+--as bob org-set lab bob developer
+= refused Denied A2
+--as ann org-set lab bob developer
+= done
+token npm_bob_000000001 --at 100 publish @lab/kit 1.0.0
+= created
+--at 100 --as bob publish @lab/kit 1.0.0 b3RoZXI=
+= refused Published
+--at 100 --as eve publish @lab/kit 1.1.0
+= refused Denied A4
+--at 100 publish @lab/kit 1.1.0
+= refused NoCaller
+--at 101 --as bob publish @lab/kit 1.1.0 YWJj next
+= created
+--at 101 --as bob tag-set @lab/kit beta 1.1.0
+= done
+--at 101 --as bob tag-set @lab/kit beta 2.0.0
+= refused NotFound
+--at 101 --as bob publish @lab/kit 2.0.0
+= created
+--at 101 --as bob tag-rm @lab/kit latest
+= refused KeepsLatest
+--at 102 --as bob withdraw @lab/kit 1.1.0
+= done
+--at 102 --as bob publish @lab/kit 1.1.0
+= refused Spent
+--at 102 --as bob tag-rm @lab/kit beta
+= refused NotFound
+--at 102 --as bob withdraw @lab/kit 2.0.0
+= done
+--at 103 --as bob deprecate @lab/kit * old
+= count 1
+--at 103 --as eve tag-set @lab/kit beta 1.0.0
+= refused NotFound
+--at 103 --as ann access @lab/kit public
+= done
+--at 103 --as eve tag-set @lab/kit beta 1.0.0
+= refused Denied A6
+--at 104 --as eve publish tool 1.0.0
+= created
+--at 104 --as bob publish @lab/app 1.0.0 YWJj latest {"tool":"*"}
+= created
+--at 105 --as eve withdraw tool 1.0.0
+= refused Depended
+--at 105 --as bob withdraw @lab/app 1.0.0
+= done
+--at 105 --as eve withdraw tool 1.0.0
+= done
+--at 106 --as eve publish tool 1.1.0
+= refused Waiting
+--at 86505 --as eve publish tool 1.1.0
+= created
+--at 86505 --as eve withdraw-all tool
+= count 1
+--at 86505 --as ann team-create lab ops
+= done
+--at 86505 --as ann team-add lab ops eve
+= refused NotFound
+--at 86505 --as ann team-add lab ops bob
+= done
+--at 86505 --as ann grant lab ops @lab/kit read-only
+= done
+--at 86505 --as ann team-destroy lab ops
+= done
+--at 86505 --as ann revoke lab ops @lab/kit
+= refused NotFound
+--at 86505 --as ann org-rm lab ann
+= refused LastOwner
+--at 86505 --as ann org-rm lab bob
+= done
+token npm_bob_000000001 --at 86505 publish @lab/kit 3.0.0
+= refused Denied A4
+--at 86505 --operator tokens-rm bob
+= count 1
+token npm_bob_000000001 --at 86505 publish @lab/kit 3.0.0
+= refused NoCaller
+--at 259300 --as ann withdraw @lab/kit 1.0.0
+= refused TooLate
+"#;

@@ -2,6 +2,8 @@
 
 ghost use Rattle.std.specs.Prelude.{None, ◌≤◌, length};
 
+mod together;
+
 use crate::outcome::same;
 use crate::tests::asking::{does, request};
 use crate::tests::lists::LAB_KIT;

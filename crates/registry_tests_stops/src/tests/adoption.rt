@@ -5,7 +5,7 @@ ghost use Rattle.sqlite.specs.Files.{file_state};
 ghost use Rattle.sqlite.specs.Held.{state};
 ghost use Rattle.registry_desk.specs.Adopted.{CanBeAdopted};
 
-use crate::asking::{Rows, are_replies, asked, asked_of, requests};
+use crate::asking::{Asks, Rows, are_replies, asked, asked_of, requests};
 use crate::checks::adopted;
 use crate::disks::{
     Closed, Leaves, NEVER, Stopping, StoppingDisk, TestDisk, close, connected, empty_files,
@@ -42,11 +42,12 @@ fn a_released_registry_is_adopted(rt: HostRuntime) {
 fn shows_the_same<S: Alter + Drop>(ends: &impl Abort, alloc: Global, registry: Registry<S>) {
     let commands = requests(ends, alloc, COMMANDS);
     let queries = requests(ends, alloc, QUERIES);
-    let lists = [commands.as_slice(), queries.as_slice()];
+    let queried = Asks::InTurn(queries.as_slice());
+    let lists = [Asks::InTurn(commands.as_slice()), queried];
     let (shown, registry) = asked_of(ends, alloc, registry, Rows::Any, &lists);
     are_replies(ends, &shown);
     let registry = adopted(ends, alloc, registry.release());
-    let (found, _registry) = asked_of(ends, alloc, registry, Rows::Any, &[queries.as_slice()]);
+    let (found, _registry) = asked_of(ends, alloc, registry, Rows::Any, &[queried]);
     let is_shown = shown.get(commands.len()..) == Some(found.as_slice());
     same(ends, "what is shown", is_shown, true);
 }
@@ -236,7 +237,7 @@ fn files_after<D: StoppingDisk>(ends: &impl Abort, alloc: Global, change: &str) 
     match opened(alloc, empty_files(alloc, Stopping::Both, NEVER)) {
         Ok(registry) => {
             let commands = requests(ends, alloc, COMMANDS);
-            let lists = [commands.as_slice()];
+            let lists = [Asks::InTurn(commands.as_slice())];
             let (outcomes, Closed { files, .. }) = asked(ends, alloc, registry, Rows::Any, &lists);
             are_replies(ends, &outcomes);
             let files = left_of(ends, alloc, files, Leaves::Written);

@@ -1,7 +1,7 @@
 //! A disk that gives back another byte than it was given: the file is refused, and the page is
 //! never read as data.
 
-use crate::asking::{Rows, are_replies, asked, requests};
+use crate::asking::{Asks, Rows, are_replies, asked, requests};
 use crate::disks::{
     Closed, NEVER, Stopping, StoppingDisk, TestDisk, empty_files, files_of, opened,
 };
@@ -9,7 +9,7 @@ use crate::outcome::same;
 use crate::requests::{ADD_ANN, COMMANDS, QUERIES, TAGS_OF_NONE};
 use registry_desk::Registry;
 use registry_names::{Fault, Refusal};
-use registry_rules::{Reply, Request};
+use registry_rules::Reply;
 use registry_tests_requests::Outcome;
 use sqlite::{FileFrom, FileStore, Files};
 use sqlite_disk::{Disk, Wary};
@@ -118,7 +118,7 @@ fn told_closed<D: Disk + Drop>(
 ) -> Files<D> {
     let (words, refusal) = told;
     let requests = requests(ends, alloc, words);
-    let lists = [requests.as_slice()];
+    let lists = [Asks::InTurn(requests.as_slice())];
     let (outcomes, Closed { is_whole, files }) = asked(ends, alloc, registry, Rows::Any, &lists);
     same(ends, words, are_told(&outcomes, refusal), true);
     same(ends, "the close", is_whole, true);
@@ -141,8 +141,9 @@ fn a_byte_changed_in_any_page_is_never_read(rt: HostRuntime) {
     fs::create_dir(&rt, FOLDER).expect(&rt, "a folder");
     let commands = requests(&rt, rt.alloc(), COMMANDS);
     let queries = requests(&rt, rt.alloc(), QUERIES);
-    let made = outcomes_at(&rt, &rt, &[commands.as_slice(), queries.as_slice()]);
-    let found = outcomes_at(&rt, &rt, &[queries.as_slice()]);
+    let queried = Asks::InTurn(queries.as_slice());
+    let made = outcomes_at(&rt, &rt, &[Asks::InTurn(commands.as_slice()), queried]);
+    let found = outcomes_at(&rt, &rt, &[queried]);
     let is_shown = made.get(commands.len()..) == Some(found.as_slice());
     same(&rt, "what is shown", is_shown, true);
     no_changed_page_opens(&rt, &rt);
@@ -176,7 +177,7 @@ fn opened_at(rt: &HostRuntime) -> Result<Registry<FileStore<FileFrom<Wary>>>, (F
 }
 
 // The outcomes of these requests at a registry from the file, which is closed afterwards.
-fn outcomes_at(rt: &HostRuntime, ends: &impl Abort, lists: &[&[Request]]) -> Vec<Outcome> {
+fn outcomes_at(rt: &HostRuntime, ends: &impl Abort, lists: &[Asks]) -> Vec<Outcome> {
     match opened_at(rt) {
         Ok(registry) => outcomes_closed(ends, rt.alloc(), registry, lists),
         Err((fault, _)) => panic!(ends; "nothing opens: {fault:?}"),
@@ -187,7 +188,7 @@ fn outcomes_closed<D: Disk + Drop>(
     ends: &impl Abort,
     alloc: Global,
     registry: Registry<FileStore<D>>,
-    lists: &[&[Request]],
+    lists: &[Asks],
 ) -> Vec<Outcome> {
     let (outcomes, closed) = asked(ends, alloc, registry, Rows::Any, lists);
     are_replies(ends, &outcomes);

@@ -1,7 +1,8 @@
-//! A stop at each call of the database file, and at each of its log. After some of them the open
-//! that follows stops at each of its calls, too.
+//! A stop at each call of the database file, and at each of its log, while commands are answered one
+//! after another, and while groups of them are answered together. After some of them the open that
+//! follows stops at each of its calls, too.
 
-use crate::asking::{Rows, asked, requests};
+use crate::asking::{Asks, Rows, asked, requests};
 use crate::disks::{
     Closed, Leaves, Stopping, StoppingDisk, TestDisk, copied, empty_files, left_of, opened,
 };
@@ -19,21 +20,28 @@ use std::process::Abort;
 /// More calls than any run makes of one file.
 const MOST_CALLS: u64 = 10_000;
 
-/// After one of this many stops the next open also stops, unless the environment says otherwise.
+/// After one of this many stops the next open also stops where commands are asked one by one, unless
+/// the environment says otherwise.
 const EVERY: u64 = 32;
+
+/// How many commands are answered together, so that there are seven groups of them.
+const TOGETHER: usize = 4;
 
 /// What is asked, and what a registry in memory, which never stops, answers.
 struct Story {
     commands: Vec<Request>,
     queries: Vec<Request>,
+    /// How many commands are answered together: a group. It is 1 where each is asked alone.
+    group: usize,
     answers: Answers,
 }
 
-/// What a registry in memory answers.
+/// What a registry in memory answers, which is asked one command after another.
 struct Answers {
     /// The outcome of each command.
     replies: Vec<Outcome>,
-    /// The outcome of each command where it is asked again. After that the registry is as before.
+    /// The outcome of each command where its group is asked again. After that the registry is as
+    /// before.
     again: Vec<Outcome>,
     /// What the queries show before the first command, and after each.
     shown: Vec<Vec<Outcome>>,
@@ -45,6 +53,7 @@ impl Drop for Story {
         let Story {
             commands: _,
             queries: _,
+            group: _,
             answers: _,
         } = self;
     }
@@ -61,6 +70,20 @@ impl Drop for Answers {
 }
 
 impl Story {
+    // What is asked after this many commands.
+    fn rest(&self, commands: usize) -> Asks<'_> {
+        let rest = self.commands.get(commands..).unwrap_or(&[]);
+        match self.group {
+            1 => Asks::InTurn(rest),
+            count => Asks::Together(count, rest),
+        }
+    }
+
+    // How many commands are answered once this many are, and one more group.
+    fn next(&self, commands: usize) -> usize {
+        commands.saturating_add(self.group).min(self.commands.len())
+    }
+
     // Whether these are what the queries show after this many commands.
     fn shows(&self, commands: usize, outcomes: &[Outcome]) -> bool {
         match self.answers.shown.get(commands) {
@@ -69,11 +92,12 @@ impl Story {
         }
     }
 
-    // Whether the stopped command is answered as in memory: as for the first time where it wasn't
+    // Whether the stopped group is answered as in memory: as for the first time where it wasn't
     // done, and as when it is asked again where it was. After the last command there is none.
-    fn is_told_again(&self, answered: usize, shown: Shown, reply: Option<&Outcome>) -> bool {
-        let is_first = self.answers.replies.get(answered) == reply;
-        let is_again = self.answers.again.get(answered) == reply;
+    fn is_told_again(&self, answered: usize, shown: Shown, replies: &[Outcome]) -> bool {
+        let next = self.next(answered);
+        let is_first = self.answers.replies.get(answered..next) == Some(replies);
+        let is_again = self.answers.again.get(answered..next) == Some(replies);
         (shown.is_before && is_first) || (shown.is_after && is_again)
     }
 }
@@ -109,55 +133,71 @@ struct Run<D: Disk> {
 struct Shown {
     /// What the answered commands made.
     is_before: bool,
-    /// What they and one more made.
+    /// What they and one more group made.
     is_after: bool,
 }
 
 #[test]
 fn a_lost_database_file_loses_no_answer(rt: HostRuntime) {
-    no_stop_loses_an_answer(&rt, &rt, Stopping::Database, Leaves::Synced);
+    no_stop_loses_an_answer(&rt, &rt, 1, Stopping::Database, Leaves::Synced);
 }
 
 #[test]
 fn a_lost_log_loses_no_answer(rt: HostRuntime) {
-    no_stop_loses_an_answer(&rt, &rt, Stopping::Log, Leaves::Synced);
+    no_stop_loses_an_answer(&rt, &rt, 1, Stopping::Log, Leaves::Synced);
 }
 
 #[test]
 fn a_loss_of_both_files_loses_no_answer(rt: HostRuntime) {
-    no_stop_loses_an_answer(&rt, &rt, Stopping::Both, Leaves::Synced);
+    no_stop_loses_an_answer(&rt, &rt, 1, Stopping::Both, Leaves::Synced);
 }
 
 #[test]
 fn a_kill_loses_no_answer(rt: HostRuntime) {
-    no_stop_loses_an_answer(&rt, &rt, Stopping::Both, Leaves::Written);
+    no_stop_loses_an_answer(&rt, &rt, 1, Stopping::Both, Leaves::Written);
 }
 
 #[test]
 fn a_kill_at_the_database_file_loses_no_answer(rt: HostRuntime) {
-    no_stop_loses_an_answer(&rt, &rt, Stopping::Database, Leaves::Written);
+    no_stop_loses_an_answer(&rt, &rt, 1, Stopping::Database, Leaves::Written);
 }
 
 #[test]
 fn a_kill_at_the_log_loses_no_answer(rt: HostRuntime) {
-    no_stop_loses_an_answer(&rt, &rt, Stopping::Log, Leaves::Written);
+    no_stop_loses_an_answer(&rt, &rt, 1, Stopping::Log, Leaves::Written);
+}
+
+#[test]
+fn a_lost_database_file_loses_no_group(rt: HostRuntime) {
+    no_stop_loses_an_answer(&rt, &rt, TOGETHER, Stopping::Database, Leaves::Synced);
+}
+
+#[test]
+fn a_loss_of_both_files_loses_no_group(rt: HostRuntime) {
+    no_stop_loses_an_answer(&rt, &rt, TOGETHER, Stopping::Both, Leaves::Synced);
+}
+
+#[test]
+fn a_kill_loses_no_group(rt: HostRuntime) {
+    no_stop_loses_an_answer(&rt, &rt, TOGETHER, Stopping::Both, Leaves::Written);
 }
 
 // Lets a file stop at its first call, at its second, and so on, until a run ends without a stop,
-// and prints how many stops there were. Each command that isn't refused writes the log, so where
-// the log stops, some run stops each of them.
+// and prints how many stops there were. So many commands are answered together. Each group of which
+// one command isn't refused writes the log, so where the log stops, some run stops each of them.
 fn no_stop_loses_an_answer(
     rt: &HostRuntime,
     ends: &impl Abort,
+    group: usize,
     stopping: Stopping,
     leaves: Leaves,
 ) {
     let stops = Stops {
         stopping,
         leaves,
-        every: every(rt),
+        every: every(rt, group),
     };
-    let story = story_in_memory(ends, rt.alloc());
+    let story = story_in_memory(ends, rt.alloc(), group);
     let mut made = Made {
         stopped: Vec::new(rt.alloc()),
         in_opens: 0,
@@ -169,11 +209,12 @@ fn no_stop_loses_an_answer(
 }
 
 // After one of this many stops the next open also stops. In `make stops`, `STOPS_EVERY` gives the
-// number.
-fn every(rt: &HostRuntime) -> u64 {
+// number. Otherwise it is greater for groups, since their opens have more calls.
+fn every(rt: &HostRuntime, group: usize) -> u64 {
+    let usual = EVERY.saturating_mul(group as u64);
     match env::var(rt, "STOPS_EVERY") {
-        Ok(text) => text.as_str().parse::<u64>().unwrap_or(EVERY),
-        Err(_) => EVERY,
+        Ok(text) => text.as_str().parse::<u64>().unwrap_or(usual),
+        Err(_) => usual,
     }
 }
 
@@ -229,7 +270,7 @@ fn is_stopped<D: StoppingDisk>(
         answered,
         is_stopped,
         files,
-    } = run_until_stopped(ends, alloc, files, &story.commands);
+    } = run_until_stopped(ends, alloc, files, story);
     let left = left_of(ends, alloc, files, stops.leaves);
     if is_stopped {
         made.stopped.push(answered).expect(ends, "memory");
@@ -300,7 +341,7 @@ fn opens_again<D: Disk + Drop>(
     }
 }
 
-// A registry shows what this many answered commands made, or one more.
+// A registry shows what this many answered commands made, or one more group.
 fn shows_left<D: Disk + Drop>(
     ends: &impl Abort,
     alloc: Global,
@@ -309,13 +350,13 @@ fn shows_left<D: Disk + Drop>(
     story: &Story,
     answered: usize,
 ) {
-    let lists = [story.queries.as_slice()];
+    let lists = [Asks::InTurn(story.queries.as_slice())];
     let (outcomes, _closed) = asked(ends, alloc, registry, Rows::Sound, &lists);
     let _shown = seen(ends, calls, story, answered, &outcomes);
 }
 
-// A registry opens from the files. It shows what this many answered commands made, or one more, and
-// answers the commands that follow as in memory.
+// A registry opens from the files. It shows what this many answered commands made, or one more group,
+// and answers the commands that follow as in memory.
 fn goes_on<D: Disk + Drop>(
     ends: &impl Abort,
     alloc: Global,
@@ -326,9 +367,8 @@ fn goes_on<D: Disk + Drop>(
 ) {
     match opened(alloc, files) {
         Ok(registry) => {
-            let queries = story.queries.as_slice();
-            let rest = story.commands.get(answered..).unwrap_or(&[]);
-            let lists = [queries, rest, queries];
+            let queries = Asks::InTurn(story.queries.as_slice());
+            let lists = [queries, story.rest(answered), queries];
             let (outcomes, _closed) = asked(ends, alloc, registry, Rows::Sound, &lists);
             went_on(ends, calls, story, answered, &outcomes);
         }
@@ -336,7 +376,7 @@ fn goes_on<D: Disk + Drop>(
     }
 }
 
-// What is shown: what this many commands made, or one more.
+// What is shown: what this many commands made, or one more group, and nothing between.
 fn seen(
     ends: &impl Abort,
     calls: u64,
@@ -346,14 +386,14 @@ fn seen(
 ) -> Shown {
     let shown = Shown {
         is_before: story.shows(answered, outcomes),
-        is_after: story.shows(answered.saturating_add(1), outcomes),
+        is_after: story.shows(story.next(answered), outcomes),
     };
     let is_shown = shown.is_before || shown.is_after;
     same(ends, (calls, "what is shown"), is_shown, true);
     shown
 }
 
-// Checks the outcomes of the queries, of the stopped command and those that follow, and of the
+// Checks the outcomes of the queries, of the stopped group and those that follow, and of the
 // queries again.
 fn went_on(ends: &impl Abort, calls: u64, story: &Story, answered: usize, outcomes: &[Outcome]) {
     let count = story.queries.len();
@@ -361,16 +401,18 @@ fn went_on(ends: &impl Abort, calls: u64, story: &Story, answered: usize, outcom
     let shown = seen(ends, calls, story, answered, first);
     let middle = rest.len().saturating_sub(count);
     let (replies, last) = rest.split_at_checked(middle).expect(ends, "queries");
-    let is_told = story.is_told_again(answered, shown, replies.first());
-    same(ends, (calls, "the stopped command"), is_told, true);
-    let follow = story.answers.replies.get(answered.saturating_add(1)..);
-    let are_told = replies.get(1..) == follow;
+    let next = story.next(answered);
+    let stopped = next.saturating_sub(answered);
+    let (again, follow) = replies.split_at_checked(stopped).expect(ends, "replies");
+    let is_told = story.is_told_again(answered, shown, again);
+    same(ends, (calls, "the stopped group"), is_told, true);
+    let are_told = story.answers.replies.get(next..) == Some(follow);
     same(ends, (calls, "the commands that follow"), are_told, true);
     let is_end = story.shows(story.commands.len(), last);
     same(ends, (calls, "the end"), is_end, true);
 }
 
-// Checks that the stops came where they are wanted. A command writes the log, and only a checkpoint
+// Checks that the stops came where they are wanted. A group writes the log, and only a checkpoint
 // writes the database file.
 fn are_wanted(ends: &impl Abort, story: &Story, stopping: Stopping, stopped: &[usize]) {
     match stopping {
@@ -389,24 +431,29 @@ fn is_one_between(commands: usize, stopped: &[usize]) -> bool {
         .any(|answered| 0 < *answered && *answered < commands)
 }
 
-// Each command that isn't refused was stopped in some run.
+// Each group of which one command isn't refused was stopped in some run.
 fn are_all_stopped(ends: &impl Abort, story: &Story, stopped: &[usize]) {
-    for (place, reply) in story.answers.replies.iter().enumerate() {
-        let is_refused = matches!(reply, Ok(Reply::Refused(_)));
-        let is_stopped = is_refused || stopped.contains(&place);
-        same(ends, (place, "stopped"), is_stopped, true);
+    let mut first = 0;
+    for group in story.answers.replies.chunks(story.group.max(1)) {
+        let are_refused = group
+            .iter()
+            .all(|reply| matches!(reply, Ok(Reply::Refused(_))));
+        let is_stopped = are_refused || stopped.contains(&first);
+        same(ends, (first, "stopped"), is_stopped, true);
+        first = story.next(first);
     }
 }
 
-// What is asked, and what a registry in memory answers.
-fn story_in_memory(ends: &impl Abort, alloc: Global) -> Story {
+// What is asked, in groups of so many commands, and what a registry in memory answers.
+fn story_in_memory(ends: &impl Abort, alloc: Global, group: usize) -> Story {
     let commands = requests(ends, alloc, COMMANDS);
     let queries = requests(ends, alloc, QUERIES);
     let mut registry = Registry::in_memory(alloc).expect(ends, "a registry");
-    let answers = answers_of(ends, alloc, &mut registry, &commands, &queries);
+    let answers = answers_of(ends, alloc, &mut registry, &commands, group, &queries);
     Story {
         commands,
         queries,
+        group,
         answers,
     }
 }
@@ -416,6 +463,7 @@ fn answers_of<S: Alter>(
     alloc: Global,
     registry: &mut Registry<S>,
     commands: &[Request],
+    group: usize,
     queries: &[Request],
 ) -> Answers {
     let mut answers = Answers {
@@ -424,23 +472,28 @@ fn answers_of<S: Alter>(
         shown: Vec::new(alloc),
     };
     push_shown(ends, alloc, registry, queries, &mut answers.shown);
-    for command in commands {
-        push_outcome(ends, alloc, registry, command, &mut answers.replies);
-        push_shown(ends, alloc, registry, queries, &mut answers.shown);
-        push_outcome(ends, alloc, registry, command, &mut answers.again);
+    for commands in commands.chunks(group.max(1)) {
+        push_answers(ends, alloc, registry, commands, queries, &mut answers);
+        let again = outcomes_of(alloc, registry, commands).expect(ends, "memory");
+        answers.again.extend(again).expect(ends, "memory");
     }
     answers
 }
 
-fn push_outcome<S: Alter>(
+// Adds the outcome of each command of a group, and what the queries show after it.
+fn push_answers<S: Alter>(
     ends: &impl Abort,
     alloc: Global,
     registry: &mut Registry<S>,
-    command: &Request,
-    outcomes: &mut Vec<Outcome>,
+    commands: &[Request],
+    queries: &[Request],
+    answers: &mut Answers,
 ) {
-    let outcome = outcome_of(alloc, registry, command);
-    outcomes.push(outcome).expect(ends, "memory");
+    for command in commands {
+        let outcome = outcome_of(alloc, registry, command);
+        answers.replies.push(outcome).expect(ends, "memory");
+        push_shown(ends, alloc, registry, queries, &mut answers.shown);
+    }
 }
 
 fn push_shown<S: Alter>(
@@ -459,10 +512,10 @@ fn run_until_stopped<D: Disk + Drop>(
     ends: &impl Abort,
     alloc: Global,
     files: Files<D>,
-    commands: &[Request],
+    story: &Story,
 ) -> Run<D> {
     match opened(alloc, files) {
-        Ok(registry) => run_to_the_end(ends, alloc, registry, commands),
+        Ok(registry) => run_to_the_end(ends, alloc, registry, story),
         Err((_, files)) => Run {
             answered: 0,
             is_stopped: true,
@@ -475,27 +528,20 @@ fn run_to_the_end<D: Disk + Drop>(
     ends: &impl Abort,
     alloc: Global,
     registry: Registry<FileStore<D>>,
-    commands: &[Request],
+    story: &Story,
 ) -> Run<D> {
-    let (outcomes, Closed { is_whole, files }) = asked(
-        ends,
-        alloc,
-        registry,
-        Rows::Any,
-        &[commands],
-    );
+    let lists = [story.rest(0)];
+    let (outcomes, Closed { is_whole, files }) = asked(ends, alloc, registry, Rows::Any, &lists);
     let answered = answered(&outcomes);
     Run {
         answered,
-        is_stopped: !is_whole || answered < commands.len(),
+        is_stopped: !is_whole || answered < story.commands.len(),
         files,
     }
 }
 
 // How many commands are answered before one meets a fault.
 fn answered(outcomes: &[Outcome]) -> usize {
-    match outcomes.last() {
-        Some(Err(_)) => outcomes.len().saturating_sub(1),
-        _ => outcomes.len(),
-    }
+    let first = outcomes.iter().position(|outcome| outcome.is_err());
+    first.unwrap_or(outcomes.len())
 }
