@@ -17,33 +17,28 @@ use std::process::Abort;
 const MOST_CALLS: u64 = 10_000;
 
 #[test]
-fn a_lost_database_file_loses_nothing(rt: HostRuntime) {
-    no_stop_loses_anything(&rt, rt.alloc(), Stopping::Database, Leaves::Synced);
-}
-
-#[test]
-fn a_lost_log_loses_nothing(rt: HostRuntime) {
-    no_stop_loses_anything(&rt, rt.alloc(), Stopping::Log, Leaves::Synced);
-}
-
-#[test]
-fn a_loss_of_both_files_loses_nothing(rt: HostRuntime) {
-    no_stop_loses_anything(&rt, rt.alloc(), Stopping::Both, Leaves::Synced);
+fn a_loss_of_power_loses_nothing(rt: HostRuntime) {
+    no_stop_loses_anything(&rt, rt.alloc(), Leaves::Synced);
 }
 
 #[test]
 fn a_kill_loses_nothing(rt: HostRuntime) {
-    no_stop_loses_anything(&rt, rt.alloc(), Stopping::Both, Leaves::Written);
-    no_stop_loses_anything(&rt, rt.alloc(), Stopping::Database, Leaves::Written);
-    no_stop_loses_anything(&rt, rt.alloc(), Stopping::Log, Leaves::Written);
+    no_stop_loses_anything(&rt, rt.alloc(), Leaves::Written);
 }
 
 // Registries of both older schemas outlive all stops.
-fn no_stop_loses_anything(ends: &impl Abort, alloc: Global, stopping: Stopping, leaves: Leaves) {
-    let older = made(ends, alloc, &TABLES[..14], first::ROWS);
-    outlives_stops(ends, alloc, &older, first::SHOWN, stopping, leaves);
-    let older = made(ends, alloc, &TABLES[..17], second::ROWS);
-    outlives_stops(ends, alloc, &older, second::SHOWN, stopping, leaves);
+fn no_stop_loses_anything(ends: &impl Abort, alloc: Global, leaves: Leaves) {
+    let first = made(ends, alloc, &TABLES[..14], first::ROWS);
+    let second = made(ends, alloc, &TABLES[..17], second::ROWS);
+    for stopping in [Stopping::Database, Stopping::Log, Stopping::Both] {
+        let stop = Stop {
+            stopping,
+            calls: 0,
+            leaves,
+        };
+        outlives_stops(ends, alloc, &first, first::SHOWN, stop);
+        outlives_stops(ends, alloc, &second, second::SHOWN, stop);
+    }
 }
 
 // Files with the tables that these texts make, and the rows that the statements of a text put.
@@ -60,20 +55,9 @@ fn made(ends: &impl Abort, alloc: Global, tables: &[&str], rows: &str) -> Kept {
 
 // Lets a file of the older registry, or each, stop at its first call, at its second, and so on,
 // until an open and a close aren't stopped.
-fn outlives_stops(
-    ends: &impl Abort,
-    alloc: Global,
-    older: &Kept,
-    shows: &str,
-    stopping: Stopping,
-    leaves: Leaves,
-) {
+fn outlives_stops(ends: &impl Abort, alloc: Global, older: &Kept, shows: &str, stop: Stop) {
     for calls in 0..MOST_CALLS {
-        let stop = Stop {
-            stopping,
-            calls,
-            leaves,
-        };
+        let stop = Stop { calls, ..stop };
         let (is_whole, left) = opened_once(ends, alloc, older, stop, First::Nothing);
         opens_again(ends, alloc, calls, &left, shows);
         if is_whole {

@@ -128,8 +128,12 @@ fn a_kill_at_the_log_loses_no_answer(rt: HostRuntime) {
 }
 
 #[test]
-fn a_loss_of_power_loses_no_group(rt: HostRuntime) {
+fn a_lost_database_file_loses_no_group(rt: HostRuntime) {
     no_stop_loses_an_answer(&rt, &rt, TOGETHER, Stopping::Database, Leaves::Synced);
+}
+
+#[test]
+fn a_loss_of_both_files_loses_no_group(rt: HostRuntime) {
     no_stop_loses_an_answer(&rt, &rt, TOGETHER, Stopping::Both, Leaves::Synced);
 }
 
@@ -149,8 +153,12 @@ fn no_stop_loses_an_answer(
     leaves: Leaves,
 ) {
     let story = story_in_memory(ends, rt.alloc(), group);
-    let every = every(rt, group);
-    let made = stops_made(ends, rt.alloc(), &story, every, stopping, leaves);
+    let stop = Stop {
+        stopping,
+        calls: 0,
+        leaves,
+    };
+    let made = stops_made(ends, rt.alloc(), &story, every(rt, group), stop);
     let (count, in_opens) = (made.stopped.len(), made.in_opens);
     let _ = eprintln!(rt; "{count} stops, and {in_opens} of opens after a stop");
     are_wanted(ends, &story, stopping, &made.stopped);
@@ -167,24 +175,13 @@ fn every(rt: &HostRuntime, group: usize) -> u64 {
 }
 
 // Makes all stops.
-fn stops_made(
-    ends: &impl Abort,
-    alloc: Global,
-    story: &Story,
-    every: u64,
-    stopping: Stopping,
-    leaves: Leaves,
-) -> Made {
+fn stops_made(ends: &impl Abort, alloc: Global, story: &Story, every: u64, stop: Stop) -> Made {
     let mut made = Made {
         stopped: Vec::new(alloc),
         in_opens: 0,
     };
     for calls in 0..MOST_CALLS {
-        let stop = Stop {
-            stopping,
-            calls,
-            leaves,
-        };
+        let stop = Stop { calls, ..stop };
         if !is_stopped(ends, alloc, story, every, stop, &mut made) {
             return made;
         }
