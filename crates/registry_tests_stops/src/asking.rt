@@ -1,5 +1,8 @@
 //! Requests to registries, whatever their store is.
 
+ghost use Rattle.sqlite.specs.Held.{state};
+ghost use Rattle.registry_desk.specs.Adopted.{CanBeAdopted};
+
 use crate::checks::checked;
 use crate::outcome::same;
 use registry_desk::Registry;
@@ -47,7 +50,9 @@ pub(crate) fn asked<S: Alter + Drop>(
     registry: Registry<S>,
     first: First,
     lists: &[Asks],
-) -> (Vec<Outcome>, Connection<S>) {
+) -> (Vec<Outcome>, Connection<S>)
+    ensures rises { CanBeAdopted (state S.Store result.1) }
+{
     let mut outcomes = Vec::new(alloc);
     let mut registry = match first {
         First::Nothing => registry,
@@ -118,8 +123,15 @@ fn push_together<S: Alter>(
 
 // Whether there is no fault among the outcomes, or one fault is all of them.
 fn are_alike(outcomes: &[Outcome]) -> bool {
-    let fault = outcomes.iter().find(|outcome| outcome.is_err());
-    fault.is_none() || outcomes.iter().all(|outcome| Some(outcome) == fault)
+    let Some(first) = outcomes.first() else {
+        return true;
+    };
+    for outcome in outcomes {
+        if (first.is_err() || outcome.is_err()) && outcome != first {
+            return false;
+        }
+    }
+    true
 }
 
 // A registry, after a service over it was asked a command and, after a fault, a query. Adds what it
@@ -169,6 +181,12 @@ fn push_answer<S: Service>(
 
 /// How many requests are answered before one meets a fault.
 pub(crate) fn answered(outcomes: &[Outcome]) -> usize {
-    let first = outcomes.iter().position(|outcome| outcome.is_err());
-    first.unwrap_or(outcomes.len())
+    let mut count = 0usize;
+    for outcome in outcomes {
+        if outcome.is_err() {
+            return count;
+        }
+        count = count.saturating_add(1);
+    }
+    count
 }

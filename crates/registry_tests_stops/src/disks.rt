@@ -109,7 +109,8 @@ pub(crate) struct Came {
     pub(crate) is_whole: bool,
 }
 
-/// What comes of a visit to the files of these bytes, and what a stop leaves of them.
+/// What comes of a visit to the files of these bytes, and what a stop leaves of them. Only this function
+/// names the disk, which passes so many calls and then fails every one.
 pub(crate) fn visited(
     ends: &impl Abort,
     alloc: Global,
@@ -117,75 +118,46 @@ pub(crate) fn visited(
     stop: Stop,
     visit: Visit,
 ) -> (Came, Kept) {
-    visited_on::<Fuse<Memory>>(ends, alloc, kept, stop, visit)
-}
-
-/// A disk in memory that passes so many calls and then fails every one.
-trait StoppingDisk: Disk + Drop + Sized {
-    /// A disk that holds these bytes, also after a crash, and passes this many calls.
-    fn holding(ends: &impl Abort, alloc: Global, bytes: &[u8], calls: u64) -> Self;
-
-    /// What a stop leaves.
-    fn left(&mut self, ends: &impl Abort, alloc: Global, leaves: Leaves) -> Vec<u8>;
-}
-
-impl StoppingDisk for Fuse<Memory> {
-    fn holding(ends: &impl Abort, alloc: Global, bytes: &[u8], calls: u64) -> Fuse<Memory> {
-        let mut memory = Memory::new(alloc);
-        memory.write_at(0, bytes).expect(ends, "bytes");
-        memory.sync().expect(ends, "bytes");
-        Fuse::new(memory, calls)
-    }
-
-    fn left(&mut self, ends: &impl Abort, alloc: Global, leaves: Leaves) -> Vec<u8> {
-        match leaves {
-            Leaves::Synced => self.crash(),
-            Leaves::Written => {}
-        }
-        Vec::from_slice(alloc, self.inner().bytes()).expect(ends, "memory")
-    }
-}
-
-fn visited_on<D: StoppingDisk>(
-    ends: &impl Abort,
-    alloc: Global,
-    kept: &Kept,
-    stop: Stop,
-    visit: Visit,
-) -> (Came, Kept) {
-    let files: Files<D> = files_of(ends, alloc, kept, stop);
-    let (came, files) = match visit {
-        Visit::Asks(first, lists) => asked_in(ends, alloc, files, first, lists),
-        Visit::Works(work) => worked_in(ends, alloc, files, work),
-    };
-    (came, left_of(ends, alloc, files, stop.leaves))
-}
-
-// Files of these bytes, one or both of which stop.
-fn files_of<D: StoppingDisk>(
-    ends: &impl Abort,
-    alloc: Global,
-    kept: &Kept,
-    stop: Stop,
-) -> Files<D> {
     let (log, db) = stop.calls();
-    Files {
-        log: D::holding(ends, alloc, &kept.log, log),
-        db: D::holding(ends, alloc, &kept.db, db),
-    }
+    let files = Files {
+        log: holding(ends, alloc, &kept.log, log),
+        db: holding(ends, alloc, &kept.db, db),
+    };
+    let (came, files) = visited_in(ends, alloc, files, visit);
+    let Files { mut log, mut db } = files;
+    let left = Kept {
+        log: left_of(ends, alloc, &mut log, stop.leaves),
+        db: left_of(ends, alloc, &mut db, stop.leaves),
+    };
+    (came, left)
 }
 
-// What a stop leaves of these files.
-fn left_of<D: StoppingDisk>(
+// A disk that holds these bytes, also after a crash, and passes this many calls.
+fn holding(ends: &impl Abort, alloc: Global, bytes: &[u8], calls: u64) -> Fuse<Memory> {
+    let mut memory = Memory::new(alloc);
+    memory.write_at(0, bytes).expect(ends, "bytes");
+    memory.sync().expect(ends, "bytes");
+    Fuse::new(memory, calls)
+}
+
+// What a stop leaves of a disk.
+fn left_of(ends: &impl Abort, alloc: Global, disk: &mut Fuse<Memory>, leaves: Leaves) -> Vec<u8> {
+    match leaves {
+        Leaves::Synced => disk.crash(),
+        Leaves::Written => {}
+    }
+    Vec::from_slice(alloc, disk.inner().bytes()).expect(ends, "memory")
+}
+
+fn visited_in<D: Disk + Drop>(
     ends: &impl Abort,
     alloc: Global,
     files: Files<D>,
-    leaves: Leaves,
-) -> Kept {
-    let Files { mut log, mut db } = files;
-    Kept {
-        log: log.left(ends, alloc, leaves),
-        db: db.left(ends, alloc, leaves),
+    visit: Visit,
+) -> (Came, Files<D>) {
+    match visit {
+        Visit::Asks(first, lists) => asked_in(ends, alloc, files, first, lists),
+        Visit::Works(work) => worked_in(ends, alloc, files, work),
     }
 }
 

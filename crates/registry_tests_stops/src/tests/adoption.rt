@@ -10,7 +10,6 @@ use crate::requests::{COMMANDS, QUERIES};
 use crate::sql::Work;
 use registry_desk::Registry;
 use registry_names::Fault;
-use registry_tests_requests::Outcome;
 use sqlite::{Alter, Connection};
 use std::alloc::Global;
 use std::process::Abort;
@@ -74,17 +73,14 @@ fn is_back_as_it_was<S: Alter + Drop>(ends: &impl Abort, alloc: Global, connecti
 {
     let mut faults = Vec::new(alloc);
     let connection = handed_back(ends, alloc, connection, &mut faults);
-    are_faults(ends, "inside a transaction", &faults, 1);
-    let is_inside = !connection.is_autocommit();
-    same(ends, "it is inside", is_inside, true);
-}
-
-// Checks that so many attempts failed with the fault of the database.
-fn are_faults(ends: &impl Abort, case: &str, outcomes: &[Outcome], count: usize) {
-    let are_faults = outcomes
-        .iter()
-        .all(|outcome| matches!(outcome, Err(Fault::Database)));
-    same(ends, case, (are_faults, outcomes.len()), (true, count));
+    let is_fault = matches!(faults.as_slice(), [Err(Fault::Database)]);
+    let comes_back = (is_fault, connection.is_autocommit());
+    same(
+        ends,
+        "the fault, and it is inside",
+        comes_back,
+        (true, false),
+    );
 }
 
 #[test]
@@ -108,7 +104,9 @@ fn are_handed_back(ends: &impl Abort, alloc: Global) {
 fn is_handed_back(ends: &impl Abort, alloc: Global, kept: &Kept, change: &str, undo: &str) {
     let changed = after(ends, alloc, kept, change);
     let (came, _) = visited(ends, alloc, &changed, NEVER, Visit::Works(Work::Adopts));
-    are_faults(ends, change, &came.outcomes, 2);
+    let faults = came.outcomes.as_slice();
+    let are_two = matches!(faults, [Err(Fault::Database), Err(Fault::Database)]);
+    same(ends, change, are_two, true);
     let (fault, back) = opens(ends, alloc, &changed);
     same(ends, change, fault, Some(Fault::Database));
     let (fault, _) = opens(ends, alloc, &after(ends, alloc, &back, undo));

@@ -313,27 +313,39 @@ fn went_on(ends: &impl Abort, calls: u64, story: &Story, answered: usize, outcom
 fn are_wanted(ends: &impl Abort, story: &Story, stopping: Stopping, stopped: &[usize]) {
     match stopping {
         Stopping::Database => {
-            let commands = story.commands.len();
-            let is_between = stopped
-                .iter()
-                .any(|answered| 0 < *answered && *answered < commands);
+            let is_between = is_one_between(story.commands.len(), stopped);
             same(ends, "a stop is between two commands", is_between, true);
         }
         Stopping::Log | Stopping::Both => are_all_stopped(ends, story, stopped),
     }
 }
 
+fn is_one_between(commands: usize, stopped: &[usize]) -> bool {
+    for answered in stopped {
+        if 0 < *answered && *answered < commands {
+            return true;
+        }
+    }
+    false
+}
+
 // Each group of which one command isn't refused was stopped in some run.
 fn are_all_stopped(ends: &impl Abort, story: &Story, stopped: &[usize]) {
     let mut first = 0;
     for group in story.replies.chunks(story.group.max(1)) {
-        let are_refused = group
-            .iter()
-            .all(|reply| matches!(reply, Ok(Reply::Refused(_))));
-        let is_stopped = are_refused || stopped.contains(&first);
+        let is_stopped = are_refused(group) || stopped.contains(&first);
         same(ends, (first, "stopped"), is_stopped, true);
         first = story.next(first);
     }
+}
+
+fn are_refused(group: &[Outcome]) -> bool {
+    for reply in group {
+        if !matches!(reply, Ok(Reply::Refused(_))) {
+            return false;
+        }
+    }
+    true
 }
 
 // What is asked, in groups of so many commands, and what a registry in memory answers.
