@@ -351,15 +351,6 @@ fn are_refused(group: &[Outcome]) -> bool {
 // What is asked, in groups of so many commands, and what a registry in memory answers.
 fn story_in_memory(ends: &impl Abort, alloc: Global, group: usize) -> Story {
     let mut registry = Registry::in_memory(alloc).expect(ends, "a registry");
-    story_of(ends, alloc, &mut registry, group)
-}
-
-fn story_of<S: Alter>(
-    ends: &impl Abort,
-    alloc: Global,
-    registry: &mut Registry<S>,
-    group: usize,
-) -> Story {
     let mut story = Story {
         commands: requests(ends, alloc, COMMANDS),
         queries: requests(ends, alloc, QUERIES),
@@ -369,13 +360,23 @@ fn story_of<S: Alter>(
         shown: Vec::new(alloc),
     };
     let commands = requests(ends, alloc, COMMANDS);
-    push_shown(ends, alloc, registry, &mut story);
-    for commands in commands.chunks(group.max(1)) {
-        push_answers(ends, alloc, registry, commands, &mut story);
-        let again = outcomes_of(alloc, registry, commands).expect(ends, "memory");
+    push_all(ends, alloc, &mut registry, &commands, &mut story);
+    story
+}
+
+fn push_all<S: Alter>(
+    ends: &impl Abort,
+    alloc: Global,
+    registry: &mut Registry<S>,
+    commands: &[Request],
+    story: &mut Story,
+) {
+    push_shown(ends, alloc, registry, story);
+    for group in commands.chunks(story.group.max(1)) {
+        push_answers(ends, alloc, registry, group, story);
+        let again = outcomes_of(alloc, registry, group).expect(ends, "memory");
         story.again.extend(again).expect(ends, "memory");
     }
-    story
 }
 
 // Adds the outcome of each command of a group, and what the queries show after it.
