@@ -124,8 +124,8 @@ module _ {D : Type 0} (show : D → Shown) where
   applied M r o N = Applied (show M) (show N) r o
 
 module _ (speaks : Dialect) {D : Type 0} (show : D → Shown) where
-  -- the turns of one connection are one run of the registry, of which everything holds that `run`
-  -- says
+  -- the turns of one connection are one run of the registry, of which everything holds that is said of
+  -- requests in turn
   abbrev pub TurnsRun : Type 0
   TurnsRun = (M N : D) (ts : List Turn) → Follow (spoken speaks (applied show)) M ts N → IsOneRun (show M) (show N) (AskAll ts)
 
