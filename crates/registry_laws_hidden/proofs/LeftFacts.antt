@@ -12,6 +12,7 @@ use Rattle.registry_rules.specs.Refusals.{refusal, refusal_by, refusal_for}
 use Rattle.registry_rules.specs.State.{State}
 use Rattle.registry_rules.specs.declared.reply.Reply.{Reply}
 use Rattle.registry_rules.specs.declared.request.Action.{Action}
+use Rattle.registry_rules.specs.declared.request.Action.TheVariants.{UserAdd}
 use Rattle.registry_rules.specs.declared.request.Credential.{Credential}
 use Rattle.registry_rules.specs.declared.request.Request.{Request}
 use Rattle.registry_laws_history.specs.Answers.{answer, reply, reply_to, unless_refused}
@@ -51,6 +52,7 @@ left_next S r o is answered =
 -- ---- a request becomes an entry exactly where it is a command that nothing refuses
 
 accepted_reply : (S : State) (who : Caller) (what : Action) → accepts (Ok (reply S who what)) ≡ true
+accepted_reply S who (UserAdd u) = refl
 accepted_reply S who _ = refl
 
 accepted_by : (S : State) (now : ℕ) (o : Option Caller) (what : Action) → accepts (Ok (unless_refused (refusal_for S now o what) (reply_to S o what))) ≡ is_none (refusal_for S now o what)
