@@ -53,7 +53,11 @@ fn no_request_ends_in_a_fault(rt: HostRuntime) {
 fn query_in(line: &str) -> Option<&str> {
     match line.split_once("--operator ") {
         Some((_, query)) => Some(query),
-        None => Some(line.split_once("--as ")?.1.split_once(' ')?.1),
+        None => {
+            let (_, rest) = line.split_once("--as ")?;
+            let (_, query) = rest.split_once(' ')?;
+            Some(query)
+        }
     }
 }
 
