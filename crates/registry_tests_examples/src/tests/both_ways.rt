@@ -6,7 +6,7 @@ use crate::tests::lists::{ACTIONS, LAB, LAB_KIT, PEOPLE, RIGHTS, VERSIONS, WITHD
 use registry_desk::Registry;
 use registry_names::Refusal;
 use registry_rules::{Reply, Request};
-use registry_tests_requests::{Outcome, outcomes_of};
+use registry_tests_requests::{Outcome, QUERIES, outcomes_of};
 use std::alloc::Global;
 use std::process::Abort;
 
@@ -38,9 +38,27 @@ fn no_request_ends_in_a_fault(rt: HostRuntime) {
         push_there(&rt, rt.alloc(), &mut there, action);
         back = once_back(&rt, rt.alloc(), action, back.as_str());
     }
+    for line in QUERIES.lines() {
+        if let Some(query) = query_in(line) {
+            push_there(&rt, rt.alloc(), &mut there, query);
+            back = once_back(&rt, rt.alloc(), query, back.as_str());
+        }
+    }
     let mut requests = requests(&rt, rt.alloc(), there.as_str());
     push(&rt, rt.alloc(), &mut requests, back.as_str());
     let _outcomes = both_ways(&rt, rt.alloc(), &requests);
+}
+
+// What a line asks, without its caller: the operator, or a user by name.
+fn query_in(line: &str) -> Option<&str> {
+    match line.split_once("--operator ") {
+        Some((_, query)) => Some(query),
+        None => {
+            let (_, rest) = line.split_once("--as ")?;
+            let (_, query) = rest.split_once(' ')?;
+            Some(query)
+        }
+    }
 }
 
 // Adds the lines by which each caller asks for an action.

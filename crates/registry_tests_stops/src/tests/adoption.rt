@@ -12,10 +12,11 @@ use crate::disks::{
     left_of, opened,
 };
 use crate::outcome::same;
-use crate::requests::{COMMANDS, QUERIES};
+use crate::requests::COMMANDS;
 use crate::sql::ran;
 use registry_desk::Registry;
 use registry_names::Fault;
+use registry_tests_requests::QUERIES;
 use sqlite::{Alter, Connection, FileStore, Files};
 use sqlite_disk::Disk;
 use std::alloc::Global;

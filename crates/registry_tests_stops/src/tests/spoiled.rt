@@ -6,11 +6,11 @@ use crate::disks::{
     Closed, NEVER, Stopping, StoppingDisk, TestDisk, empty_files, files_of, opened,
 };
 use crate::outcome::same;
-use crate::requests::{ADD_ANN, COMMANDS, QUERIES, TAGS_OF_NONE};
+use crate::requests::{ADD_ANN, COMMANDS, TAGS_OF_NONE};
 use registry_desk::Registry;
 use registry_names::{Fault, Refusal};
 use registry_rules::Reply;
-use registry_tests_requests::Outcome;
+use registry_tests_requests::{Outcome, QUERIES};
 use sqlite::{FileFrom, FileStore, Files};
 use sqlite_disk::{Disk, Wary};
 use std::alloc::Global;

@@ -7,10 +7,10 @@ use crate::disks::{
     Closed, Leaves, Stopping, StoppingDisk, TestDisk, copied, empty_files, left_of, opened,
 };
 use crate::outcome::same;
-use crate::requests::{COMMANDS, QUERIES};
+use crate::requests::COMMANDS;
 use registry_desk::Registry;
 use registry_rules::{Reply, Request};
-use registry_tests_requests::{Outcome, outcome_of, outcomes_of};
+use registry_tests_requests::{Outcome, QUERIES, outcome_of, outcomes_of};
 use sqlite::{Alter, FileStore, Files};
 use sqlite_disk::Disk;
 use std::alloc::Global;
