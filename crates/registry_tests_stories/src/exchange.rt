@@ -1,14 +1,16 @@
 //! A connection over HTTP to the registry of a story, without a socket: the server's own state of a
-//! connection is given what comes, and is asked what to send.
+//! connection is given what comes, and is asked what to send. A packument may also be sent as it is
+//! made.
 
 use crate::clock::StatedClock;
 use crate::failure::{Stop, failed_with};
 use crate::registry::{DB, StoryRegistry};
 use registry_desk::Registry;
 use registry_http::RegistryService;
-use registry_names::{Fault, Moment};
+use registry_names::{Fault, FromRead, Moment, ToWrite};
 use registry_server::{ConnectionState, Progress};
-use registry_service::{End, HttpService, REQUESTS_PER_CONNECTION};
+use registry_service::{End, HttpService, PackumentService, REQUESTS_PER_CONNECTION, serve};
+use registry_wire::Inbox;
 use sqlite::Alter;
 use std::alloc::{AllocError, Global};
 
@@ -25,6 +27,8 @@ pub enum Pace {
     AtOnce,
     /// One byte a read, or a few thousand where there are many.
     InPieces,
+    /// All at once, and a packument is sent as it is made.
+    AsMade,
 }
 
 /// What is answered on a connection, and how it ends.
@@ -44,10 +48,7 @@ pub fn answered(
     pace: Pace,
 ) -> Result<Answer, Stop> {
     match registry {
-        StoryRegistry::InMemory(service) => {
-            let exchange = Exchange::new(alloc, at);
-            Ok(exchange.carry(alloc, service, asked, pace)?)
-        }
+        StoryRegistry::InMemory(service) => Ok(carried(alloc, service, at, asked, pace)?),
         StoryRegistry::InFile => match Registry::open(rt, DB) {
             Ok(registry) => Ok(answered_in(alloc, registry, at, asked, pace)?),
             Err(_) => Err(failed_with(alloc, "the registry's file can't be opened")),
@@ -64,7 +65,34 @@ fn answered_in<S: Alter + Drop>(
     pace: Pace,
 ) -> Result<Answer, AllocError> {
     let mut service = RegistryService::new(registry);
-    Exchange::new(alloc, at).carry(alloc, &mut service, asked, pace)
+    carried(alloc, &mut service, at, asked, pace)
+}
+
+// What a service answers.
+fn carried<D: HttpService + PackumentService>(
+    alloc: Global,
+    service: &mut D,
+    at: Moment,
+    asked: &[u8],
+    pace: Pace,
+) -> Result<Answer, AllocError> {
+    if pace == Pace::AsMade {
+        return Ok(served(alloc, service, at, asked));
+    }
+    Exchange::new(alloc, at).carry(alloc, service, asked, pace == Pace::InPieces)
+}
+
+// What a service answers that sends packuments as it makes them.
+fn served<D: PackumentService>(alloc: Global, service: &mut D, at: Moment, asked: &[u8]) -> Answer {
+    let mut inbox = Inbox::new(alloc, FromRead::new(asked));
+    let mut bytes = Vec::new(alloc);
+    let mut writer = ToWrite::new(&mut bytes);
+    let mut clock = StatedClock { at };
+    let served = serve(alloc, service, &mut inbox, &mut writer, &mut clock);
+    Answer {
+        bytes,
+        end: Some(served.end),
+    }
 }
 
 /// A connection, its clock, what it has answered so far, and how it ended, if it has.
@@ -92,12 +120,13 @@ impl Exchange {
         alloc: Global,
         service: &mut D,
         asked: &[u8],
-        pace: Pace,
+        in_pieces: bool,
     ) -> Result<Answer, AllocError> {
         let mut exchange = self;
-        match pace {
-            Pace::AtOnce => exchange.give(alloc, service, asked)?,
-            Pace::InPieces => exchange.give_pieces(alloc, service, asked)?,
+        if in_pieces {
+            exchange.give_pieces(alloc, service, asked)?;
+        } else {
+            exchange.give(alloc, service, asked)?;
         }
         if exchange.end.is_none() {
             exchange.end = exchange.take_turns(alloc, service, true)?;
