@@ -48,7 +48,13 @@ pub fn answered(
     pace: Pace,
 ) -> Result<Answer, Stop> {
     match registry {
-        StoryRegistry::InMemory(service) => Ok(carried(alloc, service, at, asked, pace)?),
+        StoryRegistry::InMemory(service) if pace == Pace::AsMade => Ok(served(
+            alloc, service, at, asked,
+        )),
+        StoryRegistry::InMemory(service) => {
+            let exchange = Exchange::new(alloc, at);
+            Ok(exchange.carry(alloc, service, asked, pace)?)
+        }
         StoryRegistry::InFile => match Registry::open(rt, DB) {
             Ok(registry) => Ok(answered_in(alloc, registry, at, asked, pace)?),
             Err(_) => Err(failed_with(alloc, "the registry's file can't be opened")),
@@ -65,21 +71,10 @@ fn answered_in<S: Alter + Drop>(
     pace: Pace,
 ) -> Result<Answer, AllocError> {
     let mut service = RegistryService::new(registry);
-    carried(alloc, &mut service, at, asked, pace)
-}
-
-// What a service answers.
-fn carried<D: HttpService + PackumentService>(
-    alloc: Global,
-    service: &mut D,
-    at: Moment,
-    asked: &[u8],
-    pace: Pace,
-) -> Result<Answer, AllocError> {
     if pace == Pace::AsMade {
-        return Ok(served(alloc, service, at, asked));
+        return Ok(served(alloc, &mut service, at, asked));
     }
-    Exchange::new(alloc, at).carry(alloc, service, asked, pace == Pace::InPieces)
+    Exchange::new(alloc, at).carry(alloc, &mut service, asked, pace)
 }
 
 // What a service answers that sends packuments as it makes them.
@@ -120,10 +115,10 @@ impl Exchange {
         alloc: Global,
         service: &mut D,
         asked: &[u8],
-        in_pieces: bool,
+        pace: Pace,
     ) -> Result<Answer, AllocError> {
         let mut exchange = self;
-        if in_pieces {
+        if pace == Pace::InPieces {
             exchange.give_pieces(alloc, service, asked)?;
         } else {
             exchange.give(alloc, service, asked)?;
