@@ -1,6 +1,5 @@
 //! The lines of commands that are answered together.
 
-use super::{is_written, lab_kit_logged};
 use crate::outcome::same;
 use crate::tests::asking::requests;
 use registry_names::{Blob, Method};
@@ -17,17 +16,8 @@ token npm_bob_000000001 --at 300 tag-set @lab/kit next 1.0.0
 token npm_bob_000000001 --at 300 tag-set @lab/kit old 2.0.0
 ";
 
-#[test]
-fn commands_that_are_answered_together_have_a_line_each(rt: HostRuntime) {
-    let mut service = lab_kit_logged(&rt, &rt, "together.log", &[]);
-    note_together(&rt, rt.alloc(), &mut service);
-    let wanted =
-        "1970-01-01T00:05:00.000Z bob PUT /-/package/@lab%2fkit/dist-tags/next 200 11 1.2\n1970-01-01T00:05:00.000Z - PUT /-/package/@lab%2fkit/dist-tags/beta 401 20 1.2\n1970-01-01T00:05:00.000Z bob PUT /-/package/@lab%2fkit/dist-tags/old 404 20 1.2\n";
-    is_written(&rt, &rt, "together.log", wanted);
-}
-
-// Answers the commands, and notes the turn of each.
-fn note_together<D: HttpService>(ends: &impl Abort, alloc: Global, service: &mut D) {
+/// Answers the commands, and notes the turn of each.
+pub(super) fn note_together<D: HttpService>(ends: &impl Abort, alloc: Global, service: &mut D) {
     let commands = requests(ends, alloc, TOGETHER);
     let outcomes = match answers_together(alloc, service, &commands) {
         Ok(outcomes) => outcomes,
