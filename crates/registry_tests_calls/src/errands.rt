@@ -3,8 +3,6 @@
 use crate::outcome::same;
 use crate::parts::{shown, text, words};
 use registry_cli::{Errand, errand_of, line};
-use std::alloc::Global;
-use std::process::Abort;
 
 // Arguments; ` => ` and what `Debug` shows of what they ask for, or how that begins. Lines, and arguments
 // that are wrong as requests, are no errands: `Ok(None)`.
@@ -65,23 +63,22 @@ const MADE: &str = "--operator token-new ann
 --as  token-new 
 token-new -- --";
 
-fn asks_for_the_same(rt: &impl Abort, alloc: Global, arguments: &str) {
-    let Ok(Some(Errand::TokenNew(new))) = errand_of(alloc, &words(rt, alloc, arguments)) else {
-        panic!(rt; "{arguments:?} make no token");
-    };
-    let words = new.arguments(alloc, TOKEN).expect(rt, "memory");
-    let Ok(asked) = line(alloc, &words) else {
-        panic!(rt; "{words:?} mean nothing");
-    };
-    let wanted = new.line(alloc, text(rt, alloc, TOKEN)).expect(rt, "memory");
-    let asked = shown(rt, alloc, &asked);
-    let wanted = shown(rt, alloc, &wanted);
-    same(rt, arguments, asked.as_str(), wanted.as_str());
-}
-
 #[test]
 fn a_server_is_asked_for_the_same_line(rt: HostRuntime) {
+    let alloc = rt.alloc();
     for arguments in MADE.lines() {
-        asks_for_the_same(&rt, rt.alloc(), arguments);
+        let Ok(Some(Errand::TokenNew(new))) = errand_of(alloc, &words(&rt, alloc, arguments)) else {
+            panic!(rt; "{arguments:?} make no token");
+        };
+        let words = new.arguments(alloc, TOKEN).expect(&rt, "memory");
+        let Ok(asked) = line(alloc, &words) else {
+            panic!(rt; "{words:?} mean nothing");
+        };
+        let wanted = new
+            .line(alloc, text(&rt, alloc, TOKEN))
+            .expect(&rt, "memory");
+        let asked = shown(&rt, alloc, &asked);
+        let wanted = shown(&rt, alloc, &wanted);
+        same(&rt, arguments, asked.as_str(), wanted.as_str());
     }
 }

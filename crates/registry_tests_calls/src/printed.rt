@@ -63,21 +63,17 @@ status restricted => Some(Restricted)
 status private => None
 status PUBLIC => None";
 
-fn is_spelled(rt: &impl Abort, alloc: Global, line: &str) {
-    let (told, wanted) = line.split_once(" => ").expect(rt, line);
-    let (kind, text) = told.split_once(' ').expect(rt, line);
-    match kind {
-        "role" => is_shown(rt, alloc, line, &Role::parse(text), wanted),
-        "grant" => is_shown(rt, alloc, line, &Grant::parse(text), wanted),
-        _ => is_shown(rt, alloc, line, &Status::parse(text), wanted),
-    }
-}
-
 #[test]
 fn roles_grants_and_statuses_are_spelled(rt: HostRuntime) {
     let alloc = rt.alloc();
     for line in SPELLED.lines() {
-        is_spelled(&rt, alloc, line);
+        let (told, wanted) = line.split_once(" => ").expect(&rt, line);
+        let (kind, text) = told.split_once(' ').expect(&rt, line);
+        match kind {
+            "role" => is_shown(&rt, alloc, line, &Role::parse(text), wanted),
+            "grant" => is_shown(&rt, alloc, line, &Grant::parse(text), wanted),
+            _ => is_shown(&rt, alloc, line, &Status::parse(text), wanted),
+        }
     }
     is_displayed(&rt, alloc, &Role::Owner, "owner");
     is_displayed(&rt, alloc, &Grant::ReadWrite, "read-write");

@@ -185,36 +185,21 @@ put a 6 => 0 and 0
 get a 6 => 0 and 0
 large 6 => 0 and 0";
 
-// Checks that stores keep what they should keep.
-fn all_keep(rt: &impl Abort, alloc: Global, cases: &str) {
-    for case in cases.split("\n\n") {
-        keeps(rt, alloc, case);
-    }
-}
-
+// Checks that a store keeps what it should keep, and what is taken after each step.
 fn keeps(rt: &impl Abort, alloc: Global, case: &str) {
     let (shows, rest) = case.split_once('\n').expect(rt, case);
     let (limit, steps) = rest.split_once('\n').expect(rt, case);
     let limit = size_of(rt, limit.strip_prefix("limit => ").expect(rt, limit));
     let mut store = TextCache::new(alloc, limit).expect(rt, "memory");
     for line in steps.lines() {
-        goes_on(rt, alloc, &mut store, shows, line);
+        let (step, size) = line.split_once(" => ").expect(rt, line);
+        let (asked, rest) = step.split_once(' ').expect(rt, line);
+        let (name, told) = rest.split_once(' ').unwrap_or((rest, rest));
+        take(rt, alloc, &mut store, (shows, line), asked, name, told);
+        let taken = store.bytes_without_large();
+        same(rt, (shows, line), taken, size_of(rt, size));
     }
     same(rt, shows, store.limit(), limit);
-}
-
-// Takes the step of a line, and sees what is taken after it.
-fn goes_on(rt: &impl Abort, alloc: Global, store: &mut TextCache, shows: &str, line: &str) {
-    let (step, size) = line.split_once(" => ").expect(rt, line);
-    let (asked, rest) = step.split_once(' ').expect(rt, line);
-    let (name, told) = rest.split_once(' ').unwrap_or((rest, rest));
-    take(rt, alloc, store, (shows, line), asked, name, told);
-    same(
-        rt,
-        (shows, line),
-        store.bytes_without_large(),
-        size_of(rt, size),
-    );
 }
 
 // Takes a step, and checks that a look-up finds what it should find.
@@ -288,7 +273,9 @@ fn number(rt: &impl Abort, told: &str) -> usize {
 #[test]
 fn texts_are_kept_within_the_limit(rt: HostRuntime) {
     for cases in [LIMITS, ROOM, ORDER, LARGE] {
-        all_keep(&rt, rt.alloc(), cases);
+        for case in cases.split("\n\n") {
+            keeps(&rt, rt.alloc(), case);
+        }
     }
 }
 

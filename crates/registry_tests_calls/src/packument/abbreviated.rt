@@ -93,6 +93,14 @@ const NOTHING: Case = Case {
     text: r#"{"dist-tags":{"latest":"1.0.0"},"modified":"1970-01-01T00:01:40.000Z","name":"kit","versions":{}}"#,
 };
 
+const NO_MANIFEST: Case = Case {
+    name: "kit",
+    modified: 100,
+    tags: &[],
+    versions: &[("1.0.0", "[1]", "")],
+    text: "",
+};
+
 // The head of an abbreviated packument.
 fn short_head(rt: &impl Abort, alloc: Global, case: &Case) -> PackHead {
     let times = PackTimes {
@@ -150,7 +158,7 @@ fn is_abbreviated(rt: &impl Abort, alloc: Global, case: &Case) {
     is_sent(rt, alloc, case, &head);
 }
 
-// The head of a package without versions, before a version without a manifest, has no packument.
+// Where a version has no manifest, there is no packument.
 #[test]
 fn packuments_are_abbreviated(rt: HostRuntime) {
     let alloc = rt.alloc();
@@ -158,8 +166,8 @@ fn packuments_are_abbreviated(rt: HostRuntime) {
     is_abbreviated(&rt, alloc, &ALL_MEMBERS);
     is_abbreviated(&rt, alloc, &SCRIPTS);
     is_abbreviated(&rt, alloc, &NOTHING);
-    let head = short_head(&rt, alloc, &NOTHING);
-    let mut rows = source(&rt, alloc, &[("1.0.0", "[1]", "")]);
+    let head = short_head(&rt, alloc, &NO_MANIFEST);
+    let mut rows = source(&rt, alloc, NO_MANIFEST.versions);
     let told = packument_text(alloc, &head, &mut rows);
     same(&rt, "no manifest", told.err(), Some(Fault::Database));
 }

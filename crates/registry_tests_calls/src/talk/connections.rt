@@ -186,6 +186,9 @@ const LAST_OUT: &str =
 const NOT_FOUND_OUT: &str =
     "HTTP/1.1 404 Not Found\r\ncontent-type: application/json\r\ncontent-length: 20\r\n\r\n{\"error\":\"NotFound\"}";
 
+const NOT_FOUND_LAST: &str =
+    "HTTP/1.1 404 Not Found\r\ncontent-type: application/json\r\ncontent-length: 20\r\nconnection: close\r\n\r\n{\"error\":\"NotFound\"}";
+
 // A head has 16,384 bytes at most and 64 fields, and a connection a thousand requests.
 #[test]
 fn long_connections_are_served(rt: HostRuntime) {
@@ -201,6 +204,9 @@ fn long_connections_are_served(rt: HostRuntime) {
     both_come_out(&rt, alloc, &input, CUT_OUT, "0 0 BadInput");
     let input = repeated(&rt, alloc, TAGS, 1_001);
     let output = around(&rt, alloc, "", TAGS_OUT, 999, LAST_OUT);
+    both_come_out(&rt, alloc, &input, &output, "1000 1000 Limit");
+    let input = repeated(&rt, alloc, "GET /kit HTTP/1.1\r\n\r\n", 1_001);
+    let output = around(&rt, alloc, "", NOT_FOUND_OUT, 999, NOT_FOUND_LAST);
     both_come_out(&rt, alloc, &input, &output, "1000 1000 Limit");
 }
 
