@@ -166,8 +166,9 @@ fn packuments_are_abbreviated(rt: HostRuntime) {
     is_abbreviated(&rt, alloc, &ALL_MEMBERS);
     is_abbreviated(&rt, alloc, &SCRIPTS);
     is_abbreviated(&rt, alloc, &NOTHING);
-    let head = short_head(&rt, alloc, &NO_MANIFEST);
-    let mut rows = source(&rt, alloc, NO_MANIFEST.versions);
+    let case = &NO_MANIFEST;
+    let head = short_head(&rt, alloc, case);
+    let mut rows = source(&rt, alloc, case.versions);
     let told = packument_text(alloc, &head, &mut rows);
     same(&rt, "no manifest", told.err(), Some(Fault::Database));
 }
