@@ -4,7 +4,7 @@ ghost use Rattle.std.specs.Prelude.{◌==◌, codes, if◌then◌else◌};
 
 use crate::outcome::same;
 use crate::packument::head;
-use crate::packument::stream::{KIT, KIT_TAGS, KIT_VERSIONS, Narrow, failing};
+use crate::packument::stream::{KIT, KIT_TAGS, KIT_VERSIONS, Narrow, source_that_fails};
 use crate::parts::{as_text, concat};
 use registry_names::{Fault, Text, ToWrite};
 use registry_packument::{Opener, Sent, send_counted, send_text};
@@ -47,7 +47,7 @@ pub(super) fn narrow(alloc: Global, room: usize) -> Narrow {
 // many calls, to a writer that takes what it has room for.
 fn sent_to(rt: &impl Abort, alloc: Global, answers: u32, len: u64, writer: &mut Narrow) -> Sent {
     let head = head(rt, alloc, "kit", KIT_TAGS, KIT_VERSIONS);
-    let mut source = failing(rt, alloc, KIT_VERSIONS, answers);
+    let mut source = source_that_fails(rt, alloc, KIT_VERSIONS, answers);
     let opener = Counted { len };
     let mut writer = ToWrite::new(writer);
     send_counted(alloc, &head, &mut source, len, &mut writer, &opener)

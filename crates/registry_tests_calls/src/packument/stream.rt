@@ -91,7 +91,7 @@ pub(super) const KIT_WITHOUT_VERSIONS: &str =
     r#"{"_id":"kit","dist-tags":{"latest":"1.1.0"},"name":"kit","time":{"created":"1970-01-01T00:01:40.000Z","modified":"1970-01-01T00:03:20.000Z"},"versions":{}}"#;
 
 /// A source of these versions that answers this many calls.
-pub(super) fn failing(
+pub(super) fn source_that_fails(
     rt: &impl Abort,
     alloc: Global,
     versions: &[VersionCase],
@@ -117,13 +117,17 @@ fn is_told(
     end: Result<(), PackFault>,
 ) {
     let head = head(rt, alloc, "kit", KIT_TAGS, versions);
-    let counted = packument_len(alloc, &head, &mut failing(rt, alloc, versions, answers));
+    let counted = packument_len(
+        alloc,
+        &head,
+        &mut source_that_fails(rt, alloc, versions, answers),
+    );
     let wanted = match end {
         Err(PackFault::Source(fault)) => Err(fault),
         _ => Ok(text.len() as u64),
     };
     same(rt, (answers, room), counted, wanted);
-    let mut source = failing(rt, alloc, versions, answers);
+    let mut source = source_that_fails(rt, alloc, versions, answers);
     let mut narrow = Narrow {
         taken: Vec::new(alloc),
         room,

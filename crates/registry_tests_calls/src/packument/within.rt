@@ -1,7 +1,9 @@
 //! Packuments in one walk: the text within a limit, and otherwise how many bytes it has.
 
 use crate::outcome::same;
-use crate::packument::stream::{KIT, KIT_TAGS, KIT_VERSIONS, KIT_WITHOUT_VERSIONS, failing};
+use crate::packument::stream::{
+    KIT, KIT_TAGS, KIT_VERSIONS, KIT_WITHOUT_VERSIONS, source_that_fails,
+};
 use crate::packument::{VersionCase, head};
 use registry_names::Fault;
 use registry_packument::{PackumentWithin, packument_within};
@@ -22,7 +24,7 @@ fn gives(
     wanted: Result<&str, Fault>,
 ) {
     let head = head(rt, alloc, "kit", KIT_TAGS, versions);
-    let mut source = failing(rt, alloc, versions, answers);
+    let mut source = source_that_fails(rt, alloc, versions, answers);
     let given = packument_within(alloc, &head, &mut source, limit);
     let len = match wanted {
         Ok(text) => text.len() as u64,
