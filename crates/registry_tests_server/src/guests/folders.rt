@@ -1,6 +1,6 @@
 //! The folder of a server's sockets.
 
-use crate::guests::client::{ADDS_ANN, ask, connect, is_done, is_listening};
+use crate::guests::client::{ADDS_ANN, connect, is_done, is_listening, message, send};
 use crate::guests::files::{folder, forget, lay, temporary};
 use crate::guests::server::ServerSide;
 use crate::outcome::same;
@@ -127,9 +127,7 @@ fn a_command_by_a_link_finds_the_server(rt: HostRuntime) {
     symlink(&rt, file, link).expect(&rt, "a link");
     let mut server = ServerSide::open(&rt, &rt, link);
     let client = connect(&rt, file, "command").expect(&rt, "a client");
-    ask(&rt, alloc, &client, &ADDS_ANN);
-    server.go_on(&rt, alloc, 0);
-    is_done(&rt, alloc, "its socket lies beside the file", &client);
+    answers(&rt, alloc, &mut server, &client);
     same(&rt, "by the link", has_other(&rt, link), Some(false));
     same(&rt, "by the file", has_other(&rt, file), Some(false));
     forget(&rt, link);
@@ -171,9 +169,9 @@ fn a_server_of_another_file_is_told_from_its_own(rt: HostRuntime) {
 
 // A server's side answers a client's command.
 fn answers(rt: &impl Abort, alloc: Global, server: &mut ServerSide, client: &UnixStream) {
-    ask(rt, alloc, client, &ADDS_ANN);
+    send(rt, client, &message(rt, alloc, ADDS_ANN));
     server.go_on(rt, alloc, 0);
-    is_done(rt, alloc, "its command", client);
+    is_done(rt, alloc, "its command", client, b"r");
 }
 
 #[test]
