@@ -1,6 +1,8 @@
 //! A server with connections over loopback and with commands beside it.
 
-use crate::client::{ANSWER, LAST_ANSWER, ask, ask_command, client, end, has_ended, hears, wait};
+use crate::client::{
+    ANSWER, COMMAND, LAST_ANSWER, client, has_ended, hears, send as send_query, wait,
+};
 use crate::clock::{Play, playing};
 use crate::guests::client::{ADDS_ANN, connect, is_done, message, send};
 use crate::guests::files::{forget, lay};
@@ -12,7 +14,8 @@ use registry_names::Moment;
 use registry_server::{Ended, FIRST_GUEST, Server};
 use std::cell::Cell;
 use std::io;
-use std::net::TcpStream;
+use std::io::Write;
+use std::net::{Shutdown, TcpStream};
 use std::os::unix::net::UnixStream;
 use std::process::Abort;
 
@@ -21,7 +24,7 @@ struct Case<'c> {
     file: &'c str,
     play: Play,
     /// What is sent at the control socket.
-    control: Option<&'c str>,
+    control: Option<&'c [u8]>,
     /// Whether a command is sent beside the server.
     has_command: bool,
     /// What each client over HTTP sends: `q` is a query, `c` a command, and `.` the end.
@@ -45,7 +48,7 @@ fn commands_wait_during_a_hold(rt: HostRuntime) {
         &Case {
             file: "hold.db",
             play: Play::Hold,
-            control: Some("h"),
+            control: Some(b"h".as_slice()),
             has_command: true,
             sends: ["q.", "qcq."],
             ended: Ended::Enough,
@@ -65,7 +68,7 @@ fn a_hold_of_a_server_lapses_after_a_minute(rt: HostRuntime) {
         &Case {
             file: "lapse.db",
             play: Play::Lapse,
-            control: Some("h"),
+            control: Some(b"h".as_slice()),
             has_command: false,
             sends: ["c.", "c."],
             ended: Ended::Enough,
@@ -106,7 +109,7 @@ fn who_has_asked_is_answered_at_a_stop(rt: HostRuntime) {
         &Case {
             file: "stop.db",
             play: Play::Stop,
-            control: Some(""),
+            control: Some(b"".as_slice()),
             has_command: false,
             sends: ["q", "q"],
             ended: Ended::Stopped,
@@ -122,15 +125,15 @@ fn command_in(rt: &HostRuntime, ends: &impl Abort, case: &Case<'_>) -> u32 {
     let alloc = rt.alloc();
     let server = Server::bind(rt, alloc, 0, 2).expect(ends, "a server");
     let mut listener = listener(rt, &server, case.file).expect(ends, "sockets");
-    let control = control(rt, ends, case);
-    let user = user(rt, ends, case);
-    let clients = [
-        client(rt, &server).expect(ends, "a client"),
-        client(rt, &server).expect(ends, "a client"),
-    ];
-    send_all(ends, &clients[0], case.sends[0]);
-    send_all(ends, &clients[1], case.sends[1]);
-    wait(rt);
+    let control = guest(rt, ends, case.file, "control", case.control);
+    let message = message(ends, alloc, ADDS_ANN);
+    let command = if case.has_command {
+        Some(message.as_slice())
+    } else {
+        None
+    };
+    let user = guest(rt, ends, case.file, "command", command);
+    let clients = clients(rt, ends, &server, case);
     let asked = Cell::new(0);
     let mut clock = playing(rt, case.play, &clients, &asked);
     clock.control = control.as_ref();
@@ -160,20 +163,18 @@ fn listener(rt: &HostRuntime, server: &Server, file: &str) -> io::Result<Command
     Ok(listener)
 }
 
-fn control(rt: &HostRuntime, ends: &impl Abort, case: &Case<'_>) -> Option<UnixStream> {
-    let bytes = case.control?;
-    let control = connect(rt, case.file, "control").expect(ends, "a client");
-    send(ends, &control, bytes.as_bytes());
-    Some(control)
-}
-
-fn user(rt: &HostRuntime, ends: &impl Abort, case: &Case<'_>) -> Option<UnixStream> {
-    if !case.has_command {
-        return None;
-    }
-    let user = connect(rt, case.file, "command").expect(ends, "a client");
-    send(ends, &user, &message(ends, rt.alloc(), ADDS_ANN));
-    Some(user)
+// A client that sends these bytes to a socket, if it is to send any.
+fn guest(
+    rt: &HostRuntime,
+    ends: &impl Abort,
+    file: &str,
+    socket: &str,
+    bytes: Option<&[u8]>,
+) -> Option<UnixStream> {
+    let bytes = bytes?;
+    let stream = connect(rt, file, socket).expect(ends, "a client");
+    send(ends, &stream, bytes);
+    Some(stream)
 }
 
 // No guest has this token: those of commands come first, and then that of the command that holds the
@@ -188,13 +189,30 @@ fn waker(server: &Server, play: Play) -> io::Result<Option<Waker>> {
     }
 }
 
-fn send_all(ends: &impl Abort, client: &TcpStream, sends: &str) {
+fn clients(
+    rt: &HostRuntime,
+    ends: &impl Abort,
+    server: &Server,
+    case: &Case<'_>,
+) -> [TcpStream; 2] {
+    let clients = [
+        client(rt, server).expect(ends, "a client"),
+        client(rt, server).expect(ends, "a client"),
+    ];
+    send_all(ends, &clients[0], case.sends[0]);
+    send_all(ends, &clients[1], case.sends[1]);
+    wait(rt);
+    clients
+}
+
+fn send_all(ends: &impl Abort, mut client: &TcpStream, sends: &str) {
     for what in sends.as_bytes() {
-        match *what {
-            b'q' => ask(ends, client),
-            b'c' => ask_command(ends, client),
-            _ => end(ends, client),
-        }
+        let sent = match *what {
+            b'q' => send_query(client),
+            b'c' => client.write_all(COMMAND.as_bytes()),
+            _ => client.shutdown(Shutdown::Write),
+        };
+        sent.expect(ends, "it is sent");
     }
 }
 

@@ -13,7 +13,7 @@ use std::{io, thread};
 const REQUEST: &str = "GET /-/package/kit/dist-tags HTTP/1.1\r\n\r\n";
 
 /// A request that may change a registry.
-const COMMAND: &str =
+pub const COMMAND: &str =
     "PUT /-/package/kit/dist-tags/next HTTP/1.1\r\ncontent-length: 7\r\n\r\n\"1.0.0\"";
 
 /// The answer to either, where the connection goes on.
@@ -51,22 +51,6 @@ pub fn send_last(client: &TcpStream) -> io::Result<()> {
     client.shutdown(Shutdown::Write)
 }
 
-/// A client over HTTP asks.
-pub fn ask(rt: &impl Abort, client: &TcpStream) {
-    send(client).expect(rt, "a request is sent");
-}
-
-/// A client over HTTP sends a request that may change a registry.
-pub fn ask_command(rt: &impl Abort, mut client: &TcpStream) {
-    let sent = client.write_all(COMMAND.as_bytes());
-    sent.expect(rt, "a request is sent");
-}
-
-/// A client over HTTP sends no more.
-pub fn end(rt: &impl Abort, client: &TcpStream) {
-    client.shutdown(Shutdown::Write).expect(rt, "an end");
-}
-
 /// Whether a client over HTTP was sent one answer, and nothing more yet.
 pub fn is_answered(mut client: &TcpStream) -> io::Result<bool> {
     client.set_read_timeout(Some(Duration::from_millis(TRANSIT)))?;
@@ -91,10 +75,4 @@ pub fn hears(rt: &impl Abort, alloc: Global, case: &str, mut client: &TcpStream,
     let mut text = String::new(alloc);
     client.read_to_string(&mut text).expect(rt, "a text comes");
     same(rt, case, text.as_str(), wanted);
-}
-
-/// Checks that a client over HTTP was answered this often, and sent nothing more.
-pub fn hears_answers(rt: &impl Abort, alloc: Global, case: &str, client: &TcpStream, count: usize) {
-    let wanted = ANSWER.repeat(alloc, count).expect(rt, "memory");
-    hears(rt, alloc, case, client, wanted.as_str());
 }

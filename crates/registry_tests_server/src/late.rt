@@ -1,6 +1,6 @@
 //! A server whose time passes.
 
-use crate::client::{client, has_ended, hears_answers};
+use crate::client::{ANSWER, client, has_ended, hears};
 use crate::clock::{Play, playing};
 use crate::outcome::same;
 use crate::service::counting;
@@ -30,5 +30,6 @@ fn a_silent_connection_ends_after_a_minute(rt: HostRuntime) {
     same(&rt, "a waker", clock.waker.is_some(), true);
     same(&rt, "ended after 58 s", clock.first.get(), false);
     same(&rt, "ended after 62 s", clock.second.get(), true);
-    hears_answers(&rt, alloc, "who has asked", &clients[1], 2);
+    let both = ANSWER.repeat(alloc, 2).expect(&rt, "memory");
+    hears(&rt, alloc, "who has asked", &clients[1], both.as_str());
 }

@@ -49,62 +49,25 @@ pub fn send(rt: &impl Abort, mut stream: &UnixStream, bytes: &[u8]) {
     stream.write_all(bytes).expect(rt, "the bytes are sent");
 }
 
-// What has come.
-#[derive(Drop)]
-struct Came {
-    bytes: Vec<u8>,
-    // The other side has ended.
-    is_end: bool,
-}
-
-// What comes at a client before it loses patience.
-fn received(rt: &impl Abort, alloc: Global, stream: &UnixStream) -> Came {
-    let mut came = Came {
-        bytes: Vec::new(alloc),
-        is_end: false,
-    };
-    for _ in 0..1_000 {
-        if !has_come(rt, stream, &mut came) {
-            return came;
-        }
-    }
-    panic!(rt; "more comes than any answer has")
-}
-
-// Whether one more piece has come.
-fn has_come(rt: &impl Abort, mut stream: &UnixStream, came: &mut Came) -> bool {
-    let mut piece = [0; 256];
-    match stream.read(&mut piece) {
-        Ok(count) => {
-            came.is_end = count == 0;
-            came.bytes
-                .extend_from_slice(&piece[..count])
-                .expect(rt, "memory");
-        }
-        Err(error) => {
-            came.is_end = is_end(rt, error);
-            return false;
-        }
-    }
-    !came.is_end
-}
-
-// Whether this error tells that the other side has ended. It may also tell that nothing has come.
-fn is_end(rt: &impl Abort, error: io::Error) -> bool {
-    match error.kind() {
-        ErrorKind::WouldBlock => false,
-        ErrorKind::ConnectionReset => true,
-        _ => panic!(rt; "{error:?}"),
+// Adds what comes at a client before it loses patience, and says whether the other side has ended.
+fn receive(rt: &impl Abort, mut stream: &UnixStream, bytes: &mut Vec<u8>) -> bool {
+    match stream.read_to_end(bytes) {
+        Ok(_) => true,
+        Err(error) => match error.kind() {
+            ErrorKind::WouldBlock => false,
+            ErrorKind::ConnectionReset => true,
+            _ => panic!(rt; "{error:?}"),
+        },
     }
 }
 
 /// The server has said that it is ready where it is to say so, has answered that a command is done,
 /// and has ended the connection.
 pub fn is_done(rt: &impl Abort, alloc: Global, case: &str, stream: &UnixStream, ready: &[u8]) {
-    let came = received(rt, alloc, stream);
-    same(rt, (case, "ended"), came.is_end, true);
-    same(rt, (case, "ready"), came.bytes.starts_with(ready), true);
-    match parse_reply(alloc, came.bytes.get(ready.len()..).unwrap_or(&[])) {
+    let mut bytes = Vec::new(alloc);
+    same(rt, (case, "ended"), receive(rt, stream, &mut bytes), true);
+    same(rt, (case, "ready"), bytes.starts_with(ready), true);
+    match parse_reply(alloc, bytes.get(ready.len()..).unwrap_or(&[])) {
         Ok(reply) => {
             same(rt, (case, "status"), reply.status, 0);
             let is_done = reply.text == b"{\"ok\":true}".as_slice();
@@ -114,15 +77,17 @@ pub fn is_done(rt: &impl Abort, alloc: Global, case: &str, stream: &UnixStream, 
     }
 }
 
-/// These bytes have come, and the other side is still there.
-pub fn hears(rt: &impl Abort, alloc: Global, case: &str, stream: &UnixStream, wanted: &str) {
-    let came = received(rt, alloc, stream);
-    same(rt, (case, "ended"), came.is_end, false);
-    let is_wanted = came.bytes.as_slice() == wanted.as_bytes();
+/// These bytes have come, and nothing more. The other side has ended, or it is still there.
+pub fn hears(
+    rt: &impl Abort,
+    alloc: Global,
+    case: &str,
+    stream: &UnixStream,
+    wanted: &str,
+    is_end: bool,
+) {
+    let mut bytes = Vec::new(alloc);
+    same(rt, (case, "ended"), receive(rt, stream, &mut bytes), is_end);
+    let is_wanted = bytes.as_slice() == wanted.as_bytes();
     same(rt, (case, wanted), is_wanted, true);
-}
-
-/// The other side has ended.
-pub fn hears_the_end(rt: &impl Abort, alloc: Global, case: &str, stream: &UnixStream) {
-    same(rt, case, received(rt, alloc, stream).is_end, true);
 }

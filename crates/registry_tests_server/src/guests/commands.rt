@@ -7,12 +7,9 @@ use crate::outcome::same;
 use registry_guests::{Hold, connect_to_server};
 use std::os::unix::net::UnixStream;
 
-#[test]
-fn a_command_beside_a_server_is_answered(rt: HostRuntime) {
-    play(&rt, &rt, "answered.db", ANSWERED);
-}
-
-const ANSWERED: &str = "
+/// Scripts, each on a file of its own.
+const SCRIPTS: &str = "
+# a command beside a server is answered
 connect command
 rounds 0
 hears 0 r
@@ -20,7 +17,92 @@ ask 0 --operator user-add ann
 rounds 0
 done-since 0
 server asked 1
+
+# a command that has gone is not done
+connect command
+ask 0 --operator user-add ann
+drop 0
+rounds 0
+server asked 0
+
+# a held server takes no command
+# the first command comes before the hold, and two come during it, of which one goes
+connect command
+rounds 0
+hears 0 r
+connect control
+send 1 h
+rounds 0
+hears 1 h
+connect command
+connect command
+ask 0 --operator user-add ann
+ask 2 --operator user-add ann
+ask 3 --operator user-add ann
+rounds 1
+hears 3
+drop 2
+drop 1
+rounds 2
+done-since 0
+done 3
+server asked 2
+
+# a ninth command waits
+# eight are there, and silent until they are late, after 8 s
+connect command
+connect command
+connect command
+connect command
+connect command
+connect command
+connect command
+connect command
+connect command
+ask 8 --operator user-add ann
+rounds 7999
+hears 8
+rounds 15999
+done 8
+server asked 1
+
+# a newcomer does not end a hold
+connect control
+send 0 h
+rounds 0
+hears 0 h
+server holds true
+connect control
+send 1 h
+rounds 1
+hears 1
+send 0 k
+rounds 1
+hears 0 k
+drop 0
+rounds 2
+hears 1 h
+
+# a stop is kept
+# the second rounds come as late as a clock can say
+connect control
+send 0 s
+rounds 0
+server stops true
+rounds 18446744073709551615
+server stops true
+hears 0
+listening false
+close
+ended 0
 ";
+
+#[test]
+fn commands_and_holds_take_turns(rt: HostRuntime) {
+    for script in SCRIPTS.trim().split("\n\n") {
+        play(&rt, &rt, "turns.db", script);
+    }
+}
 
 /// Commands, and what the service is told of each. Words that the program doesn't take name nobody.
 const TOLD: &str = "
@@ -90,72 +172,6 @@ server asked 1
 ";
 
 #[test]
-fn a_command_that_has_gone_is_not_done(rt: HostRuntime) {
-    play(&rt, &rt, "gone.db", GONE);
-}
-
-const GONE: &str = "
-connect command
-ask 0 --operator user-add ann
-drop 0
-rounds 0
-server asked 0
-";
-
-#[test]
-fn a_held_server_takes_no_command(rt: HostRuntime) {
-    play(&rt, &rt, "held.db", HELD);
-}
-
-/// The first command comes before the hold, and two come during it, of which one goes.
-const HELD: &str = "
-connect command
-rounds 0
-hears 0 r
-connect control
-send 1 h
-rounds 0
-hears 1 h
-connect command
-connect command
-ask 0 --operator user-add ann
-ask 2 --operator user-add ann
-ask 3 --operator user-add ann
-rounds 1
-hears 3
-drop 2
-drop 1
-rounds 2
-done-since 0
-done 3
-server asked 2
-";
-
-#[test]
-fn a_ninth_command_waits(rt: HostRuntime) {
-    play(&rt, &rt, "ninth.db", NINTH);
-}
-
-/// Eight are there, and silent until they are late.
-const NINTH: &str = "
-connect command
-connect command
-connect command
-connect command
-connect command
-connect command
-connect command
-connect command
-connect command
-ask 8 --operator user-add ann
-rounds 7999
-hears 8
-rounds 15999
-done 8
-server asked 1
-";
-
-#[test]
 fn a_hold_ends_when_its_time_is_up(rt: HostRuntime) {
     play(&rt, &rt, "lapsed.db", LAPSED);
 }
@@ -186,45 +202,3 @@ fn a_hold_is_confirmed(rt: HostRuntime) {
     let is_held = hold.confirm().expect(&rt, "it is asked");
     same(&rt, "the server has ended", is_held, false);
 }
-
-#[test]
-fn a_newcomer_does_not_end_a_hold(rt: HostRuntime) {
-    play(&rt, &rt, "newcomer.db", NEWCOMER);
-}
-
-const NEWCOMER: &str = "
-connect control
-send 0 h
-rounds 0
-hears 0 h
-server holds true
-connect control
-send 1 h
-rounds 1
-hears 1
-send 0 k
-rounds 1
-hears 0 k
-drop 0
-rounds 2
-hears 1 h
-";
-
-#[test]
-fn a_stop_is_kept(rt: HostRuntime) {
-    play(&rt, &rt, "stopped.db", STOPPED);
-}
-
-/// The second rounds come as late as a clock can say.
-const STOPPED: &str = "
-connect control
-send 0 s
-rounds 0
-server stops true
-rounds 18446744073709551615
-server stops true
-hears 0
-listening false
-close
-ended 0
-";

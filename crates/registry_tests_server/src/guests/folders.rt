@@ -59,10 +59,6 @@ fn set_mode(rt: &HostRuntime, path: &str, mode: u32) -> bool {
     fs::set_permissions(rt, path, Permissions::from_mode(mode)).is_ok()
 }
 
-fn mode_of(rt: &HostRuntime, path: &str) -> io::Result<u32> {
-    Ok(fs::metadata(rt, path)?.permissions().mode())
-}
-
 // Whether the sockets of a server's side were removed.
 fn are_removed(rt: &HostRuntime, listener: &CommandListener, file: &str) -> bool {
     listener.remove_sockets(rt, rt.alloc(), file).is_ok()
@@ -74,8 +70,8 @@ fn a_new_folder_is_its_owners_alone(rt: HostRuntime) {
     lay(&rt, file).expect(&rt, "a file");
     let server = ServerSide::open(&rt, &rt, file);
     let folder = folder(rt.alloc(), file).expect(&rt, "memory");
-    let mode = mode_of(&rt, folder.as_str()).expect(&rt, "a folder");
-    same(&rt, "its mode", mode & 0o777, 0o700);
+    let made = fs::metadata(&rt, folder.as_str()).expect(&rt, "a folder");
+    same(&rt, "its mode", made.permissions().mode() & 0o777, 0o700);
     let are_removed = are_removed(&rt, &server.listener, file);
     same(&rt, "its sockets are removed", are_removed, true);
     let is_gone = fs::metadata(&rt, folder.as_str()).is_err();

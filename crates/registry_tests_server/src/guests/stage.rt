@@ -1,6 +1,6 @@
 //! Scripts of what a server's side of the sockets of a file and its clients do.
 
-use crate::guests::client::{connect, hears, hears_the_end, is_done, is_listening, message, send};
+use crate::guests::client::{connect, hears, is_done, is_listening, message, send};
 use crate::guests::files::{forget, lay};
 use crate::guests::server::ServerSide;
 use crate::outcome::same;
@@ -17,7 +17,7 @@ struct Stage {
     clients: Vec<Option<UnixStream>>,
 }
 
-/// Plays a script on a new file, each line of which is a step.
+/// Plays a script on a new file, each line of which is a step, or begins with `#`.
 ///
 /// - `connect SOCKET`: one more client comes. Clients are counted from 0.
 /// - `rounds TIME`: the server makes rounds, each at this time in milliseconds.
@@ -32,7 +32,7 @@ struct Stage {
 /// - `hears CLIENT TEXT`: this has come, and nothing more, and the server is still there.
 /// - `done CLIENT`: the server was ready, has answered that a command is done, and has ended the
 ///   connection. `done-since CLIENT`: the same where the client was told before that it was ready.
-/// - `ended CLIENT`: the server has ended the connection. `drop CLIENT`: the client does.
+/// - `ended CLIENT TEXT`: this has come, and the server has ended the connection. `drop CLIENT`: the client does.
 /// - `loses CLIENT`: the client asks for the hold that it had, and it has it no longer.
 pub fn play(rt: &HostRuntime, ends: &impl Abort, file: &str, script: &str) {
     lay(rt, file).expect(ends, "a file");
@@ -58,6 +58,7 @@ fn step(rt: &HostRuntime, ends: &impl Abort, stage: &mut Stage, file: &str, line
             let server = stage.server.as_mut().expect(ends, line);
             server.go_on(ends, rt.alloc(), now);
         }
+        "#" => {}
         "close" => stage.server = None,
         "listening" => same(ends, line, is_listening(rt, file), rest == "true"),
         "server" => is_so(ends, stage.server.as_ref().expect(ends, line), line, rest),
@@ -126,10 +127,10 @@ fn sends(ends: &impl Abort, alloc: Global, client: &UnixStream, does: (&str, &st
 fn has_come(ends: &impl Abort, alloc: Global, client: &UnixStream, does: (&str, &str, &str)) {
     let (line, verb, rest) = does;
     match verb {
-        "hears" => hears(ends, alloc, line, client, rest),
+        "hears" => hears(ends, alloc, line, client, rest, false),
         "done" => is_done(ends, alloc, line, client, b"r"),
         "done-since" => is_done(ends, alloc, line, client, b""),
-        "ended" => hears_the_end(ends, alloc, line, client),
+        "ended" => hears(ends, alloc, line, client, rest, true),
         _ => panic!(ends; "{line} is no step"),
     }
 }

@@ -1,5 +1,13 @@
 //! Calls on an empty database, with enough memory. No contract says that a call ever succeeds: here
 //! each call does, and shows what the calls before it put.
+//!
+//! A case is some lines, of which the first says what it shows. Each other line is a call, with its
+//! arguments and then an arrow and what is answered, if anything is. `-again` behind the name of a call
+//! says that the row is there already. At the end may stand:
+//!
+//! - `then fault` and a line: this call is a fault of the database;
+//! - `then rows` and the tables of all rows that are there, for a need its target and range;
+//! - `then walks`, and lines of a package and what a walk over its versions gives.
 
 mod answers;
 mod asked;

@@ -50,20 +50,37 @@ fn about_packages<S: Alter>(
     ensures same_reference { tx.new.conn.ghost_name ≡ tx.old.conn.ghost_name }
     ensures in_form { OnOk result (InForm S.Store tx.new) }
 {
-    let [_, _, third, _, _, _] = asked.words;
+    let third = asked.words[2];
     match asked.verb {
         "status-of" => Ok(Loaded::Status(load_status(tx, asked.name(rt))?)),
         "tags" => Ok(Loaded::Tags(load_tags(alloc, tx, asked.name(rt))?)),
         "times" => Ok(Loaded::Times(load_times(alloc, tx, asked.name(rt))?)),
         "archive" => Ok(Loaded::Archive(load_archive(tx, asked.name(rt), third)?)),
-        "has-live" => Ok(Loaded::IsSo(has_live(tx, asked.name(rt))?)),
-        "has-version" => Ok(Loaded::IsSo(has_version(tx, asked.name(rt), third)?)),
-        "is-spent" => Ok(Loaded::IsSo(is_spent(tx, asked.name(rt), third)?)),
-        "has-tag" => Ok(Loaded::IsSo(has_tag(tx, asked.name(rt), third)?)),
         "publish" => {
             put_version(tx, asked.form(rt), asked.at)?;
             Ok(Loaded::Done)
         }
+        _ => about_versions(rt, alloc, tx, asked),
+    }
+}
+
+// Whether a version or a tag is there.
+fn about_versions<S: Alter>(
+    rt: &impl Abort,
+    alloc: Global,
+    tx: &mut Transaction<'_, S>,
+    asked: &Asked<'_>,
+) -> Result<Loaded, Fault>
+    requires in_form { InForm S.Store tx.old }
+    ensures same_reference { tx.new.conn.ghost_name ≡ tx.old.conn.ghost_name }
+    ensures in_form { OnOk result (InForm S.Store tx.new) }
+{
+    let third = asked.words[2];
+    match asked.verb {
+        "has-live" => Ok(Loaded::IsSo(has_live(tx, asked.name(rt))?)),
+        "has-version" => Ok(Loaded::IsSo(has_version(tx, asked.name(rt), third)?)),
+        "is-spent" => Ok(Loaded::IsSo(is_spent(tx, asked.name(rt), third)?)),
+        "has-tag" => Ok(Loaded::IsSo(has_tag(tx, asked.name(rt), third)?)),
         _ => about_people(rt, alloc, tx, asked),
     }
 }
@@ -89,13 +106,11 @@ fn about_people<S: Alter>(
             let has = has_other_maintainer(alloc, tx, asked.name(rt), third)?;
             Ok(Loaded::IsSo(has))
         }
-        "in-scope" => Ok(Loaded::IsSo(are_grants_in_scope(alloc, tx)?)),
-        "in-range" => Ok(Loaded::IsSo(numbers_are_in_range(alloc, tx)?)),
         _ => about_callers(rt, alloc, tx, asked),
     }
 }
 
-// Answers about callers and their tokens.
+// Answers about callers, their tokens, and all that is stored.
 fn about_callers<S: Alter>(
     rt: &impl Abort,
     alloc: Global,
@@ -119,6 +134,8 @@ fn about_callers<S: Alter>(
         }
         "token-user" => Ok(Loaded::User(load_token_user(alloc, tx, &asked.digest)?)),
         "tokens" => Ok(Loaded::Digests(load_user_tokens(alloc, tx, asked.user(rt))?)),
+        "in-scope" => Ok(Loaded::IsSo(are_grants_in_scope(alloc, tx)?)),
+        "in-range" => Ok(Loaded::IsSo(numbers_are_in_range(alloc, tx)?)),
         _ => {
             run(rt, tx, asked)?;
             Ok(Loaded::Done)
