@@ -24,7 +24,7 @@ struct Case<'c> {
     file: &'c str,
     play: Play,
     /// What is sent at the control socket.
-    control: Option<&'c [u8]>,
+    control: Option<&'c str>,
     /// Whether a command is sent beside the server.
     has_command: bool,
     /// What each client over HTTP sends: `q` is a query, `c` a command, and `.` the end.
@@ -48,7 +48,7 @@ fn commands_wait_during_a_hold(rt: HostRuntime) {
         &Case {
             file: "hold.db",
             play: Play::Hold,
-            control: Some(b"h".as_slice()),
+            control: Some("h"),
             has_command: true,
             sends: ["q.", "qcq."],
             ended: Ended::Enough,
@@ -68,7 +68,7 @@ fn a_hold_of_a_server_lapses_after_a_minute(rt: HostRuntime) {
         &Case {
             file: "lapse.db",
             play: Play::Lapse,
-            control: Some(b"h".as_slice()),
+            control: Some("h"),
             has_command: false,
             sends: ["c.", "c."],
             ended: Ended::Enough,
@@ -109,7 +109,7 @@ fn who_has_asked_is_answered_at_a_stop(rt: HostRuntime) {
         &Case {
             file: "stop.db",
             play: Play::Stop,
-            control: Some(b"".as_slice()),
+            control: Some(""),
             has_command: false,
             sends: ["q", "q"],
             ended: Ended::Stopped,
@@ -125,14 +125,10 @@ fn command_in(rt: &HostRuntime, ends: &impl Abort, case: &Case<'_>) -> u32 {
     let alloc = rt.alloc();
     let server = Server::bind(rt, alloc, 0, 2).expect(ends, "a server");
     let mut listener = listener(rt, &server, case.file).expect(ends, "sockets");
-    let control = guest(rt, ends, case.file, "control", case.control);
+    let (file, text) = (case.file, case.control.unwrap_or("").as_bytes());
+    let control = guest(rt, ends, (file, "control"), case.control.is_some(), text);
     let message = message(ends, alloc, ADDS_ANN);
-    let command = if case.has_command {
-        Some(message.as_slice())
-    } else {
-        None
-    };
-    let user = guest(rt, ends, case.file, "command", command);
+    let user = guest(rt, ends, (file, "command"), case.has_command, &message);
     let clients = clients(rt, ends, &server, case);
     let asked = Cell::new(0);
     let mut clock = playing(rt, case.play, &clients, &asked);
@@ -163,16 +159,18 @@ fn listener(rt: &HostRuntime, server: &Server, file: &str) -> io::Result<Command
     Ok(listener)
 }
 
-// A client that sends these bytes to a socket, if it is to send any.
+// A client that sends these bytes to a socket of a file, if it is to come.
 fn guest(
     rt: &HostRuntime,
     ends: &impl Abort,
-    file: &str,
-    socket: &str,
-    bytes: Option<&[u8]>,
+    socket: (&str, &str),
+    comes: bool,
+    bytes: &[u8],
 ) -> Option<UnixStream> {
-    let bytes = bytes?;
-    let stream = connect(rt, file, socket).expect(ends, "a client");
+    if !comes {
+        return None;
+    }
+    let stream = connect(rt, socket.0, socket.1).expect(ends, "a client");
     send(ends, &stream, bytes);
     Some(stream)
 }
