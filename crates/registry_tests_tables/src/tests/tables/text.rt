@@ -129,7 +129,8 @@ fn push_grants(rt: &impl Abort, text: &mut String, grants: &[Grant]) {
 // Each package with what is granted on it.
 fn push_granted(rt: &impl Abort, text: &mut String, rows: &[Granted]) {
     for row in rows {
-        push(rt, text, &[" ", row.name.as_str(), "=", row.grant.text()]);
+        push(rt, text, &[" ", row.name.as_str(), "="]);
+        push(rt, text, &[row.grant.text()]);
     }
 }
 
