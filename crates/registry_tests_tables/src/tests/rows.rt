@@ -125,18 +125,24 @@ fn told<S: Alter>(
     let (does, text) = call.split_once(' ').expect(rt, call);
     match does {
         "create" => create(tx)?,
-        "schema" => return schema_text(alloc, opened(tx)?),
         "write" => write(tx, text, &[])?,
         "put" => put(rt, tx, text)?,
-        "read" => {
-            let rows = read(tx, text, &[])?.len();
-            return Ok(format!(in alloc; "{rows}")?);
-        }
-        "all" => return all_text(alloc, &read(tx, text, &[])?),
-        "first" => return first_text(alloc, &read(tx, text, &[])?),
-        _ => panic!(rt; "{does} is no call"),
+        "schema" => return schema_text(alloc, opened(tx)?),
+        _ => return rows_text(rt, alloc, does, &read(tx, text, &[])?),
     }
     Ok(String::from_str(alloc, "done")?)
+}
+
+fn rows_text(rt: &impl Abort, alloc: Global, does: &str, rows: &[Row]) -> Result<String, Fault> {
+    match does {
+        "read" => {
+            let count = rows.len();
+            Ok(format!(in alloc; "{count}")?)
+        }
+        "all" => all_text(alloc, rows),
+        "first" => first_text(alloc, rows),
+        _ => panic!(rt; "{does} is no call"),
+    }
 }
 
 fn put<S: Alter>(rt: &impl Abort, tx: &mut Transaction<'_, S>, row: &str) -> Result<(), Fault>
