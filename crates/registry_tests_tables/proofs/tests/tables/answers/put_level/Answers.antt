@@ -1,7 +1,7 @@
 use Rattle.registry_rows.proofs.QuietFacts.{on_answer}
 use Rattle.registry_tables.specs.Effects.{shown}
 use Rattle.registry_tests_tables.proofs.RowFacts.{grant_keeps}
-use Rattle.registry_tests_tables.proofs.tests.tables.teams.put_grant.Goals as goal
+use Rattle.registry_tests_tables.proofs.tests.tables.answers.put_level.Goals as goal
 
 pub returns-clause-in_form : goal.returns-clause-in_form
 returns-clause-in_form g c = on_answer c.write.result
