@@ -5,10 +5,11 @@ use crate::outcome::same;
 use crate::tests::asking::{request, requests};
 use crate::tests::lists::{ACTIONS, LAB, LAB_KIT, PEOPLE, RIGHTS, SHARED, VERSIONS, WITHDRAWALS};
 use registry_desk::Registry;
+use registry_http::RegistryService;
 use registry_names::Refusal;
 use registry_rules::{Reply, Request};
-use registry_service::is_command;
-use registry_tests_requests::{Outcome, QUERIES, outcomes_of, outcomes_together};
+use registry_service::{Service, is_command};
+use registry_tests_requests::{Outcome, QUERIES, answers_together, outcomes_of};
 use sqlite::Alter;
 use std::alloc::Global;
 use std::process::Abort;
@@ -200,25 +201,28 @@ fn answered(
         }
         Some(size) => {
             let mut registry = Registry::in_memory(alloc).expect(ends, "a registry");
-            let outcomes = in_groups(ends, alloc, &mut registry, requests, first, size);
-            (outcomes, rows_of(ends, alloc, registry))
+            let alone = requests.get(..first).unwrap_or(&[]);
+            let mut outcomes = outcomes_of(alloc, &mut registry, alone).expect(ends, "memory");
+            let mut service = RegistryService::new(registry);
+            let commands = requests.get(first..).unwrap_or(&[]);
+            let more = in_groups(ends, alloc, &mut service, commands, size);
+            outcomes.extend(more).expect(ends, "memory");
+            (outcomes, rows_of(ends, alloc, service.into_registry()))
         }
     }
 }
 
-fn in_groups<S: Alter>(
+// The outcomes of commands that a service answers in groups of a size.
+fn in_groups<D: Service>(
     ends: &impl Abort,
     alloc: Global,
-    registry: &mut Registry<S>,
-    requests: &[Request],
-    first: usize,
+    service: &mut D,
+    commands: &[Request],
     size: usize,
 ) -> Vec<Outcome> {
-    let alone = requests.get(..first).unwrap_or(&[]);
-    let mut outcomes = outcomes_of(alloc, registry, alone).expect(ends, "memory");
-    let commands = requests.get(first..).unwrap_or(&[]);
+    let mut outcomes = Vec::new(alloc);
     for group in commands.chunks(size.max(1)) {
-        match outcomes_together(alloc, registry, group) {
+        match answers_together(alloc, service, group) {
             Ok(more) => outcomes.extend(more).expect(ends, "memory"),
             Err(_) => panic!(ends; "a group is not answered"),
         }

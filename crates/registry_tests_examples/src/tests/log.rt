@@ -274,7 +274,7 @@ fn commands_have_lines(rt: HostRuntime) {
     note_commands(&rt, rt.alloc(), &mut service);
     note_together(&rt, rt.alloc(), &mut service);
     let wanted =
-        "2026-11-26T10:00:00.000Z operator command /user-add/cat 0 12 1.2\n2026-11-26T10:00:00.000Z - command - 2 40 -\n1970-01-01T00:05:00.000Z bob PUT /-/package/@lab%2fkit/dist-tags/next 200 11 1.2\n1970-01-01T00:05:00.000Z - PUT /-/package/@lab%2fkit/dist-tags/beta 401 20 1.2\n1970-01-01T00:05:00.000Z bob PUT /-/package/@lab%2fkit/dist-tags/old 404 20 1.2\n";
+        "2026-11-26T10:00:00.000Z operator command /user-add/cat 0 12 1.2\n2026-11-26T10:00:00.000Z - command - 2 40 -\n1970-01-01T00:05:00.000Z bob PUT /-/package/@lab%2fkit/dist-tags/next 200 11 1.2\n1970-01-01T00:05:01.000Z bob PUT /-/package/@lab%2fkit/dist-tags/old 404 20 1.2\n1970-01-01T00:05:02.000Z - PUT /-/package/@lab%2fkit/dist-tags/beta 401 20 1.2\n";
     is_written(&rt, &rt, "commands.log", wanted);
 }
 

@@ -9,11 +9,11 @@ use registry_wire::{FieldValue, Wanted};
 use std::alloc::Global;
 use std::process::Abort;
 
-/// Commands that are answered together: of bob, of nobody, and of bob for a version that isn't there.
+/// Commands that are answered together: of bob, of bob for a version that isn't there, and of nobody.
 const TOGETHER: &str = "
 token npm_bob_000000001 --at 300 tag-set @lab/kit next 1.0.0
---at 300 tag-set @lab/kit beta 1.0.0
-token npm_bob_000000001 --at 300 tag-set @lab/kit old 2.0.0
+token npm_bob_000000001 --at 301 tag-set @lab/kit old 2.0.0
+--at 302 tag-set @lab/kit beta 1.0.0
 ";
 
 /// Answers the commands, and notes the turn of each.
@@ -23,7 +23,7 @@ pub(super) fn note_together<D: HttpService>(ends: &impl Abort, alloc: Global, se
         Ok(outcomes) => outcomes,
         Err(_) => panic!(ends; "they are not answered together"),
     };
-    for (tag, outcome) in ["next", "beta", "old"].iter().zip(outcomes) {
+    for (tag, outcome) in ["next", "old", "beta"].iter().zip(outcomes) {
         let wanted = put_of_tag(ends, alloc, tag);
         same(ends, "it asks one", service.asks_one(&wanted), true);
         service.note(Some(&wanted), &turn_with(outcome, false, false));
