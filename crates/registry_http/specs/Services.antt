@@ -13,7 +13,7 @@ use Rattle.registry_packument.specs.declared.opener.Sent.TheVariants.{Broken}
 use Rattle.registry_rules.specs.declared.request.Request.{Request}
 use Rattle.registry_laws_history.specs.Runs.{Outcome}
 use Rattle.registry_desk.specs.Promises.{Applied, IsOneRun}
-use Rattle.registry_desk.specs.Together.{Counts, as_committed, as_lost, as_shown, shown_at}
+use Rattle.registry_desk.specs.Together.{AreReplies, Counts, MeetFault, as_committed, as_lost, as_shown, shown_at}
 use Rattle.registry_service.specs.Courses.{Follow}
 use Rattle.registry_service.specs.Histories.{LogEntry, FollowAll}
 use Rattle.registry_service.specs.Turns.{Answering, Dialect, Exchange, Turn, asked_in, outcomes_in, spoken}
@@ -96,6 +96,10 @@ module _ {S : Type 0} (store : Ghosts S) where
   abbrev pub SendsByFault : Serving S → Serving S → Sent → Type 0
   SendsByFault old new (Broken fault has_started) = EndsBy (shown store old) (shown store new) old.is_over new.is_over fault
   SendsByFault old new _ = new.is_over ≡ old.is_over
+
+-- commands that were answered together: all were answered, or all met one fault
+abbrev pub EndTogether : List Outcome → Type 0
+EndTogether os = AreReplies os ⊎ ((fault : Fault) × MeetFault fault os)
 
 -- Commands that were answered together failed where one of them, and so the first, met the fault of the
 -- tables
