@@ -8,7 +8,7 @@ mod labels;
 mod together;
 
 use crate::outcome::same;
-use crate::parts::{as_text, blob, concat, fields, method_of, string};
+use crate::parts::{as_text, blob, concat, field, method_of, string};
 use registry_cache::{SharedBlob, SharedText};
 use registry_names::Method::Put;
 use registry_names::{Fault, Method, Moment, Refusal, Rule, Text};
@@ -124,8 +124,9 @@ another * * => Waiting
 fn answer_to(word: &str, first: &str, second: &str) -> &'static str {
     for line in ANSWERS.lines() {
         let (told, answer) = line.split_once(" => ").unwrap_or(("", ""));
-        let found: [&str; 3] = fields(told, ' ');
-        let [asked, one, two] = found;
+        let asked = field(told, ' ', 0);
+        let one = field(told, ' ', 1);
+        let two = field(told, ' ', 2);
         let is_asked = asked == word || asked == "*";
         if is_asked && (one == first || one == "*") && (two == second || two == "*") {
             return answer;

@@ -38,13 +38,15 @@ pub fn words(rt: &impl Abort, alloc: Global, line: &str) -> Vec<Text> {
     words
 }
 
-/// The fields of a line, with this between them. Those that it lacks are empty.
-pub fn fields<'a, const N: usize>(line: &'a str, between: char) -> [&'a str; N] {
-    let mut fields = [""; N];
-    for (field, text) in fields.iter_mut().zip(line.split(between)) {
-        *field = text;
+/// The field at this place of a line, counted from 0, with this between the fields. One that the line
+/// lacks is empty.
+pub fn field(line: &str, between: char, place: usize) -> &str {
+    for (number, text) in line.split(between).enumerate() {
+        if number == place {
+            return text;
+        }
     }
-    fields
+    ""
 }
 
 /// Bytes in hexadecimal.

@@ -1,6 +1,6 @@
 //! The rows of the registry of these tests.
 
-use crate::parts::{fields, text};
+use crate::parts::{field, text};
 use registry_access::{
     AccessRows, Grant, GrantRow, MaintainerRow, MemberRow, PackageRow, Role, TeamMemberRow,
 };
@@ -84,9 +84,10 @@ fn add_maintainer(rt: &impl Abort, alloc: Global, rows: &mut AccessRows, name: &
 }
 
 fn add(rt: &impl Abort, alloc: Global, rows: &mut AccessRows, line: &str) {
-    let found: [&str; 4] = fields(line, ' ');
-    let [kind, first, second, third] = found;
-    match kind {
+    let first = field(line, ' ', 1);
+    let second = field(line, ' ', 2);
+    let third = field(line, ' ', 3);
+    match field(line, ' ', 0) {
         "organisation" => add_organisation(rt, alloc, rows, first),
         "member" => add_member(rt, alloc, rows, [first, second, third]),
         "team" => add_team_member(rt, alloc, rows, [first, second, third]),

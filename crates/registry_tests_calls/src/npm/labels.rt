@@ -3,7 +3,7 @@
 
 use super::{BOB, turned, wanted};
 use crate::outcome::same;
-use crate::parts::{as_text, blob, concat, fields, method_of};
+use crate::parts::{as_text, blob, concat, field, method_of};
 use registry_wire::FieldValue;
 use std::alloc::Global;
 use std::process::Abort;
@@ -72,10 +72,13 @@ fn field_of(rt: &impl Abort, alloc: Global, value: &str) -> FieldValue {
 
 fn is_labelled(rt: &impl Abort, alloc: Global, line: &str) {
     let (told, outcome) = line.split_once(" => ").expect(rt, line);
-    let found: [&str; 4] = fields(told, '|');
-    let [request, who, accept, if_none_match] = found;
-    let found: [&str; 3] = fields(request, ' ');
-    let [method, target, body] = found;
+    let request = field(told, '|', 0);
+    let who = field(told, '|', 1);
+    let accept = field(told, '|', 2);
+    let if_none_match = field(told, '|', 3);
+    let method = field(request, ' ', 0);
+    let target = field(request, ' ', 1);
+    let body = field(request, ' ', 2);
     let token = if who == "bob" { Some(BOB) } else { None };
     let mut wanted = wanted(rt, alloc, method_of(method), target, body, token);
     wanted.accept = field_of(rt, alloc, accept);

@@ -74,7 +74,7 @@ fn found(rt: &impl Abort, alloc: Global, router: &Router<&str>, path: &str) -> S
     if first == "-" && names_package {
         return string(rt, alloc, "nothing");
     }
-    concat(rt, alloc, &[endpoint, "|", first, "|", second, "|", third])
+    format!(in alloc; "{endpoint}|{first}|{second}|{third}").expect(rt, "memory")
 }
 
 // Checks that both say the same of a path.

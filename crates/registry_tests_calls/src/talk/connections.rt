@@ -5,7 +5,7 @@ ghost use Rattle.registry_service.proofs.DialectFacts.{profile_asks_queries};
 ghost use Rattle.registry_service.specs.Turns.{profile};
 
 use crate::outcome::same;
-use crate::parts::{around, as_text, fields, repeated};
+use crate::parts::{around, as_text, field, repeated};
 use crate::wire::reader::{Narrow, Source};
 use registry_cache::SharedText;
 use registry_names::{ByteOut, Fault, FromRead, Moment, Refusal, ToWrite};
@@ -130,8 +130,9 @@ fn comes_out(
     told: &str,
     piece_len: usize,
 ) {
-    let found: [&str; 3] = fields(told, ',');
-    let [wanted, interruptions, breaks] = found;
+    let wanted = field(told, ',', 0);
+    let interruptions = field(told, ',', 1);
+    let breaks = field(told, ',', 2);
     let mut service = FixedTags {
         asked: Vec::new(alloc),
     };

@@ -3,7 +3,7 @@
 
 use super::reader::Narrow;
 use crate::outcome::same;
-use crate::parts::{as_text, concat, fields, repeated};
+use crate::parts::{as_text, concat, field, repeated};
 use http::StatusCode;
 use registry_names::{ToWrite, WriteFailed};
 use registry_wire::{
@@ -55,30 +55,47 @@ fn labels(rt: &impl Abort, tag: &str, caching: &str, form: &str) -> Labels {
 // Checks what is written of a line's response where this many bytes are taken, one a call.
 fn is_written(rt: &impl Abort, alloc: Global, line: &str, limit: usize) {
     let (told, wanted) = line.split_once(" => ").expect(rt, line);
-    let found: [&str; 7] = fields(told, ' ');
-    let [status, tag, caching, form, end, body, rest] = found;
-    let labels = labels(rt, tag, caching, form);
-    let status = status.parse::<u16>().expect(rt, line);
-    let response = Response {
-        status: StatusCode::from_u16(status).expect(rt, line),
-        kind: ContentKind::Json,
-        labels: &labels,
-        body: body.as_bytes(),
-        rest: rest.as_bytes(),
-        closes: end == "closes",
-    };
-    let mut narrow = Narrow {
-        taken: Vec::new(alloc),
-        limit,
-    };
-    let outcome = write_response(&response, &mut ToWrite::new(&mut narrow));
+    let tag = field(told, ' ', 1);
+    let labels = labels(rt, tag, field(told, ' ', 2), field(told, ' ', 3));
+    let status = field(told, ' ', 0).parse::<u16>().expect(rt, line);
+    let status = StatusCode::from_u16(status).expect(rt, line);
+    let closes = field(told, ' ', 4) == "closes";
+    let body = field(told, ' ', 5).as_bytes();
+    let rest = field(told, ' ', 6).as_bytes();
+    let (outcome, taken) = written(alloc, status, &labels, body, rest, closes, limit);
     let whole = wanted.replace(alloc, "|", "\r\n").expect(rt, "memory");
     let (wanted, front) = match whole.as_str().get(..limit) {
         Some(front) if limit < whole.len() => (Err(WriteFailed), front),
         _ => (Ok(()), whole.as_str()),
     };
     same(rt, (line, limit), outcome, wanted);
-    same(rt, (line, limit), as_text(&narrow.taken), front);
+    same(rt, (line, limit), as_text(&taken), front);
+}
+
+// What is written of a response where this many bytes are taken, one a call, and how that ends.
+fn written<'a>(
+    alloc: Global,
+    status: StatusCode,
+    labels: &'a Labels,
+    body: &'a [u8],
+    rest: &'a [u8],
+    closes: bool,
+    limit: usize,
+) -> (Result<(), WriteFailed>, Vec<u8>) {
+    let response = Response {
+        status,
+        kind: ContentKind::Json,
+        labels,
+        body,
+        rest,
+        closes,
+    };
+    let mut narrow = Narrow {
+        taken: Vec::new(alloc),
+        limit,
+    };
+    let outcome = write_response(&response, &mut ToWrite::new(&mut narrow));
+    (outcome, narrow.taken)
 }
 
 #[test]
