@@ -3,11 +3,11 @@
 use crate::client::{
     ANSWER, COMMAND, LAST_ANSWER, client, has_ended, hears, send as send_query, wait,
 };
-use crate::clock::{Play, playing};
+use crate::clock::{Play, new_clock};
 use crate::guests::client::{ADDS_ANN, connect, is_done, message, send};
 use crate::guests::files::{forget, lay};
 use crate::outcome::same;
-use crate::service::counting;
+use crate::service::new_service;
 use mio::{Token, Waker};
 use registry_guests::{CommandListener, GUEST_COUNT};
 use registry_names::Moment;
@@ -131,10 +131,9 @@ fn command_in(rt: &HostRuntime, ends: &impl Abort, case: &Case<'_>) -> u32 {
     let user = guest(rt, ends, (file, "command"), case.has_command, &message);
     let clients = clients(rt, ends, &server, case);
     let asked = Cell::new(0);
-    let mut clock = playing(rt, case.play, &clients, &asked);
-    clock.control = control.as_ref();
+    let mut clock = new_clock(rt, case.play, control.as_ref(), &clients, &asked);
     clock.waker = waker(&server, case.play).expect(ends, "a waker");
-    let mut service = counting(&asked);
+    let mut service = new_service(&asked, None);
     let at = Moment::clamped(0);
     let ended = server.run_beside(&clock, alloc, at, &mut service, &mut listener);
     has_ended(ends, ended, case.ended);

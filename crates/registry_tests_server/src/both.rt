@@ -2,7 +2,7 @@
 
 use crate::client::{ANSWER, asking, has_ended, hears, wait};
 use crate::outcome::same;
-use crate::service::counting;
+use crate::service::new_service;
 use registry_names::Moment;
 use registry_server::{Ended, ListenAt, LocalSocket, Server};
 use std::cell::Cell;
@@ -29,7 +29,7 @@ fn who_waits_at_a_socket_is_let_in_beside_those_at_the_port(rt: HostRuntime) {
     let beside = asking_for_tool(&rt).expect(&rt, "a client");
     wait(&rt);
     let asked = Cell::new(0);
-    let mut service = counting(&asked);
+    let mut service = new_service(&asked, None);
     let ended = server.run(&rt, alloc, Moment::clamped(0), &mut service);
     has_ended(&rt, ended, Ended::Enough);
     same(&rt, "asked", asked.get(), 4);

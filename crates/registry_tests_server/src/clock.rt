@@ -76,10 +76,11 @@ pub struct Playing<'a> {
     pub second: Cell<bool>,
 }
 
-/// A clock that has not been read, with clients that connect to the server.
-pub fn playing<'a>(
+/// A clock that has not been read, with who holds or stops the server, and two clients of it.
+pub fn new_clock<'a>(
     rt: &'a HostRuntime,
     play: Play,
+    control: Option<&'a UnixStream>,
     clients: &'a [TcpStream; 2],
     asked: &'a Cell<u32>,
 ) -> Playing<'a> {
@@ -88,7 +89,7 @@ pub fn playing<'a>(
         play,
         readings: Cell::new(0),
         waker: None,
-        control: None,
+        control,
         clients,
         asked,
         asked_meanwhile: Cell::new(u32::MAX),

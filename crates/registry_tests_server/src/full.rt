@@ -2,7 +2,7 @@
 
 use crate::client::{ANSWER, asking, client, has_ended, hears, wait};
 use crate::outcome::same;
-use crate::service::{Waking, counting};
+use crate::service::{Waking, new_service};
 use registry_names::Moment;
 use registry_server::{CONNECTION_COUNT, Ended, Server};
 use std::cell::Cell;
@@ -34,13 +34,13 @@ fn newcomers_come(rt: &HostRuntime, ends: &impl Abort, left: usize) {
     }
     wait(rt);
     let asked = Cell::new(0);
-    let mut service = counting(&asked);
-    service.waking = Some(Waking {
+    let waking = Waking {
         rt,
         gone: gone as u64,
         asks: &asks,
         idle: &idle,
-    });
+    };
+    let mut service = new_service(&asked, Some(waking));
     let ended = server.run(rt, alloc, Moment::clamped(0), &mut service);
     has_ended(ends, ended, Ended::Enough);
     let all = CONNECTION_COUNT as u64;

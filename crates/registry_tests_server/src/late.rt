@@ -1,9 +1,9 @@
 //! A server whose time passes.
 
 use crate::client::{ANSWER, client, has_ended, hears};
-use crate::clock::{Play, playing};
+use crate::clock::{Play, new_clock};
 use crate::outcome::same;
-use crate::service::counting;
+use crate::service::new_service;
 use mio::{Token, Waker};
 use registry_names::Moment;
 use registry_server::{Ended, FIRST_GUEST, Server};
@@ -21,10 +21,10 @@ fn a_silent_connection_ends_after_a_minute(rt: HostRuntime) {
         .set_nonblocking(true)
         .expect(&rt, "it never waits");
     let asked = Cell::new(0);
-    let mut clock = playing(&rt, Play::Silence, &clients, &asked);
+    let mut clock = new_clock(&rt, Play::Silence, None, &clients, &asked);
     clock.waker = Waker::new(server.registry(), Token(FIRST_GUEST)).ok();
     clock.first.set(true);
-    let mut service = counting(&asked);
+    let mut service = new_service(&asked, None);
     let ended = server.run(&clock, alloc, Moment::clamped(0), &mut service);
     has_ended(&rt, ended, Ended::Enough);
     same(&rt, "a waker", clock.waker.is_some(), true);

@@ -55,15 +55,15 @@ impl Waking<'_> {
     }
 }
 
-/// A service that was asked nothing yet.
-pub fn counting(asked: &Cell<u32>) -> Counting<'_> {
+/// A service that was asked nothing yet, and the clients that go on when it is asked.
+pub fn new_service<'a>(asked: &'a Cell<u32>, waking: Option<Waking<'a>>) -> Counting<'a> {
     Counting {
         asked,
         command: 0,
         tool: 0,
         looks: Cell::new(0),
         rests: Cell::new(0),
-        waking: None,
+        waking,
     }
 }
 

@@ -64,11 +64,8 @@ fn is_written(rt: &impl Abort, alloc: Global, line: &str, limit: usize) {
     let rest = field(told, ' ', 6).as_bytes();
     let (outcome, taken) = written(alloc, status, &labels, body, rest, closes, limit);
     let whole = wanted.replace(alloc, "|", "\r\n").expect(rt, "memory");
-    let (wanted, front) = match whole.as_str().get(..limit) {
-        Some(front) if limit < whole.len() => (Err(WriteFailed), front),
-        _ => (Ok(()), whole.as_str()),
-    };
-    same(rt, (line, limit), outcome, wanted);
+    let front = whole.as_str().get(..limit).unwrap_or(whole.as_str());
+    same(rt, (line, limit), outcome.is_err(), limit < whole.len());
     same(rt, (line, limit), as_text(&taken), front);
 }
 
