@@ -1,13 +1,13 @@
-//! Requests to registries, whatever their store is.
+//! Requests to registries.
 
 use crate::checks::checked;
+use crate::disks::{Closed, close};
 use crate::outcome::same;
 use registry_desk::Registry;
-use registry_http::RegistryService;
 use registry_rules::Request;
-use registry_service::Service;
-use registry_tests_requests::{Outcome, outcome_of, outcomes_together, requests_of};
-use sqlite::{Alter, Connection};
+use registry_tests_requests::{Outcome, outcome_of, outcomes_together, request_of, requests_of};
+use sqlite::{Alter, Connection, FileStore};
+use sqlite_disk::Disk;
 use std::alloc::Global;
 use std::process::Abort;
 
@@ -19,15 +19,21 @@ pub(crate) fn requests(ends: &impl Abort, alloc: Global, text: &str) -> Vec<Requ
     }
 }
 
-/// What is done with a registry before it is asked.
+/// The request that a line asks for.
+pub(crate) fn request(ends: &impl Abort, alloc: Global, line: &str) -> Request {
+    match request_of(alloc, line) {
+        Ok(request) => request,
+        Err(_) => panic!(ends; "{line:?} asks for nothing"),
+    }
+}
+
+/// What is known of the rows of a registry that is asked.
 #[derive(Clone, Copy)]
-pub(crate) enum First<'a> {
+pub(crate) enum Rows {
     /// Nothing.
-    Nothing,
-    /// It is seen that no row breaks a rule, or the test ends.
-    Checked,
-    /// A service over it is asked this command and, after a fault, this query.
-    Served(&'a Request, &'a Request),
+    Any,
+    /// None breaks a rule, or the test ends.
+    Sound,
 }
 
 /// Requests, and how they are asked.
@@ -39,27 +45,48 @@ pub(crate) enum Asks<'a> {
     Together(usize, &'a [Request]),
 }
 
-/// What a registry answers to lists of requests, one after another until one ends in a fault, and its
-/// connection.
-pub(crate) fn asked<S: Alter + Drop>(
+/// What a registry in files answers to lists of requests, one after another until one ends in a
+/// fault, and its files when it is closed. Only this function asks one or ends one, since each call
+/// that does takes a quarter of a minute to check.
+pub(crate) fn asked<D: Disk + Drop>(
+    ends: &impl Abort,
+    alloc: Global,
+    registry: Registry<FileStore<D>>,
+    rows: Rows,
+    lists: &[Asks],
+) -> (Vec<Outcome>, Closed<D>) {
+    let (outcomes, connection) = asked_and_released(ends, alloc, registry, rows, lists);
+    (outcomes, close(connection))
+}
+
+fn asked_and_released<S: Alter + Drop>(
     ends: &impl Abort,
     alloc: Global,
     registry: Registry<S>,
-    first: First,
+    rows: Rows,
     lists: &[Asks],
 ) -> (Vec<Outcome>, Connection<S>) {
-    let mut outcomes = Vec::new(alloc);
-    let mut registry = match first {
-        First::Nothing => registry,
-        First::Checked => checked(ends, alloc, registry),
-        First::Served(command, query) => {
-            served(ends, alloc, registry, command, query, &mut outcomes)
-        }
+    let (outcomes, registry) = asked_of(ends, alloc, registry, rows, lists);
+    (outcomes, registry.release())
+}
+
+/// What any registry answers so, and the registry.
+pub(crate) fn asked_of<S: Alter + Drop>(
+    ends: &impl Abort,
+    alloc: Global,
+    registry: Registry<S>,
+    rows: Rows,
+    lists: &[Asks],
+) -> (Vec<Outcome>, Registry<S>) {
+    let mut registry = match rows {
+        Rows::Any => registry,
+        Rows::Sound => checked(ends, alloc, registry),
     };
+    let mut outcomes = Vec::new(alloc);
     for asks in lists {
         push_outcomes(ends, alloc, &mut registry, *asks, &mut outcomes);
     }
-    (outcomes, registry.release())
+    (outcomes, registry)
 }
 
 fn push_outcomes<S: Alter>(
@@ -122,53 +149,8 @@ fn are_alike(outcomes: &[Outcome]) -> bool {
     fault.is_none() || outcomes.iter().all(|outcome| Some(outcome) == fault)
 }
 
-// A registry, after a service over it was asked a command and, after a fault, a query. Adds what it
-// answers.
-fn served<S: Alter + Drop>(
-    ends: &impl Abort,
-    alloc: Global,
-    registry: Registry<S>,
-    command: &Request,
-    query: &Request,
-    outcomes: &mut Vec<Outcome>,
-) -> Registry<S> {
-    let mut service = RegistryService::new(registry);
-    push_served(ends, alloc, &mut service, command, query, outcomes);
-    service.into_registry()
-}
-
-// The service is over exactly where its registry answers nothing more, and still is after the query.
-fn push_served<S: Service>(
-    ends: &impl Abort,
-    alloc: Global,
-    service: &mut S,
-    command: &Request,
-    query: &Request,
-    outcomes: &mut Vec<Outcome>,
-) {
-    let meets_fault = push_answer(ends, alloc, service, command, outcomes);
-    let is_over = service.is_over();
-    let is_shut = meets_fault && push_answer(ends, alloc, service, query, outcomes);
-    let are_over = (is_over, service.is_over());
-    same(ends, "is over", are_over, (is_shut, is_shut));
-}
-
-// Adds what a service answers. Gives whether it is a fault.
-fn push_answer<S: Service>(
-    ends: &impl Abort,
-    alloc: Global,
-    service: &mut S,
-    request: &Request,
-    outcomes: &mut Vec<Outcome>,
-) -> bool {
-    let outcome = service.answer(alloc, request);
-    let is_fault = outcome.is_err();
-    outcomes.push(outcome).expect(ends, "memory");
-    is_fault
-}
-
-/// How many requests are answered before one meets a fault.
-pub(crate) fn answered(outcomes: &[Outcome]) -> usize {
-    let first = outcomes.iter().position(|outcome| outcome.is_err());
-    first.unwrap_or(outcomes.len())
+/// Checks that no request ended in a fault.
+pub(crate) fn are_replies(ends: &impl Abort, outcomes: &[Outcome]) {
+    let is_fault = outcomes.iter().any(|outcome| outcome.is_err());
+    same(ends, "a fault", is_fault, false);
 }

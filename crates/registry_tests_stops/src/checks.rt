@@ -1,6 +1,5 @@
-//! Registries in which no row breaks a rule, and connections that are adopted.
+//! Registries in which no row breaks a rule.
 
-ghost use Rattle.std.specs.Prelude.{◌≡◌, false};
 ghost use Rattle.sqlite.specs.Held.{state};
 ghost use Rattle.registry_desk.specs.Adopted.{CanBeAdopted};
 ghost use Rattle.registry_desk.specs.Resting.{Rests};
@@ -9,7 +8,6 @@ use crate::outcome::same;
 use registry_check::{Problem, check};
 use registry_desk::Registry;
 use registry_names::Fault;
-use registry_tests_requests::Outcome;
 use sqlite::{Alter, Connection};
 use std::alloc::Global;
 use std::process::Abort;
@@ -50,26 +48,5 @@ pub(crate) fn adopted<S: Alter + Drop>(
     match Registry::adopt(alloc, connection) {
         Ok(registry) => registry,
         Err((fault, _)) => panic!(ends; "no registry takes it over: {fault:?}"),
-    }
-}
-
-/// The connection, after a registry took it over and gave it back, or handed it back with a fault, which
-/// is added. The contract of `adopt` says far more than that, and every caller is checked with all of
-/// it.
-pub(crate) fn handed_back<S: Alter + Drop>(
-    ends: &impl Abort,
-    alloc: Global,
-    connection: Connection<S>,
-    faults: &mut Vec<Outcome>,
-) -> Connection<S>
-    requires rises { connection.in_transaction ≡ false → CanBeAdopted (state S.Store connection) }
-    ensures again { result.in_transaction ≡ false → CanBeAdopted (state S.Store result) }
-{
-    match Registry::adopt(alloc, connection) {
-        Ok(registry) => registry.release(),
-        Err((fault, connection)) => {
-            faults.push(Err(fault)).expect(ends, "memory");
-            connection
-        }
     }
 }

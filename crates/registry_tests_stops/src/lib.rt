@@ -7,11 +7,11 @@
 //! not at all, and so were all those that are answered together; and the requests that follow are
 //! answered as in memory.
 //!
-//! A test is data: it says which bytes the files have, when they stop, and what is done over them, and
-//! [`disks::visited`] does it. Only the functions behind that one have a disk, and few of them call a
-//! function over any store, since the check of such a call takes a quarter of a minute. The check of a
-//! function over any store takes a second or two. A test ends by `ends`, so that no function has a
-//! second way out on which registries and files are dropped.
+//! A function that asks a registry has its store as a parameter, and one that opens and closes a
+//! registry has its disk. The check of a call from the second kind to the first takes a quarter of
+//! a minute, so there are few; the check of a function over any store takes a second or two. A test
+//! ends by `ends`, so that no function has a second way out on which registries and files are
+//! dropped.
 #![tactic(auto)]
 
 #[cfg(test)]

@@ -1,81 +1,52 @@
-//! Databases: statements that change them, the rows that queries show, and adoptions.
+//! Databases in files: statements that change them, and the rows that queries show.
 
-ghost use Rattle.sqlite.specs.Held.{state};
-ghost use Rattle.registry_desk.specs.Adopted.{CanBeAdopted};
-
-use crate::checks::handed_back;
-use crate::outcome::same;
-use registry_tests_requests::Outcome;
+use crate::disks::{Closed, Leaves, StoppingDisk, close, connected, left_of};
 use sqlite::types::ValueRef;
-use sqlite::{Alter, Connection, Row};
+use sqlite::{Alter, Connection, Files, Row};
 use std::alloc::Global;
 use std::process::Abort;
 
 /// What a line begins with that is a query.
 const QUERY: &str = "SELECT ";
 
-/// What is done with a database.
-#[derive(Clone, Copy)]
-pub(crate) enum Work<'a> {
-    /// Statements are run. The lines of the text that are queries show what stands after each, or the
-    /// test ends.
-    Runs(&'a [&'a str], &'a str),
-    /// A registry takes it over. Where that fails, the fault is an outcome, and it is tried again.
-    Adopts,
-}
-
-/// The outcomes of what is done, and the connection.
-pub(crate) fn worked<S: Alter + Drop>(
+/// The files of a database on which statements are run, and then the queries that are lines of a text,
+/// and each query with its rows. Only this function does so in files, since a call that does takes a
+/// quarter of a minute to check.
+pub(crate) fn ran<D: StoppingDisk>(
     ends: &impl Abort,
     alloc: Global,
-    connection: Connection<S>,
-    work: Work,
-) -> (Vec<Outcome>, Connection<S>)
-    requires rises { CanBeAdopted (state S.Store connection) }
-{
-    let mut outcomes = Vec::new(alloc);
-    let connection = match work {
-        Work::Runs(statements, shows) => run(ends, alloc, connection, statements, shows),
-        Work::Adopts => adopted_or_twice(ends, alloc, connection, &mut outcomes),
-    };
-    (outcomes, connection)
-}
-
-fn adopted_or_twice<S: Alter + Drop>(
-    ends: &impl Abort,
-    alloc: Global,
-    connection: Connection<S>,
-    faults: &mut Vec<Outcome>,
-) -> Connection<S>
-    requires rises { CanBeAdopted (state S.Store connection) }
-{
-    let connection = handed_back(ends, alloc, connection, faults);
-    if faults.is_empty() {
-        return connection;
-    }
-    handed_back(ends, alloc, connection, faults)
-}
-
-// The connection, after these statements were run, and the queries of the text showed what it says.
-fn run<S: Alter>(
-    ends: &impl Abort,
-    alloc: Global,
-    connection: Connection<S>,
+    files: Files<D>,
     statements: &[&str],
-    shows: &str,
-) -> Connection<S> {
-    let mut connection = connection;
+    queries: &str,
+) -> (Files<D>, String) {
+    match connected(alloc, files) {
+        Ok(connection) => {
+            let mut connection = connection;
+            let shown = run_and_show(ends, alloc, &mut connection, statements, queries);
+            let Closed { files, .. } = close(connection);
+            (left_of(ends, alloc, files, Leaves::Written), shown)
+        }
+        Err(_files) => panic!(ends; "no database opens"),
+    }
+}
+
+fn run_and_show<S: Alter>(
+    ends: &impl Abort,
+    alloc: Global,
+    connection: &mut Connection<S>,
+    statements: &[&str],
+    queries: &str,
+) -> String {
     for text in statements {
         connection.execute_batch(text).expect(ends, text);
     }
     let mut shown = String::new(alloc);
-    for line in shows.lines() {
+    for line in queries.lines() {
         if line.starts_with(QUERY) {
-            push_shown(ends, alloc, &mut connection, line, &mut shown);
+            push_shown(ends, alloc, connection, line, &mut shown);
         }
     }
-    same(ends, "what is shown", shown.as_str(), shows);
-    connection
+    shown
 }
 
 // Adds a query and its rows.

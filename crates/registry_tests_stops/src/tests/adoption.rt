@@ -1,39 +1,36 @@
 //! Connections that a registry takes over, and those that it hands back.
 
-ghost use Rattle.std.specs.Prelude.{◌≡◌, true};
+ghost use Rattle.std.specs.Prelude.{◌≡◌, false, true, IfSome};
+ghost use Rattle.sqlite.specs.Files.{file_state};
+ghost use Rattle.sqlite.specs.Held.{state};
+ghost use Rattle.registry_desk.specs.Adopted.{CanBeAdopted};
 
-use crate::asking::{Asks, First, answered, asked, requests};
-use crate::checks::{adopted, handed_back};
-use crate::disks::{Kept, Leaves, NEVER, Stop, Stopping, Visit, visited};
+use crate::asking::{Asks, Rows, are_replies, asked, asked_of, requests};
+use crate::checks::adopted;
+use crate::disks::{
+    Closed, Leaves, NEVER, Stopping, StoppingDisk, TestDisk, close, connected, empty_files,
+    left_of, opened,
+};
 use crate::outcome::same;
 use crate::requests::COMMANDS;
-use crate::sql::Work;
+use crate::sql::ran;
 use registry_desk::Registry;
 use registry_names::Fault;
-use registry_tests_requests::{Outcome, QUERIES};
-use sqlite::{Alter, Connection};
+use registry_tests_requests::QUERIES;
+use sqlite::{Alter, Connection, FileStore, Files};
+use sqlite_disk::Disk;
 use std::alloc::Global;
 use std::process::Abort;
 
 /// More calls than an open makes of one file.
 const MOST_CALLS: u64 = 1_000;
 
-/// What something else changes in a registry's file, so that no registry opens, and what changes it
-/// back.
-static CHANGES: [(&str, &str); 4] = [
-    (
-        "CREATE VIEW people AS SELECT name FROM users",
-        "DROP VIEW people",
-    ),
-    ("CREATE TABLE notes (note TEXT)", "DROP TABLE notes"),
-    (
-        "UPDATE meta SET value = 2 WHERE name = 'schema'",
-        "UPDATE meta SET value = 3 WHERE name = 'schema'",
-    ),
-    (
-        "UPDATE meta SET value = 4 WHERE name = 'schema'",
-        "UPDATE meta SET value = 3 WHERE name = 'schema'",
-    ),
+/// What something else changes in a registry's file: then no registry opens.
+static CHANGES: [&str; 4] = [
+    "CREATE VIEW people AS SELECT name FROM users",
+    "CREATE TABLE notes (note TEXT)",
+    "UPDATE meta SET value = 2 WHERE name = 'schema'",
+    "UPDATE meta SET value = 4 WHERE name = 'schema'",
 ];
 
 #[test]
@@ -48,16 +45,86 @@ fn shows_the_same<S: Alter + Drop>(ends: &impl Abort, alloc: Global, registry: R
     let queries = requests(ends, alloc, QUERIES);
     let queried = Asks::InTurn(queries.as_slice());
     let lists = [Asks::InTurn(commands.as_slice()), queried];
-    let (shown, connection) = asked(ends, alloc, registry, First::Nothing, &lists);
-    same(ends, "answered", answered(&shown), shown.len());
-    let registry = adopted(ends, alloc, connection);
-    let (found, connection) = asked(ends, alloc, registry, First::Nothing, &[queried]);
+    let (shown, registry) = asked_of(ends, alloc, registry, Rows::Any, &lists);
+    are_replies(ends, &shown);
+    let registry = adopted(ends, alloc, registry.release());
+    let (found, _registry) = asked_of(ends, alloc, registry, Rows::Any, &[queried]);
     let is_shown = shown.get(commands.len()..) == Some(found.as_slice());
     same(ends, "what is shown", is_shown, true);
-    is_back_inside(ends, alloc, connection);
 }
 
-// A connection inside a transaction is handed back.
+// The fault of an adoption, and the connection; `None` where it becomes a registry. The contract of
+// `adopt` says far more than that, and every caller is checked with all of it.
+fn handed_back<S: Alter + Drop>(
+    alloc: Global,
+    connection: Connection<S>,
+) -> Option<(Fault, Connection<S>)>
+    requires rises { connection.in_transaction ≡ false → CanBeAdopted (state S.Store connection) }
+    ensures again { IfSome result (λ back. back.1.in_transaction ≡ false
+        → CanBeAdopted (state S.Store back.1)) }
+{
+    match Registry::adopt(alloc, connection) {
+        Ok(_registry) => None,
+        Err(back) => Some(back),
+    }
+}
+
+// The faults of an adoption and of a second one, and the connection; `None` where the first makes a
+// registry.
+fn handed_back_twice<S: Alter + Drop>(
+    ends: &impl Abort,
+    alloc: Global,
+    connection: Connection<S>,
+) -> Option<((Fault, Fault), Connection<S>)>
+    requires rises { CanBeAdopted (state S.Store connection) }
+{
+    match handed_back(alloc, connection) {
+        None => None,
+        Some((first, connection)) => match handed_back(alloc, connection) {
+            None => panic!(ends; "the second adoption makes a registry"),
+            Some((second, connection)) => Some(((first, second), connection)),
+        },
+    }
+}
+
+// The same for files. Only this function tries to adopt a connection to files.
+fn files_handed_back<D: StoppingDisk>(
+    ends: &impl Abort,
+    alloc: Global,
+    connection: Connection<FileStore<D>>,
+) -> Option<((Fault, Fault), Connection<FileStore<D>>)>
+    requires rises { CanBeAdopted (file_state connection) }
+{
+    handed_back_twice(ends, alloc, connection)
+}
+
+#[test]
+fn what_another_hand_changed_is_handed_back(rt: HostRuntime) {
+    for change in &CHANGES {
+        is_handed_back::<TestDisk>(&rt, rt.alloc(), change);
+    }
+}
+
+fn is_handed_back<D: StoppingDisk>(ends: &impl Abort, alloc: Global, change: &str) {
+    let files: Files<D> = files_after(ends, alloc, change);
+    match connected(alloc, files) {
+        Ok(connection) => match files_handed_back(ends, alloc, connection) {
+            None => panic!(ends; "a registry after {change}"),
+            Some((faults, connection)) => {
+                let _closed = close(connection);
+                same(ends, change, faults, (Fault::Database, Fault::Database));
+            }
+        },
+        Err(_files) => panic!(ends; "after {change} nothing opens"),
+    }
+}
+
+#[test]
+fn a_connection_inside_a_transaction_is_handed_back(rt: HostRuntime) {
+    let registry = Registry::in_memory(rt.alloc()).expect(&rt, "a registry");
+    is_back_inside(&rt, rt.alloc(), registry.release());
+}
+
 fn is_back_inside<S: Alter + Drop>(ends: &impl Abort, alloc: Global, connection: Connection<S>) {
     let mut connection = connection;
     connection
@@ -72,90 +139,122 @@ fn is_back_inside<S: Alter + Drop>(ends: &impl Abort, alloc: Global, connection:
 fn is_back_as_it_was<S: Alter + Drop>(ends: &impl Abort, alloc: Global, connection: Connection<S>)
     requires inside { connection.in_transaction ≡ true }
 {
-    let mut faults = Vec::new(alloc);
-    let connection = handed_back(ends, alloc, connection, &mut faults);
-    are_faults(ends, "inside a transaction", &faults, 1);
-    let is_inside = !connection.is_autocommit();
-    same(ends, "it is inside", is_inside, true);
-}
-
-// Checks that so many attempts failed with the fault of the database.
-fn are_faults(ends: &impl Abort, case: &str, outcomes: &[Outcome], count: usize) {
-    let are_faults = outcomes
-        .iter()
-        .all(|outcome| matches!(outcome, Err(Fault::Database)));
-    same(ends, case, (are_faults, outcomes.len()), (true, count));
-}
-
-#[test]
-fn what_another_hand_changed_is_handed_back(rt: HostRuntime) {
-    are_handed_back(&rt, rt.alloc());
-}
-
-fn are_handed_back(ends: &impl Abort, alloc: Global) {
-    let commands = requests(ends, alloc, COMMANDS);
-    let lists = [Asks::InTurn(commands.as_slice())];
-    let visit = Visit::Asks(First::Nothing, &lists);
-    let (made, kept) = visited(ends, alloc, &Kept::nothing(alloc), NEVER, visit);
-    same(ends, "answered", answered(&made.outcomes), commands.len());
-    for (change, undo) in &CHANGES {
-        is_handed_back(ends, alloc, &kept, change, undo);
+    match handed_back(alloc, connection) {
+        None => panic!(ends; "a registry inside a transaction"),
+        Some((fault, connection)) => same(
+            ends,
+            "the fault, and it is inside",
+            (fault, connection.is_autocommit()),
+            (Fault::Database, false),
+        ),
     }
 }
 
-// The connection to changed files is handed back, and what an open of them hands back opens once the
-// change is undone.
-fn is_handed_back(ends: &impl Abort, alloc: Global, kept: &Kept, change: &str, undo: &str) {
-    let changed = after(ends, alloc, kept, change);
-    let (came, _) = visited(ends, alloc, &changed, NEVER, Visit::Works(Work::Adopts));
-    are_faults(ends, change, &came.outcomes, 2);
-    let (fault, back) = opens(ends, alloc, &changed);
-    same(ends, change, fault, Some(Fault::Database));
-    let (fault, _) = opens(ends, alloc, &after(ends, alloc, &back, undo));
-    same(ends, undo, fault, None);
+#[test]
+fn files_come_back_from_an_open(rt: HostRuntime) {
+    come_back::<TestDisk>(&rt, rt.alloc());
+}
+
+// The open fails with the fault of the database, and one without notes doesn't fail.
+fn come_back<D: StoppingDisk>(ends: &impl Abort, alloc: Global) {
+    let files: Files<D> = files_after(ends, alloc, "CREATE TABLE notes (note TEXT)");
+    if !files.may_be_used() {
+        panic!(ends; "the files can't be used");
+    }
+    match opened(alloc, files) {
+        Ok(_registry) => panic!(ends; "a registry with notes"),
+        Err((fault, files)) => {
+            let files = changed(ends, alloc, files, "DROP TABLE notes");
+            same(ends, "with notes", fault, Fault::Database);
+            same(ends, "without notes", opens(ends, alloc, files), true);
+        }
+    }
+}
+
+// Repeats until an adoption meets no fault: after a fault, another adoption meets it again, and a
+// crash leaves files that open.
+#[test]
+fn a_fault_of_the_disk_is_met_again(rt: HostRuntime) {
+    let mut faults = 0u64;
+    for calls in 0..MOST_CALLS {
+        match adoption_at::<TestDisk>(&rt, rt.alloc(), calls) {
+            Adoption::Unopened => {}
+            Adoption::Fails => faults = faults.saturating_add(1),
+            Adoption::Succeeds => return same(&rt, "some adoptions fail", faults > 0, true),
+        }
+    }
+    panic!(rt; "it stops after {MOST_CALLS} calls, too")
+}
+
+/// The result of an adoption of empty files whose log stops.
+enum Adoption {
+    /// They weren't opened.
+    Unopened,
+    /// It fails, and so does another.
+    Fails,
+    Succeeds,
+}
+
+fn adoption_at<D: StoppingDisk>(ends: &impl Abort, alloc: Global, calls: u64) -> Adoption {
+    let files: Files<D> = empty_files(alloc, Stopping::Log, calls);
+    match connected(alloc, files) {
+        Ok(connection) => adoption_of(ends, alloc, calls, connection),
+        Err(_files) => Adoption::Unopened,
+    }
+}
+
+fn adoption_of<D: StoppingDisk>(
+    ends: &impl Abort,
+    alloc: Global,
+    calls: u64,
+    connection: Connection<FileStore<D>>,
+) -> Adoption
+    requires rises { CanBeAdopted (file_state connection) }
+{
+    match files_handed_back(ends, alloc, connection) {
+        None => Adoption::Succeeds,
+        Some((_, connection)) => {
+            let Closed { files, .. } = close(connection);
+            let is_open = opens(ends, alloc, left_of(ends, alloc, files, Leaves::Synced));
+            same(ends, (calls, "it opens"), is_open, true);
+            Adoption::Fails
+        }
+    }
+}
+
+// Whether a registry opens from the files. It is closed again.
+fn opens<D: Disk + Drop>(ends: &impl Abort, alloc: Global, files: Files<D>) -> bool {
+    match opened(alloc, files) {
+        Ok(registry) => {
+            let (_outcomes, _closed) = asked(ends, alloc, registry, Rows::Any, &[]);
+            true
+        }
+        Err(_) => false,
+    }
+}
+
+// The files of a registry that was asked the commands, and then changed by this SQL.
+fn files_after<D: StoppingDisk>(ends: &impl Abort, alloc: Global, change: &str) -> Files<D> {
+    match opened(alloc, empty_files(alloc, Stopping::Both, NEVER)) {
+        Ok(registry) => {
+            let commands = requests(ends, alloc, COMMANDS);
+            let lists = [Asks::InTurn(commands.as_slice())];
+            let (outcomes, Closed { files, .. }) = asked(ends, alloc, registry, Rows::Any, &lists);
+            are_replies(ends, &outcomes);
+            let files = left_of(ends, alloc, files, Leaves::Written);
+            changed(ends, alloc, files, change)
+        }
+        Err(_) => panic!(ends; "nothing opens"),
+    }
 }
 
 // The files of a database that is changed by this SQL.
-fn after(ends: &impl Abort, alloc: Global, kept: &Kept, change: &str) -> Kept {
-    let visit = Visit::Works(Work::Runs(&[change], ""));
-    let (came, kept) = visited(ends, alloc, kept, NEVER, visit);
-    same(ends, change, came.unopened, None);
-    kept
-}
-
-// The fault with which no registry opens from the files, and the files.
-fn opens(ends: &impl Abort, alloc: Global, kept: &Kept) -> (Option<Fault>, Kept) {
-    let visit = Visit::Asks(First::Nothing, &[]);
-    let (came, kept) = visited(ends, alloc, kept, NEVER, visit);
-    (came.unopened, kept)
-}
-
-#[test]
-fn a_fault_of_the_disk_is_met_again(rt: HostRuntime) {
-    is_met_again(&rt, rt.alloc());
-}
-
-// Lets the log of empty files stop at each call, until an adoption meets no fault: after a fault,
-// another adoption meets it again, and a crash leaves files that open.
-fn is_met_again(ends: &impl Abort, alloc: Global) {
-    let nothing = Kept::nothing(alloc);
-    let mut faults = 0u64;
-    for calls in 0..MOST_CALLS {
-        let stop = Stop {
-            stopping: Stopping::Log,
-            calls,
-            leaves: Leaves::Synced,
-        };
-        let (came, left) = visited(ends, alloc, &nothing, stop, Visit::Works(Work::Adopts));
-        if came.unopened.is_none() {
-            if came.outcomes.is_empty() {
-                return same(ends, "some adoptions fail", faults > 0, true);
-            }
-            same(ends, (calls, "both fail"), came.outcomes.len(), 2);
-            let (fault, _) = opens(ends, alloc, &left);
-            same(ends, (calls, "it opens"), fault, None);
-            faults = faults.saturating_add(1);
-        }
-    }
-    panic!(ends; "it stops after {MOST_CALLS} calls, too")
+fn changed<D: StoppingDisk>(
+    ends: &impl Abort,
+    alloc: Global,
+    files: Files<D>,
+    change: &str,
+) -> Files<D> {
+    let (files, _) = ran(ends, alloc, files, &[change], "");
+    files
 }

@@ -5,11 +5,14 @@
 mod first;
 mod second;
 
-use crate::asking::First;
-use crate::disks::{Kept, Leaves, NEVER, Stop, Stopping, Visit, visited};
+use crate::asking::{Rows, asked};
+use crate::disks::{
+    Closed, Leaves, NEVER, Stopping, StoppingDisk, TestDisk, copied, empty_files, left_of, opened,
+};
 use crate::outcome::same;
-use crate::sql::Work;
+use crate::sql::ran;
 use registry_tables::TABLES;
+use sqlite::Files;
 use std::alloc::Global;
 use std::process::Abort;
 
@@ -17,49 +20,80 @@ use std::process::Abort;
 const MOST_CALLS: u64 = 10_000;
 
 #[test]
-fn a_loss_of_power_loses_nothing(rt: HostRuntime) {
-    no_stop_loses_anything(&rt, rt.alloc(), Leaves::Synced);
+fn a_lost_database_file_loses_nothing(rt: HostRuntime) {
+    no_stop_loses_anything(&rt, rt.alloc(), Stopping::Database, Leaves::Synced);
+}
+
+#[test]
+fn a_lost_log_loses_nothing(rt: HostRuntime) {
+    no_stop_loses_anything(&rt, rt.alloc(), Stopping::Log, Leaves::Synced);
+}
+
+#[test]
+fn a_loss_of_both_files_loses_nothing(rt: HostRuntime) {
+    no_stop_loses_anything(&rt, rt.alloc(), Stopping::Both, Leaves::Synced);
 }
 
 #[test]
 fn a_kill_loses_nothing(rt: HostRuntime) {
-    no_stop_loses_anything(&rt, rt.alloc(), Leaves::Written);
+    no_stop_loses_anything(&rt, rt.alloc(), Stopping::Both, Leaves::Written);
+}
+
+#[test]
+fn a_kill_at_the_database_file_loses_nothing(rt: HostRuntime) {
+    no_stop_loses_anything(&rt, rt.alloc(), Stopping::Database, Leaves::Written);
+}
+
+#[test]
+fn a_kill_at_the_log_loses_nothing(rt: HostRuntime) {
+    no_stop_loses_anything(&rt, rt.alloc(), Stopping::Log, Leaves::Written);
+}
+
+fn no_stop_loses_anything(ends: &impl Abort, alloc: Global, stopping: Stopping, leaves: Leaves) {
+    both_outlive_stops::<TestDisk>(ends, alloc, stopping, leaves);
 }
 
 // Registries of both older schemas outlive all stops.
-fn no_stop_loses_anything(ends: &impl Abort, alloc: Global, leaves: Leaves) {
-    let first = made(ends, alloc, &TABLES[..14], first::ROWS);
-    let second = made(ends, alloc, &TABLES[..17], second::ROWS);
-    for stopping in [Stopping::Database, Stopping::Log, Stopping::Both] {
-        let stop = Stop {
-            stopping,
-            calls: 0,
-            leaves,
-        };
-        outlives_stops(ends, alloc, &first, first::SHOWN, stop);
-        outlives_stops(ends, alloc, &second, second::SHOWN, stop);
-    }
+fn both_outlive_stops<D: StoppingDisk>(
+    ends: &impl Abort,
+    alloc: Global,
+    stopping: Stopping,
+    leaves: Leaves,
+) {
+    let older: Files<D> = made(ends, alloc, &TABLES[..14], first::ROWS);
+    outlives_stops(ends, alloc, &older, first::SHOWN, stopping, leaves);
+    let older: Files<D> = made(ends, alloc, &TABLES[..17], second::ROWS);
+    outlives_stops(ends, alloc, &older, second::SHOWN, stopping, leaves);
 }
 
 // Files with the tables that these texts make, and the rows that the statements of a text put.
-fn made(ends: &impl Abort, alloc: Global, tables: &[&str], rows: &str) -> Kept {
-    let nothing = Kept::nothing(alloc);
-    let work = Visit::Works(Work::Runs(tables, ""));
-    let (made, older) = visited(ends, alloc, &nothing, NEVER, work);
-    same(ends, "the tables", made.is_whole, true);
-    let work = Visit::Works(Work::Runs(&[rows], ""));
-    let (made, older) = visited(ends, alloc, &older, NEVER, work);
-    same(ends, "the rows", made.is_whole, true);
-    older
+fn made<D: StoppingDisk>(
+    ends: &impl Abort,
+    alloc: Global,
+    tables: &[&str],
+    rows: &str,
+) -> Files<D> {
+    let files = empty_files(alloc, Stopping::Both, NEVER);
+    let (files, _) = ran(ends, alloc, files, tables, "");
+    let (files, _) = ran(ends, alloc, files, &[rows], "");
+    files
 }
 
 // Lets a file of the older registry, or each, stop at its first call, at its second, and so on,
 // until an open and a close aren't stopped.
-fn outlives_stops(ends: &impl Abort, alloc: Global, older: &Kept, shows: &str, stop: Stop) {
+fn outlives_stops<D: StoppingDisk>(
+    ends: &impl Abort,
+    alloc: Global,
+    older: &Files<D>,
+    shows: &str,
+    stopping: Stopping,
+    leaves: Leaves,
+) {
     for calls in 0..MOST_CALLS {
-        let stop = Stop { calls, ..stop };
-        let (is_whole, left) = opened_once(ends, alloc, older, stop, First::Nothing);
-        opens_again(ends, alloc, calls, &left, shows);
+        let files = copied(ends, alloc, older, stopping, calls);
+        let Closed { is_whole, files } = opened_once(ends, alloc, files, Rows::Any);
+        let left = left_of(ends, alloc, files, leaves);
+        opens_again(ends, alloc, calls, left, shows);
         if is_whole {
             return;
         }
@@ -69,24 +103,36 @@ fn outlives_stops(ends: &impl Abort, alloc: Global, older: &Kept, shows: &str, s
 
 // Checks that the registry in the files opens and closes, and again; that no row of it breaks a
 // rule; and that it holds afterwards what the text says.
-fn opens_again(ends: &impl Abort, alloc: Global, calls: u64, left: &Kept, shows: &str) {
-    let (is_whole, kept) = opened_once(ends, alloc, left, NEVER, First::Nothing);
-    same(ends, (calls, "opened and closed"), is_whole, true);
-    let (is_whole, kept) = opened_once(ends, alloc, &kept, NEVER, First::Checked);
-    same(ends, (calls, "and once more"), is_whole, true);
-    let work = Visit::Works(Work::Runs(&[], shows));
-    let (shown, _) = visited(ends, alloc, &kept, NEVER, work);
-    same(ends, (calls, "and shown"), shown.unopened.is_none(), true);
-}
-
-// Whether a registry in the files opens and closes, and what it leaves.
-fn opened_once(
+fn opens_again<D: StoppingDisk>(
     ends: &impl Abort,
     alloc: Global,
-    kept: &Kept,
-    stop: Stop,
-    first: First,
-) -> (bool, Kept) {
-    let (came, left) = visited(ends, alloc, kept, stop, Visit::Asks(first, &[]));
-    (came.is_whole, left)
+    calls: u64,
+    files: Files<D>,
+    shows: &str,
+) {
+    let first = opened_once(ends, alloc, files, Rows::Any);
+    same(ends, (calls, "opened and closed"), first.is_whole, true);
+    let again = opened_once(ends, alloc, first.files, Rows::Sound);
+    same(ends, (calls, "and once more"), again.is_whole, true);
+    let (_files, text) = ran(ends, alloc, again.files, &[], shows);
+    same(ends, calls, text.as_str(), shows);
+}
+
+// The files of a registry that is opened and closed, and whether both did everything.
+fn opened_once<D: StoppingDisk>(
+    ends: &impl Abort,
+    alloc: Global,
+    files: Files<D>,
+    rows: Rows,
+) -> Closed<D> {
+    match opened(alloc, files) {
+        Ok(registry) => {
+            let (_outcomes, closed) = asked(ends, alloc, registry, rows, &[]);
+            closed
+        }
+        Err((_, files)) => Closed {
+            is_whole: false,
+            files,
+        },
+    }
 }

@@ -1,61 +1,127 @@
 //! A service over a registry whose log fails after some calls: a fault is returned, and the service
 //! is over where the fault has shut the registry.
 
-use crate::asking::{First, requests};
-use crate::disks::{Kept, Leaves, Stop, Stopping, Visit, visited};
+use crate::asking::request;
+use crate::disks::{Stopping, StoppingDisk, TestDisk, empty_files, opened};
 use crate::outcome::same;
 use crate::requests::{ADD_ANN, TAGS_OF_NONE};
+use registry_desk::Registry;
+use registry_http::RegistryService;
 use registry_names::Fault;
-use registry_tests_requests::Outcome;
+use registry_rules::Request;
+use registry_service::Service;
+use sqlite::{Alter, Files};
 use std::alloc::Global;
 use std::process::Abort;
 
 /// More calls than an open and a request make of the log.
 const ENOUGH: u64 = 1_000;
 
-#[test]
-fn a_service_is_over_once_the_disk_has_shut_its_registry(rt: HostRuntime) {
-    is_over_once_shut(&rt, rt.alloc());
+/// The result of a registry in files, and of one request to it.
+#[derive(Clone, Copy)]
+enum Comes {
+    /// It doesn't open.
+    Unopened,
+    /// The request is answered by a fault, and others are answered.
+    GoesOn,
+    /// The request is answered by a fault, and the service is over.
+    IsOver,
+    /// The request is answered.
+    Answered,
 }
 
 // Lets the log fail after its first call, after its second, and so on, until the request is
-// answered. Of the faults, some end the service, and some don't.
-fn is_over_once_shut(ends: &impl Abort, alloc: Global) {
-    let commands = requests(ends, alloc, ADD_ANN);
-    let queries = requests(ends, alloc, TAGS_OF_NONE);
-    let command = commands.first().expect(ends, "a command");
-    let query = queries.first().expect(ends, "a query");
-    let kept = Kept::nothing(alloc);
-    let mut seen = (false, false);
+// answered.
+#[test]
+fn a_service_is_over_once_the_disk_has_shut_its_registry(rt: HostRuntime) {
+    let add = request(&rt, rt.alloc(), ADD_ANN);
+    let query = request(&rt, rt.alloc(), TAGS_OF_NONE);
+    let mut is_over = false;
+    let mut goes_on = false;
     for calls in 0..ENOUGH {
-        let stop = Stop {
-            stopping: Stopping::Log,
-            calls,
-            leaves: Leaves::Written,
-        };
-        let visit = Visit::Asks(First::Served(command, query), &[]);
-        let (came, _) = visited(ends, alloc, &kept, stop, visit);
-        if is_answered(ends, &came.outcomes, &mut seen) {
-            return same(ends, "both are seen", seen, (true, true));
+        match comes_at::<TestDisk>(&rt, rt.alloc(), calls, &add, &query) {
+            Comes::Unopened => {}
+            Comes::GoesOn => goes_on = true,
+            Comes::IsOver => is_over = true,
+            Comes::Answered => {
+                return same(&rt, "both are seen", (goes_on, is_over), (true, true));
+            }
         }
     }
-    panic!(ends; "no request is answered")
+    panic!(rt; "no request is answered")
 }
 
-// Whether the command is answered. If it is answered by a fault, that is the one of a disk that fails,
-// and it is noted whether the query is answered, or the service is over.
-fn is_answered(ends: &impl Abort, outcomes: &[Outcome], seen: &mut (bool, bool)) -> bool {
-    match outcomes {
-        [Ok(_)] => return true,
-        [Err(fault), Ok(_)] => {
-            same(ends, "it goes on", *fault, Fault::Database);
-            seen.0 = true;
-        }
-        [Err(fault), Err(_)] => {
-            same(ends, "it is over", *fault, Fault::Database);
-            seen.1 = true;
-        }
-        _ => {}
+// The result of a registry in empty files, whose log fails after this many calls.
+fn comes_at<D: StoppingDisk>(
+    ends: &impl Abort,
+    alloc: Global,
+    calls: u64,
+    add: &Request,
+    query: &Request,
+) -> Comes {
+    let files: Files<D> = empty_files(alloc, Stopping::Log, calls);
+    match opened(alloc, files) {
+        Ok(registry) => served(ends, alloc, calls, registry, add, query),
+        Err(_) => Comes::Unopened,
     }
-    false
+}
+
+fn served<S: Alter + Drop>(
+    ends: &impl Abort,
+    alloc: Global,
+    calls: u64,
+    registry: Registry<S>,
+    add: &Request,
+    query: &Request,
+) -> Comes {
+    let mut service = RegistryService::new(registry);
+    answers(ends, alloc, calls, &mut service, add, query)
+}
+
+// A request that is answered doesn't end the service.
+fn answers<S: Service>(
+    ends: &impl Abort,
+    alloc: Global,
+    calls: u64,
+    service: &mut S,
+    add: &Request,
+    query: &Request,
+) -> Comes {
+    match fault_of(alloc, service, add) {
+        None => {
+            let shows = ("an answered request ends it", calls);
+            same(ends, shows, service.is_over(), false);
+            Comes::Answered
+        }
+        Some(fault) => after_the_fault(ends, alloc, (calls, fault), service, query),
+    }
+}
+
+// The fault with which a request is answered, if there is one.
+fn fault_of<S: Service>(alloc: Global, service: &mut S, request: &Request) -> Option<Fault> {
+    match service.answer(alloc, request) {
+        Ok(_reply) => None,
+        Err(fault) => Some(fault),
+    }
+}
+
+// Checks that the service is over exactly where its registry answers nothing more, and still is
+// after one more request. The fault is that of a disk that fails.
+fn after_the_fault<S: Service>(
+    ends: &impl Abort,
+    alloc: Global,
+    met: (u64, Fault),
+    service: &mut S,
+    query: &Request,
+) -> Comes {
+    let is_over = service.is_over();
+    let is_shut = fault_of(alloc, service, query).is_some();
+    let are_over = (is_over, service.is_over());
+    same(ends, (met, "is over"), are_over, (is_shut, is_shut));
+    same(ends, met, met.1, Fault::Database);
+    if is_over {
+        Comes::IsOver
+    } else {
+        Comes::GoesOn
+    }
 }

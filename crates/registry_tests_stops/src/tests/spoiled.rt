@@ -1,16 +1,18 @@
 //! A disk that gives back another byte than it was given: the file is refused, and the page is
 //! never read as data.
 
-use crate::asking::{Asks, First, answered, requests};
-use crate::disks::{Came, Kept, NEVER, Visit, asked_and_closed, visited};
+use crate::asking::{Asks, Rows, are_replies, asked, requests};
+use crate::disks::{
+    Closed, NEVER, Stopping, StoppingDisk, TestDisk, empty_files, files_of, opened,
+};
 use crate::outcome::same;
 use crate::requests::{ADD_ANN, COMMANDS, TAGS_OF_NONE};
 use registry_desk::Registry;
 use registry_names::{Fault, Refusal};
 use registry_rules::Reply;
 use registry_tests_requests::{Outcome, QUERIES};
-use sqlite::Start;
-use sqlite_disk::Wary;
+use sqlite::{FileFrom, FileStore, Files};
+use sqlite_disk::{Disk, Wary};
 use std::alloc::Global;
 use std::fs;
 use std::process::Abort;
@@ -31,40 +33,59 @@ static HEAD: [usize; 23] = [
     0, 16, 18, 19, 20, 21, 22, 23, 24, 28, 32, 36, 40, 44, 48, 52, 56, 60, 64, 68, 72, 92, 96,
 ];
 
-// A registry in files in memory lasts, and no byte of its header can change.
+/// A request, and why it is refused. `None` where it is done.
+type Told = (&'static str, Option<Refusal>);
+
+const ANN_IS_ADDED: Told = (ADD_ANN, None);
+
+const ANN_IS_THERE: Told = (ADD_ANN, Some(Refusal::Exists));
+
+const NONE_IS_FOUND: Told = (TAGS_OF_NONE, Some(Refusal::NotFound));
+
+#[test]
+fn a_registry_in_files_in_memory_lasts(rt: HostRuntime) {
+    lasts::<TestDisk>(&rt, rt.alloc());
+}
+
+// In the second run, a registry holds what was answered in the first.
+fn lasts<D: StoppingDisk>(ends: &impl Abort, alloc: Global) {
+    let files: Files<D> = empty_files(alloc, Stopping::Both, NEVER);
+    let files = told_in(ends, alloc, files, ANN_IS_ADDED);
+    let files = told_in(ends, alloc, files, ANN_IS_THERE);
+    let _files = told_in(ends, alloc, files, NONE_IS_FOUND);
+}
+
+// No registry opens from files with one byte of the header changed. The first page ends in a
+// checksum of its bytes, which any change of one byte makes wrong, and no log replaces the page;
+// and a changed size of pages or of checksums isn't a valid size.
 #[test]
 fn a_byte_changed_in_the_head_is_refused(rt: HostRuntime) {
-    whole_alone_opens(&rt, rt.alloc());
+    whole_alone_opens::<TestDisk>(&rt, rt.alloc());
 }
 
-// In the second run, a registry holds what was answered in the first. It opens from its database file
-// alone, and none opens where one byte of the header is changed: the first page ends in a checksum of its
-// bytes, which any change of one byte makes wrong, and no log replaces the page; and a changed size of
-// pages or of checksums isn't a valid size.
-fn whole_alone_opens(ends: &impl Abort, alloc: Global) {
-    let added = told(ends, alloc, &Kept::nothing(alloc), ADD_ANN, None);
-    let kept = told(ends, alloc, &added, ADD_ANN, Some(Refusal::Exists));
-    let _kept = told(ends, alloc, &kept, TAGS_OF_NONE, Some(Refusal::NotFound));
-    let alone = with_empty_log(ends, alloc, &added.db);
-    let _kept = told(ends, alloc, &alone, ADD_ANN, Some(Refusal::Exists));
+// A registry opens from a copy of its files, and none opens where one byte of the header is changed.
+fn whole_alone_opens<D: StoppingDisk>(ends: &impl Abort, alloc: Global) {
+    let files: Files<D> = empty_files(alloc, Stopping::Both, NEVER);
+    let files = told_in(ends, alloc, files, ANN_IS_ADDED);
+    let whole = files.db.written();
+    let copy: Files<D> = files_of(ends, alloc, whole);
+    let _copy = told_in(ends, alloc, copy, ANN_IS_THERE);
     for place in &HEAD {
-        let bytes = spoiled(ends, alloc, &added.db, *place);
-        opens_none(ends, alloc, *place, &with_empty_log(ends, alloc, &bytes));
+        opens_none::<D>(ends, alloc, whole, *place);
     }
 }
 
-fn with_empty_log(ends: &impl Abort, alloc: Global, db: &[u8]) -> Kept {
-    Kept {
-        log: Vec::new(alloc),
-        db: Vec::from_slice(alloc, db).expect(ends, "memory"),
+// No registry opens from these bytes with the one at this place changed.
+fn opens_none<D: StoppingDisk>(ends: &impl Abort, alloc: Global, whole: &[u8], place: usize) {
+    let bytes = spoiled(ends, alloc, whole, place);
+    let files: Files<D> = files_of(ends, alloc, &bytes);
+    if !files.may_be_used() {
+        panic!(ends; "the files can't be used");
     }
-}
-
-// No registry opens from the files, with the byte at this place changed.
-fn opens_none(ends: &impl Abort, alloc: Global, place: usize, kept: &Kept) {
-    let visit = Visit::Asks(First::Nothing, &[]);
-    let (came, _) = visited(ends, alloc, kept, NEVER, visit);
-    same(ends, place, came.unopened, Some(Fault::Database));
+    match opened(alloc, files) {
+        Ok(_registry) => panic!(ends; "a registry opens, with byte {place} changed"),
+        Err((fault, _files)) => same(ends, place, fault, Fault::Database),
+    }
 }
 
 // These bytes, with the one at this place changed.
@@ -76,22 +97,32 @@ fn spoiled(ends: &impl Abort, alloc: Global, whole: &[u8], place: usize) -> Vec<
     bytes
 }
 
-// The files, after a registry in them was asked a line and closed. The request is refused for this, or
-// done.
-fn told(
+// The files, after a registry in them answered as it should.
+fn told_in<D: Disk + Drop>(
     ends: &impl Abort,
     alloc: Global,
-    kept: &Kept,
-    line: &str,
-    refusal: Option<Refusal>,
-) -> Kept {
-    let requests = requests(ends, alloc, line);
+    files: Files<D>,
+    told: Told,
+) -> Files<D> {
+    match opened(alloc, files) {
+        Ok(registry) => told_closed(ends, alloc, registry, told),
+        Err(_) => panic!(ends; "no registry opens from the files"),
+    }
+}
+
+fn told_closed<D: Disk + Drop>(
+    ends: &impl Abort,
+    alloc: Global,
+    registry: Registry<FileStore<D>>,
+    told: Told,
+) -> Files<D> {
+    let (words, refusal) = told;
+    let requests = requests(ends, alloc, words);
     let lists = [Asks::InTurn(requests.as_slice())];
-    let visit = Visit::Asks(First::Nothing, &lists);
-    let (came, kept) = visited(ends, alloc, kept, NEVER, visit);
-    same(ends, line, are_told(&came.outcomes, refusal), true);
-    same(ends, "the close", came.is_whole, true);
-    kept
+    let (outcomes, Closed { is_whole, files }) = asked(ends, alloc, registry, Rows::Any, &lists);
+    same(ends, words, are_told(&outcomes, refusal), true);
+    same(ends, "the close", is_whole, true);
+    files
 }
 
 fn are_told(outcomes: &[Outcome], refusal: Option<Refusal>) -> bool {
@@ -108,19 +139,15 @@ fn are_told(outcomes: &[Outcome], refusal: Option<Refusal>) -> bool {
 fn a_byte_changed_in_any_page_is_never_read(rt: HostRuntime) {
     let _ = fs::remove_dir_all(&rt, FOLDER);
     fs::create_dir(&rt, FOLDER).expect(&rt, "a folder");
-    lasts_in_a_file(&rt, &rt);
+    let commands = requests(&rt, rt.alloc(), COMMANDS);
+    let queries = requests(&rt, rt.alloc(), QUERIES);
+    let queried = Asks::InTurn(queries.as_slice());
+    let made = outcomes_at(&rt, &rt, &[Asks::InTurn(commands.as_slice()), queried]);
+    let found = outcomes_at(&rt, &rt, &[queried]);
+    let is_shown = made.get(commands.len()..) == Some(found.as_slice());
+    same(&rt, "what is shown", is_shown, true);
     no_changed_page_opens(&rt, &rt);
     let _ = fs::remove_dir_all(&rt, FOLDER);
-}
-
-fn lasts_in_a_file(rt: &HostRuntime, ends: &impl Abort) {
-    let commands = requests(ends, rt.alloc(), COMMANDS);
-    let queries = requests(ends, rt.alloc(), QUERIES);
-    let queried = Asks::InTurn(queries.as_slice());
-    let made = outcomes_at(rt, ends, &[Asks::InTurn(commands.as_slice()), queried]);
-    let found = outcomes_at(rt, ends, &[queried]);
-    let is_shown = made.get(commands.len()..) == Some(found.as_slice());
-    same(ends, "what is shown", is_shown, true);
 }
 
 fn no_changed_page_opens(rt: &HostRuntime, ends: &impl Abort) {
@@ -134,50 +161,37 @@ fn no_changed_page_opens(rt: &HostRuntime, ends: &impl Abort) {
 
 // No registry opens from the file, and what is left of it is handed back.
 fn no_file_opens(rt: &HostRuntime, ends: &impl Abort, place: usize) {
-    match came_at(rt, ends, Wary, &[]) {
-        Ok(_came) => panic!(ends; "a registry opens, with byte {place} changed"),
+    match opened_at(rt) {
+        Ok(_registry) => panic!(ends; "a registry opens, with byte {place} changed"),
         Err(refused) => same(ends, place, refused, (Fault::Database, true)),
+    }
+}
+
+// The registry in the file; or a fault, and whether what is left of the file was handed back. It is
+// the only caller of `open_from`, whose contract says far more.
+fn opened_at(rt: &HostRuntime) -> Result<Registry<FileStore<FileFrom<Wary>>>, (Fault, bool)> {
+    match Registry::open_from(rt, PATH, Wary) {
+        Ok(registry) => Ok(registry),
+        Err((fault, left)) => Err((fault, left.is_some())),
     }
 }
 
 // The outcomes of these requests at a registry from the file, which is closed afterwards.
 fn outcomes_at(rt: &HostRuntime, ends: &impl Abort, lists: &[Asks]) -> Vec<Outcome> {
-    match came_at(rt, ends, Wary, lists) {
-        Ok(came) => outcomes_of(ends, came),
+    match opened_at(rt) {
+        Ok(registry) => outcomes_closed(ends, rt.alloc(), registry, lists),
         Err((fault, _)) => panic!(ends; "nothing opens: {fault:?}"),
     }
 }
 
-fn outcomes_of(ends: &impl Abort, came: Came) -> Vec<Outcome> {
-    let Came {
-        unopened: _,
-        outcomes,
-        is_whole,
-    } = came;
-    same(ends, "answered", answered(&outcomes), outcomes.len());
-    same(ends, "the close", is_whole, true);
-    outcomes
-}
-
-// What comes of it where a registry from the file is asked and closed; or a fault, and whether what is
-// left of the file was handed back. It is the only caller of `open_from`, whose contract says far more.
-fn came_at<S: Start>(
-    rt: &HostRuntime,
+fn outcomes_closed<D: Disk + Drop>(
     ends: &impl Abort,
-    start: S,
+    alloc: Global,
+    registry: Registry<FileStore<D>>,
     lists: &[Asks],
-) -> Result<Came, (Fault, bool)> {
-    match Registry::open_from(rt, PATH, start) {
-        Ok(registry) => {
-            let (came, _files) = asked_and_closed(
-                ends,
-                rt.alloc(),
-                registry,
-                First::Nothing,
-                lists,
-            );
-            Ok(came)
-        }
-        Err((fault, left)) => Err((fault, left.is_some())),
-    }
+) -> Vec<Outcome> {
+    let (outcomes, closed) = asked(ends, alloc, registry, Rows::Any, lists);
+    are_replies(ends, &outcomes);
+    same(ends, "the close", closed.is_whole, true);
+    outcomes
 }
