@@ -87,7 +87,7 @@ def starve_start(place, opening, every):
     """The calls of a server's start that aren't those of its open, each refused in turn, up to where
     it waits for the first connection: it ends, and says why, or it serves. Gives how many there are,
     how many were refused, and in how many runs a fault came."""
-    request = b'GET /kat HTTP/1.1\r\n\r\n'
+    request = b'GET /tool HTTP/1.1\r\n\r\n'
     with StarvedServer(place) as server:
         calls, (first, end) = place.shared.calls(), same_opening(place, 'a server', opening)
         before, answer = place.rows(), ask(server.port, request)

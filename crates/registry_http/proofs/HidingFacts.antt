@@ -7,17 +7,17 @@ use Rattle.registry_names.specs.declared.refusal.Refusal.TheVariants.{NotFound}
 use Rattle.registry_names.specs.declared.refusal.Rule.TheVariants.{A8}
 use Rattle.registry_names.specs.declared.status.Status.{Status}
 use Rattle.registry_access.specs.Levels.{is_owner_or_admin, reads}
-use Rattle.registry_access.specs.Policy.{where_found}
+use Rattle.registry_access.specs.Policy.{Verdict, where_found}
 use Rattle.registry_access.specs.Positions.{level_by, level_in, position_in}
 use Rattle.registry_access.specs.declared.caller.Caller.{Caller}
-use Rattle.registry_rules.specs.Refusals.{refusal_by, refusal_for, unless_allowed}
+use Rattle.registry_rules.specs.Refusals.{refusal_by, refusal_for, state_refusal, unless_allowed}
 use Rattle.registry_rules.specs.State.{State}
 use Rattle.registry_rules.specs.declared.reply.Reply.{Reply}
 use Rattle.registry_rules.specs.declared.reply.Reply.TheVariants.{Refused}
 use Rattle.registry_rules.specs.declared.request.Action.{Action}
-use Rattle.registry_rules.specs.declared.request.Action.TheVariants.{UserAdd, TokenAdd, TokenRemove, TokensRemove, OrgCreate, OrgSet, OrgRemove, TeamCreate, TeamDestroy, TeamAdd, TeamRemove, Grant, Revoke, SetAccess, OwnerAdd, OwnerRemove, Publish, TagSet, TagRemove, Withdraw, WithdrawAll, Deprecate, Packument, AbbreviatedPackument, RevisedPackument, VersionDoc, Archive, Tags, Members, Teams, TeamMembers, TeamPackages, WhoAmI, Maintainers, OrgPackages, MyPackages, Users, Organisations, Packages}
 use Rattle.registry_rules.specs.declared.request.Request.{Request}
 use Rattle.registry_laws_history.specs.Answers.{answer, reply, reply_to, unless_refused}
+use Rattle.registry_laws_hidden.proofs.Subjects.{reads_it}
 use Rattle.registry_service.specs.HttpAnswers.{plain_response}
 use Rattle.registry_http.specs.Hiding.{HiddenAreUnheardOf, IsUnread, IsQueryOf, IsUnheardOf}
 
@@ -26,45 +26,9 @@ unread true rest e = absurd (true≢false e)
 unread false rest e = refl
 
 refused-by : (S : State) (now : ℕ) (who : Caller) (what : Action) (p : Text) → IsQueryOf p what → reads (level_in S.access who p) ≡ false → refusal_by S now who what ≡ Some NotFound
-refused-by S now who (Packument q) p is hidden = unread (reads (level_in S.access who q)) _ (ap (λ (q : Text). reads (level_in S.access who q)) is ∙ hidden)
-refused-by S now who (AbbreviatedPackument q) p is hidden = unread (reads (level_in S.access who q)) _ (ap (λ (q : Text). reads (level_in S.access who q)) is ∙ hidden)
-refused-by S now who (RevisedPackument q) p is hidden = unread (reads (level_in S.access who q)) _ (ap (λ (q : Text). reads (level_in S.access who q)) is ∙ hidden)
-refused-by S now who (VersionDoc q asked) p is hidden = unread (reads (level_in S.access who q)) _ (ap (λ (q : Text). reads (level_in S.access who q)) is ∙ hidden)
-refused-by S now who (Archive q v) p is hidden = unread (reads (level_in S.access who q)) _ (ap (λ (q : Text). reads (level_in S.access who q)) is ∙ hidden)
-refused-by S now who (Tags q) p is hidden = unread (reads (level_in S.access who q)) _ (ap (λ (q : Text). reads (level_in S.access who q)) is ∙ hidden)
-refused-by S now who (Maintainers q) p is hidden = unread (reads (level_in S.access who q)) _ (ap (λ (q : Text). reads (level_in S.access who q)) is ∙ hidden)
-refused-by S now who (UserAdd u) p is hidden = absurd is
-refused-by S now who (TokenAdd u digest) p is hidden = absurd is
-refused-by S now who (TokenRemove digest) p is hidden = absurd is
-refused-by S now who (TokensRemove u) p is hidden = absurd is
-refused-by S now who (OrgCreate o u) p is hidden = absurd is
-refused-by S now who (OrgSet o u role) p is hidden = absurd is
-refused-by S now who (OrgRemove o u) p is hidden = absurd is
-refused-by S now who (TeamCreate o t) p is hidden = absurd is
-refused-by S now who (TeamDestroy o t) p is hidden = absurd is
-refused-by S now who (TeamAdd o t u) p is hidden = absurd is
-refused-by S now who (TeamRemove o t u) p is hidden = absurd is
-refused-by S now who (Grant o t q grant) p is hidden = absurd is
-refused-by S now who (Revoke o t q) p is hidden = absurd is
-refused-by S now who (SetAccess q status) p is hidden = absurd is
-refused-by S now who (OwnerAdd q u) p is hidden = absurd is
-refused-by S now who (OwnerRemove q u) p is hidden = absurd is
-refused-by S now who (Publish f) p is hidden = absurd is
-refused-by S now who (TagSet q t v) p is hidden = absurd is
-refused-by S now who (TagRemove q t) p is hidden = absurd is
-refused-by S now who (Withdraw q v) p is hidden = absurd is
-refused-by S now who (WithdrawAll q) p is hidden = absurd is
-refused-by S now who (Deprecate q selector message) p is hidden = absurd is
-refused-by S now who (Members o) p is hidden = absurd is
-refused-by S now who (Teams o) p is hidden = absurd is
-refused-by S now who (TeamMembers o t) p is hidden = absurd is
-refused-by S now who (TeamPackages o t) p is hidden = absurd is
-refused-by S now who WhoAmI p is hidden = absurd is
-refused-by S now who (OrgPackages o) p is hidden = absurd is
-refused-by S now who MyPackages p is hidden = absurd is
-refused-by S now who Users p is hidden = absurd is
-refused-by S now who Organisations p is hidden = absurd is
-refused-by S now who Packages p is hidden = absurd is
+refused-by S now who what p is hidden =
+    ap (λ (v : Verdict). option_or (unless_allowed v) (state_refusal S now what)) (reads_it S.access who what p is)
+    ∙ unread (reads (level_in S.access who p)) (state_refusal S now what) hidden
 
 not-found : (S : State) (r : Request) (p : Text) → IsQueryOf p r.what → IsUnread S r.who p → answer S r ≡ Refused NotFound
 not-found S r p is (who, known, hidden) =

@@ -8,22 +8,15 @@ use Rattle.registry_access.specs.declared.caller.Caller.{Caller}
 use Rattle.registry_rules.specs.Callers.{caller_of}
 use Rattle.registry_rules.specs.State.{State}
 use Rattle.registry_rules.specs.declared.request.Action.{Action}
-use Rattle.registry_rules.specs.declared.request.Action.TheVariants.{Packument, AbbreviatedPackument, RevisedPackument, VersionDoc, Archive, Tags, Maintainers}
 use Rattle.registry_rules.specs.declared.request.Credential.{Credential}
 use Rattle.registry_rules.specs.declared.request.Request.{Request}
 use Rattle.registry_laws_history.specs.Answers.{answer}
+use Rattle.registry_laws_hidden.specs.Concerns.{queried_package}
 use Rattle.registry_service.specs.HttpAnswers.{plain_response}
 
 -- the query is about this package
 abbrev pub IsQueryOf : Text → Action → Type 0
-IsQueryOf p (Packument q) = q ≡ p
-IsQueryOf p (AbbreviatedPackument q) = q ≡ p
-IsQueryOf p (RevisedPackument q) = q ≡ p
-IsQueryOf p (VersionDoc q asked) = q ≡ p
-IsQueryOf p (Archive q v) = q ≡ p
-IsQueryOf p (Tags q) = q ≡ p
-IsQueryOf p (Maintainers q) = q ≡ p
-IsQueryOf p _ = ⊥
+IsQueryOf p what = queried_package what ≡ Some p
 
 -- the credential is that of a caller, and they don't read the package
 abbrev pub IsUnread : State → Credential → Text → Type 0

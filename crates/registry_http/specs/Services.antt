@@ -13,7 +13,7 @@ use Rattle.registry_packument.specs.declared.opener.Sent.TheVariants.{Broken}
 use Rattle.registry_rules.specs.declared.request.Request.{Request}
 use Rattle.registry_laws_history.specs.Runs.{Outcome}
 use Rattle.registry_desk.specs.Promises.{Applied, IsOneRun}
-use Rattle.registry_desk.specs.Together.{Counts, as_committed, as_lost, as_shown, shown_at}
+use Rattle.registry_desk.specs.Together.{AreReplies, Counts, MeetFault, as_committed, as_lost, as_shown, shown_at}
 use Rattle.registry_service.specs.Courses.{Follow}
 use Rattle.registry_service.specs.Histories.{LogEntry, FollowAll}
 use Rattle.registry_service.specs.Turns.{Answering, Dialect, Exchange, Turn, asked_in, outcomes_in, spoken}
@@ -97,6 +97,10 @@ module _ {S : Type 0} (store : Ghosts S) where
   SendsByFault old new (Broken fault has_started) = EndsBy (shown store old) (shown store new) old.is_over new.is_over fault
   SendsByFault old new _ = new.is_over ≡ old.is_over
 
+-- commands that were answered together: all were answered, or all met one fault
+abbrev pub EndTogether : List Outcome → Type 0
+EndTogether os = AreReplies os ⊎ ((fault : Fault) × MeetFault fault os)
+
 -- Commands that were answered together failed where one of them, and so the first, met the fault of the
 -- tables
 abbrev pub failed : List Outcome → Bool
@@ -124,8 +128,8 @@ module _ {D : Type 0} (show : D → Shown) where
   applied M r o N = Applied (show M) (show N) r o
 
 module _ (speaks : Dialect) {D : Type 0} (show : D → Shown) where
-  -- the turns of one connection are one run of the registry, of which everything holds that `run`
-  -- says
+  -- the turns of one connection are one run of the registry, of which everything holds that is said of
+  -- requests in turn
   abbrev pub TurnsRun : Type 0
   TurnsRun = (M N : D) (ts : List Turn) → Follow (spoken speaks (applied show)) M ts N → IsOneRun (show M) (show N) (AskAll ts)
 

@@ -12,10 +12,11 @@ use sqlite::Alter;
 
 /// The turns of a connection, or of many that take turns, are one run of the registry: of the
 /// requests that were asked in them, in their order, with the outcomes that were answered. So
-/// everything that is said of a run holds of them: each outcome is the machine's answer on what the
-/// earlier ones left, no reply is lost in a crash, and where nothing was asked of the registry before,
-/// the headline holds. It doesn't matter what requests of HTTP ask of the service, nor how many
-/// requests a turn asks: `D` may be any service over HTTP.
+/// everything that is said of requests in turn holds of them (`HasRun`): each outcome is the machine's
+/// answer on what the earlier ones left, no reply is lost in a crash, and where nothing was asked of
+/// the registry before, the headline holds. Only of what a crash leaves after faults `run` says more,
+/// since some of these requests may have shared a commit. It doesn't matter what requests of HTTP ask
+/// of the service, nor how many requests a turn asks: `D` may be any service over HTTP.
 pub fn turns_are_one_run<S: Alter, D: HttpService>()
     ensures connection { TurnsRun D.speaks (shown S.Store) }
     ensures all { LogRuns D.speaks (shown S.Store) }

@@ -6,10 +6,10 @@ ghost use Rattle.sqlite.specs.Held.{state};
 ghost use Rattle.sqlite.specs.State.{Survives};
 ghost use Rattle.registry_desk.specs.Promises.{KeepsStored, WasOpen};
 ghost use Rattle.registry_desk.specs.Sending.{answers_as_apply};
-ghost use Rattle.registry_desk.specs.Together.{AnsweredTogether, MeetFault};
+ghost use Rattle.registry_desk.specs.Together.{AnsweredTogether, LeavesTogether, MeetFault};
 ghost use Rattle.registry_desk.specs.TokenUsers.{NamesUser};
 ghost use Rattle.registry_http.specs.Services as spec;
-ghost use Rattle.registry_http.specs.Services.{EachEndsByFault, EachEndsIfShut, EndsBy, EndsByFault, EndsIfShut, EndsShut, SendsByFault, SendsIfShut, applied, serving, shown};
+ghost use Rattle.registry_http.specs.Services.{EachEndsByFault, EachEndsIfShut, EndTogether, EndsBy, EndsByFault, EndsIfShut, EndsShut, SendsByFault, SendsIfShut, applied, serving, shown};
 ghost use Rattle.registry_packument.specs.Sendings.{failures_after};
 ghost use Rattle.registry_packument.specs.declared.opener.Sent.TheVariants.{WriteFault};
 ghost use Rattle.registry_rules.specs.Actions.{is_command};
@@ -135,6 +135,9 @@ impl<S: Alter> Service for RegistryService<S> {
         ensures many { length outcomes.new ≡ length requests.now }
         ensures answers { AnswersEach (applied (shown S.Store)) self.old
             (exchanges requests.now outcomes.new) self.new }
+        ensures one { EndTogether outcomes.new }
+        ensures survives { Survives (shown S.Store self.old) (shown S.Store self.new)
+            (LeavesTogether requests.now (shown S.Store self.old)) }
         ensures shut { EachEndsIfShut S.Store self.new outcomes.new }
         ensures ends { EachEndsByFault S.Store self.old self.new outcomes.new }
         ensures latched { self.old.is_over ≡ true → self.new.is_over ≡ true }
@@ -259,6 +262,9 @@ fn told_together<S: Alter>(
     ensures many { length outcomes.new ≡ length requests.now }
     ensures answers { AnswersEach (applied (shown S.Store)) (serving registry.old is_over.old)
         (exchanges requests.now outcomes.new) (serving registry.new is_over.new) }
+    ensures one { EndTogether outcomes.new }
+    ensures survives { Survives (state S.Store registry.old) (state S.Store registry.new)
+        (LeavesTogether requests.now (state S.Store registry.old)) }
     ensures shut { EachEndsIfShut S.Store (serving registry.new is_over.new) outcomes.new }
     ensures ends { EachEndsByFault S.Store (serving registry.old is_over.old)
         (serving registry.new is_over.new) outcomes.new }

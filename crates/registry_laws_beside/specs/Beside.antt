@@ -73,7 +73,7 @@ AskAll [] rs os = (rs ≡ []) × (os ≡ [])
 AskAll (t ∷ ts) rs os = (qs : List Request) × (ps : List Outcome) × (es : List Exchange) × AskAll ts qs ps × AsksFor t es × (rs ≡ qs ++ asked_in es) × (os ≡ ps ++ outcomes_in es)
 
 module _ (speaks : Dialect) {D : Type 0} (show : D → Shown) where
-  -- all turns are one run of the registry, of which everything holds that `run` says
+  -- all turns are one run of the registry, of which everything holds that is said of requests in turn
   abbrev pub TurnsRunBeside : Type 0
   TurnsRunBeside = (M N : D) (ts : List AnyTurn) → TakeTurns speaks (applied show) M ts N → IsOneRun (show M) (show N) (AskAll ts)
 

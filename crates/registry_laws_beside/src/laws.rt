@@ -13,9 +13,9 @@ use sqlite::Alter;
 
 /// The turns of connections and of commands, each taken at what all older ones left, are one run of
 /// the registry: of the requests that were asked in them, in their order, with the outcomes that
-/// were answered. So everything that is said of a run holds of them: each outcome is the machine's
-/// answer on what the earlier ones left, no reply is lost in a crash, and where nothing was asked
-/// of the registry before, the headline holds.
+/// were answered. So everything that is said of requests in turn holds of them (`HasRun`): each outcome
+/// is the machine's answer on what the earlier ones left, no reply is lost in a crash, and where
+/// nothing was asked of the registry before, the headline holds.
 ///
 /// Take connections whose service lets commands take turns before a request, and the commands after
 /// the last of these turns. Together they are such turns: all those of the connections in their

@@ -1,6 +1,6 @@
 -- What the registry and the registry without a package say to an action that isn't about the
 -- package.
-use Rattle.std.proofs.Common.{◌≡◌, ℕ, Bool, true, false, not, ◌&&◌, ◌||◌, refl, sym, ap, ap₂, ◌∙◌, true≢false, Some, None, Option, option_map, List, [], ◌∷◌, is_some, is_none, filter, map, if◌then◌else◌}
+use Rattle.std.proofs.Common.{◌≡◌, ℕ, Bool, true, false, not, ◌&&◌, ◌||◌, refl, sym, subst, ap, ap₂, ◌∙◌, true≢false, Some, None, Option, option_map, List, [], ◌∷◌, is_some, is_none, filter, map, if◌then◌else◌}
 use Rattle.std.specs.List.{list_any}
 use Rattle.std.specs.Option.{option_or}
 use Rattle.registry_names.specs.Keys.{Pair}
@@ -17,7 +17,7 @@ use Rattle.registry_access.specs.Access.{Access}
 use Rattle.registry_access.specs.Agreement.{SamePackage}
 use Rattle.registry_access.specs.Callers.{role_of, is_maintainer, in_team, team_grant}
 use Rattle.registry_access.specs.Hiding as access
-use Rattle.registry_access.specs.Policy.{may_manage_members, may_manage_teams, may_see_organisation, may_publish, may_write, may_manage_maintainers, may_read}
+use Rattle.registry_access.specs.Policy.{Verdict, may_manage_members, may_manage_teams, may_see_organisation, may_publish, may_write, may_manage_maintainers, may_read}
 use Rattle.registry_access.specs.Positions.{has_organisation, position_in}
 use Rattle.registry_access.specs.declared.caller.Caller.{Caller}
 use Rattle.registry_access.specs.declared.caller.Caller.TheVariants.{Operator, User, Anonymous}
@@ -31,16 +31,17 @@ use Rattle.registry_rules.specs.State.{State, Release, Withdrawal, asked_version
 use Rattle.registry_rules.specs.Withdrawals.{is_any_depended, is_depended, is_less_than_a_day_ago, is_need_of, is_too_old, is_waiting, last_of, live_since, live_versions, needs_in, published_at, versions_in}
 use Rattle.registry_rules.specs.declared.request.Action.{Action}
 use Rattle.registry_rules.specs.declared.request.Action.TheVariants as command
-use Rattle.registry_rules.specs.declared.request.Action.TheVariants.{OrgSet, OrgRemove, TeamCreate, TeamDestroy, TeamAdd, TeamRemove, Revoke, SetAccess, OwnerAdd, OwnerRemove, Publish, TagSet, TagRemove, Withdraw, WithdrawAll, Deprecate, Packument, AbbreviatedPackument, RevisedPackument, VersionDoc, Archive, Tags, Members, Teams, TeamMembers, TeamPackages, Maintainers, OrgPackages}
+use Rattle.registry_rules.specs.declared.request.Action.TheVariants.{UserAdd, TokenAdd, TokenRemove, TokensRemove, OrgCreate, OrgSet, OrgRemove, TeamCreate, TeamDestroy, TeamAdd, TeamRemove, Revoke, SetAccess, OwnerAdd, OwnerRemove, Publish, TagSet, TagRemove, Withdraw, WithdrawAll, Deprecate, Packument, AbbreviatedPackument, RevisedPackument, VersionDoc, Archive, Tags}
 use Rattle.registry_rules.specs.declared.request.Asked.{Asked}
 use Rattle.registry_rules.specs.declared.request.Asked.TheVariants.{Exact, Latest}
 use Rattle.registry_rules.proofs.AllowedFacts.{policy_passed, state_passed}
+use Rattle.registry_laws_hidden.specs.Concerns.{queried_package}
 use Rattle.registry_laws_hidden.specs.Laws.{OthersAreAccepted}
 use Rattle.registry_laws_hidden.specs.Without.{state_without}
 use Rattle.registry_laws_hidden.proofs.KeepFacts.{at-kept}
 use Rattle.registry_laws_hidden.proofs.NamedFacts.{other_pair, other_triple}
 use Rattle.registry_laws_hidden.proofs.OtherFacts.{at_other, of_other, status_other}
-use Rattle.registry_laws_hidden.proofs.Subjects.{concerns}
+use Rattle.registry_laws_hidden.proofs.Subjects.{concerns, is_about, is_query, reads_it}
 
 abbrev pub withdraws_another : Action → Text → Bool
 withdraws_another (Withdraw q v) p = not (is q p)
@@ -82,6 +83,26 @@ module _ (A : Access) (p q : Text) (other : is q p ≡ false) where
   pub position_other : (who : Caller) → position_in (access.access_without A p) who q ≡ position_in A who q
   position_other who = position_alike (access.access_without A p) A who q (same_package who)
 
+-- what a query that is about no package rests on is the same
+abbrev IsSame : Option Text → Bool → Verdict → Verdict → Type 0
+IsSame None false v w = v ≡ w
+IsSame _ _ v w = v ≡ v
+
+same_verdict : (A : Access) (p : Text) (who : Caller) (what : Action) → IsSame (queried_package what) (is_command what) (permission (access.access_without A p) who what) (permission A who what)
+same_verdict A p Operator (UserAdd u) = refl
+same_verdict A p Operator _ = refl
+same_verdict A p (User u) (UserAdd w) = refl
+same_verdict A p (User u) _ = refl
+same_verdict A p Anonymous (UserAdd w) = refl
+same_verdict A p Anonymous _ = refl
+
+query_other : (A : Access) (p : Text) (who : Caller) (what : Action) (o : Option Text) → queried_package what ≡ o → is_command what ≡ false → is_about o (names_package what p) p ≡ false
+    → permission (access.access_without A p) who what ≡ permission A who what
+query_other A p who what (Some q) asks query apart = reads_it (access.access_without A p) who what q asks ∙ ap may_read (position_other A p q apart who) ∙ sym (reads_it A who what q asks)
+query_other A p who what None asks query apart =
+    subst (λ (o : Option Text). IsSame o false (permission (access.access_without A p) who what) (permission A who what)) asks
+    (subst (λ (b : Bool). IsSame (queried_package what) b (permission (access.access_without A p) who what) (permission A who what)) query (same_verdict A p who what))
+
 pub permission_other : (A : Access) (who : Caller) (what : Action) (p : Text) → concerns what p ≡ false → permission (access.access_without A p) who what ≡ permission A who what
 permission_other A who (OrgSet o u role) p other = ap (may_manage_members who (has_organisation A o)) (same_role A p who o)
 permission_other A who (OrgRemove o u) p other = ap (may_manage_members who (has_organisation A o)) (same_role A p who o)
@@ -100,19 +121,12 @@ permission_other A who (TagRemove q t) p other = ap (may_write who) (position_ot
 permission_other A who (Withdraw q v) p other = ap (may_write who) (position_other A p q other who)
 permission_other A who (WithdrawAll q) p other = ap (may_write who) (position_other A p q other who)
 permission_other A who (Deprecate q selector message) p other = ap (may_write who) (position_other A p q other who)
-permission_other A who (Packument q) p other = ap may_read (position_other A p q other who)
-permission_other A who (AbbreviatedPackument q) p other = ap may_read (position_other A p q other who)
-permission_other A who (RevisedPackument q) p other = ap may_read (position_other A p q other who)
-permission_other A who (VersionDoc q asked) p other = ap may_read (position_other A p q other who)
-permission_other A who (Archive q v) p other = ap may_read (position_other A p q other who)
-permission_other A who (Tags q) p other = ap may_read (position_other A p q other who)
-permission_other A who (Maintainers q) p other = ap may_read (position_other A p q other who)
-permission_other A who (Members o) p other = ap (may_see_organisation who (has_organisation A o)) (same_role A p who o)
-permission_other A who (Teams o) p other = ap (may_see_organisation who (has_organisation A o)) (same_role A p who o)
-permission_other A who (TeamMembers o t) p other = ap (may_see_organisation who (has_organisation A o)) (same_role A p who o)
-permission_other A who (OrgPackages o) p other = ap (may_see_organisation who (has_organisation A o)) (same_role A p who o)
-permission_other A who (TeamPackages o t) p other = ap (may_see_organisation who (has_organisation A o)) (same_role A p who o)
-permission_other A who _ p other = refl
+permission_other A who (UserAdd u) p other = refl
+permission_other A who (TokenAdd u digest) p other = refl
+permission_other A who (TokenRemove digest) p other = refl
+permission_other A who (TokensRemove u) p other = refl
+permission_other A who (OrgCreate o u) p other = refl
+permission_other A who what p other = query_other A p who what (queried_package what) refl refl other
 
 pub same_known : (S : State) (p : Text) (who : Caller) → is_known (state_without S p) who ≡ is_known S who
 same_known S p Operator = refl
@@ -218,14 +232,11 @@ refusal_other S now who what p other apart = ap₂ (λ v o. option_or (unless_al
 
 -- a command that doesn't name the package isn't about it
 pub unconcerned : (what : Action) (p : Text) → is_command what ≡ true → names_package what p ≡ false → concerns what p ≡ false
-unconcerned (Packument q) p command other = absurd (true≢false (sym command))
-unconcerned (AbbreviatedPackument q) p command other = absurd (true≢false (sym command))
-unconcerned (RevisedPackument q) p command other = absurd (true≢false (sym command))
-unconcerned (VersionDoc q asked) p command other = absurd (true≢false (sym command))
-unconcerned (Archive q v) p command other = absurd (true≢false (sym command))
-unconcerned (Tags q) p command other = absurd (true≢false (sym command))
-unconcerned (Maintainers q) p command other = absurd (true≢false (sym command))
-unconcerned _ p command other = other
+unconcerned what p command other = by (queried_package what) refl
+  where
+    by : (o : Option Text) → queried_package what ≡ o → concerns what p ≡ false
+    by None asks = ap (λ (o : Option Text). is_about o (names_package what p) p) asks ∙ other
+    by (Some q) asks = absurd (true≢false (sym command ∙ is_query what q asks))
 
 withdrawal_accepted : (S : State) (now : ℕ) (who : Caller) (q : Text) (v : VersionParts) (p : Text) → is q p ≡ false → refusal_by S now who (Withdraw q v) ≡ None → refusal_by (state_without S p) now who (Withdraw q v) ≡ None
 withdrawal_accepted S now who q v p other may =

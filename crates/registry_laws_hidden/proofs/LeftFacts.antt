@@ -12,8 +12,7 @@ use Rattle.registry_rules.specs.Refusals.{refusal, refusal_by, refusal_for}
 use Rattle.registry_rules.specs.State.{State}
 use Rattle.registry_rules.specs.declared.reply.Reply.{Reply}
 use Rattle.registry_rules.specs.declared.request.Action.{Action}
-use Rattle.registry_rules.specs.declared.request.Action.TheVariants as command
-use Rattle.registry_rules.specs.declared.request.Action.TheVariants.{UserAdd, TokenAdd, TokenRemove, TokensRemove, OrgCreate, OrgSet, OrgRemove, TeamCreate, TeamDestroy, TeamAdd, TeamRemove, Revoke, SetAccess, OwnerAdd, OwnerRemove, Publish, TagSet, TagRemove, Withdraw, WithdrawAll, Deprecate, Packument, AbbreviatedPackument, RevisedPackument, VersionDoc, Archive, Tags, Members, Teams, TeamMembers, TeamPackages, WhoAmI, Maintainers, OrgPackages, MyPackages, Users, Organisations, Packages}
+use Rattle.registry_rules.specs.declared.request.Action.TheVariants.{UserAdd}
 use Rattle.registry_rules.specs.declared.request.Credential.{Credential}
 use Rattle.registry_rules.specs.declared.request.Request.{Request}
 use Rattle.registry_laws_history.specs.Answers.{answer, reply, reply_to, unless_refused}
@@ -54,44 +53,7 @@ left_next S r o is answered =
 
 accepted_reply : (S : State) (who : Caller) (what : Action) → accepts (Ok (reply S who what)) ≡ true
 accepted_reply S who (UserAdd u) = refl
-accepted_reply S who (TokenAdd u digest) = refl
-accepted_reply S who (TokenRemove digest) = refl
-accepted_reply S who (TokensRemove u) = refl
-accepted_reply S who (OrgCreate o u) = refl
-accepted_reply S who (OrgSet o u role) = refl
-accepted_reply S who (OrgRemove o u) = refl
-accepted_reply S who (TeamCreate o t) = refl
-accepted_reply S who (TeamDestroy o t) = refl
-accepted_reply S who (TeamAdd o t u) = refl
-accepted_reply S who (TeamRemove o t u) = refl
-accepted_reply S who (command.Grant o t q grant) = refl
-accepted_reply S who (Revoke o t q) = refl
-accepted_reply S who (SetAccess q status) = refl
-accepted_reply S who (OwnerAdd q u) = refl
-accepted_reply S who (OwnerRemove q u) = refl
-accepted_reply S who (Publish f) = refl
-accepted_reply S who (TagSet q t v) = refl
-accepted_reply S who (TagRemove q t) = refl
-accepted_reply S who (Withdraw q v) = refl
-accepted_reply S who (WithdrawAll q) = refl
-accepted_reply S who (Deprecate q selector message) = refl
-accepted_reply S who (Packument q) = refl
-accepted_reply S who (AbbreviatedPackument q) = refl
-accepted_reply S who (RevisedPackument q) = refl
-accepted_reply S who (VersionDoc q asked) = refl
-accepted_reply S who (Archive q v) = refl
-accepted_reply S who (Tags q) = refl
-accepted_reply S who (Members o) = refl
-accepted_reply S who (Teams o) = refl
-accepted_reply S who (TeamMembers o t) = refl
-accepted_reply S who (TeamPackages o t) = refl
-accepted_reply S who WhoAmI = refl
-accepted_reply S who (Maintainers q) = refl
-accepted_reply S who (OrgPackages o) = refl
-accepted_reply S who MyPackages = refl
-accepted_reply S who Users = refl
-accepted_reply S who Organisations = refl
-accepted_reply S who Packages = refl
+accepted_reply S who _ = refl
 
 accepted_by : (S : State) (now : ℕ) (o : Option Caller) (what : Action) → accepts (Ok (unless_refused (refusal_for S now o what) (reply_to S o what))) ≡ is_none (refusal_for S now o what)
 accepted_by S now None what = refl

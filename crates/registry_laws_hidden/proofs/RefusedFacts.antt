@@ -24,17 +24,19 @@ use Rattle.registry_access.specs.declared.levels.Level.{Level}
 use Rattle.registry_access.specs.declared.levels.Level.TheVariants.{Nothing}
 use Rattle.registry_access.specs.declared.role.Role.{Role}
 use Rattle.registry_publish.specs.Form.{FormParts}
+use Rattle.registry_rules.specs.Actions.{names_package}
 use Rattle.registry_rules.specs.Kept.{IsSound}
 use Rattle.registry_rules.specs.Refusals.{grant_refusal, is_scope, refuse, refusal_by, state_refusal, unless_allowed, unless_there}
 use Rattle.registry_rules.specs.State.{State, has_grant, has_team, is_published}
 use Rattle.registry_rules.specs.declared.request.Action.{Action}
 use Rattle.registry_rules.specs.declared.request.Action.TheVariants as command
-use Rattle.registry_rules.specs.declared.request.Action.TheVariants.{Revoke, SetAccess, OwnerAdd, OwnerRemove, Publish, TagSet, TagRemove, Withdraw, WithdrawAll, Deprecate, Packument, AbbreviatedPackument, RevisedPackument, VersionDoc, Archive, Tags, Maintainers}
+use Rattle.registry_rules.specs.declared.request.Action.TheVariants.{Revoke, SetAccess, OwnerAdd, OwnerRemove, Publish, TagSet, TagRemove, Withdraw, WithdrawAll, Deprecate}
+use Rattle.registry_laws_hidden.specs.Concerns.{queried_package}
 use Rattle.registry_laws_hidden.specs.Without.{state_without}
 use Rattle.registry_laws_hidden.proofs.AcceptedFacts.{same_role}
 use Rattle.registry_laws_hidden.proofs.KeepFacts.{at-unkept}
 use Rattle.registry_laws_hidden.proofs.NamedFacts.{other_triple}
-use Rattle.registry_laws_hidden.proofs.Subjects.{concerns}
+use Rattle.registry_laws_hidden.proofs.Subjects.{concerns, is_about, reads_it}
 
 -- whether a member of the package's scope publishes the package
 abbrev pub is_member_publish : State → Caller → Action → Text → Bool
@@ -105,6 +107,19 @@ module _ (S : State) (now : ℕ) (who : Caller) (p : Text) (nothing : level_in S
     ap (λ l. option_or (unless_allowed (where_found (reads l) (Ok A8))) a) (level_here q here),
     ap (λ l. option_or (unless_allowed (where_found (reads l) (Ok A8))) b) (level_there q here),
   )
+
+  -- a query about it
+  asked_refused : (what : Action) (q : Text) → queried_package what ≡ Some q → is q p ≡ true → AreRefused S T now who what
+  asked_refused what q asks here =
+      let shown = unshown q here (state_refusal S now what) (state_refusal T now what) in (
+        NotFound,
+        ap (λ (v : Verdict). option_or (unless_allowed v) (state_refusal S now what)) (reads_it S.access who what q asks) ∙ shown.0,
+        ap (λ (v : Verdict). option_or (unless_allowed v) (state_refusal T now what)) (reads_it T.access who what q asks) ∙ shown.1,
+      )
+
+  query_refused : (what : Action) (o : Option Text) → queried_package what ≡ o → is_about o (names_package what p) p ≡ true → names_package what p ≡ false → AreRefused S T now who what
+  query_refused what (Some q) asks here unnamed = asked_refused what q asks here
+  query_refused what None asks here unnamed = absurd (true≢false (sym here ∙ unnamed))
 
 -- ---- of a package of a scope in which the caller is no owner and no admin
 
@@ -231,18 +246,4 @@ module _ (S : State) (now : ℕ) (who : Caller) (p o : Text) (sound : IsSound S.
       refused_both S (state_without S p) now who (WithdrawAll q) (unread who) (unwritten S now who p nothing q here (state_refusal S now (WithdrawAll q)) (state_refusal (state_without S p) now (WithdrawAll q)))
   concerned_refused (Deprecate q selector message) here nothing stranger =
       refused_both S (state_without S p) now who (Deprecate q selector message) (unread who) (unwritten S now who p nothing q here (state_refusal S now (Deprecate q selector message)) (state_refusal (state_without S p) now (Deprecate q selector message)))
-  concerned_refused (Packument q) here nothing stranger =
-      refused_both S (state_without S p) now who (Packument q) NotFound (unshown S now who p nothing q here (state_refusal S now (Packument q)) (state_refusal (state_without S p) now (Packument q)))
-  concerned_refused (AbbreviatedPackument q) here nothing stranger =
-      refused_both S (state_without S p) now who (AbbreviatedPackument q) NotFound (unshown S now who p nothing q here (state_refusal S now (AbbreviatedPackument q)) (state_refusal (state_without S p) now (AbbreviatedPackument q)))
-  concerned_refused (RevisedPackument q) here nothing stranger =
-      refused_both S (state_without S p) now who (RevisedPackument q) NotFound (unshown S now who p nothing q here (state_refusal S now (RevisedPackument q)) (state_refusal (state_without S p) now (RevisedPackument q)))
-  concerned_refused (VersionDoc q asked) here nothing stranger =
-      refused_both S (state_without S p) now who (VersionDoc q asked) NotFound (unshown S now who p nothing q here (state_refusal S now (VersionDoc q asked)) (state_refusal (state_without S p) now (VersionDoc q asked)))
-  concerned_refused (Archive q v) here nothing stranger =
-      refused_both S (state_without S p) now who (Archive q v) NotFound (unshown S now who p nothing q here (state_refusal S now (Archive q v)) (state_refusal (state_without S p) now (Archive q v)))
-  concerned_refused (Tags q) here nothing stranger =
-      refused_both S (state_without S p) now who (Tags q) NotFound (unshown S now who p nothing q here (state_refusal S now (Tags q)) (state_refusal (state_without S p) now (Tags q)))
-  concerned_refused (Maintainers q) here nothing stranger =
-      refused_both S (state_without S p) now who (Maintainers q) NotFound (unshown S now who p nothing q here (state_refusal S now (Maintainers q)) (state_refusal (state_without S p) now (Maintainers q)))
-  concerned_refused _ here nothing stranger = absurd (true≢false (sym here))
+  concerned_refused what here nothing stranger = query_refused S now who p nothing what (queried_package what) refl here refl

@@ -28,13 +28,14 @@ use Rattle.registry_rules.specs.Laws.{IsApart}
 use Rattle.registry_rules.specs.Refusals.{refusal_by, unless_allowed}
 use Rattle.registry_rules.specs.State.{State, developers, is_in_team}
 use Rattle.registry_rules.specs.declared.request.Action.{Action}
-use Rattle.registry_rules.specs.declared.request.Action.TheVariants.{OrgCreate, OrgSet, OrgRemove, TeamDestroy, TeamAdd, TeamRemove, Packument, AbbreviatedPackument, RevisedPackument, VersionDoc, Archive, Tags, Maintainers}
+use Rattle.registry_rules.specs.declared.request.Action.TheVariants.{OrgCreate, OrgSet, OrgRemove, TeamDestroy, TeamAdd, TeamRemove}
 use Rattle.registry_rules.proofs.AllowedFacts.{policy_passed}
 use Rattle.registry_rules.proofs.LawFacts.{commands_leave_other_packages}
 use Rattle.registry_laws_history.proofs.LeftFacts.{left_by, left_is, joined}
+use Rattle.registry_laws_hidden.specs.Concerns.{queried_package}
 use Rattle.registry_laws_hidden.specs.Without.{state_without}
 use Rattle.registry_laws_hidden.proofs.RefusedFacts.{AreRefused, concerned_refused, is_member_publish}
-use Rattle.registry_laws_hidden.proofs.Subjects.{concerns}
+use Rattle.registry_laws_hidden.proofs.Subjects.{concerns, is_about, names_none}
 
 -- ---- levels
 
@@ -135,14 +136,11 @@ pub record KeepsStanding (S T : State) (p o : Text) (who : Caller) : Type 0 wher
   pub role : role_of T.access who o ≡ role_of S.access who o
 
 unnamed : (what : Action) (p : Text) → concerns what p ≡ false → names_package what p ≡ false
-unnamed (Packument q) p other = refl
-unnamed (AbbreviatedPackument q) p other = refl
-unnamed (RevisedPackument q) p other = refl
-unnamed (VersionDoc q asked) p other = refl
-unnamed (Archive q v) p other = refl
-unnamed (Tags q) p other = refl
-unnamed (Maintainers q) p other = refl
-unnamed _ p other = other
+unnamed what p other = by (queried_package what) refl other
+  where
+    by : (o : Option Text) → queried_package what ≡ o → is_about o (names_package what p) p ≡ false → names_package what p ≡ false
+    by None asks apart = apart
+    by (Some q) asks apart = names_none what q p asks
 
 role_in : (A B : Access) (who : Caller) (o : Text) (s : Option Text) → s ≡ Some o → role_of A who o ≡ role_of B who o → scope_role A who s ≡ scope_role B who s
 role_in A B who o s scoped same = ap (scope_role A who) scoped ∙ same ∙ sym (ap (scope_role B who) scoped)

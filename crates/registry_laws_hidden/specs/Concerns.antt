@@ -14,9 +14,20 @@ use Rattle.registry_rules.specs.Refusals.{refusal_by}
 use Rattle.registry_rules.specs.State.{State, Release, is_published}
 use Rattle.registry_rules.specs.Withdrawals.{is_need_of, live_versions, needs_in, versions_in}
 use Rattle.registry_rules.specs.declared.request.Action.{Action}
-use Rattle.registry_rules.specs.declared.request.Action.TheVariants.{Publish, Withdraw, WithdrawAll, Packages}
+use Rattle.registry_rules.specs.declared.request.Action.TheVariants.{Publish, Withdraw, WithdrawAll, Packument, AbbreviatedPackument, RevisedPackument, VersionDoc, Archive, Tags, Maintainers, Packages}
 use Rattle.registry_rules.specs.declared.request.Request.{Request}
 use Rattle.registry_laws_hidden.specs.Without.{state_without}
+
+-- the package that a query is about, if it is about one
+abbrev pub queried_package : Action → Option Text
+queried_package (Packument p) = Some p
+queried_package (AbbreviatedPackument p) = Some p
+queried_package (RevisedPackument p) = Some p
+queried_package (VersionDoc p asked) = Some p
+queried_package (Archive p v) = Some p
+queried_package (Tags p) = Some p
+queried_package (Maintainers p) = Some p
+queried_package _ = None
 
 -- whether a live version of this package needs the version of the other
 abbrev pub is_needed_by : State → Text → Text → VersionParts → Bool

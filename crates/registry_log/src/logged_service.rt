@@ -2,7 +2,7 @@
 
 ghost use Rattle.std.specs.Prelude.{◌≡◌, ◌≤◌, length, true};
 ghost use Rattle.std.specs.List.{AllByRecursion};
-ghost use Rattle.registry_http.specs.Services.{EachEndsByFault, EachEndsIfShut, EndsByFault, EndsIfShut, applied, shown};
+ghost use Rattle.registry_http.specs.Services.{EachEndsByFault, EachEndsIfShut, EndTogether, EndsByFault, EndsIfShut, applied, shown};
 ghost use Rattle.registry_log.specs.Logs.{AreFirstAsked};
 ghost use Rattle.registry_rules.specs.Actions.{is_command};
 ghost use Rattle.registry_service.proofs.DialectFacts.{profile_asks_queries};
@@ -112,6 +112,7 @@ impl<S: Alter, K: LogClock, W: LineSink> Service for LoggedService<S, K, W> {
         ensures many { length outcomes.new ≡ length requests.now }
         ensures answers { AnswersEach (applied (shown S.Store)) self.old
             (exchanges requests.now outcomes.new) self.new }
+        ensures one { EndTogether outcomes.new }
         ensures shut { EachEndsIfShut S.Store self.new outcomes.new }
         ensures ends { EachEndsByFault S.Store self.old self.new outcomes.new }
         ensures latched { self.old.is_over ≡ true → self.new.is_over ≡ true }
@@ -206,6 +207,7 @@ fn asked_together<S: Alter, K: LogClock, W: LineSink>(
     ensures many { length outcomes.new ≡ length requests.now }
     ensures answers { AnswersEach (applied (shown S.Store)) inner.old
         (exchanges requests.now outcomes.new) inner.new }
+    ensures one { EndTogether outcomes.new }
     ensures shut { EachEndsIfShut S.Store inner.new outcomes.new }
     ensures ends { EachEndsByFault S.Store inner.old inner.new outcomes.new }
     ensures latched { inner.old.is_over ≡ true → inner.new.is_over ≡ true }

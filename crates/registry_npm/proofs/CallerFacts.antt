@@ -98,34 +98,11 @@ by-caller_asks : (w : Wanted) (at : ℕ) (what : Credential → Action) (next : 
 by-caller_asks w at what next f = by-reading w at (reads_caller w.authorization) _ (λ who is. by-asks w at (request at who (what who)) (next who) (refl, inl is) (f who is))
 
 by-follows : (w : Wanted) (at : ℕ) (e : NpmEndpoint) (c : Outcome) → By w at (follows e c)
-by-follows w at by.Packument c = by-ends w at c
-by-follows w at by.Document c = by-ends w at c
-by-follows w at by.Revised c = by-ends w at c
-by-follows w at by.Unpublish c = by-ends w at c
 by-follows w at by.FileDrop c = by-not_served w at c
 by-follows w at by.ScopedFileDrop c = by-not_served w at c
-by-follows w at by.Visibility c = by-ends w at c
-by-follows w at by.SetAccess c = by-ends w at c
-by-follows w at by.Collaborators c = by-ends w at c
-by-follows w at by.OrgPackages c = by-ends w at c
-by-follows w at by.UserPackages c = by-ends w at c
-by-follows w at by.Members c = by-ends w at c
-by-follows w at by.OrgSet c = by-ends w at c
-by-follows w at by.OrgRemove c = by-ends w at c
-by-follows w at by.Teams c = by-ends w at c
-by-follows w at by.TeamCreate c = by-ends w at c
-by-follows w at by.TeamMembers c = by-ends w at c
-by-follows w at by.TeamAdd c = by-ends w at c
-by-follows w at by.TeamRemove c = by-ends w at c
 by-follows w at by.TeamPackages c = by-shown w at grants_form c
-by-follows w at by.Grant c = by-ends w at c
-by-follows w at by.Revoke c = by-ends w at c
-by-follows w at by.WhoAmI c = by-ends w at c
 by-follows w at by.Profile c = by-shown w at profile_form c
-by-follows w at by.User c = by-ends w at c
-by-follows w at by.Logout c = by-ends w at c
-by-follows w at by.Ping c = by-ends w at c
-by-follows w at by.NotServed c = by-ends w at c
+by-follows w at _ c = by-ends w at c
 
 by-first : (w : Wanted) (at : ℕ) (e : NpmEndpoint) (v : Values) → By w at (asks_first e v w at)
 by-first w at e v = by-reading w at (reads_first e v w.body) _ (λ what _. by-caller_asks w at (λ who. what) (λ who. follows e) (λ who is. by-follows w at e))
@@ -255,30 +232,15 @@ by-leads w at by.Packument v = by-reading w at (one reads_name v) _ (λ p _. by-
 by-leads w at by.Document v = by-document w at v
 by-leads w at by.Revised v = by-reading w at (one reads_name v) _ (λ p _. by-reading w at (reads_revision v.second) _ (λ named _. by-reading w at (reads_document w.body) _ (λ d _. by-asks_for w at (judged (Some named) d) p)))
 by-leads w at by.Unpublish v = by-reading w at (one reads_name v) _ (λ p _. by-reading w at (reads_revision v.second) _ (λ named _. by-asks_for w at (withdrawn named) p))
-by-leads w at by.FileDrop v = by-first w at by.FileDrop v
-by-leads w at by.ScopedFileDrop v = by-first w at by.ScopedFileDrop v
 by-leads w at by.Visibility v = by-reading w at (one reads_name v) _ (λ p _. by-reading w at (reads_caller w.authorization) _ (λ who is. by-asks w at (request at Anonymous (Tags p)) _ (refl, inr refl) (λ c. by-caller w at p who c is)))
-by-leads w at by.SetAccess v = by-first w at by.SetAccess v
 by-leads w at by.Collaborators v = by-reading w at (one reads_name v) _ (λ p _. by-caller_asks w at (λ who. Maintainers p) _ (λ who is c. by-scope w at p who (scope_of p) c is))
-by-leads w at by.OrgPackages v = by-first w at by.OrgPackages v
 by-leads w at by.UserPackages v = by-reading w at (one reads_ident v) _ (λ u _. by-caller_asks w at (λ who. WhoAmI) _ (λ who is c. by-unless w at _ c (by-or_memory w at _ (by-either w at (is_user u c) _ _ (by-asks w at (request at who MyPackages) ends (refl, inl is) (by-ends w at)) (by-ends w at (Ok (Refused NotFound)))))))
-by-leads w at by.Members v = by-first w at by.Members v
 by-leads w at by.OrgSet v = by-reading w at (reads_member v w.body) _ (λ m _. by-reading w at (reads_caller w.authorization) _ (λ who is. by-or_memory w at (asks_role m.0 m.1 m.2 at who) (by-asks w at (request at who (OrgSet m.0 m.1 m.2)) _ (refl, inl is) (λ c. by-unless w at (asks_size m.0 m.1 m.2 who at) c (by-asks w at (request at who (Members m.0)) _ (refl, inl is) (by-shown w at (membership_form m.0 m.1 m.2)))))))
-by-leads w at by.OrgRemove v = by-first w at by.OrgRemove v
 by-leads w at by.Teams v = by-reading w at (one reads_ident v) _ (λ o _. by-caller_asks w at (λ who. Teams o) _ (λ who is. by-shown w at (teams_form o)))
-by-leads w at by.TeamCreate v = by-first w at by.TeamCreate v
-by-leads w at by.TeamMembers v = by-first w at by.TeamMembers v
-by-leads w at by.TeamAdd v = by-first w at by.TeamAdd v
-by-leads w at by.TeamRemove v = by-first w at by.TeamRemove v
-by-leads w at by.TeamPackages v = by-first w at by.TeamPackages v
-by-leads w at by.Grant v = by-first w at by.Grant v
-by-leads w at by.Revoke v = by-first w at by.Revoke v
-by-leads w at by.WhoAmI v = by-first w at by.WhoAmI v
-by-leads w at by.Profile v = by-first w at by.Profile v
 by-leads w at by.User v = by-reading w at (one reads_user v) _ (λ u _. by-caller_asks w at (λ who. WhoAmI) _ (λ who is c. by-unless w at (shows (user_text u)) c (by-shows w at (user_text u))))
-by-leads w at by.Logout v = by-first w at by.Logout v
 by-leads w at by.Ping v = by-shows w at empty_text
 by-leads w at by.NotServed v = by-ends w at (Ok (Refused NotServed))
+by-leads w at e v = by-first w at e v
 
 by-profile : (w : Wanted) (at : ℕ) → By w at (AsksByRoute w at)
 by-profile w at es o (inl (r, is, same)) = rw same (request-for (route_of w.method w.target) w at r is, tt)

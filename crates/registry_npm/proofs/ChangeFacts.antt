@@ -472,32 +472,7 @@ sent-by : (e : NpmEndpoint) (v : Values) (w : Wanted) (at : ℕ) (es : List Exch
     → either (is_npms e w.body) (leads e v w at) (AsksByRoute w at) es o → Sent path d p w at es o
 sent-by by.Document v w at es o path d p sent named h = document-turn v w at es o path d p sent named h
 sent-by by.Revised v w at es o path d p sent named h = sent-turn path d p w at es o (revised-turn v w at es o path d p sent named h)
-sent-by by.Packument v w at es o path d p sent named h = absurd sent
-sent-by by.Unpublish v w at es o path d p sent named h = absurd sent
-sent-by by.FileDrop v w at es o path d p sent named h = absurd sent
-sent-by by.ScopedFileDrop v w at es o path d p sent named h = absurd sent
-sent-by by.Visibility v w at es o path d p sent named h = absurd sent
-sent-by by.SetAccess v w at es o path d p sent named h = absurd sent
-sent-by by.Collaborators v w at es o path d p sent named h = absurd sent
-sent-by by.OrgPackages v w at es o path d p sent named h = absurd sent
-sent-by by.UserPackages v w at es o path d p sent named h = absurd sent
-sent-by by.Members v w at es o path d p sent named h = absurd sent
-sent-by by.OrgSet v w at es o path d p sent named h = absurd sent
-sent-by by.OrgRemove v w at es o path d p sent named h = absurd sent
-sent-by by.Teams v w at es o path d p sent named h = absurd sent
-sent-by by.TeamCreate v w at es o path d p sent named h = absurd sent
-sent-by by.TeamMembers v w at es o path d p sent named h = absurd sent
-sent-by by.TeamAdd v w at es o path d p sent named h = absurd sent
-sent-by by.TeamRemove v w at es o path d p sent named h = absurd sent
-sent-by by.TeamPackages v w at es o path d p sent named h = absurd sent
-sent-by by.Grant v w at es o path d p sent named h = absurd sent
-sent-by by.Revoke v w at es o path d p sent named h = absurd sent
-sent-by by.WhoAmI v w at es o path d p sent named h = absurd sent
-sent-by by.Profile v w at es o path d p sent named h = absurd sent
-sent-by by.User v w at es o path d p sent named h = absurd sent
-sent-by by.Logout v w at es o path d p sent named h = absurd sent
-sent-by by.Ping v w at es o path d p sent named h = absurd sent
-sent-by by.NotServed v w at es o path d p sent named h = absurd sent
+sent-by _ v w at es o path d p sent named h = absurd sent
 
 sent-found : (x : Option NpmRoute) (r : NpmRoute) (w : Wanted) (at : ℕ) (es : List Exchange) (o : Outcome) (path : Option Text) (d : Data) (p : Text) → x ≡ Some r → IsSent r.endpoint r.values w.body path d → one reads_name r.values (Ok p)
     → asks_by x w at es o → Sent path d p w at es o

@@ -408,34 +408,11 @@ asked-document v w at e es a b (inr (s, so, h)) (inr (t, also, k)) =
 -- ---- all routes
 
 one-follows : (e : NpmEndpoint) (c : Outcome) → One (follows e c)
-one-follows by.Packument c = one-ends c
-one-follows by.Document c = one-ends c
-one-follows by.Revised c = one-ends c
-one-follows by.Unpublish c = one-ends c
 one-follows by.FileDrop c = one-not_served c
 one-follows by.ScopedFileDrop c = one-not_served c
-one-follows by.Visibility c = one-ends c
-one-follows by.SetAccess c = one-ends c
-one-follows by.Collaborators c = one-ends c
-one-follows by.OrgPackages c = one-ends c
-one-follows by.UserPackages c = one-ends c
-one-follows by.Members c = one-ends c
-one-follows by.OrgSet c = one-ends c
-one-follows by.OrgRemove c = one-ends c
-one-follows by.Teams c = one-ends c
-one-follows by.TeamCreate c = one-ends c
-one-follows by.TeamMembers c = one-ends c
-one-follows by.TeamAdd c = one-ends c
-one-follows by.TeamRemove c = one-ends c
 one-follows by.TeamPackages c = one-shown grants_form c
-one-follows by.Grant c = one-ends c
-one-follows by.Revoke c = one-ends c
-one-follows by.WhoAmI c = one-ends c
 one-follows by.Profile c = one-shown profile_form c
-one-follows by.User c = one-ends c
-one-follows by.Logout c = one-ends c
-one-follows by.Ping c = one-ends c
-one-follows by.NotServed c = one-ends c
+one-follows _ c = one-ends c
 
 -- what follows the first request
 after-first : (e : NpmEndpoint) (v : Values) (w : Wanted) (at : ℕ) (x : Exchange) (es : List Exchange) (o : Outcome) → asks_first e v w at (x ∷ es) o → follows e x.outcome es o
@@ -537,30 +514,15 @@ asked-leads by.Packument v w at = asked-reading (one reads_name v) _ (same-name 
 asked-leads by.Document v w at = asked-document v w at
 asked-leads by.Revised v w at = asked-reading (one reads_name v) _ (same-name v) (λ p. asked-reading (reads_revision v.second) _ (same-revision v.second) (λ named. asked-reading (reads_document w.body) _ (same-document w.body) (λ d. asked-judged (Some named) d p w at)))
 asked-leads by.Unpublish v w at = asked-reading (one reads_name v) _ (same-name v) (λ p. asked-reading (reads_revision v.second) _ (same-revision v.second) (λ named. asked-withdrawn named p w at))
-asked-leads by.FileDrop v w at = asked-first by.FileDrop v w at
-asked-leads by.ScopedFileDrop v w at = asked-first by.ScopedFileDrop v w at
 asked-leads by.Visibility v w at = asked-reading (one reads_name v) _ (same-name v) (λ p. asked-visibility p w at)
-asked-leads by.SetAccess v w at = asked-first by.SetAccess v w at
 asked-leads by.Collaborators v w at = asked-reading (one reads_name v) _ (same-name v) (λ p. asked-caller w at (λ who. Maintainers p) _ (λ who. one-scope p at who (scope_of p)))
-asked-leads by.OrgPackages v w at = asked-first by.OrgPackages v w at
 asked-leads by.UserPackages v w at = asked-reading (one reads_ident v) _ (same-ident v) (λ u. asked-caller w at (λ who. WhoAmI) _ (λ who. one-asks_own u at who))
-asked-leads by.Members v w at = asked-first by.Members v w at
 asked-leads by.OrgSet v w at = asked-role v w at
-asked-leads by.OrgRemove v w at = asked-first by.OrgRemove v w at
 asked-leads by.Teams v w at = asked-reading (one reads_ident v) _ (same-ident v) (λ o. asked-caller w at (λ who. Teams o) _ (λ who. one-shown (teams_form o)))
-asked-leads by.TeamCreate v w at = asked-first by.TeamCreate v w at
-asked-leads by.TeamMembers v w at = asked-first by.TeamMembers v w at
-asked-leads by.TeamAdd v w at = asked-first by.TeamAdd v w at
-asked-leads by.TeamRemove v w at = asked-first by.TeamRemove v w at
-asked-leads by.TeamPackages v w at = asked-first by.TeamPackages v w at
-asked-leads by.Grant v w at = asked-first by.Grant v w at
-asked-leads by.Revoke v w at = asked-first by.Revoke v w at
-asked-leads by.WhoAmI v w at = asked-first by.WhoAmI v w at
-asked-leads by.Profile v w at = asked-first by.Profile v w at
 asked-leads by.User v w at = asked-reading (one reads_user v) _ (same-user v) (λ u. asked-caller w at (λ who. WhoAmI) _ (λ who c. one-unless (shows (user_text u)) c (one-shows _)))
-asked-leads by.Logout v w at = asked-first by.Logout v w at
 asked-leads by.Ping v w at = λ e es a b h k. absurd (nothing-asked e es h.0)
 asked-leads by.NotServed v w at = λ e es a b h k. absurd (nothing-asked e es h.0)
+asked-leads e v w at = asked-first e v w at
 
 asked-by : (r : Option NpmRoute) (w : Wanted) (at : ℕ) → OneAsked (asks_by r w at)
 asked-by None w at = profile_is_determined w at

@@ -178,45 +178,8 @@ abbrev IsPublic : Credential → Action → Type 0
 IsPublic who what = (p : Text) × (v : VersionParts) × (who ≡ Anonymous) × (what ≡ action.Archive p v)
 
 shared-archive : (who : Credential) (what : Action) (bytes : List ℕ) → (archive_labels who what bytes).caching ≡ Shared → IsPublic who what
-shared-archive who (action.UserAdd a) bytes h = absurd (cc)
-shared-archive who (action.TokenAdd a b) bytes h = absurd (cc)
-shared-archive who (action.TokenRemove a) bytes h = absurd (cc)
-shared-archive who (action.TokensRemove a) bytes h = absurd (cc)
-shared-archive who (action.OrgCreate a b) bytes h = absurd (cc)
-shared-archive who (action.OrgSet a b c) bytes h = absurd (cc)
-shared-archive who (action.OrgRemove a b) bytes h = absurd (cc)
-shared-archive who (action.TeamCreate a b) bytes h = absurd (cc)
-shared-archive who (action.TeamDestroy a b) bytes h = absurd (cc)
-shared-archive who (action.TeamAdd a b c) bytes h = absurd (cc)
-shared-archive who (action.TeamRemove a b c) bytes h = absurd (cc)
-shared-archive who (action.Grant a b c d) bytes h = absurd (cc)
-shared-archive who (action.Revoke a b c) bytes h = absurd (cc)
-shared-archive who (action.SetAccess a b) bytes h = absurd (cc)
-shared-archive who (action.OwnerAdd a b) bytes h = absurd (cc)
-shared-archive who (action.OwnerRemove a b) bytes h = absurd (cc)
-shared-archive who (action.Publish a) bytes h = absurd (cc)
-shared-archive who (action.TagSet a b c) bytes h = absurd (cc)
-shared-archive who (action.TagRemove a b) bytes h = absurd (cc)
-shared-archive who (action.Withdraw a b) bytes h = absurd (cc)
-shared-archive who (action.WithdrawAll a) bytes h = absurd (cc)
-shared-archive who (action.Deprecate a b c) bytes h = absurd (cc)
-shared-archive who (action.Packument a) bytes h = absurd (cc)
-shared-archive who (action.AbbreviatedPackument a) bytes h = absurd (cc)
-shared-archive who (action.RevisedPackument a) bytes h = absurd (cc)
-shared-archive who (action.VersionDoc a b) bytes h = absurd (cc)
 shared-archive who (action.Archive p v) bytes h = (p, v, shared-who who h, refl)
-shared-archive who (action.Tags a) bytes h = absurd (cc)
-shared-archive who (action.Members a) bytes h = absurd (cc)
-shared-archive who (action.Teams a) bytes h = absurd (cc)
-shared-archive who (action.TeamMembers a b) bytes h = absurd (cc)
-shared-archive who (action.TeamPackages a b) bytes h = absurd (cc)
-shared-archive who action.WhoAmI bytes h = absurd (cc)
-shared-archive who (action.Maintainers a) bytes h = absurd (cc)
-shared-archive who (action.OrgPackages a) bytes h = absurd (cc)
-shared-archive who action.MyPackages bytes h = absurd (cc)
-shared-archive who action.Users bytes h = absurd (cc)
-shared-archive who action.Organisations bytes h = absurd (cc)
-shared-archive who action.Packages bytes h = absurd (cc)
+shared-archive who _ bytes h = absurd (cc)
 
 either-unshared : (b : Bool) (x y : Labels) → (x.caching ≡ Shared → ⊥) → (y.caching ≡ Shared → ⊥) → (if b then x else y).caching ≡ Shared → ⊥
 either-unshared true x y is too = is
@@ -291,45 +254,8 @@ abbrev IsArchive : Action → Type 0
 IsArchive what = (p : Text) × (v : VersionParts) × (what ≡ action.Archive p v)
 
 labelled-archive : (who : Credential) (what : Action) (bytes : List ℕ) → (archive_labels who what bytes ≡ no_labels) ⊎ IsArchive what
-labelled-archive who (action.UserAdd a) bytes = inl refl
-labelled-archive who (action.TokenAdd a b) bytes = inl refl
-labelled-archive who (action.TokenRemove a) bytes = inl refl
-labelled-archive who (action.TokensRemove a) bytes = inl refl
-labelled-archive who (action.OrgCreate a b) bytes = inl refl
-labelled-archive who (action.OrgSet a b c) bytes = inl refl
-labelled-archive who (action.OrgRemove a b) bytes = inl refl
-labelled-archive who (action.TeamCreate a b) bytes = inl refl
-labelled-archive who (action.TeamDestroy a b) bytes = inl refl
-labelled-archive who (action.TeamAdd a b c) bytes = inl refl
-labelled-archive who (action.TeamRemove a b c) bytes = inl refl
-labelled-archive who (action.Grant a b c d) bytes = inl refl
-labelled-archive who (action.Revoke a b c) bytes = inl refl
-labelled-archive who (action.SetAccess a b) bytes = inl refl
-labelled-archive who (action.OwnerAdd a b) bytes = inl refl
-labelled-archive who (action.OwnerRemove a b) bytes = inl refl
-labelled-archive who (action.Publish a) bytes = inl refl
-labelled-archive who (action.TagSet a b c) bytes = inl refl
-labelled-archive who (action.TagRemove a b) bytes = inl refl
-labelled-archive who (action.Withdraw a b) bytes = inl refl
-labelled-archive who (action.WithdrawAll a) bytes = inl refl
-labelled-archive who (action.Deprecate a b c) bytes = inl refl
-labelled-archive who (action.Packument a) bytes = inl refl
-labelled-archive who (action.AbbreviatedPackument a) bytes = inl refl
-labelled-archive who (action.RevisedPackument a) bytes = inl refl
-labelled-archive who (action.VersionDoc a b) bytes = inl refl
 labelled-archive who (action.Archive p v) bytes = inr (p, v, refl)
-labelled-archive who (action.Tags a) bytes = inl refl
-labelled-archive who (action.Members a) bytes = inl refl
-labelled-archive who (action.Teams a) bytes = inl refl
-labelled-archive who (action.TeamMembers a b) bytes = inl refl
-labelled-archive who (action.TeamPackages a b) bytes = inl refl
-labelled-archive who action.WhoAmI bytes = inl refl
-labelled-archive who (action.Maintainers a) bytes = inl refl
-labelled-archive who (action.OrgPackages a) bytes = inl refl
-labelled-archive who action.MyPackages bytes = inl refl
-labelled-archive who action.Users bytes = inl refl
-labelled-archive who action.Organisations bytes = inl refl
-labelled-archive who action.Packages bytes = inl refl
+labelled-archive who _ bytes = inl refl
 
 -- the first that was asked for is an archive
 abbrev AsksFirst : List Exchange → Type 0
@@ -369,33 +295,7 @@ other-reads w at es o labels h same = elim (other-labelled es o) [
 
 the-packument : (e : NpmEndpoint) → is_packument e ≡ true → e ≡ by.Packument
 the-packument by.Packument h = refl
-the-packument by.Document h = absurd (false≢true h)
-the-packument by.Revised h = absurd (false≢true h)
-the-packument by.Unpublish h = absurd (false≢true h)
-the-packument by.FileDrop h = absurd (false≢true h)
-the-packument by.ScopedFileDrop h = absurd (false≢true h)
-the-packument by.Visibility h = absurd (false≢true h)
-the-packument by.SetAccess h = absurd (false≢true h)
-the-packument by.Collaborators h = absurd (false≢true h)
-the-packument by.OrgPackages h = absurd (false≢true h)
-the-packument by.UserPackages h = absurd (false≢true h)
-the-packument by.Members h = absurd (false≢true h)
-the-packument by.OrgSet h = absurd (false≢true h)
-the-packument by.OrgRemove h = absurd (false≢true h)
-the-packument by.Teams h = absurd (false≢true h)
-the-packument by.TeamCreate h = absurd (false≢true h)
-the-packument by.TeamMembers h = absurd (false≢true h)
-the-packument by.TeamAdd h = absurd (false≢true h)
-the-packument by.TeamRemove h = absurd (false≢true h)
-the-packument by.TeamPackages h = absurd (false≢true h)
-the-packument by.Grant h = absurd (false≢true h)
-the-packument by.Revoke h = absurd (false≢true h)
-the-packument by.WhoAmI h = absurd (false≢true h)
-the-packument by.Profile h = absurd (false≢true h)
-the-packument by.User h = absurd (false≢true h)
-the-packument by.Logout h = absurd (false≢true h)
-the-packument by.Ping h = absurd (false≢true h)
-the-packument by.NotServed h = absurd (false≢true h)
+the-packument _ h = absurd (false≢true h)
 
 labelled-own : (r : NpmRoute) (w : Wanted) (at : ℕ) (es : List Exchange) (o : Outcome) → is_npms r.endpoint w.body ≡ true → Labelled w at es o (Some r)
 labelled-own r w at es o own = elim (cases_Bool (is_packument r.endpoint)) [

@@ -187,34 +187,11 @@ few-own : (u : Text) (w : Wanted) (at : ℕ) → Few 1 (shows_own u w at)
 few-own u w at = few-reading 1 (reads_caller w.authorization) _ (λ who _. few-asks 1 0 (request at who WhoAmI) _ (omega arith) (few-asks_own u at who))
 
 few-follows : (e : NpmEndpoint) (c : Outcome) → Few 0 (follows e c)
-few-follows by.Packument c = few-ends 0 c
-few-follows by.Document c = few-ends 0 c
-few-follows by.Revised c = few-ends 0 c
-few-follows by.Unpublish c = few-ends 0 c
 few-follows by.FileDrop c = few-not_served c
 few-follows by.ScopedFileDrop c = few-not_served c
-few-follows by.Visibility c = few-ends 0 c
-few-follows by.SetAccess c = few-ends 0 c
-few-follows by.Collaborators c = few-ends 0 c
-few-follows by.OrgPackages c = few-ends 0 c
-few-follows by.UserPackages c = few-ends 0 c
-few-follows by.Members c = few-ends 0 c
-few-follows by.OrgSet c = few-ends 0 c
-few-follows by.OrgRemove c = few-ends 0 c
-few-follows by.Teams c = few-ends 0 c
-few-follows by.TeamCreate c = few-ends 0 c
-few-follows by.TeamMembers c = few-ends 0 c
-few-follows by.TeamAdd c = few-ends 0 c
-few-follows by.TeamRemove c = few-ends 0 c
 few-follows by.TeamPackages c = few-shown grants_form c
-few-follows by.Grant c = few-ends 0 c
-few-follows by.Revoke c = few-ends 0 c
-few-follows by.WhoAmI c = few-ends 0 c
 few-follows by.Profile c = few-shown profile_form c
-few-follows by.User c = few-ends 0 c
-few-follows by.Logout c = few-ends 0 c
-few-follows by.Ping c = few-ends 0 c
-few-follows by.NotServed c = few-ends 0 c
+few-follows _ c = few-ends 0 c
 
 few-first : (e : NpmEndpoint) (v : Values) (w : Wanted) (at : ℕ) → Few 1 (asks_first e v w at)
 few-first e v w at = few-reading 1 (reads_first e v w.body) _ (λ what _. few-reading 1 (reads_caller w.authorization) _ (λ who _. few-asks 1 0 (request at who what) (follows e) (cost-one what) (few-follows e)))
@@ -296,30 +273,15 @@ few-leads by.Packument v w at = few-reading 1 (one reads_name v) _ (λ p _. few-
 few-leads by.Document v w at = few-document v w at
 few-leads by.Revised v w at = few-reading 1 (one reads_name v) _ (λ p _. few-reading 1 (reads_revision v.second) _ (λ named _. few-reading 1 (reads_document w.body) _ (λ d _. few-asks_for (judged (Some named) d) p w at)))
 few-leads by.Unpublish v w at = few-reading 1 (one reads_name v) _ (λ p _. few-reading 1 (reads_revision v.second) _ (λ named _. few-asks_for (withdrawn named) p w at))
-few-leads by.FileDrop v w at = few-first by.FileDrop v w at
-few-leads by.ScopedFileDrop v w at = few-first by.ScopedFileDrop v w at
 few-leads by.Visibility v w at = few-reading 1 (one reads_name v) (λ p. shows_visibility p w at) (λ p _. few-visibility p w at)
-few-leads by.SetAccess v w at = few-first by.SetAccess v w at
 few-leads by.Collaborators v w at = few-reading 1 (one reads_name v) (λ p. shows_writers p w at) (λ p _. few-writers p w at)
-few-leads by.OrgPackages v w at = few-first by.OrgPackages v w at
 few-leads by.UserPackages v w at = few-reading 1 (one reads_ident v) (λ u. shows_own u w at) (λ u _. few-own u w at)
-few-leads by.Members v w at = few-first by.Members v w at
 few-leads by.OrgSet v w at = few-reading 1 (reads_member v w.body) (λ m. sets_member m.0 m.1 m.2 w at) (λ m _. few-member m.0 m.1 m.2 w at)
-few-leads by.OrgRemove v w at = few-first by.OrgRemove v w at
 few-leads by.Teams v w at = few-reading 1 (one reads_ident v) (λ o. shows_teams o w at) (λ o _. few-teams o w at)
-few-leads by.TeamCreate v w at = few-first by.TeamCreate v w at
-few-leads by.TeamMembers v w at = few-first by.TeamMembers v w at
-few-leads by.TeamAdd v w at = few-first by.TeamAdd v w at
-few-leads by.TeamRemove v w at = few-first by.TeamRemove v w at
-few-leads by.TeamPackages v w at = few-first by.TeamPackages v w at
-few-leads by.Grant v w at = few-first by.Grant v w at
-few-leads by.Revoke v w at = few-first by.Revoke v w at
-few-leads by.WhoAmI v w at = few-first by.WhoAmI v w at
-few-leads by.Profile v w at = few-first by.Profile v w at
 few-leads by.User v w at = few-reading 1 (one reads_user v) (λ u. shows_user u w at) (λ u _. few-user u w at)
-few-leads by.Logout v w at = few-first by.Logout v w at
 few-leads by.Ping v w at = few-shows 1 empty_text
 few-leads by.NotServed v w at = few-ends 1 (Ok (Refused NotServed))
+few-leads e v w at = few-first e v w at
 
 few-profile : (w : Wanted) (at : ℕ) → Few 1 (AsksByRoute w at)
 few-profile w at es o (inl (r, is, same)) = rw same (let one = cost-one r.what in omega (arith, one))
@@ -458,34 +420,11 @@ stops-own : (u : Text) (w : Wanted) (at : ℕ) → Stops (shows_own u w at)
 stops-own u w at = stops-reading (reads_caller w.authorization) _ (λ who _. stops-asks (request at who WhoAmI) _ (stops-asks_own u at who))
 
 stops-follows : (e : NpmEndpoint) → Stops-after (follows e)
-stops-follows by.Packument = stops-ends
-stops-follows by.Document = stops-ends
-stops-follows by.Revised = stops-ends
-stops-follows by.Unpublish = stops-ends
 stops-follows by.FileDrop = stops-not_served
 stops-follows by.ScopedFileDrop = stops-not_served
-stops-follows by.Visibility = stops-ends
-stops-follows by.SetAccess = stops-ends
-stops-follows by.Collaborators = stops-ends
-stops-follows by.OrgPackages = stops-ends
-stops-follows by.UserPackages = stops-ends
-stops-follows by.Members = stops-ends
-stops-follows by.OrgSet = stops-ends
-stops-follows by.OrgRemove = stops-ends
-stops-follows by.Teams = stops-ends
-stops-follows by.TeamCreate = stops-ends
-stops-follows by.TeamMembers = stops-ends
-stops-follows by.TeamAdd = stops-ends
-stops-follows by.TeamRemove = stops-ends
 stops-follows by.TeamPackages = stops-shown grants_form
-stops-follows by.Grant = stops-ends
-stops-follows by.Revoke = stops-ends
-stops-follows by.WhoAmI = stops-ends
 stops-follows by.Profile = stops-shown profile_form
-stops-follows by.User = stops-ends
-stops-follows by.Logout = stops-ends
-stops-follows by.Ping = stops-ends
-stops-follows by.NotServed = stops-ends
+stops-follows _ = stops-ends
 
 stops-first : (e : NpmEndpoint) (v : Values) (w : Wanted) (at : ℕ) → Stops (asks_first e v w at)
 stops-first e v w at = stops-reading (reads_first e v w.body) _ (λ what _. stops-reading (reads_caller w.authorization) _ (λ who _. stops-asks (request at who what) (follows e) (stops-follows e)))
@@ -576,30 +515,15 @@ stops-leads by.Packument v w at = stops-reading (one reads_name v) _ (λ p _. st
 stops-leads by.Document v w at = stops-document v w at
 stops-leads by.Revised v w at = stops-reading (one reads_name v) _ (λ p _. stops-reading (reads_revision v.second) _ (λ named _. stops-reading (reads_document w.body) _ (λ d _. stops-asks_for (judged (Some named) d) p w at)))
 stops-leads by.Unpublish v w at = stops-reading (one reads_name v) _ (λ p _. stops-reading (reads_revision v.second) _ (λ named _. stops-asks_for (withdrawn named) p w at))
-stops-leads by.FileDrop v w at = stops-first by.FileDrop v w at
-stops-leads by.ScopedFileDrop v w at = stops-first by.ScopedFileDrop v w at
 stops-leads by.Visibility v w at = stops-reading (one reads_name v) (λ p. shows_visibility p w at) (λ p _. stops-visibility p w at)
-stops-leads by.SetAccess v w at = stops-first by.SetAccess v w at
 stops-leads by.Collaborators v w at = stops-reading (one reads_name v) (λ p. shows_writers p w at) (λ p _. stops-writers p w at)
-stops-leads by.OrgPackages v w at = stops-first by.OrgPackages v w at
 stops-leads by.UserPackages v w at = stops-reading (one reads_ident v) (λ u. shows_own u w at) (λ u _. stops-own u w at)
-stops-leads by.Members v w at = stops-first by.Members v w at
 stops-leads by.OrgSet v w at = stops-reading (reads_member v w.body) (λ m. sets_member m.0 m.1 m.2 w at) (λ m _. stops-member m.0 m.1 m.2 w at)
-stops-leads by.OrgRemove v w at = stops-first by.OrgRemove v w at
 stops-leads by.Teams v w at = stops-reading (one reads_ident v) (λ o. shows_teams o w at) (λ o _. stops-teams o w at)
-stops-leads by.TeamCreate v w at = stops-first by.TeamCreate v w at
-stops-leads by.TeamMembers v w at = stops-first by.TeamMembers v w at
-stops-leads by.TeamAdd v w at = stops-first by.TeamAdd v w at
-stops-leads by.TeamRemove v w at = stops-first by.TeamRemove v w at
-stops-leads by.TeamPackages v w at = stops-first by.TeamPackages v w at
-stops-leads by.Grant v w at = stops-first by.Grant v w at
-stops-leads by.Revoke v w at = stops-first by.Revoke v w at
-stops-leads by.WhoAmI v w at = stops-first by.WhoAmI v w at
-stops-leads by.Profile v w at = stops-first by.Profile v w at
 stops-leads by.User v w at = stops-reading (one reads_user v) (λ u. shows_user u w at) (λ u _. stops-user u w at)
-stops-leads by.Logout v w at = stops-first by.Logout v w at
 stops-leads by.Ping v w at = stops-shows empty_text
 stops-leads by.NotServed v w at = stops-ended (Ok (Refused NotServed))
+stops-leads e v w at = stops-first e v w at
 
 stops-once : (r : Request) (c : Outcome) → StopAtFaults (exchange r c ∷ []) c
 stops-once r (Ok reply) = (tt, tt)
@@ -621,32 +545,14 @@ faults-end w at es o h = stops-by (npm_route_of w.method w.target) w at es o h
 met-or_object : (e : NpmEndpoint) (body : Text) → is_npms e body ≡ true → (is_package e ≡ true) ⊎ (met e ≡ None) ⊎ (begins_object body ≡ true)
 met-or_object by.Packument body h = inl refl
 met-or_object by.Document body h = inl refl
-met-or_object by.Revised body h = inr (inl refl)
-met-or_object by.Unpublish body h = inr (inl refl)
-met-or_object by.FileDrop body h = inr (inl refl)
-met-or_object by.ScopedFileDrop body h = inr (inl refl)
-met-or_object by.Visibility body h = inr (inl refl)
-met-or_object by.SetAccess body h = inr (inl refl)
-met-or_object by.Collaborators body h = inr (inl refl)
-met-or_object by.OrgPackages body h = inr (inl refl)
-met-or_object by.UserPackages body h = inr (inl refl)
-met-or_object by.Members body h = inr (inl refl)
 met-or_object by.OrgSet body h = inr (inr h)
 met-or_object by.OrgRemove body h = inr (inr h)
-met-or_object by.Teams body h = inr (inl refl)
 met-or_object by.TeamCreate body h = inr (inr h)
-met-or_object by.TeamMembers body h = inr (inl refl)
 met-or_object by.TeamAdd body h = inr (inr h)
 met-or_object by.TeamRemove body h = inr (inr h)
-met-or_object by.TeamPackages body h = inr (inl refl)
 met-or_object by.Grant body h = inr (inr h)
 met-or_object by.Revoke body h = inr (inr h)
-met-or_object by.WhoAmI body h = inr (inl refl)
-met-or_object by.Profile body h = inr (inl refl)
-met-or_object by.User body h = inr (inl refl)
-met-or_object by.Logout body h = inr (inl refl)
-met-or_object by.Ping body h = inr (inl refl)
-met-or_object by.NotServed body h = inr (inl refl)
+met-or_object _ body h = inr (inl refl)
 
 no-endpoint : (o : Option Route) → option_map endpoint_of o ≡ None → o ≡ None
 no-endpoint None e = refl
@@ -734,32 +640,7 @@ Came e v at es = ((p : Text) (version : VersionParts) → ¬ (NamesFile e v p ve
 gone-by : (e : NpmEndpoint) (v : Values) (w : Wanted) (at : ℕ) (es : List Exchange) → is_file_drop e ≡ true → either (is_npms e w.body) (leads e v w at) (AsksByRoute w at) es (Ok (Refused NotFound)) → Came e v at es
 gone-by by.FileDrop v w at es d h = came-file v v.second w at es h
 gone-by by.ScopedFileDrop v w at es d h = came-file v v.third w at es h
-gone-by by.Packument v w at es d h = absurd (cc)
-gone-by by.Document v w at es d h = absurd (cc)
-gone-by by.Revised v w at es d h = absurd (cc)
-gone-by by.Unpublish v w at es d h = absurd (cc)
-gone-by by.Visibility v w at es d h = absurd (cc)
-gone-by by.SetAccess v w at es d h = absurd (cc)
-gone-by by.Collaborators v w at es d h = absurd (cc)
-gone-by by.OrgPackages v w at es d h = absurd (cc)
-gone-by by.UserPackages v w at es d h = absurd (cc)
-gone-by by.Members v w at es d h = absurd (cc)
-gone-by by.OrgSet v w at es d h = absurd (cc)
-gone-by by.OrgRemove v w at es d h = absurd (cc)
-gone-by by.Teams v w at es d h = absurd (cc)
-gone-by by.TeamCreate v w at es d h = absurd (cc)
-gone-by by.TeamMembers v w at es d h = absurd (cc)
-gone-by by.TeamAdd v w at es d h = absurd (cc)
-gone-by by.TeamRemove v w at es d h = absurd (cc)
-gone-by by.TeamPackages v w at es d h = absurd (cc)
-gone-by by.Grant v w at es d h = absurd (cc)
-gone-by by.Revoke v w at es d h = absurd (cc)
-gone-by by.WhoAmI v w at es d h = absurd (cc)
-gone-by by.Profile v w at es d h = absurd (cc)
-gone-by by.User v w at es d h = absurd (cc)
-gone-by by.Logout v w at es d h = absurd (cc)
-gone-by by.Ping v w at es d h = absurd (cc)
-gone-by by.NotServed v w at es d h = absurd (cc)
+gone-by _ v w at es d h = absurd (cc)
 
 gone-found : (x : Option NpmRoute) (r : NpmRoute) (w : Wanted) (at : ℕ) (es : List Exchange) → x ≡ Some r → is_file_drop r.endpoint ≡ true → asks_by x w at es (Ok (Refused NotFound)) → Came r.endpoint r.values at es
 gone-found None r w at es e d h = absurd (cc)

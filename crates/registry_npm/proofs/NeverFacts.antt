@@ -179,34 +179,9 @@ never-unpublish v w at = never-reading (one reads_name v) _ (bad-name v) (λ p. 
     (λ named. never-reading (reads_caller w.authorization) _ (bad-caller w.authorization) (λ who. never-serves_user (withdrawn named) (never-gone named) (never-withdrawn named) p at who)))
 
 never-by : (e : NpmEndpoint) (v : Values) (w : Wanted) (at : ℕ) (es : List Exchange) (o : Outcome) → is_revised e ≡ true → either (is_npms e w.body) (leads e v w at) (AsksByRoute w at) es o → is_gone o ≡ false
-never-by by.Packument v w at es o d h = absurd (false≢true d)
-never-by by.Document v w at es o d h = absurd (false≢true d)
 never-by by.Revised v w at es o d h = never-revised v w at es o h
 never-by by.Unpublish v w at es o d h = never-unpublish v w at es o h
-never-by by.FileDrop v w at es o d h = absurd (false≢true d)
-never-by by.ScopedFileDrop v w at es o d h = absurd (false≢true d)
-never-by by.Visibility v w at es o d h = absurd (false≢true d)
-never-by by.SetAccess v w at es o d h = absurd (false≢true d)
-never-by by.Collaborators v w at es o d h = absurd (false≢true d)
-never-by by.OrgPackages v w at es o d h = absurd (false≢true d)
-never-by by.UserPackages v w at es o d h = absurd (false≢true d)
-never-by by.Members v w at es o d h = absurd (false≢true d)
-never-by by.OrgSet v w at es o d h = absurd (false≢true d)
-never-by by.OrgRemove v w at es o d h = absurd (false≢true d)
-never-by by.Teams v w at es o d h = absurd (false≢true d)
-never-by by.TeamCreate v w at es o d h = absurd (false≢true d)
-never-by by.TeamMembers v w at es o d h = absurd (false≢true d)
-never-by by.TeamAdd v w at es o d h = absurd (false≢true d)
-never-by by.TeamRemove v w at es o d h = absurd (false≢true d)
-never-by by.TeamPackages v w at es o d h = absurd (false≢true d)
-never-by by.Grant v w at es o d h = absurd (false≢true d)
-never-by by.Revoke v w at es o d h = absurd (false≢true d)
-never-by by.WhoAmI v w at es o d h = absurd (false≢true d)
-never-by by.Profile v w at es o d h = absurd (false≢true d)
-never-by by.User v w at es o d h = absurd (false≢true d)
-never-by by.Logout v w at es o d h = absurd (false≢true d)
-never-by by.Ping v w at es o d h = absurd (false≢true d)
-never-by by.NotServed v w at es o d h = absurd (false≢true d)
+never-by _ v w at es o d h = absurd (false≢true d)
 
 never-found : (x : Option NpmRoute) (r : NpmRoute) (w : Wanted) (at : ℕ) (es : List Exchange) (o : Outcome) → x ≡ Some r → is_revised r.endpoint ≡ true → asks_by x w at es o → is_gone o ≡ false
 never-found None r w at es o e d h = absurd (cc)

@@ -485,7 +485,7 @@ impl<S: Socket> ConnectionPool<S> {
     ///
     /// Small commands are answered together, after all other visits of the round. Where the request
     /// that a visit would answer is a command and asks nothing else, its connection holds at most
-    /// [`COMMAND_LIMIT`](crate::COMMAND_LIMIT) bytes, and with those of the other connections these are
+    /// [`COMMAND_LIMIT`](crate::COMMAND_LIMIT) bytes, and with the commands of earlier places these are
     /// at most [`GROUP_LIMIT`](crate::GROUP_LIMIT), its visit stops there. After the other visits these
     /// commands are asked in the order of their places, each at a moment of its own and as if it was
     /// asked alone, by one call of

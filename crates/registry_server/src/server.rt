@@ -102,11 +102,11 @@ impl Server {
     }
 
     /// Serves with a service until the last connection has come in and all have ended, if they are
-    /// counted, or until the service is over. After the visit in which it is over, no connection is
-    /// visited, and all of them end. The clock was read before, and `at` is its reading: this is
-    /// the moment of requests where the clock can't be read, or is before 1970, until it is read
-    /// again. An error is returned where the time of the server can't be read at first, or the
-    /// system can't be asked what is ready.
+    /// counted, or until the service is over. After the visit in which it is over, no visit is begun;
+    /// commands that were set aside in that round are answered, and all connections end. The clock was
+    /// read before, and `at` is its reading: this is the moment of requests where the clock can't be
+    /// read, or is before 1970, until it is read again. An error is returned where the time of the
+    /// server can't be read at first, or the system can't be asked what is ready.
     pub fn run<R: time::Clock, D: HttpService>(
         self,
         rt: &R,

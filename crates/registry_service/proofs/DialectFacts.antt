@@ -77,22 +77,7 @@ action-query endpoint.Members v body what is x = gave what _ x.2 refl
 action-query endpoint.Teams v body what is x = gave what _ x.2 refl
 action-query endpoint.TeamMembers v body what is x = gave what _ x.2 refl
 action-query endpoint.TeamPackages v body what is x = gave what _ x.2 refl
-action-query endpoint.Publish v body what is x = absurd (false≢true is)
-action-query endpoint.TagSet v body what is x = absurd (false≢true is)
-action-query endpoint.TagRemove v body what is x = absurd (false≢true is)
-action-query endpoint.SetAccess v body what is x = absurd (false≢true is)
-action-query endpoint.OwnerAdd v body what is x = absurd (false≢true is)
-action-query endpoint.OwnerRemove v body what is x = absurd (false≢true is)
-action-query endpoint.Deprecate v body what is x = absurd (false≢true is)
-action-query endpoint.Withdraw v body what is x = absurd (false≢true is)
-action-query endpoint.OrgSet v body what is x = absurd (false≢true is)
-action-query endpoint.OrgRemove v body what is x = absurd (false≢true is)
-action-query endpoint.TeamCreate v body what is x = absurd (false≢true is)
-action-query endpoint.TeamDestroy v body what is x = absurd (false≢true is)
-action-query endpoint.TeamAdd v body what is x = absurd (false≢true is)
-action-query endpoint.TeamRemove v body what is x = absurd (false≢true is)
-action-query endpoint.Grant v body what is x = absurd (false≢true is)
-action-query endpoint.Revoke v body what is x = absurd (false≢true is)
+action-query _ v body what is x = absurd (false≢true is)
 
 routed-query : (o : Option Route) (w : Wanted) (at : ℕ) (r : Request) → RoutesQuery o → reads_routed o w at (Ok r) → is_command r.what ≡ false
 routed-query None w at r queries x = absurd (cc)

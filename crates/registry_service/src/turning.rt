@@ -70,7 +70,8 @@ pub trait Service {
         }
     }
 
-    /// Whether it is over: nothing more may be asked of it.
+    /// Whether it is over: no turn is begun any more. Commands that were set aside before, to be
+    /// answered together, are still asked.
     fn is_over(&self) -> bool
         ensures { result ≡ over self.now };
 
@@ -78,9 +79,11 @@ pub trait Service {
     /// could not be read.
     ///
     /// The server of many connections calls it, once for each turn: after the calls of
-    /// [`answer`](Service::answer), where the turn has any, and before anything of the response is
-    /// sent. Neither [`serve`](crate::serve) nor a command beside the server calls it; for a command
-    /// there is [`note_command`](Service::note_command).
+    /// [`answer`](Service::answer) or [`answer_together`](Service::answer_together), where the turn has
+    /// any, and before anything of the response is sent. After `answer_together` it is called for the
+    /// turns of its commands, in their order, before anything else is asked. Neither
+    /// [`serve`](crate::serve) nor a command beside the server calls it; for a command there is
+    /// [`note_command`](Service::note_command).
     ///
     /// An implementation may keep a log of what was answered. It changes nothing that contracts see
     /// of the service, and can't fail. It should not wait, since nobody is answered meanwhile. The

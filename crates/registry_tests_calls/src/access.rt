@@ -14,24 +14,44 @@ mod fixture;
 use crate::access::fixture::registry;
 use crate::outcome::same;
 use crate::parts::{ident, name};
-use registry_access::{AccessRows, Ask, Caller, Level, allowed, level};
-use registry_names::{Name, Refusal, Rule};
+use registry_access::{AccessRows, Ask, Caller, allowed, level};
 use std::alloc::Global;
 use std::process::Abort;
 
-type Answer = Result<Rule, Refusal>;
-
-const NO_CALLER: Answer = Err(Refusal::NoCaller);
-
-const NOT_FOUND: Answer = Err(Refusal::NotFound);
-
-const DENIED_A4: Answer = Err(Refusal::Denied(Rule::A4));
-
-const DENIED_A5: Answer = Err(Refusal::Denied(Rule::A5));
-
-const DENIED_A6: Answer = Err(Refusal::Denied(Rule::A6));
-
-const DENIED_A7: Answer = Err(Refusal::Denied(Rule::A7));
+// A caller and a package; ` => ` and the caller's level on it, and the answers where they ask to publish
+// it, to write it, to manage its maintainers, and to read it.
+const PACKAGES: &str =
+    "operator @lab/kit => Nothing Err(Denied(A4)) Err(NotFound) Err(NotFound) Err(NotFound)
+ann @lab/kit => Write Ok(A6) Ok(A6) Err(Denied(A7)) Ok(A8)
+amy @lab/kit => Write Ok(A6) Ok(A6) Err(Denied(A7)) Ok(A8)
+bob @lab/kit => Write Ok(A6) Ok(A6) Err(Denied(A7)) Ok(A8)
+dan @lab/kit => Nothing Err(Denied(A6)) Err(NotFound) Err(NotFound) Err(NotFound)
+eve @lab/kit => Nothing Err(Denied(A4)) Err(NotFound) Err(NotFound) Err(NotFound)
+anonymous @lab/kit => Nothing Err(NoCaller) Err(NoCaller) Err(NoCaller) Err(NotFound)
+operator @lab/app => Read Err(Denied(A4)) Err(Denied(A6)) Err(Denied(A7)) Ok(A8)
+ann @lab/app => Write Ok(A6) Ok(A6) Err(Denied(A7)) Ok(A8)
+amy @lab/app => Write Ok(A6) Ok(A6) Err(Denied(A7)) Ok(A8)
+bob @lab/app => Write Ok(A6) Ok(A6) Err(Denied(A7)) Ok(A8)
+dan @lab/app => Read Err(Denied(A6)) Err(Denied(A6)) Err(Denied(A7)) Ok(A8)
+eve @lab/app => Read Err(Denied(A4)) Err(Denied(A6)) Err(Denied(A7)) Ok(A8)
+anonymous @lab/app => Read Err(NoCaller) Err(NoCaller) Err(NoCaller) Ok(A8)
+operator tool => Read Err(Denied(A6)) Err(Denied(A6)) Err(Denied(A7)) Ok(A8)
+ann tool => Read Err(Denied(A6)) Err(Denied(A6)) Err(Denied(A7)) Ok(A8)
+bob tool => Write Ok(A6) Ok(A6) Ok(A7) Ok(A8)
+eve tool => Read Err(Denied(A6)) Err(Denied(A6)) Err(Denied(A7)) Ok(A8)
+anonymous tool => Read Err(NoCaller) Err(NoCaller) Err(NoCaller) Ok(A8)
+operator @lab/none => Nothing Err(Denied(A4)) Err(NotFound) Err(NotFound) Err(NotFound)
+ann @lab/none => Nothing Ok(A4) Err(NotFound) Err(NotFound) Err(NotFound)
+dan @lab/none => Nothing Ok(A4) Err(NotFound) Err(NotFound) Err(NotFound)
+eve @lab/none => Nothing Err(Denied(A4)) Err(NotFound) Err(NotFound) Err(NotFound)
+anonymous @lab/none => Nothing Err(NoCaller) Err(NoCaller) Err(NoCaller) Err(NotFound)
+operator none => Nothing Err(Denied(A5)) Err(NotFound) Err(NotFound) Err(NotFound)
+dan none => Nothing Ok(A5) Err(NotFound) Err(NotFound) Err(NotFound)
+eve none => Nothing Ok(A5) Err(NotFound) Err(NotFound) Err(NotFound)
+anonymous none => Nothing Err(NoCaller) Err(NoCaller) Err(NoCaller) Err(NotFound)
+operator @ghost/kit => Nothing Err(NotFound) Err(NotFound) Err(NotFound) Err(NotFound)
+ann @ghost/kit => Nothing Err(NotFound) Err(NotFound) Err(NotFound) Err(NotFound)
+anonymous @ghost/kit => Nothing Err(NoCaller) Err(NoCaller) Err(NoCaller) Err(NotFound)";
 
 fn caller(rt: &impl Abort, alloc: Global, who: &str) -> Caller {
     match who {
@@ -41,93 +61,24 @@ fn caller(rt: &impl Abort, alloc: Global, who: &str) -> Caller {
     }
 }
 
-/// The answers where a caller asks to publish a package, to write it, to manage its maintainers,
-/// and to read it.
-type Answers = [Answer; 4];
-
-const READER: Answers = [DENIED_A6, DENIED_A6, DENIED_A7, Ok(Rule::A8)];
-
-const WRITER: Answers = [Ok(Rule::A6), Ok(Rule::A6), DENIED_A7, Ok(Rule::A8)];
-
-const MAINTAINER: Answers = [Ok(Rule::A6), Ok(Rule::A6), Ok(Rule::A7), Ok(Rule::A8)];
-
-const STRANGER: Answers = [DENIED_A4, DENIED_A6, DENIED_A7, Ok(Rule::A8)];
-
-const ANONYMOUS: Answers = [NO_CALLER, NO_CALLER, NO_CALLER, Ok(Rule::A8)];
-
-const UNREAD_ANONYMOUS: Answers = [NO_CALLER, NO_CALLER, NO_CALLER, NOT_FOUND];
-
-const OUTSIDER: Answers = [DENIED_A4, NOT_FOUND, NOT_FOUND, NOT_FOUND];
-
-const UNREAD_MEMBER: Answers = [DENIED_A6, NOT_FOUND, NOT_FOUND, NOT_FOUND];
-
-const FIRST_OF_SCOPE: Answers = [Ok(Rule::A4), NOT_FOUND, NOT_FOUND, NOT_FOUND];
-
-const UNREAD_OPERATOR: Answers = [DENIED_A5, NOT_FOUND, NOT_FOUND, NOT_FOUND];
-
-const FIRST: Answers = [Ok(Rule::A5), NOT_FOUND, NOT_FOUND, NOT_FOUND];
-
-const MISSING: Answers = [NOT_FOUND, NOT_FOUND, NOT_FOUND, NOT_FOUND];
-
-/// A caller, a package, the caller's level on it, and the answers.
-type Case = (&'static str, &'static str, Level, Answers);
-
-static PACKAGES: [Case; 31] = [
-    ("operator", "@lab/kit", Level::Nothing, OUTSIDER),
-    ("ann", "@lab/kit", Level::Write, WRITER),
-    ("amy", "@lab/kit", Level::Write, WRITER),
-    ("bob", "@lab/kit", Level::Write, WRITER),
-    ("dan", "@lab/kit", Level::Nothing, UNREAD_MEMBER),
-    ("eve", "@lab/kit", Level::Nothing, OUTSIDER),
-    ("anonymous", "@lab/kit", Level::Nothing, UNREAD_ANONYMOUS),
-    ("operator", "@lab/app", Level::Read, STRANGER),
-    ("ann", "@lab/app", Level::Write, WRITER),
-    ("amy", "@lab/app", Level::Write, WRITER),
-    ("bob", "@lab/app", Level::Write, WRITER),
-    ("dan", "@lab/app", Level::Read, READER),
-    ("eve", "@lab/app", Level::Read, STRANGER),
-    ("anonymous", "@lab/app", Level::Read, ANONYMOUS),
-    ("operator", "tool", Level::Read, READER),
-    ("ann", "tool", Level::Read, READER),
-    ("bob", "tool", Level::Write, MAINTAINER),
-    ("eve", "tool", Level::Read, READER),
-    ("anonymous", "tool", Level::Read, ANONYMOUS),
-    ("operator", "@lab/none", Level::Nothing, OUTSIDER),
-    ("ann", "@lab/none", Level::Nothing, FIRST_OF_SCOPE),
-    ("dan", "@lab/none", Level::Nothing, FIRST_OF_SCOPE),
-    ("eve", "@lab/none", Level::Nothing, OUTSIDER),
-    ("anonymous", "@lab/none", Level::Nothing, UNREAD_ANONYMOUS),
-    ("operator", "none", Level::Nothing, UNREAD_OPERATOR),
-    ("dan", "none", Level::Nothing, FIRST),
-    ("eve", "none", Level::Nothing, FIRST),
-    ("anonymous", "none", Level::Nothing, UNREAD_ANONYMOUS),
-    ("operator", "@ghost/kit", Level::Nothing, MISSING),
-    ("ann", "@ghost/kit", Level::Nothing, MISSING),
-    ("anonymous", "@ghost/kit", Level::Nothing, UNREAD_ANONYMOUS),
-];
-
-fn rows_say(rows: &AccessRows, caller: &Caller, name: &Name) -> Answers {
-    [
-        allowed(rows, caller, &Ask::Publish(name)),
-        allowed(rows, caller, &Ask::Write(name)),
-        allowed(rows, caller, &Ask::Owners(name)),
-        allowed(rows, caller, &Ask::Read(name)),
-    ]
-}
-
-fn is_told(rt: &impl Abort, alloc: Global, rows: &AccessRows, case: &Case) {
-    let (who, package, wanted, answers) = case;
+fn is_told(rt: &impl Abort, alloc: Global, rows: &AccessRows, line: &str) {
+    let (asked, wanted) = line.split_once(" => ").expect(rt, line);
+    let (who, package) = asked.split_once(' ').expect(rt, line);
     let caller = caller(rt, alloc, who);
     let name = name(rt, alloc, package);
-    let shows = (*who, *package);
-    same(rt, &shows, &level(rows, &caller, &name), wanted);
-    same(rt, &shows, &rows_say(rows, &caller, &name), answers);
+    let level = level(rows, &caller, &name);
+    let publish = allowed(rows, &caller, &Ask::Publish(&name));
+    let write = allowed(rows, &caller, &Ask::Write(&name));
+    let owners = allowed(rows, &caller, &Ask::Owners(&name));
+    let read = allowed(rows, &caller, &Ask::Read(&name));
+    let told = format!(in alloc; "{level:?} {publish:?} {write:?} {owners:?} {read:?}");
+    same(rt, line, told.expect(rt, "memory").as_str(), wanted);
 }
 
 #[test]
 fn packages_by_rows(rt: HostRuntime) {
     let rows = registry(&rt, rt.alloc());
-    for case in &PACKAGES {
-        is_told(&rt, rt.alloc(), &rows, case);
+    for line in PACKAGES.lines() {
+        is_told(&rt, rt.alloc(), &rows, line);
     }
 }

@@ -2,9 +2,9 @@
 //! which the program reads standard input instead.
 
 use crate::outcome::same;
-use crate::parts::{text, texts};
+use crate::parts::words;
 use registry_cli::{Line, Usage, Who, line};
-use registry_names::{Moment, Text};
+use registry_names::Moment;
 use std::alloc::Global;
 use std::process::Abort;
 
@@ -14,22 +14,6 @@ serve --port 1 => registry.db; nobody; None; serve 1 1000000
 serve --connections 1000000 --port 65535 => registry.db; nobody; None; serve 65535 1000000
 serve --connections=1 => registry.db; nobody; None; serve 8080 1
 --operator --at 5 serve => registry.db; the operator; Some(5); serve 8080 1000000";
-
-fn is_meant(rt: &impl Abort, alloc: Global, told: &str) {
-    let (arguments, wanted) = told.split_once(" => ").expect(rt, told);
-    match line(alloc, &words(rt, alloc, arguments)) {
-        Ok(line) => means(rt, alloc, &line, wanted),
-        Err(_) => panic!(rt; "{arguments:?} means nothing"),
-    }
-}
-
-fn words(rt: &impl Abort, alloc: Global, line: &str) -> Vec<Text> {
-    let mut words = Vec::new(alloc);
-    for word in line.split(' ') {
-        words.push(text(rt, alloc, word)).expect(rt, "memory");
-    }
-    words
-}
 
 fn means(rt: &impl Abort, alloc: Global, line: &Line, wanted: &str) {
     let who = match &line.who {
@@ -49,8 +33,12 @@ fn means(rt: &impl Abort, alloc: Global, line: &Line, wanted: &str) {
 
 #[test]
 fn lines_that_ask_to_serve(rt: HostRuntime) {
-    for line in LINES.lines() {
-        is_meant(&rt, rt.alloc(), line);
+    for told in LINES.lines() {
+        let (arguments, wanted) = told.split_once(" => ").expect(&rt, told);
+        match line(rt.alloc(), &words(&rt, rt.alloc(), arguments)) {
+            Ok(line) => means(&rt, rt.alloc(), &line, wanted),
+            Err(_) => panic!(rt; "{arguments:?} means nothing"),
+        }
     }
 }
 
@@ -58,7 +46,7 @@ const NO_SUBCOMMAND: &str = "error: 'registry' requires a subcommand but one was
 
 #[test]
 fn a_line_without_arguments(rt: HostRuntime) {
-    match line(rt.alloc(), &texts(&rt, rt.alloc(), &[])) {
+    match line(rt.alloc(), &Vec::new(rt.alloc())) {
         Err(Usage::Words(said)) => {
             let said = said.as_str();
             let is_said = said.starts_with(NO_SUBCOMMAND) && said.ends_with('\n');

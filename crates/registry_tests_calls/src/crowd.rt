@@ -36,11 +36,7 @@ struct Client {
 }
 
 impl Client {
-    fn new(left: usize) -> Client {
-        Client::with_pause(left, 0)
-    }
-
-    fn with_pause(left: usize, later: usize) -> Client {
+    fn new(left: usize, later: usize) -> Client {
         Client {
             is_begun: false,
             left,
@@ -156,9 +152,11 @@ impl Crowd {
     fn of_seventeen(rt: &impl Abort, alloc: Global) -> Crowd {
         let mut crowd = Crowd::new(rt, alloc);
         for number in 0..READ_TOGETHER {
-            crowd.pool.add(alloc, number, Client::new(FRONT), 0);
+            crowd.pool.add(alloc, number, Client::new(FRONT, 0), 0);
         }
-        crowd.pool.add(alloc, READ_TOGETHER, Client::new(WHOLE), 0);
+        crowd
+            .pool
+            .add(alloc, READ_TOGETHER, Client::new(WHOLE, 0), 0);
         crowd.visit(alloc, 0, 1 + FRONT);
         crowd
     }
@@ -245,12 +243,10 @@ fn a_body_waits_for_six_minutes(rt: HostRuntime) {
 fn a_choice_outlasts_a_moment_without_a_crowd(rt: HostRuntime) {
     let alloc = rt.alloc();
     let mut crowd = Crowd::new(&rt, alloc);
-    crowd.pool.add(alloc, 19, Client::new(228), 0);
+    crowd.pool.add(alloc, 19, Client::new(228, 0), 0);
     crowd.visit(alloc, 0, 1 + 228);
     for number in 0..18 {
-        crowd
-            .pool
-            .add(alloc, number, Client::with_pause(228, 27), 6_000);
+        crowd.pool.add(alloc, number, Client::new(228, 27), 6_000);
     }
     crowd.visit(alloc, 6_000, 1 + 215 + 40);
     same(&rt, "sixteen are read", crowd.pool.is_busy(), false);
@@ -260,7 +256,7 @@ fn a_choice_outlasts_a_moment_without_a_crowd(rt: HostRuntime) {
     same(&rt, "still", crowd.pool.is_busy(), true);
     crowd.visit(alloc, 10_000, 20);
     same(&rt, "a crowd again", crowd.pool.is_busy(), false);
-    crowd.pool.add(alloc, 18, Client::new(WHOLE), 10_000);
+    crowd.pool.add(alloc, 18, Client::new(WHOLE, 0), 10_000);
     crowd.wake(READ_TOGETHER);
     crowd.visit(alloc, 10_000, 40);
     crowd.pool.end_late(16_000);
@@ -275,9 +271,10 @@ fn a_choice_outlasts_a_moment_without_a_crowd(rt: HostRuntime) {
 }
 
 // Where the system has no descriptor left, the connection that has been idle for longest ends, and
-// none that is to be visited.
+// none that is to be visited. Where a server is to end, each connection on which nothing is begun ends,
+// and none that is to be visited or has begun a request.
 #[test]
-fn one_ends_for_want_of_room(rt: HostRuntime) {
+fn idle_connections_end(rt: HostRuntime) {
     let alloc = rt.alloc();
     let mut crowd = Crowd::new(&rt, alloc);
     for (number, since) in [(0, 5), (1, 3), (2, 7)] {
@@ -292,18 +289,11 @@ fn one_ends_for_want_of_room(rt: HostRuntime) {
     same(&rt, "the next", crowd.pool.end_idle(), true);
     same(&rt, "its place", &crowd.pool.place(), &Some(2));
     same(&rt, "no other", crowd.pool.end_idle(), false);
-}
-
-// Where a server is to end, each connection on which nothing is begun ends, and none that is to be
-// visited or has begun a request.
-#[test]
-fn idle_connections_end_at_a_stop(rt: HostRuntime) {
-    let alloc = rt.alloc();
     let mut crowd = Crowd::new(&rt, alloc);
     for number in 0..3 {
         crowd.pool.add(alloc, number, Client::silent(), 0);
     }
-    crowd.pool.add(alloc, 3, Client::new(1), 0);
+    crowd.pool.add(alloc, 3, Client::new(1, 0), 0);
     crowd.visit(alloc, 0, 3);
     crowd.pool.wake(1);
     crowd.pool.end_idle_all();

@@ -2,6 +2,7 @@
 
 use crate::outcome::{is_displayed, same};
 use crate::parts::{as_text, repeated};
+use crate::wire::reader::Source;
 use registry_names::{
     ByteIn, ByteOut, FromRead, ReadFailed, ReadStop, ToWrite, WriteFailed, read_whole, write_whole,
 };
@@ -25,19 +26,6 @@ impl Read for Faltering<'_> {
             4 => Err(io::Error::from(ErrorKind::TimedOut)),
             _ => self.text.read(buf),
         }
-    }
-}
-
-/// A reader whose reads are all interrupted.
-#[derive(Drop)]
-struct Restless {
-    reads: u32,
-}
-
-impl Read for Restless {
-    fn read(&mut self, _: &mut [u8]) -> io::Result<usize> {
-        self.reads = self.reads.saturating_add(1);
-        Err(io::Error::from(ErrorKind::Interrupted))
     }
 }
 
@@ -78,28 +66,9 @@ fn all_given<I: ByteIn>(rt: &impl Abort, end: &mut I, buf: &mut [u8], wanted: &[
     }
 }
 
-static PIECES: [Given; 3] = [Ok("regis"), Ok("try"), Ok("")];
+const PIECES: [Given; 3] = [Ok("regis"), Ok("try"), Ok("")];
 
-#[test]
-fn a_reader_gives_its_bytes_and_then_none(rt: HostRuntime) {
-    let mut end = FromRead::new(b"registry".as_slice());
-    all_given(&rt, &mut end, &mut [0; 5], &PIECES);
-}
-
-#[test]
-fn a_large_read_gives_all_that_is_left(rt: HostRuntime) {
-    let text = repeated(&rt, rt.alloc(), "registry", 1_000);
-    let mut end = FromRead::new(text.as_bytes());
-    let mut buf = [0; 8_192];
-    same(
-        &rt,
-        "8,000 bytes",
-        &given(&mut end, &mut buf),
-        &Ok(text.as_str()),
-    );
-}
-
-static READS: [Given; 5] = [
+const READS: [Given; 5] = [
     Ok("ab"),
     Err(ReadFailed::Interrupted),
     Ok("cd"),
@@ -107,8 +76,17 @@ static READS: [Given; 5] = [
     Ok("ef"),
 ];
 
+// A reader gives its bytes and then none, a large read gives all that is left, and a read goes on after
+// one that failed.
 #[test]
-fn a_read_goes_on_after_one_that_failed(rt: HostRuntime) {
+fn readers_are_read(rt: HostRuntime) {
+    let mut end = FromRead::new(b"registry".as_slice());
+    all_given(&rt, &mut end, &mut [0; 5], &PIECES);
+    let text = repeated(&rt, rt.alloc(), "registry", 1_000);
+    let mut end = FromRead::new(text.as_bytes());
+    let mut buf = [0; 8_192];
+    let all = Ok(text.as_str());
+    same(&rt, "8,000 bytes", &given(&mut end, &mut buf), &all);
     let mut end = FromRead::new(Faltering {
         text: b"abcdef",
         reads: 0,
@@ -116,45 +94,32 @@ fn a_read_goes_on_after_one_that_failed(rt: HostRuntime) {
     all_given(&rt, &mut end, &mut [0; 2], &READS);
 }
 
-static WRITES: [&str; 3] = ["lab", "", "-kit"];
-
-#[test]
-fn a_writer_holds_what_was_written(rt: HostRuntime) {
-    let mut out = Vec::new(rt.alloc());
-    all_written(&rt, &mut out);
-    same(&rt, "what is held", as_text(&out), "lab-kit");
-}
-
-fn all_written(rt: &impl Abort, out: &mut Vec<u8>) {
-    let mut end = ToWrite::new(out);
-    for text in &WRITES {
-        same(rt, *text, &end.write(text.as_bytes()), &Ok(text.len()));
-    }
-}
-
 // Texts, and whether each is written whole by a narrow writer.
-static WHOLE_WRITES: [(&str, Result<(), WriteFailed>); 4] = [
+const WHOLE_WRITES: [(&str, Result<(), WriteFailed>); 4] = [
     ("ab", Ok(())),
     ("c", Err(WriteFailed)),
     ("cd", Err(WriteFailed)),
     ("defg", Ok(())),
 ];
 
+// A write goes on after one that failed.
 #[test]
-fn a_write_goes_on_after_one_that_failed(rt: HostRuntime) {
+fn a_writer_holds_what_was_written(rt: HostRuntime) {
+    let mut out = Vec::new(rt.alloc());
+    for text in ["lab", "", "-kit"] {
+        let written = ToWrite::new(&mut out).write(text.as_bytes());
+        same(&rt, text, &written, &Ok(text.len()));
+    }
+    same(&rt, "what is held", as_text(&out), "lab-kit");
     let mut narrow = Narrow {
         taken: Vec::new(rt.alloc()),
         writes: 0,
     };
-    all_written_whole(&rt, &mut narrow);
-    same(&rt, "what is held", as_text(&narrow.taken), "abcdefg");
-}
-
-fn all_written_whole(rt: &impl Abort, narrow: &mut Narrow) {
-    let mut end = ToWrite::new(narrow);
-    for (text, wanted) in &WHOLE_WRITES {
-        same(rt, *text, &write_whole(&mut end, text.as_bytes()), wanted);
+    for (text, wanted) in WHOLE_WRITES {
+        let written = write_whole(&mut ToWrite::new(&mut narrow), text.as_bytes());
+        same(&rt, text, written, wanted);
     }
+    same(&rt, "what is held", as_text(&narrow.taken), "abcdefg");
 }
 
 // Checks that this is the whole of an input, up to a limit.
@@ -172,32 +137,30 @@ fn is_whole<I: ByteIn>(
 }
 
 // A limit, and what is read up to it.
-static LIMITS: [(usize, &str); 4] = [(0, ""), (3, "reg"), (8, "registry"), (9, "registry")];
+const LIMITS: [(usize, &str); 4] = [(0, ""), (3, "reg"), (8, "registry"), (9, "registry")];
 
+// An interrupted read is tried again, a thousand times.
 #[test]
 fn a_whole_input_is_read_up_to_a_limit(rt: HostRuntime) {
-    for (limit, text) in &LIMITS {
+    for (limit, text) in LIMITS {
         let mut end = FromRead::new(b"registry".as_slice());
-        is_whole(&rt, rt.alloc(), &mut end, *limit, Ok(text));
+        is_whole(&rt, rt.alloc(), &mut end, limit, Ok(text));
     }
-}
-
-#[test]
-fn an_interrupted_read_is_tried_again(rt: HostRuntime) {
     let mut end = FromRead::new(Faltering {
         text: b"abc",
         reads: 0,
     });
     is_whole(&rt, rt.alloc(), &mut end, 9, Ok("abc"));
     is_whole(&rt, rt.alloc(), &mut end, 9, Err(ReadStop::Read));
-}
-
-#[test]
-fn a_thousand_interrupted_reads_are_tried_again(rt: HostRuntime) {
-    let mut restless = Restless { reads: 0 };
+    let mut restless = Source {
+        interruptions: 5_000,
+        text: b"",
+        piece_len: 1,
+        breaks: false,
+    };
     let mut end = FromRead::new(&mut restless);
     is_whole(&rt, rt.alloc(), &mut end, 9, Err(ReadStop::Read));
-    same(&rt, "how often it was read", &restless.reads, &1_001);
+    same(&rt, "how often it was read", restless.interruptions, 3_999);
 }
 
 #[test]

@@ -1,186 +1,73 @@
 //! What whoever runs the registry asks for beside requests.
 
 use crate::outcome::same;
-use crate::parts::{shown, text, texts};
-use registry_cli::{Errand, NewToken, Serving, Usage, Who, errand_of, line};
-use registry_names::{Moment, Text};
-use std::alloc::Global;
-use std::process::Abort;
+use crate::parts::{shown, text, words};
+use registry_cli::{Errand, errand_of, line};
 
-fn errand(rt: &impl Abort, alloc: Global, arguments: &[&str]) -> Errand {
-    match errand_of(alloc, &texts(rt, alloc, arguments)) {
-        Ok(Some(errand)) => errand,
-        Ok(None) => panic!(rt; "{arguments:?} name no errand"),
-        Err(_) => panic!(rt; "{arguments:?} are wrong"),
-    }
-}
-
-#[test]
-fn a_token_can_be_made(rt: HostRuntime) {
-    let arguments = [
-        "--db",
-        "r.db",
-        "--at",
-        "7",
-        "--operator",
-        "token-new",
-        "ann",
-    ];
-    let Errand::TokenNew(new) = errand(&rt, rt.alloc(), &arguments) else {
-        panic!(rt; "{arguments:?} make no token");
-    };
-    let NewToken { db, who, at, user } = new;
-    same(&rt, "db", db.as_str(), "r.db");
-    same(&rt, "who", matches!(who, Who::Operator), true);
-    same(&rt, "at", at.map(Moment::seconds), Some(7));
-    same(&rt, "user", user.as_str(), "ann");
-}
-
-#[test]
-fn a_file_can_be_checked(rt: HostRuntime) {
-    let Errand::Check { db } = errand(&rt, rt.alloc(), &["check"]) else {
-        panic!(rt; "nothing is checked");
-    };
-    same(&rt, "db", db.as_str(), "registry.db");
-}
+// Arguments; ` => ` and what `Debug` shows of what they ask for, or how that begins. Lines, and arguments
+// that are wrong as requests, are no errands: `Ok(None)`.
+const READ: &str =
+    r#"--db r.db --at 7 --operator token-new ann => Ok(Some(TokenNew(NewToken { db: Text { string: "r.db" }, who: Operator, at: Some(Moment { seconds: 7 }), user: Text { string: "ann" } })))
+check => Ok(Some(Check { db: Text { string: "registry.db" } }))
+--db r.db backup copy.db => Ok(Some(Backup { db: Text { string: "r.db" }, copy: Text { string: "copy.db" }, checks: true }))
+--db r.db backup copy.db --no-check => Ok(Some(Backup { db: Text { string: "r.db" }, copy: Text { string: "copy.db" }, checks: false }))
+--db r.db restore copy.db => Ok(Some(Restore { db: Text { string: "r.db" }, copy: Text { string: "copy.db" }, checks: true }))
+--db r.db restore copy.db --no-check => Ok(Some(Restore { db: Text { string: "r.db" }, copy: Text { string: "copy.db" }, checks: false }))
+--db r.db stop => Ok(Some(Stop { db: Text { string: "r.db" } }))
+--db r.db serve --port 81 --log l => Ok(Some(Serve(Serving { line: Line { db: Text { string: "r.db" }, who: Anonymous, at: None, what: Arguments { texts: [Text { string: "serve" }, Text { string: "81" }, Text { string: "1000000" }] } }, has_port: true, socket: None, log: Some(Text { string: "l" }), answers_npm: false })))
+serve --socket s => Ok(Some(Serve(Serving { line: Line { db: Text { string: "registry.db" }, who: Anonymous, at: None, what: Arguments { texts: [Text { string: "serve" }, Text { string: "8080" }, Text { string: "1000000" }] } }, has_port: false, socket: Some(Text { string: "s" }), log: None, answers_npm: false })))
+serve --socket s --log l => Ok(Some(Serve(Serving { line: Line { db: Text { string: "registry.db" }, who: Anonymous, at: None, what: Arguments { texts: [Text { string: "serve" }, Text { string: "8080" }, Text { string: "1000000" }] } }, has_port: false, socket: Some(Text { string: "s" }), log: Some(Text { string: "l" }), answers_npm: false })))
+serve --port 81 --socket s => Ok(Some(Serve(Serving { line: Line { db: Text { string: "registry.db" }, who: Anonymous, at: None, what: Arguments { texts: [Text { string: "serve" }, Text { string: "81" }, Text { string: "1000000" }] } }, has_port: true, socket: Some(Text { string: "s" }), log: None, answers_npm: false })))
+serve --log l => Ok(Some(Serve(Serving { line: Line { db: Text { string: "registry.db" }, who: Anonymous, at: None, what: Arguments { texts: [Text { string: "serve" }, Text { string: "8080" }, Text { string: "1000000" }] } }, has_port: true, socket: None, log: Some(Text { string: "l" }), answers_npm: false })))
+serve --npm => Ok(Some(Serve(Serving { line: Line { db: Text { string: "registry.db" }, who: Anonymous, at: None, what: Arguments { texts: [Text { string: "serve" }, Text { string: "8080" }, Text { string: "1000000" }] } }, has_port: true, socket: None, log: None, answers_npm: true })))
+serve --npm --port 81 --log l => Ok(Some(Serve(Serving { line: Line { db: Text { string: "registry.db" }, who: Anonymous, at: None, what: Arguments { texts: [Text { string: "serve" }, Text { string: "81" }, Text { string: "1000000" }] } }, has_port: true, socket: None, log: Some(Text { string: "l" }), answers_npm: true })))
+tags kit => Ok(None)
+serve => Ok(None)
+serve 8080 => Ok(None)
+serve --port 0 => Ok(None)
+tags kit --log l => Ok(None)
+tags kit --npm => Ok(None)
+tags => Ok(None)
+--help => Ok(None)
+checks => Ok(None)
+check more => Err(Words(Text { string: "error: unexpected argument 'more' found
+backup => Err(Words(Text { string: "error: the following required arguments
+stop now => Err(Words(Text { string: "error: unexpected argument 'now' found
+check --help => Err(Words(Text { string: "Check that all that the file holds
+--at x check => Err(Words(Text { string: "error: invalid value 'x' for '--at <SECONDS>'
+--as ann --operator check => Err(Words(Text { string: "--as excludes --operator
+serve --log => Err(Words(Text { string: "error: a value is required for '--log <LOG>'
+serve --log l --port 0 => Err(Words(Text { string: "error: invalid value '0' for '--port <PORT>'
+serve --log l --help => Err(Words(Text { string: "Serve npm over HTTP at a Unix socket, with a log of the requests,
+serve --log --npm => Err(Words(Text { string: "error: a value is required for '--log <LOG>'
+serve --npm=yes => Err(Words(Text { string: "error: unexpected value 'yes' for '--npm' found"#;
 
 #[test]
-fn a_file_can_be_copied(rt: HostRuntime) {
-    let arguments = ["--db", "r.db", "backup", "copy.db", "--no-check"];
-    for (count, is_checked) in [(4, true), (5, false)] {
-        let Errand::Backup { db, copy, checks } = errand(&rt, rt.alloc(), &arguments[..count])
-        else {
-            panic!(rt; "nothing is copied");
-        };
-        same(&rt, "db", db.as_str(), "r.db");
-        same(&rt, "copy", copy.as_str(), "copy.db");
-        same(&rt, "checks", checks, is_checked);
-    }
-}
-
-#[test]
-fn a_file_can_be_made_of_a_copy(rt: HostRuntime) {
-    let arguments = ["--db", "r.db", "restore", "copy.db", "--no-check"];
-    for (count, is_checked) in [(4, true), (5, false)] {
-        let Errand::Restore { db, copy, checks } = errand(&rt, rt.alloc(), &arguments[..count])
-        else {
-            panic!(rt; "nothing is restored");
-        };
-        same(&rt, "db", db.as_str(), "r.db");
-        same(&rt, "copy", copy.as_str(), "copy.db");
-        same(&rt, "checks", checks, is_checked);
-    }
-}
-
-#[test]
-fn a_server_can_be_stopped(rt: HostRuntime) {
-    let Errand::Stop { db } = errand(&rt, rt.alloc(), &["--db", "r.db", "stop"]) else {
-        panic!(rt; "nothing is stopped");
-    };
-    same(&rt, "db", db.as_str(), "r.db");
-}
-
-#[test]
-fn a_server_can_keep_a_log(rt: HostRuntime) {
-    let alloc = rt.alloc();
-    let arguments = ["--db", "r.db", "serve", "--port", "81", "--log", "l"];
-    let Errand::Serve(serving) = errand(&rt, alloc, &arguments) else {
-        panic!(rt; "nothing is served");
-    };
-    let Serving {
-        line: served,
-        has_port,
-        socket,
-        log,
-        answers_npm,
-    } = serving;
-    let Ok(wanted) = line(alloc, &texts(&rt, alloc, &arguments[..5])) else {
-        panic!(rt; "nothing is served without a log");
-    };
-    let wanted = shown(&rt, alloc, &wanted);
-    same(
-        &rt,
-        "line",
-        shown(&rt, alloc, &served).as_str(),
-        wanted.as_str(),
-    );
-    same(&rt, "a port", has_port, true);
-    same(&rt, "socket", socket.is_none(), true);
-    same(&rt, "log", said(&log), "l");
-    same(&rt, "npm", answers_npm, false);
-}
-
-fn said(text: &Option<Text>) -> &str {
-    match text {
-        Some(text) => text.as_str(),
-        None => "",
-    }
-}
-
-/// Where a server listens: the port of its line, whether it listens there, and the socket.
-static PLACES: [(&'static [&'static str], &'static str, bool, &'static str); 4] = [
-    (&["serve", "--socket", "s"], "8080", false, "s"),
-    (
-        &["serve", "--socket", "s", "--log", "l"],
-        "8080",
-        false,
-        "s",
-    ),
-    (&["serve", "--port", "81", "--socket", "s"], "81", true, "s"),
-    (&["serve", "--log", "l"], "8080", true, ""),
-];
-
-#[test]
-fn a_server_listens_where_it_is_said(rt: HostRuntime) {
-    for (arguments, port, has_port, socket) in &PLACES {
-        let Errand::Serve(serving) = errand(&rt, rt.alloc(), arguments) else {
-            panic!(rt; "{arguments:?} serve nothing");
-        };
-        let words = serving.line.what.as_slice();
-        same(
-            &rt,
-            *arguments,
-            words.get(1).map_or("", Text::as_str),
-            *port,
-        );
-        same(&rt, *arguments, serving.has_port, *has_port);
-        same(&rt, *arguments, said(&serving.socket), *socket);
-    }
-}
-
-/// Words of a server, and whether it answers npm's own requests, too.
-static MODES: [(&'static [&'static str], bool); 3] = [
-    (&["serve", "--npm"], true),
-    (&["serve", "--npm", "--port", "81", "--log", "l"], true),
-    (&["serve", "--socket", "s"], false),
-];
-
-#[test]
-fn a_server_answers_npm_where_it_is_said(rt: HostRuntime) {
-    for (arguments, answers_npm) in &MODES {
-        let Errand::Serve(serving) = errand(&rt, rt.alloc(), arguments) else {
-            panic!(rt; "{arguments:?} serve nothing");
-        };
-        same(&rt, *arguments, serving.answers_npm, *answers_npm);
+fn errands_are_read(rt: HostRuntime) {
+    for told in READ.lines() {
+        let (arguments, wanted) = told.split_once(" => ").expect(&rt, told);
+        let errand = errand_of(rt.alloc(), &words(&rt, rt.alloc(), arguments));
+        let came_out = shown(&rt, rt.alloc(), &errand);
+        let front = came_out.as_str().get(..wanted.len());
+        same(&rt, told, front, Some(wanted));
     }
 }
 
 const TOKEN: &str = "npm_000102030405060708090a0b0c0d0e0f7f80abff";
 
-/// Tokens that are made, whoever asks, for any user and at any moment.
-static MADE: [&'static [&'static str]; 5] = [
-    &["--operator", "token-new", "ann"],
-    &["--at", "253402300799", "--as", "ann", "token-new", "bob"],
-    &["--as=-x=y", "--at=0", "token-new", "--", "-a"],
-    &["--as", "", "token-new", ""],
-    &["token-new", "--", "--"],
-];
+// Tokens that are made, whoever asks, for any user and at any moment. Two of the arguments of the fourth
+// line are empty.
+const MADE: &str = "--operator token-new ann
+--at 253402300799 --as ann token-new bob
+--as=-x=y --at=0 token-new -- -a
+--as  token-new 
+token-new -- --";
 
 #[test]
 fn a_server_is_asked_for_the_same_line(rt: HostRuntime) {
     let alloc = rt.alloc();
-    for arguments in &MADE {
-        let Errand::TokenNew(new) = errand(&rt, alloc, arguments) else {
+    for arguments in MADE.lines() {
+        let Ok(Some(Errand::TokenNew(new))) = errand_of(alloc, &words(&rt, alloc, arguments)) else {
             panic!(rt; "{arguments:?} make no token");
         };
         let words = new.arguments(alloc, TOKEN).expect(&rt, "memory");
@@ -192,81 +79,6 @@ fn a_server_is_asked_for_the_same_line(rt: HostRuntime) {
             .expect(&rt, "memory");
         let asked = shown(&rt, alloc, &asked);
         let wanted = shown(&rt, alloc, &wanted);
-        same(&rt, *arguments, asked.as_str(), wanted.as_str());
-    }
-}
-
-/// Lines, and arguments that are wrong as requests.
-static NO_ERRANDS: [&'static [&'static str]; 9] = [
-    &["tags", "kit"],
-    &["serve"],
-    &["serve", "8080"],
-    &["serve", "--port", "0"],
-    &["tags", "kit", "--log", "l"],
-    &["tags", "kit", "--npm"],
-    &["tags"],
-    &["--help"],
-    &["checks"],
-];
-
-#[test]
-fn a_request_is_no_errand(rt: HostRuntime) {
-    for arguments in &NO_ERRANDS {
-        let found = errand_of(rt.alloc(), &texts(&rt, rt.alloc(), arguments));
-        same(&rt, *arguments, matches!(found, Ok(None)), true);
-    }
-}
-
-/// Wrong arguments of errands, and how the message begins.
-static WRONG: [(&'static [&'static str], &'static str); 11] = [
-    (
-        &["check", "more"],
-        "error: unexpected argument 'more' found",
-    ),
-    (&["backup"], "error: the following required arguments"),
-    (&["stop", "now"], "error: unexpected argument 'now' found"),
-    (&["check", "--help"], "Check that all that the file holds"),
-    (
-        &["--at", "x", "check"],
-        "error: invalid value 'x' for '--at <SECONDS>'",
-    ),
-    (
-        &["--as", "ann", "--operator", "check"],
-        "--as excludes --operator",
-    ),
-    (
-        &["serve", "--log"],
-        "error: a value is required for '--log <LOG>'",
-    ),
-    (
-        &["serve", "--log", "l", "--port", "0"],
-        "error: invalid value '0' for '--port <PORT>'",
-    ),
-    (
-        &["serve", "--log", "l", "--help"],
-        "Serve npm over HTTP at a Unix socket, with a log of the requests,",
-    ),
-    (
-        &["serve", "--log", "--npm"],
-        "error: a value is required for '--log <LOG>'",
-    ),
-    (
-        &["serve", "--npm=yes"],
-        "error: unexpected value 'yes' for '--npm' found",
-    ),
-];
-
-#[test]
-fn wrong_arguments_of_an_errand_are_told(rt: HostRuntime) {
-    for (arguments, begins) in &WRONG {
-        let said = words(&rt, rt.alloc(), arguments);
-        same(&rt, *arguments, said.as_str().starts_with(begins), true);
-    }
-}
-
-fn words(rt: &impl Abort, alloc: Global, arguments: &[&str]) -> Text {
-    match errand_of(alloc, &texts(rt, alloc, arguments)) {
-        Err(Usage::Words(said)) => said,
-        _ => panic!(rt; "nothing is said of {arguments:?}"),
+        same(&rt, arguments, asked.as_str(), wanted.as_str());
     }
 }

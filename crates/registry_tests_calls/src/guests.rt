@@ -4,7 +4,7 @@ ghost use Rattle.std.specs.Prelude.{length};
 ghost use Rattle.registry_server.specs.Sockets.{MovesAtMost};
 
 use crate::outcome::same;
-use crate::parts::{as_text, first_of, text, texts};
+use crate::parts::{as_text, first_of, text, words};
 use crate::talk::connections::{FixedTags, Steps};
 use registry_cache::SharedBlob;
 use registry_guests::{
@@ -16,9 +16,6 @@ use registry_rules::Reply;
 use registry_server::{Flow, Socket, Visit};
 use std::alloc::Global;
 use std::process::Abort;
-
-/// What a program would print, and its status.
-type Case<'c> = (&'c [&'c str], u8, &'c str);
 
 /// The socket of a guest that sends a message, a few bytes at a time, and keeps what it gets. After
 /// its message it stays, or says that it sends no more.
@@ -78,35 +75,28 @@ impl Socket for Memory {
 }
 
 // A message of these words, without a file.
-fn message(rt: &impl Abort, alloc: Global, words: &[&str]) -> Vec<u8> {
-    let words = texts(rt, alloc, words);
+fn message(rt: &impl Abort, alloc: Global, line: &str) -> Vec<u8> {
+    let words = words(rt, alloc, line);
     if !fits(&words) {
         panic!(rt; "the words don't fit into a message");
     }
     write(alloc, &words, b"a body").expect(rt, "memory")
 }
 
-fn socket(alloc: Global, message: Vec<u8>, piece_len: usize) -> Memory {
+fn socket(alloc: Global, message: Vec<u8>, piece_len: usize, stays: bool) -> Memory {
     Memory {
         message,
         taken: 0,
         piece_len,
-        stays: false,
+        stays,
         got: Vec::new(alloc),
     }
-}
-
-// One that stays after its message.
-fn staying(alloc: Global, message: Vec<u8>, piece_len: usize) -> Memory {
-    let mut socket = socket(alloc, message, piece_len);
-    socket.stays = true;
-    socket
 }
 
 #[test]
 fn a_message_is_read_as_it_was_written(rt: HostRuntime) {
     let alloc = rt.alloc();
-    let bytes = message(&rt, alloc, &["user-add", "", "ann"]);
+    let bytes = message(&rt, alloc, "user-add  ann");
     let read = read(alloc, &bytes).expect(&rt, "a message");
     same(&rt, "words", read.arguments.len(), 3);
     let last = read.arguments.last().map(|word| as_text(word));
@@ -123,90 +113,53 @@ fn a_message_is_read_as_it_was_written(rt: HostRuntime) {
 }
 
 // Checks what is printed, as it is sent and parsed.
-fn is_printed(rt: &impl Abort, alloc: Global, output: CommandOutput, status: u8, wanted: &str) {
+fn is_printed(rt: &impl Abort, alloc: Global, output: CommandOutput, wanted: (u8, &str)) {
     let mut bytes = Vec::new(alloc);
     let unsent = Unsent::of(output);
     let (front, text, rest) = unsent.parts();
     bytes.extend_from_slice(front).expect(rt, "memory");
     bytes.extend_from_slice(text).expect(rt, "memory");
     bytes.extend_from_slice(rest).expect(rt, "memory");
-    is_reply(rt, alloc, &bytes, status, wanted);
+    is_reply(rt, alloc, &bytes, wanted);
 }
 
-// Checks the reply in bytes that were sent.
-fn is_reply(rt: &impl Abort, alloc: Global, bytes: &[u8], status: u8, wanted: &str) {
+// Checks the reply in bytes that were sent: the status, and what a program would print.
+fn is_reply(rt: &impl Abort, alloc: Global, bytes: &[u8], wanted: (u8, &str)) {
     let reply = parse_reply(alloc, bytes).expect(rt, "an answer");
     let mut text = Vec::from_slice(alloc, reply.text).expect(rt, "memory");
     text.extend_from_slice(&reply.end).expect(rt, "memory");
-    same(rt, wanted, as_text(&text), wanted);
-    same(rt, wanted, reply.status, status);
+    same(rt, wanted, (reply.status, as_text(&text)), wanted);
 }
 
 #[test]
 fn outcomes_are_sent_as_they_are_printed(rt: HostRuntime) {
     let alloc = rt.alloc();
     let archive = SharedBlob::from_slice(alloc, b"bytes").expect(&rt, "memory");
-    is_printed(
-        &rt,
-        alloc,
-        CommandOutput::of(Ok(Reply::Done)),
-        0,
-        "{\"ok\":true}\n",
-    );
-    is_printed(
-        &rt,
-        alloc,
-        CommandOutput::of(Ok(Reply::Count(12))),
-        0,
-        "{\"count\":12,\"ok\":true}\n",
-    );
-    is_printed(
-        &rt,
-        alloc,
-        CommandOutput::of(Ok(Reply::Bytes(archive))),
-        0,
-        "bytes",
-    );
-    is_printed(
-        &rt,
-        alloc,
-        CommandOutput::of(Ok(Reply::Refused(Refusal::NotFound))),
-        1,
-        "refused: NotFound\n",
-    );
-    is_printed(
-        &rt,
-        alloc,
-        CommandOutput::of(Err(Fault::Database)),
-        3,
-        "fault: Database\n",
-    );
-    is_printed(
-        &rt,
-        alloc,
-        CommandOutput::usage(text(&rt, alloc, "wrong")),
-        2,
-        "wrong\n",
-    );
-    is_printed(
-        &rt,
-        alloc,
-        CommandOutput::usage(text(&rt, alloc, "wrong\n")),
-        2,
-        "wrong\n",
-    );
+    let done = CommandOutput::of(Ok(Reply::Done));
+    is_printed(&rt, alloc, done, (0, "{\"ok\":true}\n"));
+    let count = CommandOutput::of(Ok(Reply::Count(12)));
+    is_printed(&rt, alloc, count, (0, "{\"count\":12,\"ok\":true}\n"));
+    let bytes = CommandOutput::of(Ok(Reply::Bytes(archive)));
+    is_printed(&rt, alloc, bytes, (0, "bytes"));
+    let refused = CommandOutput::of(Ok(Reply::Refused(Refusal::NotFound)));
+    is_printed(&rt, alloc, refused, (1, "refused: NotFound\n"));
+    let fault = CommandOutput::of(Err(Fault::Database));
+    is_printed(&rt, alloc, fault, (3, "fault: Database\n"));
+    for line in ["wrong", "wrong\n"] {
+        let usage = CommandOutput::usage(text(&rt, alloc, line));
+        is_printed(&rt, alloc, usage, (2, "wrong\n"));
+    }
 }
 
-/// What guests ask of a service that has a fault for teams and refuses everything else that they
-/// ask.
-static CASES: [Case<'static>; 4] = [
-    (&["--operator", "user-add", "ann"], 1, "refused: NotFound\n"),
-    (&["--as", "ann", "teams", "lab"], 3, "fault: Database\n"),
-    (&["--as", "ann", "tags", "Kit"], 1, "refused: BadName\n"),
+// What guests ask of a service that has a fault for teams and refuses everything else that they ask,
+// and the status and what a program would print.
+const CASES: [(&str, (u8, &str)); 4] = [
+    ("--operator user-add ann", (1, "refused: NotFound\n")),
+    ("--as ann teams lab", (3, "fault: Database\n")),
+    ("--as ann tags Kit", (1, "refused: BadName\n")),
     (
-        &["--as", "ann", "--operator", "teams", "lab"],
-        2,
-        "--as excludes --operator\n",
+        "--as ann --operator teams lab",
+        (2, "--as excludes --operator\n"),
     ),
 ];
 
@@ -230,33 +183,27 @@ fn visit_all(rt: &impl Abort, alloc: Global, guest: &mut Guest<Memory>) -> Visit
 #[test]
 fn guests_are_answered(rt: HostRuntime) {
     let alloc = rt.alloc();
-    for (words, status, wanted) in &CASES {
+    for (line, wanted) in CASES {
         for piece_len in [1, 7, 1_000] {
-            let bytes = message(&rt, alloc, words);
-            let mut guest = Guest::new(alloc, staying(alloc, bytes, piece_len), 0);
-            same(&rt, *wanted, visit_all(&rt, alloc, &mut guest), Visit::Over);
-            is_reply(&rt, alloc, &guest.into_socket().got, *status, wanted);
+            let bytes = message(&rt, alloc, line);
+            let mut guest = Guest::new(alloc, socket(alloc, bytes, piece_len, true), 0);
+            same(&rt, line, visit_all(&rt, alloc, &mut guest), Visit::Over);
+            is_reply(&rt, alloc, &guest.into_socket().got, wanted);
         }
     }
 }
 
-#[test]
-fn a_cut_message_is_answered_by_nothing(rt: HostRuntime) {
-    let alloc = rt.alloc();
-    let mut bytes = message(&rt, alloc, &["tags", "kit"]);
-    let _last = bytes.pop();
-    let mut guest = Guest::new(alloc, socket(alloc, bytes, 7), 0);
-    same(&rt, "cut", visit_all(&rt, alloc, &mut guest), Visit::Over);
-    same(&rt, "cut", guest.into_socket().got.len(), 0);
-}
-
+// A message that is cut is answered by nothing, and so is a guest that has gone.
 #[test]
 fn a_guest_that_has_gone_is_not_answered(rt: HostRuntime) {
     let alloc = rt.alloc();
-    let bytes = message(&rt, alloc, &["--as", "ann", "teams", "lab"]);
-    let mut guest = Guest::new(alloc, socket(alloc, bytes, 7), 0);
-    same(&rt, "gone", visit_all(&rt, alloc, &mut guest), Visit::Over);
-    same(&rt, "gone", guest.into_socket().got.len(), 0);
+    for (line, cut) in [("tags kit", 1), ("--as ann teams lab", 0)] {
+        let mut bytes = message(&rt, alloc, line);
+        bytes.truncate(bytes.len().saturating_sub(cut));
+        let mut guest = Guest::new(alloc, socket(alloc, bytes, 7, false), 0);
+        same(&rt, line, visit_all(&rt, alloc, &mut guest), Visit::Over);
+        same(&rt, line, guest.into_socket().got.len(), 0);
+    }
 }
 
 #[test]
@@ -266,8 +213,8 @@ fn a_pool_has_eight_slots(rt: HostRuntime) {
     same(&rt, "new", pool.is_empty(), true);
     for number in 0..GUEST_COUNT {
         same(&rt, number, pool.place(), Some(number));
-        let bytes = message(&rt, alloc, &["tags", "kit"]);
-        pool.add(alloc, number, socket(alloc, bytes, 1_000), 0);
+        let bytes = message(&rt, alloc, "tags kit");
+        pool.add(alloc, number, socket(alloc, bytes, 1_000, false), 0);
     }
     same(&rt, "full", pool.place(), None);
     same(&rt, "busy", pool.is_busy(), true);
@@ -284,27 +231,17 @@ fn a_pool_has_eight_slots(rt: HostRuntime) {
     same(&rt, "late", pool.is_empty(), true);
 }
 
-// A server whose control connection sends these bytes from 0 on, one in each visit.
-fn controlled(rt: &impl Abort, alloc: Global, bytes: &str) -> Control<Memory> {
-    let mut control = Control::new();
-    come(rt, alloc, &mut control, bytes);
-    control
-}
-
+// A connection from 0 on that controls a server, and sends these bytes, one in each visit.
 fn come(rt: &impl Abort, alloc: Global, control: &mut Control<Memory>, bytes: &str) {
     let bytes = Vec::from_slice(alloc, bytes.as_bytes()).expect(rt, "memory");
-    control.add(socket(alloc, bytes, 1), 0);
-}
-
-// What was sent to the connection that is there.
-fn answers(rt: &impl Abort, control: Control<Memory>) -> Vec<u8> {
-    control.into_socket().expect(rt, "a connection").got
+    control.add(socket(alloc, bytes, 1, false), 0);
 }
 
 #[test]
 fn a_connection_holds_a_server(rt: HostRuntime) {
     let alloc = rt.alloc();
-    let mut control = controlled(&rt, alloc, "hk");
+    let mut control = Control::new();
+    come(&rt, alloc, &mut control, "hk");
     same(&rt, "before it asks", control.holds(), false);
     control.visit(0);
     same(&rt, "once it has", control.holds(), true);
@@ -312,22 +249,10 @@ fn a_connection_holds_a_server(rt: HostRuntime) {
     control.end_late(HOLD_LIMIT - 1);
     same(&rt, "until its time is up", control.holds(), true);
     same(&rt, "it stops nothing", control.stops(), false);
-    same(&rt, "it was told", as_text(&answers(&rt, control)), "hk");
-}
-
-#[test]
-fn a_hold_ends(rt: HostRuntime) {
-    let alloc = rt.alloc();
-    for bytes in ["h", "hh", "hs", "hx"] {
-        let mut control = controlled(&rt, alloc, bytes);
-        control.visit(0);
-        same(&rt, bytes, control.holds(), true);
-        control.visit(0);
-        same(&rt, bytes, control.holds(), false);
-        same(&rt, bytes, control.is_free(), true);
-        same(&rt, bytes, control.stops(), false);
-    }
-    let mut control = controlled(&rt, alloc, "hk");
+    let got = control.into_socket().expect(&rt, "a connection").got;
+    same(&rt, "it was told", as_text(&got), "hk");
+    let mut control = Control::new();
+    come(&rt, alloc, &mut control, "hk");
     control.visit(1);
     control.end_late(HOLD_LIMIT);
     same(&rt, "in time", control.holds(), true);
@@ -335,27 +260,34 @@ fn a_hold_ends(rt: HostRuntime) {
     same(&rt, "late", control.is_free(), true);
 }
 
+// A hold ends with its connection and by each byte but `k`, and a connection that doesn't ask for one
+// ends at once.
 #[test]
-fn a_connection_that_sends_nothing_ends(rt: HostRuntime) {
-    let alloc = rt.alloc();
-    let mut control = controlled(&rt, alloc, "");
-    same(&rt, "it is visited", control.is_busy(), true);
-    control.end_late(SILENCE_LIMIT - 1);
-    same(&rt, "in time", control.is_free(), false);
-    control.end_late(SILENCE_LIMIT);
-    same(&rt, "late", control.is_free(), true);
-    for bytes in ["k", "x"] {
-        let mut control = controlled(&rt, alloc, bytes);
+fn a_hold_ends(rt: HostRuntime) {
+    for bytes in ["h", "hh", "hs", "hx", "k", "x"] {
+        let mut control = Control::new();
+        come(&rt, rt.alloc(), &mut control, bytes);
         control.visit(0);
-        same(&rt, bytes, control.is_free(), true);
+        same(&rt, bytes, control.holds(), bytes.starts_with('h'));
+        same(&rt, bytes, control.is_free(), !bytes.starts_with('h'));
+        control.visit(0);
         same(&rt, bytes, control.holds(), false);
+        same(&rt, bytes, control.is_free(), true);
+        same(&rt, bytes, control.stops(), false);
     }
 }
 
 #[test]
 fn a_connection_stops_a_server(rt: HostRuntime) {
     let alloc = rt.alloc();
-    let mut control = controlled(&rt, alloc, "s");
+    let mut control = Control::new();
+    come(&rt, alloc, &mut control, "");
+    same(&rt, "it is visited", control.is_busy(), true);
+    control.end_late(SILENCE_LIMIT - 1);
+    same(&rt, "in time", control.is_free(), false);
+    control.end_late(SILENCE_LIMIT);
+    same(&rt, "late", control.is_free(), true);
+    come(&rt, alloc, &mut control, "s");
     control.visit(0);
     control.end_late(u64::MAX);
     same(&rt, "it stays", control.is_free(), false);

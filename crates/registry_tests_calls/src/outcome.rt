@@ -2,7 +2,6 @@
 //!
 //! A test ends at the first case that comes out differently, and where there is no memory.
 
-use registry_names::{Refusal, Stop};
 use std::alloc::Global;
 use std::fmt::{Debug, Display};
 use std::process::Abort;
@@ -25,15 +24,8 @@ pub fn is_displayed<T: Display>(rt: &impl Abort, alloc: Global, value: &T, wante
     same(rt, wanted, came_out.as_str(), wanted);
 }
 
-/// Checks that a case is refused with this refusal.
-pub fn is_refused<C: Copy + Debug, T: Copy + Debug>(
-    rt: &impl Abort,
-    case: C,
-    came_out: Stop,
-    wanted: &Result<T, Refusal>,
-) {
-    match wanted {
-        Ok(value) => panic!(rt; "{case:?} comes out as {came_out:?}, and not as {value:?}"),
-        Err(refusal) => same(rt, case, &came_out, &Stop::Refused(*refusal)),
-    }
+/// Checks that `Debug` shows a value as this text.
+pub fn is_shown<T: Debug>(rt: &impl Abort, alloc: Global, case: &str, value: &T, wanted: &str) {
+    let came_out = format!(in alloc; "{value:?}").expect(rt, "memory");
+    same(rt, case, came_out.as_str(), wanted);
 }

@@ -26,13 +26,41 @@ pub fn texts(rt: &impl Abort, alloc: Global, words: &[&str]) -> Vec<Text> {
     texts
 }
 
-pub fn string(rt: &impl Abort, alloc: Global, text: &str) -> String {
-    String::from_str(alloc, text).expect(rt, "memory")
+/// The words of a line, with one space between them. There are none in an empty line.
+pub fn words(rt: &impl Abort, alloc: Global, line: &str) -> Vec<Text> {
+    let mut words = Vec::new(alloc);
+    if line.is_empty() {
+        return words;
+    }
+    for word in line.split(' ') {
+        words.push(text(rt, alloc, word)).expect(rt, "memory");
+    }
+    words
 }
 
-/// Words with a space between them.
-pub fn joined(rt: &impl Abort, alloc: Global, words: &[&str]) -> String {
-    words.join(alloc, " ").expect(rt, "memory")
+/// The field at this place of a line, counted from 0, with this between the fields. One that the line
+/// lacks is empty.
+pub fn field(line: &str, between: char, place: usize) -> &str {
+    for (number, text) in line.split(between).enumerate() {
+        if number == place {
+            return text;
+        }
+    }
+    ""
+}
+
+/// Bytes in hexadecimal.
+pub fn hex(rt: &impl Abort, alloc: Global, bytes: &[u8]) -> String {
+    let mut digits = String::new(alloc);
+    for byte in bytes {
+        let two = format!(in alloc; "{byte:02x}").expect(rt, "memory");
+        digits.push_str(two.as_str()).expect(rt, "memory");
+    }
+    digits
+}
+
+pub fn string(rt: &impl Abort, alloc: Global, text: &str) -> String {
+    String::from_str(alloc, text).expect(rt, "memory")
 }
 
 /// Texts with nothing between them.

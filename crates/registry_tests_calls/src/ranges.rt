@@ -9,227 +9,177 @@ use std::process::Abort;
 /// Whether a range allows a version. `None` where the text isn't a range.
 type Allowed = Option<bool>;
 
-const ALLOWED: Allowed = Some(true);
-
-const NOT_ALLOWED: Allowed = Some(false);
-
-const NO_RANGE: Allowed = None;
-
-fn allowed(rt: &impl Abort, alloc: Global, range: &str, text: &str) -> Allowed {
-    let version = version(rt, alloc, text);
-    match Range::parse(alloc, range).expect(rt, "memory") {
-        Some(range) => Some(range.allows(&version)),
-        None => None,
-    }
-}
-
-// A text binds a version where it is no range, or allows it.
-fn bound(rt: &impl Abort, alloc: Global, range: &str, text: &str) -> bool {
-    let version = version(rt, alloc, text);
-    binds(alloc, range, &version).expect(rt, "memory")
-}
-
-// Sees that the calls say of a range what is wanted.
-fn both_say(
-    rt: &impl Abort,
-    alloc: Global,
-    shows: &str,
-    range: &str,
-    version: &str,
-    wanted: Allowed,
-) {
-    same(rt, &(shows, version), &is_range(range), &wanted.is_some());
-    same(
-        rt,
-        &(shows, version),
-        &allowed(rt, alloc, range, version),
-        &wanted,
-    );
-    same(
-        rt,
-        &(shows, version),
-        &bound(rt, alloc, range, version),
-        &wanted.unwrap_or(true),
-    );
-}
-
-/// A range, a version that it allows, and one that it doesn't.
-type Row = (&'static str, &'static str, &'static str);
+// Each line has a range, and ` => ` and versions: those that it allows, and behind `!` those that it
+// doesn't.
 
 // Each row of the table of what is written, in its order.
-static TABLE: [Row; 53] = [
-    ("", "1.0.0", "1.0.0-a"),
-    ("*", "0.0.0", "0.0.0-a"),
-    ("=*", "1.0.0", "1.0.0-a"),
-    (">=x", "1.0.0", "1.0.0-a"),
-    ("<=X", "1.0.0", "1.0.0-a"),
-    ("~*", "1.0.0", "1.0.0-a"),
-    ("^*.2.3", "1.0.0", "1.0.0-a"),
-    ("1", "1.9.9", "2.0.0-a"),
-    ("=1", "1.0.0", "0.9.9"),
-    ("1.2", "1.2.9", "1.3.0-a"),
-    ("=1.2", "1.2.0", "1.1.9"),
-    ("1.2.3", "1.2.3", "1.2.4"),
-    ("=1.2.3", "1.2.3", "1.2.2"),
-    ("1.2.3-a", "1.2.3-a", "1.2.3"),
-    ("=1.2.3-a", "1.2.3-a", "1.2.3-b"),
-    ("~1", "1.9.0", "2.0.0-a"),
-    ("~1.2", "1.2.9", "1.3.0"),
-    ("~1.2.3", "1.2.9", "1.2.2"),
-    ("~1.2.3-b", "1.2.3-c", "1.2.3-a"),
-    ("^1.2.3", "1.9.0", "2.0.0-0"),
-    ("^1.2", "1.2.0", "1.1.9"),
-    ("^1", "1.9.0", "2.0.0"),
-    ("^0", "0.9.0", "1.0.0"),
-    ("^1.2.3-b", "1.2.3-c", "1.2.3-a"),
-    ("^0.2.3", "0.2.9", "0.3.0"),
-    ("^0.2", "0.2.0", "0.1.9"),
-    ("^0.0", "0.0.9", "0.1.0"),
-    ("^0.0.3", "0.0.3", "0.0.4"),
-    (">1", "2.0.0", "1.9.9"),
-    (">1.2", "1.3.0", "1.2.9"),
-    ("<=1", "1.9.9", "2.0.0"),
-    ("<=1.2", "1.2.9", "1.3.0"),
-    ("<1", "0.9.9", "1.0.0"),
-    ("<1.2", "1.1.9", "1.2.0"),
-    (">=1", "1.0.0", "0.9.9"),
-    (">=1.2", "1.2.0", "1.1.9"),
-    ("<1.2.3", "1.2.2", "1.2.3"),
-    ("<=1.2.3", "1.2.3", "1.2.4"),
-    (">1.2.3", "1.2.4", "1.2.3"),
-    (">=1.2.3", "1.2.3", "1.2.2"),
-    ("<1.2.3-b", "1.2.3-a", "1.2.3-b"),
-    (">1.2.3-a", "1.2.3-b", "1.2.3-a"),
-    ("1.2.3 - 2.3.4", "2.3.4", "2.3.5"),
-    ("1.2 - 2.3", "2.3.9", "2.4.0"),
-    ("1 - 2", "2.9.9", "3.0.0"),
-    ("1.2.3 - *", "9.0.0", "1.2.2"),
-    ("0.0.0-a - *", "0.0.0-a", "0.0.0-0"),
-    ("0.0.0-a - x", "0.0.0-b", "0.0.1-b"),
-    ("0.0.0-a - X.1", "0.0.0-b", "1.0.0-b"),
-    ("* - 1.2.3", "0.0.0", "1.2.4"),
-    ("x.1 - 2", "2.9.0", "3.0.0"),
-    ("* - 0.0.1-b", "0.0.1-a", "0.0.1-c"),
-    ("* - *", "1.0.0", "1.0.0-a"),
-];
+const TABLE: &str = " => 1.0.0 !1.0.0-a
+* => 0.0.0 !0.0.0-a
+=* => 1.0.0 !1.0.0-a
+>=x => 1.0.0 !1.0.0-a
+<=X => 1.0.0 !1.0.0-a
+~* => 1.0.0 !1.0.0-a
+^*.2.3 => 1.0.0 !1.0.0-a
+1 => 1.9.9 !2.0.0-a
+=1 => 1.0.0 !0.9.9
+1.2 => 1.2.9 !1.3.0-a
+=1.2 => 1.2.0 !1.1.9
+1.2.3 => 1.2.3 !1.2.4
+=1.2.3 => 1.2.3 !1.2.2
+1.2.3-a => 1.2.3-a !1.2.3
+=1.2.3-a => 1.2.3-a !1.2.3-b
+~1 => 1.9.0 !2.0.0-a
+~1.2 => 1.2.9 !1.3.0
+~1.2.3 => 1.2.9 !1.2.2
+~1.2.3-b => 1.2.3-c !1.2.3-a
+^1.2.3 => 1.9.0 !2.0.0-0
+^1.2 => 1.2.0 !1.1.9
+^1 => 1.9.0 !2.0.0
+^0 => 0.9.0 !1.0.0
+^1.2.3-b => 1.2.3-c !1.2.3-a
+^0.2.3 => 0.2.9 !0.3.0
+^0.2 => 0.2.0 !0.1.9
+^0.0 => 0.0.9 !0.1.0
+^0.0.3 => 0.0.3 !0.0.4
+>1 => 2.0.0 !1.9.9
+>1.2 => 1.3.0 !1.2.9
+<=1 => 1.9.9 !2.0.0
+<=1.2 => 1.2.9 !1.3.0
+<1 => 0.9.9 !1.0.0
+<1.2 => 1.1.9 !1.2.0
+>=1 => 1.0.0 !0.9.9
+>=1.2 => 1.2.0 !1.1.9
+<1.2.3 => 1.2.2 !1.2.3
+<=1.2.3 => 1.2.3 !1.2.4
+>1.2.3 => 1.2.4 !1.2.3
+>=1.2.3 => 1.2.3 !1.2.2
+<1.2.3-b => 1.2.3-a !1.2.3-b
+>1.2.3-a => 1.2.3-b !1.2.3-a
+1.2.3 - 2.3.4 => 2.3.4 !2.3.5
+1.2 - 2.3 => 2.3.9 !2.4.0
+1 - 2 => 2.9.9 !3.0.0
+1.2.3 - * => 9.0.0 !1.2.2
+0.0.0-a - * => 0.0.0-a !0.0.0-0
+0.0.0-a - x => 0.0.0-b !0.0.1-b
+0.0.0-a - X.1 => 0.0.0-b !1.0.0-b
+* - 1.2.3 => 0.0.0 !1.2.4
+x.1 - 2 => 2.9.0 !3.0.0
+* - 0.0.1-b => 0.0.1-a !0.0.1-c
+* - * => 1.0.0 !1.0.0-a";
 
-#[test]
-fn ranges_of_the_table(rt: HostRuntime) {
-    for (range, inside, outside) in &TABLE {
-        both_say(&rt, rt.alloc(), range, range, inside, ALLOWED);
-        both_say(&rt, rt.alloc(), range, range, outside, NOT_ALLOWED);
+const SETS: &str = "^1.2.3 => 1.2.3 !1.2.2 !1.3.0-beta
+1.2.3 - 2.3 => 1.2.3 !1.2.3-a
+>=1.2.3-beta.1 <1.3.0 => 1.2.3-beta.2 1.2.4 !1.2.4-beta
+1 || 3 => 1.5.0 3.1.0 !2.0.0
+  || 9 => 4.0.0 !9.0.0-a
+|| => 1.0.0
+* || 1.0.0-a => 1.0.0-a
+1.x.3-beta => 1.0.0
+=v1 => 1.0.0
+>= 1 => 2.0.0
+~> 1 => 1.9.0 !2.0.0
+v1 - v2  => 2.9.0
+1.2.3+build => 1.2.3
+<=9007199254740991 => 9007199254740991.0.0
+9007199254740991 => 9007199254740991.0.0
+1.2.3-9007199254740992 => 1.2.3-9007199254740992
+^0.0.3-b => !0.0.4-a
+1 2 => !1.0.0
+<* => !0.0.0 !0.0.0-0
+>* => !9.0.0
+>x.1 => !9007199254740991.0.0
+<x.1 || 1 => !0.0.0
+<1 => !1.0.0-0
+<=1 => !2.0.0-0
+1.2.3 - 2 => !3.0.0-0
+* >=0.0.0-0 => !0.0.0-a
+* - 0.0.0-a => !0.0.0-a
+0.0.0-a <=* => !0.0.0-a
+1.2.3-9007199254740993 => !1.2.3-9007199254740992
+>1.2.3-beta.2 => 1.2.3-beta.11.0";
+
+const NO_RANGES: &str = "v
+vv1
+latest
+1.2.3.4
+1.2-beta
+01.2.3
+1.2.3-
+1.2.3-01
+1.2.3+
+9007199254740992
+x.9007199254740992
+x-y
+==1
+> =1
+~ > 1
+1*.3.2
+2.0.*1
+1.2.3 -2.3
+1.2.3- 2
+1.2.3 - 2.3 4
+1.2.3 - 
+- 1
+1|2
+1|| |2
+v || 1
+1\t||2";
+
+fn is_told(rt: &impl Abort, alloc: Global, line: &str) {
+    let (range, versions) = line.split_once(" => ").expect(rt, line);
+    for told in versions.split(' ') {
+        match told.strip_prefix('!') {
+            Some(version) => both_say(rt, alloc, range, version, Some(false)),
+            None => both_say(rt, alloc, range, told, Some(true)),
+        }
     }
 }
 
-/// A range, a version, and whether it is allowed.
-type Case = (&'static str, &'static str, Allowed);
-
-static SETS: [Case; 40] = [
-    ("^1.2.3", "1.2.3", ALLOWED),
-    ("1.2.3 - 2.3", "1.2.3", ALLOWED),
-    (">=1.2.3-beta.1 <1.3.0", "1.2.3-beta.2", ALLOWED),
-    (">=1.2.3-beta.1 <1.3.0", "1.2.4", ALLOWED),
-    ("1 || 3", "1.5.0", ALLOWED),
-    ("1 || 3", "3.1.0", ALLOWED),
-    ("  || 9", "4.0.0", ALLOWED),
-    ("||", "1.0.0", ALLOWED),
-    ("* || 1.0.0-a", "1.0.0-a", ALLOWED),
-    ("1.x.3-beta", "1.0.0", ALLOWED),
-    ("=v1", "1.0.0", ALLOWED),
-    (">= 1", "2.0.0", ALLOWED),
-    ("~> 1", "1.9.0", ALLOWED),
-    ("v1 - v2 ", "2.9.0", ALLOWED),
-    ("1.2.3+build", "1.2.3", ALLOWED),
-    ("<=9007199254740991", "9007199254740991.0.0", ALLOWED),
-    ("9007199254740991", "9007199254740991.0.0", ALLOWED),
-    ("1.2.3-9007199254740992", "1.2.3-9007199254740992", ALLOWED),
-    ("^1.2.3", "1.2.2", NOT_ALLOWED),
-    ("^1.2.3", "1.3.0-beta", NOT_ALLOWED),
-    ("^0.0.3-b", "0.0.4-a", NOT_ALLOWED),
-    ("1.2.3 - 2.3", "1.2.3-a", NOT_ALLOWED),
-    (">=1.2.3-beta.1 <1.3.0", "1.2.4-beta", NOT_ALLOWED),
-    ("1 || 3", "2.0.0", NOT_ALLOWED),
-    ("  || 9", "9.0.0-a", NOT_ALLOWED),
-    ("1 2", "1.0.0", NOT_ALLOWED),
-    ("~> 1", "2.0.0", NOT_ALLOWED),
-    ("<*", "0.0.0", NOT_ALLOWED),
-    ("<*", "0.0.0-0", NOT_ALLOWED),
-    (">*", "9.0.0", NOT_ALLOWED),
-    (">x.1", "9007199254740991.0.0", NOT_ALLOWED),
-    ("<x.1 || 1", "0.0.0", NOT_ALLOWED),
-    ("<1", "1.0.0-0", NOT_ALLOWED),
-    ("<=1", "2.0.0-0", NOT_ALLOWED),
-    ("1.2.3 - 2", "3.0.0-0", NOT_ALLOWED),
-    ("* >=0.0.0-0", "0.0.0-a", NOT_ALLOWED),
-    ("* - 0.0.0-a", "0.0.0-a", NOT_ALLOWED),
-    ("0.0.0-a <=*", "0.0.0-a", NOT_ALLOWED),
-    (
-        "1.2.3-9007199254740993",
-        "1.2.3-9007199254740992",
-        NOT_ALLOWED,
-    ),
-    (">1.2.3-beta.2", "1.2.3-beta.11.0", ALLOWED),
-];
+// Sees that the calls say of a range what is wanted. A text binds a version where it is no range, or
+// allows it.
+fn both_say(rt: &impl Abort, alloc: Global, range: &str, text: &str, wanted: Allowed) {
+    let shows = (range.get(..40).unwrap_or(range), text);
+    let version = version(rt, alloc, text);
+    let allowed = match Range::parse(alloc, range).expect(rt, "memory") {
+        Some(range) => Some(range.allows(&version)),
+        None => None,
+    };
+    let bound = binds(alloc, range, &version).expect(rt, "memory");
+    same(rt, shows, is_range(range), wanted.is_some());
+    same(rt, shows, allowed, wanted);
+    same(rt, shows, bound, wanted.unwrap_or(true));
+}
 
 #[test]
-fn sets_of_ranges(rt: HostRuntime) {
-    for (range, version, wanted) in &SETS {
-        both_say(&rt, rt.alloc(), range, range, version, *wanted);
+fn texts_are_ranges(rt: HostRuntime) {
+    for line in TABLE.lines().chain(SETS.lines()) {
+        is_told(&rt, rt.alloc(), line);
     }
 }
 
-static NO_RANGES: [&str; 27] = [
-    "v",
-    "vv1",
-    "latest",
-    "1.2.3.4",
-    "1.2-beta",
-    "01.2.3",
-    "1.2.3-",
-    "1.2.3-01",
-    "1.2.3+",
-    "9007199254740992",
-    "x.9007199254740992",
-    "x-y",
-    "==1",
-    "> =1",
-    "~ > 1",
-    "1*.3.2",
-    "2.0.*1",
-    "1.2.3 -2.3",
-    "1.2.3- 2",
-    "1.2.3 - 2.3 4",
-    "1.2.3 - ",
-    "- 1",
-    "1|2",
-    "1|| |2",
-    "v || 1",
-    "1\t||2",
-    "1\n",
-];
-
 #[test]
-fn texts_that_are_no_ranges(rt: HostRuntime) {
-    for text in &NO_RANGES {
-        both_say(&rt, rt.alloc(), text, text, "1.0.0", NO_RANGE);
+fn texts_are_no_ranges(rt: HostRuntime) {
+    for text in NO_RANGES.lines() {
+        both_say(&rt, rt.alloc(), text, "1.0.0", None);
     }
+    both_say(&rt, rt.alloc(), "1\n", "1.0.0", None);
 }
 
 /// A part, how often a range repeats it, and whether 1.0.0 is allowed.
 type LongCase = (&'static str, usize, Allowed);
 
-static LONG_RANGES: [LongCase; 5] = [
-    ("1||", 100_000, ALLOWED),
-    (" ", 1_000_000, ALLOWED),
-    ("1", 1_000_000, NO_RANGE),
-    ("1.", 500_000, NO_RANGE),
-    ("a ", 2_000_000, NO_RANGE),
+const LONG_RANGES: [LongCase; 5] = [
+    ("1||", 100_000, Some(true)),
+    (" ", 1_000_000, Some(true)),
+    ("1", 1_000_000, None),
+    ("1.", 500_000, None),
+    ("a ", 2_000_000, None),
 ];
 
 #[test]
 fn long_ranges(rt: HostRuntime) {
-    for (part, count, wanted) in &LONG_RANGES {
-        let range = repeated(&rt, rt.alloc(), part, *count);
-        both_say(&rt, rt.alloc(), part, &range, "1.0.0", *wanted);
+    for (part, count, wanted) in LONG_RANGES {
+        let range = repeated(&rt, rt.alloc(), part, count);
+        both_say(&rt, rt.alloc(), &range, "1.0.0", wanted);
     }
 }

@@ -2,7 +2,7 @@
 //! request leads there, so no story has these cases.
 
 use crate::outcome::same;
-use crate::parts::{ident, joined, shown, string};
+use crate::parts::{ident, string};
 use registry_access::{Caller, Role, Standing};
 use registry_names::{Moment, Status};
 use registry_publish::PublishForm;
@@ -12,36 +12,20 @@ use registry_rules::{
 use std::alloc::Global;
 use std::process::Abort;
 
-/// A body, and the changes that its publication makes.
-type Case = (&'static str, &'static [&'static str]);
-
-static CASES: [Case; 2] = [
-    (
-        r#"{"name":"@lab/kit","versions":{"1.0.0":{"name":"@lab/kit","version":"1.0.0"}},"_attachments":{"kit.tgz":{"data":"YWJj"}}}"#,
-        &[
-            "AddVersion @lab/kit 1.0.0 100",
-            "PutTag @lab/kit latest 1.0.0 false",
-        ],
-    ),
-    (
-        r#"{"name":"@lab/kit","versions":{"1.0.0":{"name":"@lab/kit","version":"1.0.0"}},"dist-tags":{"next":"1.0.0"},"_attachments":{"kit.tgz":{"data":"YWJj"}}}"#,
-        &[
-            "AddVersion @lab/kit 1.0.0 100",
-            "PutTag @lab/kit latest 1.0.0 false",
-            "PutTag @lab/kit next 1.0.0 false",
-        ],
-    ),
-];
+// A body; ` => ` and the changes that its publication makes, each with `; ` behind it.
+const CASES: &str =
+    r#"{"name":"@lab/kit","versions":{"1.0.0":{"name":"@lab/kit","version":"1.0.0"}},"_attachments":{"kit.tgz":{"data":"YWJj"}}} => AddVersion @lab/kit 1.0.0 100; PutTag @lab/kit latest 1.0.0 false; 
+{"name":"@lab/kit","versions":{"1.0.0":{"name":"@lab/kit","version":"1.0.0"}},"dist-tags":{"next":"1.0.0"},"_attachments":{"kit.tgz":{"data":"YWJj"}}} => AddVersion @lab/kit 1.0.0 100; PutTag @lab/kit latest 1.0.0 false; PutTag @lab/kit next 1.0.0 false; "#;
 
 #[test]
 fn publications_without_a_latest(rt: HostRuntime) {
-    for case in &CASES {
-        is_decided(&rt, rt.alloc(), case);
+    for line in CASES.lines() {
+        let (body, wanted) = line.split_once(" => ").expect(&rt, line);
+        is_decided(&rt, rt.alloc(), body, wanted);
     }
 }
 
-fn is_decided(rt: &impl Abort, alloc: Global, case: &Case) {
-    let (body, wanted) = case;
+fn is_decided(rt: &impl Abort, alloc: Global, body: &str, wanted: &str) {
     let facts = Facts {
         caller: Some(Caller::User(ident(rt, alloc, "ann"))),
         about: About::Publish(without_latest(alloc)),
@@ -53,9 +37,14 @@ fn is_decided(rt: &impl Abort, alloc: Global, case: &Case) {
             form: PublishForm::read(alloc, body.as_bytes()).expect(rt, "a body in form"),
         },
     };
-    same(rt, *body, &may_ask(&facts, &request).err(), &None);
+    same(rt, body, &may_ask(&facts, &request).err(), &None);
     let changes = decide(alloc, &facts, &request).expect(rt, "changes");
-    are_changes(rt, alloc, body, &changes, wanted);
+    let mut told = String::new(alloc);
+    for change in &changes {
+        let one = described(rt, alloc, change);
+        told.push_str(one.as_str()).expect(rt, "memory");
+    }
+    same(rt, body, told.as_str(), wanted);
 }
 
 // What is known where an owner publishes another version.
@@ -77,21 +66,8 @@ fn without_latest(alloc: Global) -> PublishFacts {
     }
 }
 
-fn are_changes(
-    rt: &impl Abort,
-    alloc: Global,
-    body: &str,
-    changes: &[Change<'_>],
-    wanted: &[&'static str],
-) {
-    same(rt, body, &changes.len(), &wanted.len());
-    for (change, want) in changes.iter().zip(wanted) {
-        same(rt, body, described(rt, alloc, *change).as_str(), *want);
-    }
-}
-
 // A change as a text: its kind, and its fields in their order.
-fn described(rt: &impl Abort, alloc: Global, change: Change<'_>) -> String {
+fn described(rt: &impl Abort, alloc: Global, change: &Change<'_>) -> String {
     match change {
         Change::PutTag {
             package,
@@ -99,14 +75,14 @@ fn described(rt: &impl Abort, alloc: Global, change: Change<'_>) -> String {
             version,
             stands,
         } => {
-            let stands = shown(rt, alloc, &stands);
-            let (name, version, stands) = (package.text(), version.text(), stands.as_str());
-            joined(rt, alloc, &["PutTag", name, tag, version, stands])
+            let (name, version) = (package.text(), version.text());
+            let text = format!(in alloc; "PutTag {name} {tag} {version} {stands}; ");
+            text.expect(rt, "memory")
         }
         Change::AddVersion { form, at } => {
-            let at = shown(rt, alloc, &at.seconds());
-            let (name, version) = (form.name().text(), form.version().text());
-            joined(rt, alloc, &["AddVersion", name, version, at.as_str()])
+            let (name, version, at) = (form.name().text(), form.version().text(), at.seconds());
+            let text = format!(in alloc; "AddVersion {name} {version} {at}; ");
+            text.expect(rt, "memory")
         }
         _ => string(rt, alloc, "another change"),
     }

@@ -4,9 +4,9 @@ ghost use Rattle.std.specs.Prelude.{nat_lt};
 ghost use Rattle.registry_service.proofs.DialectFacts.{profile_asks_queries};
 ghost use Rattle.registry_service.specs.Turns.{profile};
 
-use crate::outcome::same;
+use crate::outcome::{is_shown, same};
 use crate::parts::{as_text, first_of};
-use crate::talk::connections::{CONNECTIONS, CUT_OUT, Case, FixedTags, Steps, TAGS, TAGS_OUT};
+use crate::talk::connections::{CONNECTIONS, CUT_OUT, FixedTags, Steps, TAGS, TAGS_OUT, bytes};
 use registry_names::{Fault, FromRead, Moment, ToWrite};
 use registry_rules::{Reply, Request};
 use registry_server::{ConnectionState, Ended, Progress, Server};
@@ -64,20 +64,24 @@ fn answers(
     state.ends()
 }
 
-fn is_answered(rt: &impl Abort, alloc: Global, case: &Case, piece_len: usize) {
-    let (input, wanted, _, end) = case;
+fn is_answered(rt: &impl Abort, alloc: Global, line: &str, piece_len: usize) {
+    let (input, rest) = line.split_once(" => ").expect(rt, line);
+    let (output, told) = rest.split_once(" => ").expect(rt, line);
+    let (input, wanted) = (bytes(rt, alloc, input), bytes(rt, alloc, output));
     let mut out = Vec::new(alloc);
     let ended = answers(rt, alloc, input.as_bytes(), piece_len, &mut out);
-    same(rt, *input, as_text(&out), *wanted);
-    same(rt, *input, &ended, &Some(*end));
+    same(rt, line, as_text(&out), wanted.as_str());
+    let end = ended.expect(rt, "an end");
+    let (_, wanted) = told.rsplit_once(' ').expect(rt, line);
+    is_shown(rt, alloc, line, &end, wanted);
 }
 
 #[test]
 fn lines_answer_as_connections_do(rt: HostRuntime) {
-    for case in &CONNECTIONS {
-        is_answered(&rt, rt.alloc(), case, 1);
-        is_answered(&rt, rt.alloc(), case, 10);
-        is_answered(&rt, rt.alloc(), case, 10_000);
+    for line in CONNECTIONS.lines() {
+        is_answered(&rt, rt.alloc(), line, 1);
+        is_answered(&rt, rt.alloc(), line, 10);
+        is_answered(&rt, rt.alloc(), line, 10_000);
     }
 }
 

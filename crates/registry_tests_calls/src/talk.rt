@@ -1,7 +1,4 @@
-//! What faults are in HTTP, and whole connections.
+//! Whole connections.
 
-mod answers;
 pub mod connections;
-mod ends;
 mod packuments;
-mod source;

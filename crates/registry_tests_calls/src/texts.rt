@@ -185,36 +185,21 @@ put a 6 => 0 and 0
 get a 6 => 0 and 0
 large 6 => 0 and 0";
 
-// Checks that stores keep what they should keep.
-fn all_keep(rt: &impl Abort, alloc: Global, cases: &str) {
-    for case in cases.split("\n\n") {
-        keeps(rt, alloc, case);
-    }
-}
-
+// Checks that a store keeps what it should keep, and what is taken after each step.
 fn keeps(rt: &impl Abort, alloc: Global, case: &str) {
     let (shows, rest) = case.split_once('\n').expect(rt, case);
     let (limit, steps) = rest.split_once('\n').expect(rt, case);
     let limit = size_of(rt, limit.strip_prefix("limit => ").expect(rt, limit));
     let mut store = TextCache::new(alloc, limit).expect(rt, "memory");
     for line in steps.lines() {
-        goes_on(rt, alloc, &mut store, shows, line);
+        let (step, size) = line.split_once(" => ").expect(rt, line);
+        let (asked, rest) = step.split_once(' ').expect(rt, line);
+        let (name, told) = rest.split_once(' ').unwrap_or((rest, rest));
+        take(rt, alloc, &mut store, (shows, line), asked, name, told);
+        let taken = store.bytes_without_large();
+        same(rt, (shows, line), taken, size_of(rt, size));
     }
     same(rt, shows, store.limit(), limit);
-}
-
-// Takes the step of a line, and sees what is taken after it.
-fn goes_on(rt: &impl Abort, alloc: Global, store: &mut TextCache, shows: &str, line: &str) {
-    let (step, size) = line.split_once(" => ").expect(rt, line);
-    let (asked, rest) = step.split_once(' ').expect(rt, line);
-    let (name, told) = rest.split_once(' ').unwrap_or((rest, rest));
-    take(rt, alloc, store, (shows, line), asked, name, told);
-    same(
-        rt,
-        (shows, line),
-        store.bytes_without_large(),
-        size_of(rt, size),
-    );
 }
 
 // Takes a step, and checks that a look-up finds what it should find.
@@ -286,64 +271,40 @@ fn number(rt: &impl Abort, told: &str) -> usize {
 }
 
 #[test]
-fn no_more_bytes_are_kept_than_the_limit(rt: HostRuntime) {
-    all_keep(&rt, rt.alloc(), LIMITS);
+fn texts_are_kept_within_the_limit(rt: HostRuntime) {
+    for cases in [LIMITS, ROOM, ORDER, LARGE] {
+        for case in cases.split("\n\n") {
+            keeps(&rt, rt.alloc(), case);
+        }
+    }
 }
 
 #[test]
-fn others_are_kept_where_they_have_room(rt: HostRuntime) {
-    all_keep(&rt, rt.alloc(), ROOM);
-}
-
-#[test]
-fn the_latest_asked_are_kept(rt: HostRuntime) {
-    all_keep(&rt, rt.alloc(), ORDER);
-}
-
-#[test]
-fn one_large_text_is_kept_beside_the_others(rt: HostRuntime) {
-    all_keep(&rt, rt.alloc(), LARGE);
-}
-
-#[test]
-fn a_shared_text_outlives_the_others(rt: HostRuntime) {
+fn what_is_shared_outlives_the_others(rt: HostRuntime) {
     let text = SharedText::from_text(text(&rt, rt.alloc(), "four")).expect(&rt, "memory");
     let copy = text.share().expect(&rt, "few owners");
     same(&rt, "equal", text == copy, true);
     drop(text);
     same(&rt, "copy", copy.as_str(), "four");
-}
-
-#[test]
-fn a_shared_blob_outlives_the_others(rt: HostRuntime) {
     let blob = shared_blob(&rt, rt.alloc(), b"\x00\xff");
     let copy = blob.share().expect(&rt, "few owners");
     same(&rt, "equal", blob == copy, true);
     drop(blob);
-    same(&rt, "copy", copy.as_slice() == b"\x00\xff".as_slice(), true);
+    same(&rt, "copy", copy.as_slice(), b"\x00\xff".as_slice());
 }
 
+// Of three blobs the second is forgotten.
 #[test]
 fn blobs_are_kept_as_texts_are(rt: HostRuntime) {
     let mut store = BlobCache::new(rt.alloc(), 2 * TWO).expect(&rt, "memory");
     for name in ["a", "b", "c"] {
-        put(&rt, rt.alloc(), &mut store, name);
+        let blob = shared_blob(&rt, rt.alloc(), name.as_bytes());
+        store.put(name, blob).expect(&rt, "memory");
     }
     store.forget("b");
-    are_kept(&rt, &mut store);
-}
-
-fn put(rt: &impl Abort, alloc: Global, store: &mut BlobCache, name: &str) {
-    let blob = shared_blob(rt, alloc, name.as_bytes());
-    store.put(name, blob).expect(rt, "memory");
-}
-
-// Of three blobs the second was forgotten.
-fn are_kept(rt: &impl Abort, store: &mut BlobCache) {
-    same(rt, "size", store.bytes_without_large(), TWO + 2);
-    same(rt, "forgotten", store.peek("b").is_none(), true);
-    match store.get("c").expect(rt, "few owners") {
-        Some(found) => same(rt, "kept", found.as_slice() == b"c".as_slice(), true),
-        None => panic!(rt; "nothing is kept under c"),
-    }
+    same(&rt, "size", store.bytes_without_large(), TWO + 2);
+    same(&rt, "forgotten", store.peek("b").is_none(), true);
+    let found = store.get("c").expect(&rt, "few owners");
+    let found = found.expect(&rt, "a blob");
+    same(&rt, "kept", found.as_slice(), b"c".as_slice());
 }

@@ -219,31 +219,33 @@ fn serve(
     }
 }
 
+// Commands, a command alone, and a query on the last connection.
 #[test]
 fn small_commands_are_answered_together(rt: HostRuntime) {
-    let wanted = Asked {
+    let eight = Asked {
         alone: 0,
         groups: 1,
         together: 8,
         before: 0,
     };
-    are_answered(&rt, rt.alloc(), &COMMANDS, wanted);
-}
-
-// The query is on the last connection.
-#[test]
-fn a_query_is_answered_before_commands(rt: HostRuntime) {
-    let wanted = Asked {
+    are_answered(&rt, rt.alloc(), &COMMANDS, eight);
+    let one = Asked {
+        together: 1,
+        ..eight
+    };
+    are_answered(&rt, rt.alloc(), &[COMMANDS[6]], one);
+    let two = Asked {
         alone: 1,
         groups: 1,
         together: 2,
         before: 1,
     };
-    are_answered(&rt, rt.alloc(), &[COMMANDS[3], COMMANDS[5], QUERY], wanted);
+    are_answered(&rt, rt.alloc(), &[COMMANDS[3], COMMANDS[5], QUERY], two);
 }
 
+// A large body, and many of 30,076 bytes: 34 of them have less than 1,048,576 bytes and 35 have more.
 #[test]
-fn a_large_body_is_answered_alone(rt: HostRuntime) {
+fn a_group_is_limited(rt: HostRuntime) {
     let alloc = rt.alloc();
     let head = "PUT /-/package/kit/dist-tags/next HTTP/1.1\r\ncontent-length: 40007\r\n\r\n";
     let large = around(&rt, alloc, head, " ", 40_000, "\"1.0.0\"");
@@ -255,12 +257,6 @@ fn a_large_body_is_answered_alone(rt: HostRuntime) {
     };
     let cases = [(large.as_str(), 100), COMMANDS[3], COMMANDS[5]];
     are_answered(&rt, alloc, &cases, wanted);
-}
-
-// Each has 30,076 bytes, so 34 of them have less than 1,048,576 bytes and 35 have more.
-#[test]
-fn a_group_is_limited(rt: HostRuntime) {
-    let alloc = rt.alloc();
     let head = "PUT /-/package/kit/dist-tags/next HTTP/1.1\r\ncontent-length: 30007\r\n\r\n";
     let long = around(&rt, alloc, head, " ", 30_000, "\"1.0.0\"");
     same(&rt, "its length", &long.len(), &30_076);
@@ -271,15 +267,4 @@ fn a_group_is_limited(rt: HostRuntime) {
         before: 6,
     };
     are_answered(&rt, alloc, &[(long.as_str(), 100); 40], wanted);
-}
-
-#[test]
-fn a_command_alone_is_answered(rt: HostRuntime) {
-    let wanted = Asked {
-        alone: 0,
-        groups: 1,
-        together: 1,
-        before: 0,
-    };
-    are_answered(&rt, rt.alloc(), &[COMMANDS[6]], wanted);
 }

@@ -15,25 +15,20 @@ const BYTES: [u8; TOKEN_BYTES] = [
 
 const TOKEN: &str = "npm_000102030405060708090a0b0c0d0e0f7f80abff";
 
+// A token is made of bytes, and a line adds its digest.
 #[test]
-fn a_token_is_made_of_bytes(rt: HostRuntime) {
-    let token = token_of(rt.alloc(), BYTES).expect(&rt, "memory");
-    same(&rt, TOKEN, token.as_str(), TOKEN);
-    same(&rt, TOKEN, TokenDigest::of(token.as_str()).is_some(), true);
-}
-
-#[test]
-fn the_line_adds_the_digest_of_the_token(rt: HostRuntime) {
+fn tokens_are_made_and_added(rt: HostRuntime) {
     let alloc = rt.alloc();
+    let token = token_of(alloc, BYTES).expect(&rt, "memory");
+    same(&rt, TOKEN, token.as_str(), TOKEN);
+    let digest_of = TokenDigest::of(TOKEN).expect(&rt, "a token");
     let new = NewToken {
         db: text(&rt, alloc, "registry.db"),
         who: Who::Operator,
         at: None,
         user: text(&rt, alloc, "ann"),
     };
-    let line = new
-        .line(alloc, text(&rt, alloc, TOKEN))
-        .expect(&rt, "memory");
+    let line = new.line(alloc, token).expect(&rt, "memory");
     let Ok((_, what)) = action_of(alloc, &line, &[]) else {
         panic!(rt; "the line asks for nothing");
     };
@@ -41,8 +36,7 @@ fn the_line_adds_the_digest_of_the_token(rt: HostRuntime) {
         panic!(rt; "the line adds no token");
     };
     same(&rt, TOKEN, user.text(), "ann");
-    let is_of_token = TokenDigest::of(TOKEN).is_some_and(|made| made == *digest);
-    same(&rt, TOKEN, is_of_token, true);
+    same(&rt, TOKEN, digest_of == *digest, true);
 }
 
 // Checks that this is printed, where the line is answered with this reply.

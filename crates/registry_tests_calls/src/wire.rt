@@ -1,6 +1,5 @@
 //! Requests and responses as bytes.
 
-mod labels;
 mod media_ranges;
 pub mod reader;
 mod requests;

@@ -1,11 +1,13 @@
 //! A server with connections over loopback and with commands beside it.
 
 use crate::client::{
-    ANSWER, LAST_ANSWER, ask, ask_command, connect, end, forget, has_ended, hears, hears_answers,
-    is_answered, is_done, lay, message, send_last, two_clients, wait,
+    ANSWER, COMMAND, LAST_ANSWER, client, has_ended, hears, send as send_query, wait,
 };
+use crate::clock::{Play, new_clock};
+use crate::guests::client::{ADDS_ANN, connect, is_done, message, send};
+use crate::guests::files::{forget, lay};
 use crate::outcome::same;
-use crate::service::{Counting, one_more};
+use crate::service::new_service;
 use mio::{Token, Waker};
 use registry_guests::{CommandListener, GUEST_COUNT};
 use registry_names::Moment;
@@ -15,15 +17,137 @@ use std::io;
 use std::io::Write;
 use std::net::{Shutdown, TcpStream};
 use std::os::unix::net::UnixStream;
-use std::time::{Clock, Duration};
+use std::process::Abort;
 
-/// The time is read once at first, and then twice a round: this is the first reading of the fifth. By
-/// then everything is answered that may be.
-const FIFTH_ROUND: u32 = 10;
+/// What is sent before a server for two connections runs, and what comes of it.
+struct Case<'c> {
+    file: &'c str,
+    play: Play,
+    /// What is sent at the control socket.
+    control: Option<&'c str>,
+    /// Whether a command is sent beside the server.
+    has_command: bool,
+    /// What each client over HTTP sends: `q` is a query, `c` a command, and `.` the end.
+    sends: [&'c str; 2],
+    ended: Ended,
+    /// How often the service was asked meanwhile, and whether the clock has seen what it looks for.
+    seen: (u32, bool),
+    /// How often the service was asked in all.
+    asked: u32,
+    /// What each client hears: `a` is an answer, and `l` one that says that it is the last.
+    hears: [&'c str; 2],
+}
 
-/// The first reading of the sixth round, which comes before that round looks at who holds or stops
-/// the server.
-const SIXTH_ROUND: u32 = 12;
+// Two clients ask, and one of them sends a command and asks again. A third sends a command beside the
+// server.
+#[test]
+fn commands_wait_during_a_hold(rt: HostRuntime) {
+    let turn = command_in(
+        &rt,
+        &rt,
+        &Case {
+            file: "hold.db",
+            play: Play::Hold,
+            control: Some("h"),
+            has_command: true,
+            sends: ["q.", "qcq."],
+            ended: Ended::Enough,
+            seen: (2, true),
+            asked: 5,
+            hears: ["", "aa"],
+        },
+    );
+    same(&rt, "after the hold", turn > 2, true);
+}
+
+#[test]
+fn a_hold_of_a_server_lapses_after_a_minute(rt: HostRuntime) {
+    let _turn = command_in(
+        &rt,
+        &rt,
+        &Case {
+            file: "lapse.db",
+            play: Play::Lapse,
+            control: Some("h"),
+            has_command: false,
+            sends: ["c.", "c."],
+            ended: Ended::Enough,
+            seen: (0, false),
+            asked: 2,
+            hears: ["a", "a"],
+        },
+    );
+}
+
+// Each client sends three requests, and in each round one of them is answered.
+#[test]
+fn a_command_is_answered_between_requests(rt: HostRuntime) {
+    let turn = command_in(
+        &rt,
+        &rt,
+        &Case {
+            file: "between.db",
+            play: Play::Nothing,
+            control: None,
+            has_command: true,
+            sends: ["qqq.", "qqq."],
+            ended: Ended::Enough,
+            seen: (u32::MAX, false),
+            asked: 7,
+            hears: ["aaa", "aaa"],
+        },
+    );
+    same(&rt, "after the first of both", turn > 2, true);
+    same(&rt, "before the last of both", turn < 6, true);
+}
+
+#[test]
+fn who_has_asked_is_answered_at_a_stop(rt: HostRuntime) {
+    let _turn = command_in(
+        &rt,
+        &rt,
+        &Case {
+            file: "stop.db",
+            play: Play::Stop,
+            control: Some(""),
+            has_command: false,
+            sends: ["q", "q"],
+            ended: Ended::Stopped,
+            seen: (u32::MAX, false),
+            asked: 4,
+            hears: ["al", "al"],
+        },
+    );
+}
+
+// Runs the server, checks all, and gives how often the service was asked up to the command beside it.
+fn command_in(rt: &HostRuntime, ends: &impl Abort, case: &Case<'_>) -> u32 {
+    let alloc = rt.alloc();
+    let server = Server::bind(rt, alloc, 0, 2).expect(ends, "a server");
+    let mut listener = listener(rt, &server, case.file).expect(ends, "sockets");
+    let (file, text) = (case.file, case.control.unwrap_or("").as_bytes());
+    let control = guest(rt, ends, (file, "control"), case.control.is_some(), text);
+    let message = message(ends, alloc, ADDS_ANN);
+    let user = guest(rt, ends, (file, "command"), case.has_command, &message);
+    let clients = clients(rt, ends, &server, case);
+    let asked = Cell::new(0);
+    let mut clock = new_clock(rt, case.play, control.as_ref(), &clients, &asked);
+    clock.waker = waker(&server, case.play).expect(ends, "a waker");
+    let mut service = new_service(&asked, None);
+    let at = Moment::clamped(0);
+    let ended = server.run_beside(&clock, alloc, at, &mut service, &mut listener);
+    has_ended(ends, ended, case.ended);
+    let seen = (clock.asked_meanwhile.get(), clock.first.get());
+    same(ends, "seen meanwhile", seen, case.seen);
+    same(ends, "asked in all", asked.get(), case.asked);
+    hears_all(rt, ends, &clients[0], case.hears[0]);
+    hears_all(rt, ends, &clients[1], case.hears[1]);
+    if let Some(user) = &user {
+        is_done(ends, alloc, "the command", user, b"r");
+    }
+    forget(rt, case.file);
+    service.command
+}
 
 // A listener for commands of a file, beside a server for two connections.
 fn listener(rt: &HostRuntime, server: &Server, file: &str) -> io::Result<CommandListener> {
@@ -34,278 +158,66 @@ fn listener(rt: &HostRuntime, server: &Server, file: &str) -> io::Result<Command
     Ok(listener)
 }
 
-/// A clock that ends a hold in the fifth round.
-#[derive(Drop)]
-struct Holding<'a> {
-    rt: &'a HostRuntime,
-    readings: Cell<u32>,
-    holder: &'a UnixStream,
-    clients: &'a [TcpStream; 2],
-    asked: &'a Cell<u32>,
-    // How often the service was asked until then, and whether each client had one answer.
-    asked_meanwhile: Cell<u32>,
-    answered_meanwhile: Cell<bool>,
+// A client that sends these bytes to a socket of a file, if it is to come.
+fn guest(
+    rt: &HostRuntime,
+    ends: &impl Abort,
+    socket: (&str, &str),
+    comes: bool,
+    bytes: &[u8],
+) -> Option<UnixStream> {
+    if !comes {
+        return None;
+    }
+    let stream = connect(rt, socket.0, socket.1).expect(ends, "a client");
+    send(ends, &stream, bytes);
+    Some(stream)
 }
 
-impl Holding<'_> {
-    fn are_answered(&self) -> io::Result<bool> {
-        for client in self.clients {
-            if !is_answered(client)? {
-                return Ok(false);
-            }
-        }
-        Ok(true)
-    }
-}
-
-impl Clock for Holding<'_> {
-    fn monotonic(&self) -> io::Result<Duration> {
-        if one_more(&self.readings) == FIFTH_ROUND {
-            self.asked_meanwhile.set(self.asked.get());
-            self.answered_meanwhile.set(self.are_answered()?);
-            self.holder.shutdown(Shutdown::Write)?;
-        }
-        self.rt.monotonic()
-    }
-
-    fn since_1970(&self) -> io::Result<Duration> {
-        self.rt.since_1970()
-    }
-}
-
-// Two clients ask, and one of them sends a command and asks again. A third sends a command beside the
+// No guest has this token: those of commands come first, and then that of the command that holds the
 // server.
-#[test]
-fn commands_wait_during_a_hold(rt: HostRuntime) {
-    let alloc = rt.alloc();
-    let file = "hold.db";
-    let server = Server::bind(&rt, alloc, 0, 2).expect(&rt, "a server");
-    let mut listener = listener(&rt, &server, file).expect(&rt, "sockets");
-    let holder = connect(&rt, file, "control", b"h").expect(&rt, "a client");
-    let message = message(&rt, alloc);
-    let user = connect(&rt, file, "command", &message).expect(&rt, "a client");
-    let clients = two_clients(&rt, &rt, &server);
-    ask(&rt, &clients[0]);
-    ask(&rt, &clients[1]);
-    ask_command(&rt, &clients[1]);
-    ask(&rt, &clients[1]);
-    for client in &clients {
-        end(&rt, client);
-    }
-    wait(&rt);
-    let asked = Cell::new(0);
-    let clock = Holding {
-        rt: &rt,
-        readings: Cell::new(0),
-        holder: &holder,
-        clients: &clients,
-        asked: &asked,
-        asked_meanwhile: Cell::new(u32::MAX),
-        answered_meanwhile: Cell::new(false),
-    };
-    let mut service = Counting {
-        asked: &asked,
-        command: 0,
-    };
-    let at = Moment::clamped(0);
-    let ended = server.run_beside(&clock, alloc, at, &mut service, &mut listener);
-    has_ended(&rt, ended, Ended::Enough);
-    same(&rt, "asked during the hold", clock.asked_meanwhile.get(), 2);
-    same(
-        &rt,
-        "answered during it",
-        clock.answered_meanwhile.get(),
-        true,
-    );
-    same(&rt, "asked in all", asked.get(), 5);
-    hears(&rt, alloc, "the first client", &clients[0], "");
-    hears_answers(&rt, alloc, "the second client", &clients[1], 2);
-    is_done(&rt, alloc, &user);
-    forget(&rt, file);
-}
-
-/// This many milliseconds pass between two readings, and all of them count while a server is held.
-const STEP: u64 = 200;
-
-/// The reading after 58 s.
-const AFTER_58: u32 = 290;
-
-/// The reading after 66 s.
-const AFTER_66: u32 = 330;
-
-/// A fast clock, by which no round waits. It ends a hold that lasts for 66 s.
-#[derive(Drop)]
-struct Lapsing<'a> {
-    readings: Cell<u32>,
-    waker: Waker,
-    holder: &'a UnixStream,
-    asked: &'a Cell<u32>,
-    // How often the service was asked in 58 s, and whether the hold lasted for 66 s.
-    asked_in_58: Cell<u32>,
-    lasted_for_66: Cell<bool>,
-}
-
-impl Clock for Lapsing<'_> {
-    fn monotonic(&self) -> io::Result<Duration> {
-        let reading = one_more(&self.readings);
-        self.waker.wake()?;
-        if reading == AFTER_58 {
-            self.asked_in_58.set(self.asked.get());
+fn waker(server: &Server, play: Play) -> io::Result<Option<Waker>> {
+    match play {
+        Play::Lapse => {
+            let token = Token(FIRST_GUEST + GUEST_COUNT + 7);
+            Ok(Some(Waker::new(server.registry(), token)?))
         }
-        if reading == AFTER_66 && self.asked.get() == 0 {
-            self.lasted_for_66.set(true);
-            self.holder.shutdown(Shutdown::Write)?;
-        }
-        Ok(Duration::from_millis(STEP * u64::from(reading)))
-    }
-
-    fn since_1970(&self) -> io::Result<Duration> {
-        Ok(Duration::from_millis(0))
+        _ => Ok(None),
     }
 }
 
-#[test]
-fn a_hold_of_a_server_lapses_after_a_minute(rt: HostRuntime) {
-    let alloc = rt.alloc();
-    let file = "lapse.db";
-    let server = Server::bind(&rt, alloc, 0, 2).expect(&rt, "a server");
-    let mut listener = listener(&rt, &server, file).expect(&rt, "sockets");
-    let holder = connect(&rt, file, "control", b"h").expect(&rt, "a client");
-    let clients = two_clients(&rt, &rt, &server);
-    for client in &clients {
-        ask_command(&rt, client);
-        end(&rt, client);
-    }
-    wait(&rt);
-    let asked = Cell::new(0);
-    // No guest has this token: those of commands come first, and then that of the command that
-    // holds the server.
-    let clock = Lapsing {
-        readings: Cell::new(0),
-        waker: Waker::new(server.registry(), Token(FIRST_GUEST + GUEST_COUNT + 7)).expect(
-            &rt, "a waker",
-        ),
-        holder: &holder,
-        asked: &asked,
-        asked_in_58: Cell::new(u32::MAX),
-        lasted_for_66: Cell::new(false),
-    };
-    let mut service = Counting {
-        asked: &asked,
-        command: 0,
-    };
-    let at = Moment::clamped(0);
-    let ended = server.run_beside(&clock, alloc, at, &mut service, &mut listener);
-    has_ended(&rt, ended, Ended::Enough);
-    same(&rt, "asked in 58 s", clock.asked_in_58.get(), 0);
-    same(&rt, "it lasted for 66 s", clock.lasted_for_66.get(), false);
-    same(&rt, "asked in all", asked.get(), 2);
-    forget(&rt, file);
+fn clients(
+    rt: &HostRuntime,
+    ends: &impl Abort,
+    server: &Server,
+    case: &Case<'_>,
+) -> [TcpStream; 2] {
+    let clients = [
+        client(rt, server).expect(ends, "a client"),
+        client(rt, server).expect(ends, "a client"),
+    ];
+    send_all(ends, &clients[0], case.sends[0]);
+    send_all(ends, &clients[1], case.sends[1]);
+    wait(rt);
+    clients
 }
 
-// Each client sends three requests, and in each round one of them is answered.
-#[test]
-fn a_command_is_answered_between_requests(rt: HostRuntime) {
-    let alloc = rt.alloc();
-    let file = "between.db";
-    let server = Server::bind(&rt, alloc, 0, 2).expect(&rt, "a server");
-    let mut listener = listener(&rt, &server, file).expect(&rt, "sockets");
-    let message = message(&rt, alloc);
-    let user = connect(&rt, file, "command", &message).expect(&rt, "a client");
-    let clients = two_clients(&rt, &rt, &server);
-    for client in &clients {
-        for _ in 0..3 {
-            ask(&rt, client);
-        }
-        end(&rt, client);
-    }
-    wait(&rt);
-    let asked = Cell::new(0);
-    let mut service = Counting {
-        asked: &asked,
-        command: 0,
-    };
-    let at = Moment::clamped(0);
-    let ended = server.run_beside(&rt, alloc, at, &mut service, &mut listener);
-    has_ended(&rt, ended, Ended::Enough);
-    let turn = service.command;
-    same(&rt, "after the first of both", turn > 2, true);
-    same(&rt, "before the last of both", turn < 6, true);
-    same(&rt, "asked in all", asked.get(), 7);
-    for client in &clients {
-        hears_answers(&rt, alloc, "a client", client, 3);
-    }
-    is_done(&rt, alloc, &user);
-    forget(&rt, file);
-}
-
-/// A clock that stops the server in the fifth round. Two clients ask when the sixth has begun: before
-/// the server has seen either.
-#[derive(Drop)]
-struct Stopping<'a> {
-    rt: &'a HostRuntime,
-    readings: Cell<u32>,
-    stops: &'a UnixStream,
-    clients: &'a [TcpStream; 2],
-}
-
-impl Stopping<'_> {
-    fn ask(&self) -> io::Result<()> {
-        for client in self.clients {
-            send_last(client)?;
-        }
-        wait(self.rt);
-        Ok(())
+fn send_all(ends: &impl Abort, mut client: &TcpStream, sends: &str) {
+    for what in sends.as_bytes() {
+        let sent = match *what {
+            b'q' => send_query(client),
+            b'c' => client.write_all(COMMAND.as_bytes()),
+            _ => client.shutdown(Shutdown::Write),
+        };
+        sent.expect(ends, "it is sent");
     }
 }
 
-impl Clock for Stopping<'_> {
-    fn monotonic(&self) -> io::Result<Duration> {
-        match one_more(&self.readings) {
-            FIFTH_ROUND => {
-                let mut stops = self.stops;
-                stops.write_all(b"s")?;
-            }
-            SIXTH_ROUND => self.ask()?,
-            _ => {}
-        }
-        self.rt.monotonic()
+fn hears_all(rt: &HostRuntime, ends: &impl Abort, client: &TcpStream, heard: &str) {
+    let mut wanted = String::new(rt.alloc());
+    for what in heard.as_bytes() {
+        let answer = if *what == b'a' { ANSWER } else { LAST_ANSWER };
+        wanted.push_str(answer).expect(ends, "memory");
     }
-
-    fn since_1970(&self) -> io::Result<Duration> {
-        self.rt.since_1970()
-    }
-}
-
-#[test]
-fn who_has_asked_is_answered_at_a_stop(rt: HostRuntime) {
-    let alloc = rt.alloc();
-    let file = "stop.db";
-    let server = Server::bind(&rt, alloc, 0, 2).expect(&rt, "a server");
-    let mut listener = listener(&rt, &server, file).expect(&rt, "sockets");
-    let stops = connect(&rt, file, "control", b"").expect(&rt, "a client");
-    let clients = two_clients(&rt, &rt, &server);
-    for client in &clients {
-        ask(&rt, client);
-    }
-    wait(&rt);
-    let clock = Stopping {
-        rt: &rt,
-        readings: Cell::new(0),
-        stops: &stops,
-        clients: &clients,
-    };
-    let asked = Cell::new(0);
-    let mut service = Counting {
-        asked: &asked,
-        command: 0,
-    };
-    let at = Moment::clamped(0);
-    let ended = server.run_beside(&clock, alloc, at, &mut service, &mut listener);
-    has_ended(&rt, ended, Ended::Stopped);
-    let both = format!(in alloc; "{ANSWER}{LAST_ANSWER}").expect(&rt, "memory");
-    for client in &clients {
-        hears(&rt, alloc, "a client", client, both.as_str());
-    }
-    forget(&rt, file);
+    hears(ends, rt.alloc(), "a client", client, wanted.as_str());
 }

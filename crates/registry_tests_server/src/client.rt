@@ -1,22 +1,19 @@
 //! Clients of a server.
 
 use crate::outcome::same;
-use registry_guests::{fits, folder_of, parse_reply, write};
-use registry_names::Text;
 use registry_server::{Ended, Server};
 use std::alloc::Global;
 use std::io::{Read, Write};
 use std::net::{Ipv4Addr, Net, Shutdown, SocketAddr, TcpStream};
-use std::os::unix::net::UnixStream;
 use std::process::Abort;
 use std::time::Duration;
-use std::{fs, io, thread};
+use std::{io, thread};
 
 /// A request.
 const REQUEST: &str = "GET /-/package/kit/dist-tags HTTP/1.1\r\n\r\n";
 
 /// A request that may change a registry.
-const COMMAND: &str =
+pub const COMMAND: &str =
     "PUT /-/package/kit/dist-tags/next HTTP/1.1\r\ncontent-length: 7\r\n\r\n\"1.0.0\"";
 
 /// The answer to either, where the connection goes on.
@@ -36,13 +33,6 @@ pub fn client(rt: &HostRuntime, server: &Server) -> io::Result<TcpStream> {
     rt.connect(SocketAddr::from((Ipv4Addr::LOCALHOST, port)))
 }
 
-/// Two clients over HTTP.
-pub fn two_clients(rt: &HostRuntime, ends: &impl Abort, server: &Server) -> [TcpStream; 2] {
-    let first = client(rt, server).expect(ends, "a client");
-    let second = client(rt, server).expect(ends, "a client");
-    [first, second]
-}
-
 /// A client over HTTP that has asked, and sends no more.
 pub fn asking(rt: &HostRuntime, server: &Server) -> io::Result<TcpStream> {
     let client = client(rt, server)?;
@@ -59,22 +49,6 @@ pub fn send(mut client: &TcpStream) -> io::Result<()> {
 pub fn send_last(client: &TcpStream) -> io::Result<()> {
     send(client)?;
     client.shutdown(Shutdown::Write)
-}
-
-/// A client over HTTP asks.
-pub fn ask(rt: &impl Abort, client: &TcpStream) {
-    send(client).expect(rt, "a request is sent");
-}
-
-/// A client over HTTP sends a request that may change a registry.
-pub fn ask_command(rt: &impl Abort, mut client: &TcpStream) {
-    let sent = client.write_all(COMMAND.as_bytes());
-    sent.expect(rt, "a request is sent");
-}
-
-/// A client over HTTP sends no more.
-pub fn end(rt: &impl Abort, client: &TcpStream) {
-    client.shutdown(Shutdown::Write).expect(rt, "an end");
 }
 
 /// Whether a client over HTTP was sent one answer, and nothing more yet.
@@ -101,62 +75,4 @@ pub fn hears(rt: &impl Abort, alloc: Global, case: &str, mut client: &TcpStream,
     let mut text = String::new(alloc);
     client.read_to_string(&mut text).expect(rt, "a text comes");
     same(rt, case, text.as_str(), wanted);
-}
-
-/// Checks that a client over HTTP was answered this often, and sent nothing more.
-pub fn hears_answers(rt: &impl Abort, alloc: Global, case: &str, client: &TcpStream, count: usize) {
-    let wanted = ANSWER.repeat(alloc, count).expect(rt, "memory");
-    hears(rt, alloc, case, client, wanted.as_str());
-}
-
-/// Lays an empty file, with nothing beside it.
-pub fn lay(rt: &HostRuntime, file: &str) -> io::Result<()> {
-    forget(rt, file);
-    fs::write(rt, file, "")
-}
-
-/// Removes a file and the folder of its sockets, as far as they are there.
-pub fn forget(rt: &HostRuntime, file: &str) {
-    if let Ok(folder) = folder_of(rt, rt.alloc(), file) {
-        let _ = fs::remove_dir_all(rt, folder.as_str());
-    }
-    let _ = fs::remove_file(rt, file);
-}
-
-/// Connects to a socket of the server of a file, and sends this.
-pub fn connect(rt: &HostRuntime, file: &str, socket: &str, bytes: &[u8]) -> io::Result<UnixStream> {
-    let path = path_of(rt, file, socket)?;
-    let mut stream = UnixStream::connect(rt, path.as_str())?;
-    stream.write_all(bytes)?;
-    Ok(stream)
-}
-
-fn path_of(rt: &HostRuntime, file: &str, socket: &str) -> io::Result<String> {
-    let alloc = rt.alloc();
-    let folder = folder_of(rt, alloc, file)?;
-    Ok(format!(in alloc; "{}/{socket}", folder.as_str())?)
-}
-
-/// The message of the command that adds a user.
-pub fn message(rt: &impl Abort, alloc: Global) -> Vec<u8> {
-    let mut texts = Vec::new(alloc);
-    for argument in ["--operator", "user-add", "ann"] {
-        let text = Text::from_str(alloc, argument).expect(rt, "memory");
-        texts.push(text).expect(rt, "memory");
-    }
-    if !fits(&texts) {
-        panic!(rt; "the arguments fit into no message");
-    }
-    write(alloc, &texts, b"").expect(rt, "memory")
-}
-
-/// A server of commands was ready, has answered that the command is done, and has ended the connection.
-pub fn is_done(rt: &impl Abort, alloc: Global, mut stream: &UnixStream) {
-    let mut bytes = Vec::new(alloc);
-    stream.read_to_end(&mut bytes).expect(rt, "bytes come");
-    same(rt, "ready", bytes.first().copied(), Some(b'r'));
-    match parse_reply(alloc, bytes.get(1..).unwrap_or(&[])) {
-        Ok(reply) => same(rt, "the status", reply.status, 0),
-        Err(_) => panic!(rt; "there is no reply"),
-    }
 }

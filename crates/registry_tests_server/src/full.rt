@@ -1,74 +1,12 @@
 //! A server whose places are all taken.
 
-ghost use Rattle.std.specs.Prelude.{false};
-ghost use Rattle.registry_service.proofs.DialectFacts.{profile_asks_queries};
-ghost use Rattle.registry_service.specs.Turns.{profile};
-
-use crate::client::{ANSWER, asking, client, has_ended, hears, send_last, wait};
+use crate::client::{ANSWER, asking, client, has_ended, hears, wait};
 use crate::outcome::same;
-use registry_names::{Fault, Moment};
-use registry_rules::{Reply, Request};
+use crate::service::{Waking, new_service};
+use registry_names::Moment;
 use registry_server::{CONNECTION_COUNT, Ended, Server};
-use registry_service::{HttpService, Service, Turned, turn};
-use registry_wire::Wanted;
-use std::alloc::Global;
-use std::io;
-use std::net::{Shutdown, TcpStream};
+use std::cell::Cell;
 use std::process::Abort;
-
-/// A service that does whatever it is asked. At its first request, a client that was idle until
-/// then asks, too; and once all clients that have left are answered, the other idle client ends.
-#[derive(Drop)]
-struct Waking<'a> {
-    rt: &'a HostRuntime,
-    asked: usize,
-    // How many clients have asked and left.
-    gone: usize,
-    asks: &'a TcpStream,
-    idle: &'a TcpStream,
-}
-
-impl Waking<'_> {
-    fn play(&self) -> io::Result<()> {
-        if self.asked == 1 {
-            send_last(self.asks)?;
-            wait(self.rt);
-        }
-        // It fails where the connection has ended, as it should have.
-        if self.asked > self.gone {
-            let _ = self.idle.shutdown(Shutdown::Write);
-        }
-        Ok(())
-    }
-}
-
-impl Service for Waking<'_> {
-    ghost answers = { λ M r o N. Unit {0} };
-
-    ghost over = { λ _. false };
-
-    fn answer(&mut self, _alloc: Global, _request: &Request) -> Result<Reply, Fault> {
-        self.asked = self.asked.saturating_add(1);
-        match self.play() {
-            Ok(()) => Ok(Reply::Done),
-            Err(_) => Err(Fault::Database),
-        }
-    }
-
-    fn is_over(&self) -> bool {
-        false
-    }
-}
-
-impl HttpService for Waking<'_> {
-    ghost speaks = { profile };
-
-    fn turn(&mut self, alloc: Global, wanted: &Wanted, at: Moment, is_last: bool) -> Turned {
-        turn(alloc, self, wanted, at, is_last)
-    }
-
-    ghost asks_queries = { profile_asks_queries };
-}
 
 // Clients come in the order in which they connect: two that are idle; `left` that leave at once;
 // enough that ask and leave to take all other places; and then newcomers, one more than have left
@@ -95,16 +33,18 @@ fn newcomers_come(rt: &HostRuntime, ends: &impl Abort, left: usize) {
         newcomers.push(newcomer).expect(ends, "memory");
     }
     wait(rt);
-    let mut service = Waking {
+    let asked = Cell::new(0);
+    let waking = Waking {
         rt,
-        asked: 0,
-        gone,
+        gone: gone as u64,
         asks: &asks,
         idle: &idle,
     };
+    let mut service = new_service(&asked, Some(waking));
     let ended = server.run(rt, alloc, Moment::clamped(0), &mut service);
     has_ended(ends, ended, Ended::Enough);
-    same(ends, "asked", service.asked, CONNECTION_COUNT);
+    let all = CONNECTION_COUNT as u64;
+    same(ends, "asked", u64::from(asked.get()), all);
     hears(ends, alloc, "who has asked", &asks, ANSWER);
     hears(ends, alloc, "who is idle", &idle, "");
     for newcomer in &newcomers {

@@ -13,6 +13,8 @@ mod both;
 #[cfg(test)]
 mod client;
 #[cfg(test)]
+mod clock;
+#[cfg(test)]
 mod full;
 #[cfg(test)]
 mod guests;

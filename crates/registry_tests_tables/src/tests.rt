@@ -1,4 +1,5 @@
-//! Tables of cases, and their runners.
+//! Cases as texts, and their runners.
 
 mod rows;
+mod schema;
 mod tables;

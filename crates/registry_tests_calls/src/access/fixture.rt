@@ -1,6 +1,6 @@
 //! The rows of the registry of these tests.
 
-use crate::parts::text;
+use crate::parts::{field, text};
 use registry_access::{
     AccessRows, Grant, GrantRow, MaintainerRow, MemberRow, PackageRow, Role, TeamMemberRow,
 };
@@ -8,42 +8,27 @@ use registry_names::Status;
 use std::alloc::Global;
 use std::process::Abort;
 
-/// What a row says.
-enum Fact {
-    /// There is an organisation.
-    Organisation(&'static str),
-    /// A user is a member of an organisation.
-    Member(&'static str, &'static str, Role),
-    /// A user is in a team of an organisation.
-    TeamMember(&'static str, &'static str, &'static str),
-    /// A team of `lab` is granted something on a package.
-    Granted(&'static str, &'static str, Grant),
-    /// A package was published.
-    Package(&'static str, Status),
-    /// A user maintains a package.
-    Maintainer(&'static str, &'static str),
-}
-
-static FACTS: [Fact; 18] = [
-    Fact::Organisation("inc"),
-    Fact::Organisation("lab"),
-    Fact::Member("inc", "eve", Role::Owner),
-    Fact::Member("lab", "amy", Role::Admin),
-    Fact::Member("lab", "ann", Role::Owner),
-    Fact::Member("lab", "bob", Role::Developer),
-    Fact::Member("lab", "dan", Role::Developer),
-    Fact::TeamMember("inc", "ops", "eve"),
-    Fact::TeamMember("lab", "developers", "bob"),
-    Fact::TeamMember("lab", "ops", "bob"),
-    Fact::Granted("developers", "@lab/app", Grant::ReadOnly),
-    Fact::Granted("developers", "@lab/kit", Grant::ReadWrite),
-    Fact::Granted("ops", "@lab/app", Grant::ReadWrite),
-    Fact::Granted("ops", "@lab/kit", Grant::ReadOnly),
-    Fact::Package("@lab/app", Status::Public),
-    Fact::Package("@lab/kit", Status::Restricted),
-    Fact::Package("tool", Status::Public),
-    Fact::Maintainer("tool", "bob"),
-];
+// What the rows say: there is an organisation; a user is a member of an organisation, or in a team of
+// one; a team of `lab` is granted something on a package; a package was published; and a user
+// maintains one.
+const FACTS: &str = "organisation inc
+organisation lab
+member inc eve owner
+member lab amy admin
+member lab ann owner
+member lab bob developer
+member lab dan developer
+team inc ops eve
+team lab developers bob
+team lab ops bob
+granted developers @lab/app read-only
+granted developers @lab/kit read-write
+granted ops @lab/app read-write
+granted ops @lab/kit read-only
+package @lab/app public
+package @lab/kit restricted
+package tool public
+maintainer tool bob";
 
 // Each of these adds a row in a function of its own, so that `add` owns none.
 fn add_organisation(rt: &impl Abort, alloc: Global, rows: &mut AccessRows, name: &str) {
@@ -51,30 +36,18 @@ fn add_organisation(rt: &impl Abort, alloc: Global, rows: &mut AccessRows, name:
     rows.organisations.push(row).expect(rt, "memory");
 }
 
-fn add_member(
-    rt: &impl Abort,
-    alloc: Global,
-    rows: &mut AccessRows,
-    organisation: &str,
-    user: &str,
-    role: Role,
-) {
+fn add_member(rt: &impl Abort, alloc: Global, rows: &mut AccessRows, words: [&str; 3]) {
+    let [organisation, user, role] = words;
     let row = MemberRow {
         organisation: text(rt, alloc, organisation),
         user: text(rt, alloc, user),
-        role,
+        role: Role::parse(role).expect(rt, role),
     };
     rows.members.push(row).expect(rt, "memory");
 }
 
-fn add_team_member(
-    rt: &impl Abort,
-    alloc: Global,
-    rows: &mut AccessRows,
-    organisation: &str,
-    team: &str,
-    user: &str,
-) {
+fn add_team_member(rt: &impl Abort, alloc: Global, rows: &mut AccessRows, words: [&str; 3]) {
+    let [organisation, team, user] = words;
     let row = TeamMemberRow {
         organisation: text(rt, alloc, organisation),
         team: text(rt, alloc, team),
@@ -83,67 +56,49 @@ fn add_team_member(
     rows.team_members.push(row).expect(rt, "memory");
 }
 
-fn add_grant(
-    rt: &impl Abort,
-    alloc: Global,
-    rows: &mut AccessRows,
-    team: &str,
-    package: &str,
-    grant: Grant,
-) {
+fn add_grant(rt: &impl Abort, alloc: Global, rows: &mut AccessRows, words: [&str; 3]) {
+    let [team, package, grant] = words;
     let row = GrantRow {
         organisation: text(rt, alloc, "lab"),
         team: text(rt, alloc, team),
         package: text(rt, alloc, package),
-        grant,
+        grant: Grant::parse(grant).expect(rt, grant),
     };
     rows.grants.push(row).expect(rt, "memory");
 }
 
-fn add_package(
-    rt: &impl Abort,
-    alloc: Global,
-    rows: &mut AccessRows,
-    package: &str,
-    status: Status,
-) {
-    let package = text(rt, alloc, package);
-    rows.packages
-        .push(PackageRow { package, status })
-        .expect(rt, "memory");
+fn add_package(rt: &impl Abort, alloc: Global, rows: &mut AccessRows, name: &str, status: &str) {
+    let row = PackageRow {
+        package: text(rt, alloc, name),
+        status: Status::parse(status).expect(rt, status),
+    };
+    rows.packages.push(row).expect(rt, "memory");
 }
 
-fn add_maintainer(
-    rt: &impl Abort,
-    alloc: Global,
-    rows: &mut AccessRows,
-    package: &str,
-    user: &str,
-) {
+fn add_maintainer(rt: &impl Abort, alloc: Global, rows: &mut AccessRows, name: &str, user: &str) {
     let row = MaintainerRow {
-        package: text(rt, alloc, package),
+        package: text(rt, alloc, name),
         user: text(rt, alloc, user),
     };
     rows.maintainers.push(row).expect(rt, "memory");
 }
 
-fn add(rt: &impl Abort, alloc: Global, rows: &mut AccessRows, fact: &Fact) {
-    match *fact {
-        Fact::Organisation(name) => add_organisation(rt, alloc, rows, name),
-        Fact::Member(organisation, user, role) => {
-            add_member(rt, alloc, rows, organisation, user, role)
-        }
-        Fact::TeamMember(organisation, team, user) => {
-            add_team_member(rt, alloc, rows, organisation, team, user)
-        }
-        Fact::Granted(team, package, grant) => add_grant(rt, alloc, rows, team, package, grant),
-        Fact::Package(name, status) => add_package(rt, alloc, rows, name, status),
-        Fact::Maintainer(package, user) => add_maintainer(rt, alloc, rows, package, user),
+fn add(rt: &impl Abort, alloc: Global, rows: &mut AccessRows, line: &str) {
+    let first = field(line, ' ', 1);
+    let second = field(line, ' ', 2);
+    let third = field(line, ' ', 3);
+    match field(line, ' ', 0) {
+        "organisation" => add_organisation(rt, alloc, rows, first),
+        "member" => add_member(rt, alloc, rows, [first, second, third]),
+        "team" => add_team_member(rt, alloc, rows, [first, second, third]),
+        "granted" => add_grant(rt, alloc, rows, [first, second, third]),
+        "package" => add_package(rt, alloc, rows, first, second),
+        _ => add_maintainer(rt, alloc, rows, first, second),
     }
 }
 
-fn no_rows(alloc: Global) -> AccessRows {
-    AccessRows {
+pub(super) fn registry(rt: &impl Abort, alloc: Global) -> AccessRows {
+    let mut rows = AccessRows {
         organisations: Vec::new(alloc),
         members: Vec::new(alloc),
         teams: Vec::new(alloc),
@@ -151,13 +106,9 @@ fn no_rows(alloc: Global) -> AccessRows {
         grants: Vec::new(alloc),
         packages: Vec::new(alloc),
         maintainers: Vec::new(alloc),
-    }
-}
-
-pub(super) fn registry(rt: &impl Abort, alloc: Global) -> AccessRows {
-    let mut rows = no_rows(alloc);
-    for fact in &FACTS {
-        add(rt, alloc, &mut rows, fact);
+    };
+    for line in FACTS.lines() {
+        add(rt, alloc, &mut rows, line);
     }
     rows
 }

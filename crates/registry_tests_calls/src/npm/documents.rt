@@ -1,15 +1,9 @@
 //! Documents and whole withdrawals in a turn: what they ask after the packument and the maintainers, and
 //! what is answered.
 
-use super::{BOB, are_answered};
-
-/// The packument of `tool` and of `theirs`.
-pub const TOOL: &str =
-    r#"{"_id":"tool","dist-tags":{"latest":"1.1.0"},"name":"tool","versions":{"1.0.0":{"name":"tool"},"1.1.0":{"name":"tool"}}}"#;
-
 // Asked with the token of bob, who may write `tool` and `gone`, and read `theirs` and `others`. The
 // maintainers are ann and bob, and the revision is the one that `sha256sum` told.
-const ASKED: &str = r#"# One message for one version.
+pub(super) const ASKED: &str = r#"# One message for one version.
 PUT /tool {"_id":"tool","_rev":"a19ad3ca0a750021e752d6f385405e7e46a195a2a4b27f058a11b88727114031","dist-tags":{"latest":"1.1.0"},"maintainers":[{"email":"","name":"ann"},{"email":"","name":"bob"}],"name":"tool","versions":{"1.0.0":{"deprecated":"old","name":"tool"},"1.1.0":{"name":"tool"}}} => WhoAmI Packument Maintainers Deprecate => 200 {"ok":true}
 # Two messages.
 PUT /tool {"_id":"tool","_rev":"a19ad3ca0a750021e752d6f385405e7e46a195a2a4b27f058a11b88727114031","dist-tags":{"latest":"1.1.0"},"maintainers":[{"email":"","name":"ann"},{"email":"","name":"bob"}],"name":"tool","versions":{"1.0.0":{"deprecated":"old","name":"tool"},"1.1.0":{"deprecated":"new","name":"tool"}}} => WhoAmI Packument Maintainers => 400 {"error":"BadBody"}
@@ -47,8 +41,3 @@ DELETE /gone/-rev/a19ad3ca0a750021e752d6f385405e7e46a195a2a4b27f058a11b887271140
 DELETE /others/-rev/a19ad3ca0a750021e752d6f385405e7e46a195a2a4b27f058a11b88727114031 => WhoAmI Packument Deprecate => 403 {"error":"Denied A6"}
 # What the registry doesn't know, or not for this caller.
 DELETE /hidden/-rev/a19ad3ca0a750021e752d6f385405e7e46a195a2a4b27f058a11b88727114031 => WhoAmI Packument Deprecate => 409 {"error":"Stale"}"#;
-
-#[test]
-fn documents_are_answered(rt: HostRuntime) {
-    are_answered(&rt, rt.alloc(), Some(BOB), ASKED);
-}

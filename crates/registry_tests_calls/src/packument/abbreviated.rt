@@ -23,7 +23,7 @@ struct Case {
 
 /// The example of npm's description, to the second, with the keys in byte order. The manifest has
 /// members that an install doesn't read.
-static TINY_TARBALL: Case = Case {
+const TINY_TARBALL: Case = Case {
     name: "tiny-tarball",
     modified: 1431815274,
     tags: &[("latest", "1.0.0")],
@@ -36,7 +36,7 @@ static TINY_TARBALL: Case = Case {
 };
 
 /// Every member that an install reads, with others between them.
-static ALL_MEMBERS: Case = Case {
+const ALL_MEMBERS: Case = Case {
     name: "kit",
     modified: 0,
     tags: &[],
@@ -49,7 +49,7 @@ static ALL_MEMBERS: Case = Case {
 };
 
 /// Scripts that an install runs, and others.
-static SCRIPTS: Case = Case {
+const SCRIPTS: Case = Case {
     name: "kit",
     modified: 100,
     tags: &[("it's", "1.0.0"), ("next", "1.0.6")],
@@ -85,7 +85,7 @@ static SCRIPTS: Case = Case {
     text: r#"{"dist-tags":{"it's":"1.0.0","next":"1.0.6"},"modified":"1970-01-01T00:01:40.000Z","name":"kit","versions":{"1.0.0":{"hasInstallScript":true,"name":"kit"},"1.0.1":{"deprecated":"old","hasInstallScript":true,"name":"kit"},"1.0.2":{"funding":1,"hasInstallScript":true},"1.0.3":{},"1.0.4":{},"1.0.5":{},"1.0.6":{"hasInstallScript":null}}}"#,
 };
 
-static NOTHING: Case = Case {
+const NOTHING: Case = Case {
     name: "kit",
     modified: 100,
     tags: &[("latest", "1.0.0")],
@@ -93,7 +93,7 @@ static NOTHING: Case = Case {
     text: r#"{"dist-tags":{"latest":"1.0.0"},"modified":"1970-01-01T00:01:40.000Z","name":"kit","versions":{}}"#,
 };
 
-static NO_MANIFEST: Case = Case {
+const NO_MANIFEST: Case = Case {
     name: "kit",
     modified: 100,
     tags: &[],
@@ -117,94 +117,58 @@ fn short_head(rt: &impl Abort, alloc: Global, case: &Case) -> PackHead {
         .in_form(PackForm::Abbreviated)
 }
 
-// Checks the text, and how long it is.
+// Checks the text, how long it is, and what is given of it within a limit.
 fn is_made(rt: &impl Abort, alloc: Global, case: &Case, head: &PackHead) {
     let text = packument_text(alloc, head, &mut source(rt, alloc, case.versions));
-    same(
-        rt,
-        case.name,
-        text.expect(rt, "a packument").as_str(),
-        case.text,
-    );
+    let text = text.expect(rt, "a packument");
+    same(rt, case.name, text.as_str(), case.text);
     let len = packument_len(alloc, head, &mut source(rt, alloc, case.versions));
-    same(rt, case.name, &len, &Ok(case.text.len() as u64));
-}
-
-// Checks what is given of it within a limit.
-fn is_within(rt: &impl Abort, alloc: Global, case: &Case, head: &PackHead, limit: u64) {
-    let mut rows = source(rt, alloc, case.versions);
-    match packument_within(alloc, head, &mut rows, limit).expect(rt, "a packument") {
-        PackumentWithin::Text(came_out) => same(rt, limit, came_out.as_str(), case.text),
-        PackumentWithin::Longer(len) => same(rt, limit, len, limit.saturating_add(1)),
+    let wanted = case.text.len() as u64;
+    same(rt, case.name, len, Ok(wanted));
+    for limit in [wanted, wanted.saturating_sub(1)] {
+        let mut rows = source(rt, alloc, case.versions);
+        match packument_within(alloc, head, &mut rows, limit).expect(rt, "a packument") {
+            PackumentWithin::Text(came_out) => same(rt, limit, came_out.as_str(), case.text),
+            PackumentWithin::Longer(len) => same(rt, limit, len, limit.saturating_add(1)),
+        }
     }
 }
 
-// Checks what is written version by version.
-fn is_written(rt: &impl Abort, alloc: Global, case: &Case, head: &PackHead) {
+// Checks what is written version by version, and what is sent where its length is known.
+fn is_sent(rt: &impl Abort, alloc: Global, case: &Case, head: &PackHead) {
     let mut rows = source(rt, alloc, case.versions);
     let mut out = narrow(alloc, usize::MAX);
     let end = write_packument(alloc, head, &mut rows, &mut ToWrite::new(&mut out));
-    same(rt, case.name, &end, &Ok(()));
+    same(rt, case.name, end, Ok(()));
     same(rt, case.name, as_text(&out.taken), case.text);
-}
-
-// Checks what is sent where its length is known.
-fn is_sent(rt: &impl Abort, alloc: Global, case: &Case, head: &PackHead) {
     let mut rows = source(rt, alloc, case.versions);
     let mut out = narrow(alloc, usize::MAX);
     let len = case.text.len() as u64;
     let opener = Counted { len };
-    let sent = send_counted(
-        alloc,
-        head,
-        &mut rows,
-        len,
-        &mut ToWrite::new(&mut out),
-        &opener,
-    );
+    let mut writer = ToWrite::new(&mut out);
+    let sent = send_counted(alloc, head, &mut rows, len, &mut writer, &opener);
     same(rt, case.name, &sent, &Sent::Whole);
-    same(
-        rt,
-        case.name,
-        as_text(&out.taken).ends_with(case.text),
-        true,
-    );
+    let is_behind = as_text(&out.taken).ends_with(case.text);
+    same(rt, case.name, is_behind, true);
 }
 
 fn is_abbreviated(rt: &impl Abort, alloc: Global, case: &Case) {
     let head = short_head(rt, alloc, case);
-    let len = case.text.len() as u64;
     is_made(rt, alloc, case, &head);
-    is_within(rt, alloc, case, &head, len);
-    is_within(rt, alloc, case, &head, len.saturating_sub(1));
-    is_written(rt, alloc, case, &head);
     is_sent(rt, alloc, case, &head);
 }
 
+// Where a version has no manifest, there is no packument.
 #[test]
-fn the_example_of_the_description(rt: HostRuntime) {
-    is_abbreviated(&rt, rt.alloc(), &TINY_TARBALL);
-}
-
-#[test]
-fn all_that_an_install_reads(rt: HostRuntime) {
-    is_abbreviated(&rt, rt.alloc(), &ALL_MEMBERS);
-}
-
-#[test]
-fn scripts_that_an_install_runs(rt: HostRuntime) {
-    is_abbreviated(&rt, rt.alloc(), &SCRIPTS);
-}
-
-#[test]
-fn a_package_without_versions(rt: HostRuntime) {
-    is_abbreviated(&rt, rt.alloc(), &NOTHING);
-}
-
-#[test]
-fn a_version_without_a_manifest_has_no_document(rt: HostRuntime) {
-    let head = short_head(&rt, rt.alloc(), &NO_MANIFEST);
-    let mut rows = source(&rt, rt.alloc(), NO_MANIFEST.versions);
-    let told = packument_text(rt.alloc(), &head, &mut rows);
-    same(&rt, NO_MANIFEST.name, &told.err(), &Some(Fault::Database));
+fn packuments_are_abbreviated(rt: HostRuntime) {
+    let alloc = rt.alloc();
+    is_abbreviated(&rt, alloc, &TINY_TARBALL);
+    is_abbreviated(&rt, alloc, &ALL_MEMBERS);
+    is_abbreviated(&rt, alloc, &SCRIPTS);
+    is_abbreviated(&rt, alloc, &NOTHING);
+    let case = &NO_MANIFEST;
+    let head = short_head(&rt, alloc, case);
+    let mut rows = source(&rt, alloc, case.versions);
+    let told = packument_text(alloc, &head, &mut rows);
+    same(&rt, "no manifest", told.err(), Some(Fault::Database));
 }

@@ -11,7 +11,8 @@ use registry_packument::{
 use std::alloc::Global;
 use std::process::Abort;
 
-static NO_MANIFESTS: [&str; 17] = [
+// The first is empty. One has a tab in a text.
+const NO_MANIFESTS: [&str; 17] = [
     "",
     " ",
     "[1]",
@@ -31,7 +32,7 @@ static NO_MANIFESTS: [&str; 17] = [
     "{}x",
 ];
 
-static MANIFESTS: [&str; 6] = [
+const MANIFESTS: [&str; 6] = [
     "{}",
     " {\n} ",
     r#"{"a":1.5,"b":1e300,"c":1e-400,"d":-0,"e":18446744073709551616}"#,
@@ -40,130 +41,102 @@ static MANIFESTS: [&str; 6] = [
     r#"{"z":[[],{},"\ud83d\ude00",true,false,null],"a":""}"#,
 ];
 
-// Checks that a manifest has a document, or none because of this fault.
-fn has_fault(rt: &impl Abort, alloc: Global, manifest: &str, message: &str, fault: &Option<Fault>) {
-    let came_out = version_text(alloc, manifest, message).err();
-    same(rt, &(manifest, message), &came_out, fault);
+// Checks that a manifest has a document with a message and without one, or none because of this fault.
+fn has_fault(rt: &impl Abort, alloc: Global, manifest: &str, fault: Option<Fault>) {
+    let came_out = version_text(alloc, manifest, "").err();
+    same(rt, manifest, came_out, fault);
+    let came_out = version_text(alloc, manifest, "old").err();
+    same(rt, manifest, came_out, fault);
+}
+
+const PREFIX: &str =
+    r#"{"_id":"kit","dist-tags":{},"name":"kit","time":{"created":"1970-01-01T00:01:40.000Z","modified":"1970-01-01T00:03:20.000Z"},"versions":{"1.0.0":{}"#;
+
+// Checks that where such a manifest follows one in form, there is no packument and no length, and what
+// comes before it is written.
+fn is_no_packument(rt: &impl Abort, alloc: Global, head: &PackHead, rows: &[VersionCase]) {
+    let told = packument_text(alloc, head, &mut source(rt, alloc, rows)).err();
+    same(rt, rows, told, Some(Fault::Database));
+    let counted = packument_len(alloc, head, &mut source(rt, alloc, rows));
+    same(rt, rows, counted, Err(Fault::Database));
+    let mut out = Vec::new(alloc);
+    let mut source = source(rt, alloc, rows);
+    let end = write_packument(alloc, head, &mut source, &mut ToWrite::new(&mut out));
+    same(rt, rows, end, Err(PackFault::Source(Fault::Database)));
+    same(rt, rows, as_text(&out), PREFIX);
 }
 
 #[test]
 fn what_is_no_object_has_no_document(rt: HostRuntime) {
-    for text in &NO_MANIFESTS {
-        has_fault(&rt, rt.alloc(), text, "", &Some(Fault::Database));
-        has_fault(&rt, rt.alloc(), text, "old", &Some(Fault::Database));
+    let alloc = rt.alloc();
+    let head = head(&rt, alloc, "kit", &[], &[]);
+    for text in NO_MANIFESTS {
+        has_fault(&rt, alloc, text, Some(Fault::Database));
+        for message in ["", "old"] {
+            let rows = [("1.0.0", "{}", ""), ("1.0.1", text, message)];
+            is_no_packument(&rt, alloc, &head, &rows);
+        }
     }
 }
 
-fn is_document(rt: &impl Abort, alloc: Global, manifest: &str) {
-    let document = version_text(alloc, manifest, "").expect(rt, "a document");
-    same(rt, manifest, document.as_str(), manifest);
-    has_fault(rt, alloc, manifest, "old", &None);
-}
-
-#[test]
-fn a_manifest_is_its_document(rt: HostRuntime) {
-    for manifest in &MANIFESTS {
-        is_document(&rt, rt.alloc(), manifest);
-    }
-}
-
-// An object of arrays in one another, this many deep.
-fn nested(rt: &impl Abort, alloc: Global, depth: usize) -> String {
-    let opened = repeated(rt, alloc, "[", depth);
-    let closed = repeated(rt, alloc, "]", depth);
-    concat(
-        rt,
-        alloc,
-        &["{\"a\":", opened.as_str(), closed.as_str(), "}"],
-    )
-}
-
-static DEPTHS: [(usize, Option<Fault>); 3] = [
+// How deep arrays may be in one another, in an object.
+const DEPTHS: [(usize, Option<Fault>); 3] = [
     (126, None),
     (127, Some(Fault::Database)),
     (200, Some(Fault::Database)),
 ];
 
 #[test]
-fn a_manifest_nests_127_deep(rt: HostRuntime) {
-    for (depth, fault) in &DEPTHS {
-        let manifest = nested(&rt, rt.alloc(), *depth);
-        has_fault(&rt, rt.alloc(), &manifest, "", fault);
-        has_fault(&rt, rt.alloc(), &manifest, "old", fault);
+fn a_manifest_is_its_document(rt: HostRuntime) {
+    let alloc = rt.alloc();
+    for manifest in MANIFESTS {
+        let document = version_text(alloc, manifest, "").expect(&rt, "a document");
+        same(&rt, manifest, document.as_str(), manifest);
+        has_fault(&rt, alloc, manifest, None);
+    }
+    for (depth, fault) in DEPTHS {
+        let opened = repeated(&rt, alloc, "[", depth);
+        let closed = repeated(&rt, alloc, "]", depth);
+        let parts = ["{\"a\":", opened.as_str(), closed.as_str(), "}"];
+        has_fault(&rt, alloc, concat(&rt, alloc, &parts).as_str(), fault);
     }
 }
 
-const PREFIX: &str =
-    r#"{"_id":"kit","dist-tags":{},"name":"kit","time":{"created":"1970-01-01T00:01:40.000Z","modified":"1970-01-01T00:03:20.000Z"},"versions":{"1.0.0":{}"#;
-
-// Checks that these rows have no text.
-fn has_no_text(rt: &impl Abort, alloc: Global, head: &PackHead, rows: &[VersionCase]) {
-    let told = packument_text(alloc, head, &mut source(rt, alloc, rows)).err();
-    same(rt, rows, &told, &Some(Fault::Database));
-}
-
-// Checks that their length can't be counted.
-fn has_no_length(rt: &impl Abort, alloc: Global, head: &PackHead, rows: &[VersionCase]) {
-    let counted = packument_len(alloc, head, &mut source(rt, alloc, rows));
-    same(rt, rows, &counted, &Err(Fault::Database));
-}
-
-// Checks that what comes before the manifest that isn't in form is written.
-fn has_a_prefix(rt: &impl Abort, alloc: Global, head: &PackHead, rows: &[VersionCase]) {
-    let mut out = Vec::new(alloc);
-    let mut source = source(rt, alloc, rows);
-    let end = write_packument(alloc, head, &mut source, &mut ToWrite::new(&mut out));
-    same(rt, rows, &end, &Err(PackFault::Source(Fault::Database)));
-    same(rt, rows, as_text(&out), PREFIX);
-}
-
-// Checks that where such a manifest follows one in form, there is no packument.
-fn is_no_packument(
-    rt: &impl Abort,
-    alloc: Global,
-    head: &PackHead,
-    text: &'static str,
-    message: &'static str,
-) {
-    let rows = [("1.0.0", "{}", ""), ("1.0.1", text, message)];
-    has_no_text(rt, alloc, head, &rows);
-    has_no_length(rt, alloc, head, &rows);
-    has_a_prefix(rt, alloc, head, &rows);
-}
-
-#[test]
-fn what_is_no_object_is_in_no_packument(rt: HostRuntime) {
-    let head = head(&rt, rt.alloc(), "kit", &[], &[]);
-    for text in &NO_MANIFESTS {
-        is_no_packument(&rt, rt.alloc(), &head, text, "");
-        is_no_packument(&rt, rt.alloc(), &head, text, "old");
-    }
-}
-
-/// Versions, and whether they are in byte order, each once.
-type Order = (&'static [&'static str], bool);
-
-static ORDERS: [Order; 7] = [
-    (&[], true),
-    (&["1.0.0"], true),
-    (&["1.10.0", "1.9.0", "2.0.0", "2.0.0-b"], true),
-    (&["1.9.0", "1.10.0"], false),
-    (&["1.0.0", "1.0.0"], false),
-    (&["1.0.0", "2.0.0", "1.1.0"], false),
-    (&["2.0.0", "1.0.0", "3.0.0"], false),
+// Versions in byte order, each once, and versions that aren't.
+const IN_ORDER: [&[VersionCase]; 3] = [
+    &[],
+    &[("1.0.0", "{}", "")],
+    &[
+        ("1.10.0", "{}", ""),
+        ("1.9.0", "{}", ""),
+        ("2.0.0", "{}", ""),
+        ("2.0.0-b", "{}", ""),
+    ],
 ];
 
-fn is_source(rt: &impl Abort, alloc: Global, texts: &[&'static str]) -> bool {
-    let mut cases = Vec::new(alloc);
-    for text in texts {
-        cases.push((*text, "{}", "")).expect(rt, "memory");
-    }
-    VersionRows::new(versions(rt, alloc, &cases)).is_some()
-}
+const OUT_OF_ORDER: [&[VersionCase]; 4] = [
+    &[("1.9.0", "{}", ""), ("1.10.0", "{}", "")],
+    &[("1.0.0", "{}", ""), ("1.0.0", "{}", "")],
+    &[
+        ("1.0.0", "{}", ""),
+        ("2.0.0", "{}", ""),
+        ("1.1.0", "{}", ""),
+    ],
+    &[
+        ("2.0.0", "{}", ""),
+        ("1.0.0", "{}", ""),
+        ("3.0.0", "{}", ""),
+    ],
+];
 
 #[test]
 fn rows_in_order_are_a_source(rt: HostRuntime) {
-    for (texts, in_order) in &ORDERS {
-        same(&rt, *texts, &is_source(&rt, rt.alloc(), texts), in_order);
+    for cases in IN_ORDER {
+        let rows = VersionRows::new(versions(&rt, rt.alloc(), cases));
+        same(&rt, cases, rows.is_some(), true);
+    }
+    for cases in OUT_OF_ORDER {
+        let rows = VersionRows::new(versions(&rt, rt.alloc(), cases));
+        same(&rt, cases, rows.is_some(), false);
     }
 }

@@ -3,8 +3,8 @@
 ghost use Rattle.std.specs.Prelude.{◌==◌, codes, if◌then◌else◌};
 
 use crate::outcome::same;
-use crate::packument::stream::{Failing, KIT, KIT_TAGS, KIT_VERSIONS, Narrow};
-use crate::packument::{head, source};
+use crate::packument::head;
+use crate::packument::stream::{KIT, KIT_TAGS, KIT_VERSIONS, Narrow, source_that_fails};
 use crate::parts::{as_text, concat};
 use registry_names::{Fault, Text, ToWrite};
 use registry_packument::{Opener, Sent, send_counted, send_text};
@@ -47,20 +47,10 @@ pub(super) fn narrow(alloc: Global, room: usize) -> Narrow {
 // many calls, to a writer that takes what it has room for.
 fn sent_to(rt: &impl Abort, alloc: Global, answers: u32, len: u64, writer: &mut Narrow) -> Sent {
     let head = head(rt, alloc, "kit", KIT_TAGS, KIT_VERSIONS);
-    let mut source = Failing {
-        source: source(rt, alloc, KIT_VERSIONS),
-        answers,
-        failed: false,
-    };
+    let mut source = source_that_fails(rt, alloc, KIT_VERSIONS, answers);
     let opener = Counted { len };
-    send_counted(
-        alloc,
-        &head,
-        &mut source,
-        len,
-        &mut ToWrite::new(writer),
-        &opener,
-    )
+    let mut writer = ToWrite::new(writer);
+    send_counted(alloc, &head, &mut source, len, &mut writer, &opener)
 }
 
 // Checks how a packument is sent to a writer with this room, from a source and from its text.
@@ -102,20 +92,16 @@ fn is_broken_off(rt: &impl Abort, alloc: Global, answers: u32, len: u64) {
     same(rt, (answers, len), whole.as_str() == taken, false);
 }
 
-#[test]
-fn a_source_that_fails_breaks_a_packument_off(rt: HostRuntime) {
-    for answers in 0..4 {
-        is_broken_off(&rt, rt.alloc(), answers, KIT.len() as u64);
-    }
-}
-
+// A source that fails breaks a packument off, and so does one of another length than was counted.
 #[test]
 fn a_packument_of_another_length_is_broken_off(rt: HostRuntime) {
     let len = KIT.len() as u64;
-    for shorter in 0..len {
-        is_broken_off(&rt, rt.alloc(), ALL, shorter);
+    for answers in 0..4 {
+        is_broken_off(&rt, rt.alloc(), answers, len);
     }
-    for more in 1..100 {
-        is_broken_off(&rt, rt.alloc(), ALL, len.saturating_add(more));
+    for other in 0..len.saturating_add(100) {
+        if other != len {
+            is_broken_off(&rt, rt.alloc(), ALL, other);
+        }
     }
 }

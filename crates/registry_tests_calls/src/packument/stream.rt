@@ -8,7 +8,7 @@ use crate::packument::{TagCase, VersionCase, head, source};
 use crate::parts::as_text;
 use registry_names::{Fault, ToWrite};
 use registry_packument::{
-    PackFault, PackHead, VersionRow, VersionRows, VersionSource, packument_len, write_packument,
+    PackFault, VersionRow, VersionRows, VersionSource, packument_len, write_packument,
 };
 use std::alloc::Global;
 use std::io;
@@ -90,154 +90,102 @@ pub(super) const KIT: &str =
 pub(super) const KIT_WITHOUT_VERSIONS: &str =
     r#"{"_id":"kit","dist-tags":{"latest":"1.1.0"},"name":"kit","time":{"created":"1970-01-01T00:01:40.000Z","modified":"1970-01-01T00:03:20.000Z"},"versions":{}}"#;
 
-/// Versions, from a source that answers this many calls, to a writer that takes this many bytes;
-/// what is written then; and how that ends.
-#[derive(Drop)]
-struct Case {
-    versions: &'static [VersionCase],
+/// A source of these versions that answers this many calls.
+pub(super) fn source_that_fails(
+    rt: &impl Abort,
+    alloc: Global,
+    versions: &[VersionCase],
     answers: u32,
-    room: usize,
-    text: &'static str,
-    end: Result<(), PackFault>,
-}
-
-fn source_of(rt: &impl Abort, alloc: Global, case: &Case) -> Failing<VersionRows> {
+) -> Failing<VersionRows> {
     Failing {
-        source: source(rt, alloc, case.versions),
-        answers: case.answers,
+        source: source(rt, alloc, versions),
+        answers,
         failed: false,
     }
 }
 
-fn is_told(rt: &impl Abort, alloc: Global, shows: &str, case: &Case) {
-    let head = head(rt, alloc, "kit", KIT_TAGS, case.versions);
-    is_counted(rt, alloc, shows, &head, case);
-    is_written(rt, alloc, shows, &head, case);
-}
-
-// A length is returned where the source has no fault, whatever the writer does.
-fn is_counted(rt: &impl Abort, alloc: Global, shows: &str, head: &PackHead, case: &Case) {
-    let came_out = packument_len(alloc, head, &mut source_of(rt, alloc, case));
-    let wanted = match case.end {
+// Checks what is written of versions, from a source that answers this many calls, to a writer that takes
+// this many bytes, and how that ends. A length is counted where the source has no fault, whatever the
+// writer does. A source that failed fails again.
+fn is_told(
+    rt: &impl Abort,
+    alloc: Global,
+    versions: &[VersionCase],
+    answers: u32,
+    room: usize,
+    text: &str,
+    end: Result<(), PackFault>,
+) {
+    let head = head(rt, alloc, "kit", KIT_TAGS, versions);
+    let counted = packument_len(
+        alloc,
+        &head,
+        &mut source_that_fails(rt, alloc, versions, answers),
+    );
+    let wanted = match end {
         Err(PackFault::Source(fault)) => Err(fault),
-        _ => Ok(case.text.len() as u64),
+        _ => Ok(text.len() as u64),
     };
-    same(rt, shows, &came_out, &wanted);
-}
-
-fn is_written(rt: &impl Abort, alloc: Global, shows: &str, head: &PackHead, case: &Case) {
-    let mut source = source_of(rt, alloc, case);
+    same(rt, (answers, room), counted, wanted);
+    let mut source = source_that_fails(rt, alloc, versions, answers);
     let mut narrow = Narrow {
         taken: Vec::new(alloc),
-        room: case.room,
+        room,
     };
-    let end = write_packument(alloc, head, &mut source, &mut ToWrite::new(&mut narrow));
-    same(rt, shows, &end, &case.end);
-    let front = case.text.get(..case.room).unwrap_or(case.text);
-    same(rt, shows, as_text(&narrow.taken), front);
-    stays(rt, alloc, shows, &mut source);
-}
-
-// A source that failed fails again.
-fn stays(rt: &impl Abort, alloc: Global, shows: &str, source: &mut Failing<VersionRows>) {
+    let came_out = write_packument(alloc, &head, &mut source, &mut ToWrite::new(&mut narrow));
+    same(rt, (answers, room), came_out, end);
+    let front = text.get(..room).unwrap_or(text);
+    same(rt, (answers, room), as_text(&narrow.taken), front);
     if source.answers == 0 {
-        same(rt, shows, &source.next(alloc).err(), &Some(Fault::Database));
+        let again = source.next(alloc).err();
+        same(rt, (answers, room), again, Some(Fault::Database));
     }
-}
-
-/// What a row shows, versions, how many calls their source answers, and what is written then.
-type Row = (&'static str, &'static [VersionCase], u32, &'static str);
-
-fn all_told(rt: &impl Abort, alloc: Global, rows: &[Row], end: Result<(), PackFault>) {
-    for (shows, versions, answers, text) in rows {
-        let case = Case {
-            versions,
-            answers: *answers,
-            room: usize::MAX,
-            text,
-            end,
-        };
-        is_told(rt, alloc, shows, &case);
-    }
-}
-
-static WHOLE: [Row; 2] = [
-    ("three versions", KIT_VERSIONS, 9, KIT),
-    ("no versions", &[], 9, KIT_WITHOUT_VERSIONS),
-];
-
-#[test]
-fn written_and_counted_alike(rt: HostRuntime) {
-    all_told(&rt, rt.alloc(), &WHOLE, Ok(()));
 }
 
 const SOURCE_FAILED: Result<(), PackFault> = Err(PackFault::Source(Fault::Database));
 
-static PREFIXES: [Row; 5] = [
+const NO_MANIFEST: &[VersionCase] = &[
+    ("1.0.0", r#"{"a":1}"#, ""),
+    ("1.1.0", "[1]", ""),
+    ("2.0.0-b", "{}", ""),
+];
+
+// How many calls the source answers, and what isn't written then.
+const REST: [(u32, &str); 4] = [
     (
-        "no answer",
-        KIT_VERSIONS,
         0,
-        r#"{"_id":"kit","dist-tags":{"latest":"1.1.0"},"name":"kit","time":{"1.0.0":"1970-01-01T00:01:40.000Z","1.1.0":"1970-01-01T00:01:40.000Z","2.0.0-b":"1970-01-01T00:01:40.000Z","created":"1970-01-01T00:01:40.000Z","modified":"1970-01-01T00:03:20.000Z"},"versions":{"#,
+        r#""1.0.0":{"a":1},"1.1.0":{"a":1,"deprecated":"old","z":2},"2.0.0-b":{}}}"#,
     ),
     (
-        "one answer",
-        KIT_VERSIONS,
         1,
-        r#"{"_id":"kit","dist-tags":{"latest":"1.1.0"},"name":"kit","time":{"1.0.0":"1970-01-01T00:01:40.000Z","1.1.0":"1970-01-01T00:01:40.000Z","2.0.0-b":"1970-01-01T00:01:40.000Z","created":"1970-01-01T00:01:40.000Z","modified":"1970-01-01T00:03:20.000Z"},"versions":{"1.0.0":{"a":1}"#,
+        r#","1.1.0":{"a":1,"deprecated":"old","z":2},"2.0.0-b":{}}}"#,
     ),
-    (
-        "two answers",
-        KIT_VERSIONS,
-        2,
-        r#"{"_id":"kit","dist-tags":{"latest":"1.1.0"},"name":"kit","time":{"1.0.0":"1970-01-01T00:01:40.000Z","1.1.0":"1970-01-01T00:01:40.000Z","2.0.0-b":"1970-01-01T00:01:40.000Z","created":"1970-01-01T00:01:40.000Z","modified":"1970-01-01T00:03:20.000Z"},"versions":{"1.0.0":{"a":1},"1.1.0":{"a":1,"deprecated":"old","z":2}"#,
-    ),
-    (
-        "three answers",
-        KIT_VERSIONS,
-        3,
-        r#"{"_id":"kit","dist-tags":{"latest":"1.1.0"},"name":"kit","time":{"1.0.0":"1970-01-01T00:01:40.000Z","1.1.0":"1970-01-01T00:01:40.000Z","2.0.0-b":"1970-01-01T00:01:40.000Z","created":"1970-01-01T00:01:40.000Z","modified":"1970-01-01T00:03:20.000Z"},"versions":{"1.0.0":{"a":1},"1.1.0":{"a":1,"deprecated":"old","z":2},"2.0.0-b":{}"#,
-    ),
-    (
-        "a version without a manifest",
-        &[
-            ("1.0.0", r#"{"a":1}"#, ""),
-            ("1.1.0", "[1]", ""),
-            ("2.0.0-b", "{}", ""),
-        ],
-        9,
-        r#"{"_id":"kit","dist-tags":{"latest":"1.1.0"},"name":"kit","time":{"1.0.0":"1970-01-01T00:01:40.000Z","1.1.0":"1970-01-01T00:01:40.000Z","2.0.0-b":"1970-01-01T00:01:40.000Z","created":"1970-01-01T00:01:40.000Z","modified":"1970-01-01T00:03:20.000Z"},"versions":{"1.0.0":{"a":1}"#,
-    ),
+    (2, r#","2.0.0-b":{}}}"#),
+    (3, "}}"),
 ];
 
 #[test]
-fn a_fault_of_the_source_leaves_a_prefix(rt: HostRuntime) {
-    all_told(&rt, rt.alloc(), &PREFIXES, SOURCE_FAILED);
-}
-
-#[test]
-fn a_failed_write_leaves_a_prefix(rt: HostRuntime) {
+fn written_and_counted_alike(rt: HostRuntime) {
+    let (alloc, all) = (rt.alloc(), usize::MAX);
+    is_told(&rt, alloc, KIT_VERSIONS, 9, all, KIT, Ok(()));
+    is_told(&rt, alloc, &[], 9, all, KIT_WITHOUT_VERSIONS, Ok(()));
+    for (answers, rest) in REST {
+        let front = KIT.strip_suffix(rest).expect(&rt, rest);
+        is_told(&rt, alloc, KIT_VERSIONS, answers, all, front, SOURCE_FAILED);
+    }
+    let (_, rest) = REST[1];
+    let front = KIT.strip_suffix(rest).expect(&rt, rest);
+    is_told(&rt, alloc, NO_MANIFEST, 9, all, front, SOURCE_FAILED);
+    let cut = Err(PackFault::Write);
     for room in 0..KIT.len() {
-        let case = Case {
-            versions: KIT_VERSIONS,
-            answers: 9,
-            room,
-            text: KIT,
-            end: Err(PackFault::Write),
-        };
-        is_told(&rt, rt.alloc(), "a narrow writer", &case);
+        is_told(&rt, alloc, KIT_VERSIONS, 9, room, KIT, cut);
     }
 }
-
-static FAULTS: [(PackFault, &str); 3] = [
-    (PackFault::Write, "Write"),
-    (PackFault::Source(Fault::Memory), "Memory"),
-    (PackFault::Source(Fault::Database), "Database"),
-];
 
 #[test]
 fn faults_of_packuments_are_printed(rt: HostRuntime) {
-    for (fault, text) in &FAULTS {
-        is_displayed(&rt, rt.alloc(), fault, text);
-    }
+    let alloc = rt.alloc();
+    is_displayed(&rt, alloc, &PackFault::Write, "Write");
+    is_displayed(&rt, alloc, &PackFault::Source(Fault::Memory), "Memory");
+    is_displayed(&rt, alloc, &PackFault::Source(Fault::Database), "Database");
 }

@@ -1,58 +1,45 @@
 //! The table agrees with the crate `matchit`, where that can express what the table does: it has no
 //! scopes of two segments, no file names of two, and treats `-` like any other name.
 
+use super::asked_for;
 use crate::outcome::same;
-use crate::parts::concat;
+use crate::parts::{concat, string};
 use matchit::Router;
-use registry_names::Method;
-use registry_names::Method::{Delete, Get, Other, Post, Put};
-use registry_routes::Endpoint::{
-    Archive, Deprecate, Grant, Members, OrgRemove, OrgSet, OwnerAdd, OwnerRemove, Packument,
-    Publish, Revoke, SetAccess, TagRemove, TagSet, Tags, TeamAdd, TeamCreate, TeamDestroy,
-    TeamMembers, TeamPackages, TeamRemove, Teams, VersionDoc, Withdraw,
-};
-use registry_routes::{Endpoint, Route, Values, route_of};
 use std::alloc::Global;
 use std::process::Abort;
 
-/// A method, a route as `matchit` writes it, and what it asks for.
-type Row = (Method, &'static str, Endpoint);
-
-static ROWS: [Row; 24] = [
-    (Get, "/{first}", Packument),
-    (Put, "/{first}", Publish),
-    (Get, "/{first}/{second}", VersionDoc),
-    (Get, "/{first}/-/{second}", Archive),
-    (Get, "/-/package/{first}/dist-tags", Tags),
-    (Put, "/-/package/{first}/dist-tags/{second}", TagSet),
-    (Delete, "/-/package/{first}/dist-tags/{second}", TagRemove),
-    (Put, "/-/package/{first}/access", SetAccess),
-    (Put, "/-/package/{first}/owners/{second}", OwnerAdd),
-    (Delete, "/-/package/{first}/owners/{second}", OwnerRemove),
-    (Post, "/-/package/{first}/deprecate", Deprecate),
-    (Delete, "/-/package/{first}/versions/{second}", Withdraw),
-    (Get, "/-/org/{first}", Members),
-    (Put, "/-/org/{first}/{second}", OrgSet),
-    (Delete, "/-/org/{first}/{second}", OrgRemove),
-    (Get, "/-/team/{first}", Teams),
-    (Get, "/-/team/{first}/{second}", TeamMembers),
-    (Put, "/-/team/{first}/{second}", TeamCreate),
-    (Delete, "/-/team/{first}/{second}", TeamDestroy),
-    (Put, "/-/team/{first}/{second}/{third}", TeamAdd),
-    (Delete, "/-/team/{first}/{second}/{third}", TeamRemove),
-    (Get, "/-/grant/{first}/{second}", TeamPackages),
-    (Put, "/-/grant/{first}/{second}/{third}", Grant),
-    (Delete, "/-/grant/{first}/{second}/{third}", Revoke),
-];
-
-static METHODS: [Method; 5] = [Get, Put, Post, Delete, Other];
+// A method, a route as `matchit` writes it, and what it asks for.
+const ROWS: &str = "GET /{first} Packument
+PUT /{first} Publish
+GET /{first}/{second} VersionDoc
+GET /{first}/-/{second} Archive
+GET /-/package/{first}/dist-tags Tags
+PUT /-/package/{first}/dist-tags/{second} TagSet
+DELETE /-/package/{first}/dist-tags/{second} TagRemove
+PUT /-/package/{first}/access SetAccess
+PUT /-/package/{first}/owners/{second} OwnerAdd
+DELETE /-/package/{first}/owners/{second} OwnerRemove
+POST /-/package/{first}/deprecate Deprecate
+DELETE /-/package/{first}/versions/{second} Withdraw
+GET /-/org/{first} Members
+PUT /-/org/{first}/{second} OrgSet
+DELETE /-/org/{first}/{second} OrgRemove
+GET /-/team/{first} Teams
+GET /-/team/{first}/{second} TeamMembers
+PUT /-/team/{first}/{second} TeamCreate
+DELETE /-/team/{first}/{second} TeamDestroy
+PUT /-/team/{first}/{second}/{third} TeamAdd
+DELETE /-/team/{first}/{second}/{third} TeamRemove
+GET /-/grant/{first}/{second} TeamPackages
+PUT /-/grant/{first}/{second}/{third} Grant
+DELETE /-/grant/{first}/{second}/{third} Revoke";
 
 // Segments that don't begin a scope.
-static SEGMENTS: [&str; 6] = ["kit", "@lab%2Fkit", "-", "org", "team", "%2d"];
+const SEGMENTS: [&str; 6] = ["kit", "@lab%2Fkit", "-", "org", "team", "%2d"];
 
-static PREFIXES: [&str; 4] = ["/-/package", "/-/org", "/-/team", "/-/grant"];
+const PREFIXES: [&str; 4] = ["/-/package", "/-/org", "/-/team", "/-/grant"];
 
-static ENDS: [&str; 6] = [
+const ENDS: [&str; 6] = [
     "kit",
     "dist-tags",
     "access",
@@ -62,59 +49,53 @@ static ENDS: [&str; 6] = [
 ];
 
 // The routes of a method.
-fn router_of(rt: &impl Abort, alloc: Global, method: Method) -> Router<Endpoint> {
+fn router_of(rt: &impl Abort, alloc: Global, method: &str) -> Router<&'static str> {
     let mut router = Router::new(alloc);
-    for (row, route, endpoint) in &ROWS {
-        if *row == method {
-            router.insert(route, *endpoint).expect(rt, "a route");
+    for row in ROWS.lines() {
+        let (row_method, rest) = row.split_once(' ').expect(rt, row);
+        let (route, endpoint) = rest.split_once(' ').expect(rt, row);
+        if row_method == method {
+            router.insert(route, endpoint).expect(rt, "a route");
         }
     }
     router
 }
 
-// The route that `matchit` finds, except one of a name that is `-`.
-fn found<'a>(router: &Router<Endpoint>, path: &'a str) -> Option<Route<'a>> {
+// The route that `matchit` finds, except one of a package whose name is `-`.
+fn found(rt: &impl Abort, alloc: Global, router: &Router<&str>, path: &str) -> String {
     let Ok(found) = router.at(path) else {
-        return None;
-    };
-    let values = Values {
-        first: value(found.params.get("first")),
-        second: value(found.params.get("second")),
-        third: value(found.params.get("third")),
+        return string(rt, alloc, "nothing");
     };
     let endpoint = *found.value;
-    if values.first == b"-".as_slice() && names_package(endpoint) {
-        return None;
+    let first = found.params.get("first").unwrap_or("");
+    let second = found.params.get("second").unwrap_or("");
+    let third = found.params.get("third").unwrap_or("");
+    let names_package = matches!(endpoint, "Packument" | "Publish" | "VersionDoc" | "Archive");
+    if first == "-" && names_package {
+        return string(rt, alloc, "nothing");
     }
-    Some(Route { endpoint, values })
-}
-
-fn value(value: Option<&str>) -> &[u8] {
-    value.unwrap_or("").as_bytes()
-}
-
-fn names_package(endpoint: Endpoint) -> bool {
-    matches!(endpoint, Packument | Publish | VersionDoc | Archive)
+    format!(in alloc; "{endpoint}|{first}|{second}|{third}").expect(rt, "memory")
 }
 
 // Checks that both say the same of a path.
-fn agree(rt: &impl Abort, router: &Router<Endpoint>, method: Method, path: &str) {
-    let came_out = route_of(method, path.as_bytes());
-    same(rt, &(method, path), &came_out, &found(router, path));
+fn agree(rt: &impl Abort, alloc: Global, router: &Router<&str>, method: &str, path: &str) {
+    let came_out = asked_for(rt, alloc, method, path);
+    let wanted = found(rt, alloc, router, path);
+    same(rt, (method, path), came_out.as_str(), wanted.as_str());
 }
 
 // Checks that they do for each path of a prefix and one segment.
 fn agree_behind(
     rt: &impl Abort,
     alloc: Global,
-    router: &Router<Endpoint>,
-    method: Method,
+    router: &Router<&str>,
+    method: &str,
     front: &str,
     segments: &[&str],
 ) {
     for first in segments {
         let path = concat(rt, alloc, &[front, "/", first]);
-        agree(rt, router, method, &path);
+        agree(rt, alloc, router, method, &path);
     }
 }
 
@@ -122,8 +103,8 @@ fn agree_behind(
 fn agree_on_two(
     rt: &impl Abort,
     alloc: Global,
-    router: &Router<Endpoint>,
-    method: Method,
+    router: &Router<&str>,
+    method: &str,
     front: &str,
     segments: &[&str],
 ) {
@@ -138,8 +119,8 @@ fn agree_on_two(
 fn agree_on(
     rt: &impl Abort,
     alloc: Global,
-    router: &Router<Endpoint>,
-    method: Method,
+    router: &Router<&str>,
+    method: &str,
     front: &str,
     segments: &[&str],
 ) {
@@ -152,11 +133,11 @@ fn agree_on(
 
 #[test]
 fn the_table_agrees_with_matchit(rt: HostRuntime) {
-    for method in &METHODS {
-        let router = router_of(&rt, rt.alloc(), *method);
-        agree_on(&rt, rt.alloc(), &router, *method, "", &SEGMENTS);
-        for front in &PREFIXES {
-            agree_on(&rt, rt.alloc(), &router, *method, front, &ENDS);
+    for method in ["GET", "PUT", "POST", "DELETE", "HEAD"] {
+        let router = router_of(&rt, rt.alloc(), method);
+        agree_on(&rt, rt.alloc(), &router, method, "", &SEGMENTS);
+        for front in PREFIXES {
+            agree_on(&rt, rt.alloc(), &router, method, front, &ENDS);
         }
     }
 }

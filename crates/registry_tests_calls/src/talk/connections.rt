@@ -5,10 +5,10 @@ ghost use Rattle.registry_service.proofs.DialectFacts.{profile_asks_queries};
 ghost use Rattle.registry_service.specs.Turns.{profile};
 
 use crate::outcome::same;
-use crate::parts::{around, as_text, repeated};
-use crate::wire::reader::{Drip, Faltering, Narrow};
+use crate::parts::{around, as_text, field, repeated};
+use crate::wire::reader::{Narrow, Source};
 use registry_cache::SharedText;
-use registry_names::{ByteIn, ByteOut, Fault, FromRead, Moment, Refusal, ToWrite};
+use registry_names::{ByteOut, Fault, FromRead, Moment, Refusal, ToWrite};
 use registry_packument::{Opener, Sent};
 use registry_rules::{Action, Credential, Reply, Request};
 use registry_service::{
@@ -16,7 +16,6 @@ use registry_service::{
 };
 use registry_wire::{Inbox, Wanted};
 use std::alloc::Global;
-use std::io::ErrorKind;
 use std::process::Abort;
 
 /// A service that shows the tags of any package to a caller who shows a token, and has a fault for
@@ -92,28 +91,85 @@ impl Clock for Steps {
     }
 }
 
-// Input, what is written in answer to it, how many requests are answered, and how it ends.
-pub type Case = (&'static str, &'static str, u32, End);
+// What comes on a connection; ` => ` and what is written in answer to it, both with `^` at the end of each
+// line; ` => ` and how many requests are answered, how many the service is asked, and how it ends. Behind
+// a comma stands how many reads are interrupted before it, and behind another one that a read breaks
+// after it.
+pub const CONNECTIONS: &str = r#" =>  => 0 0 Closed
+GET /-/package/@lab%2fkit/dist-tags HTTP/1.1^authorization: Bearer npm_bob_000000001^^ => HTTP/1.1 200 OK^content-type: application/json^content-length: 18^^{"latest":"1.0.0"} => 1 1 Closed
+GET /kit HTTP/1.1^host: l => HTTP/1.1 400 Bad Request^content-type: application/json^content-length: 19^connection: close^^{"error":"BadBody"} => 0 0 BadInput
+PUT /kit HTTP/1.1^content-length: 4194305^^ => HTTP/1.1 413 Payload Too Large^content-type: application/json^content-length: 20^connection: close^^{"error":"TooLarge"} => 0 0 BadInput
+GET /kit HTTP/1.1^^PUT /-/org/lab/eve HTTP/1.1^connection: close^content-length: 11^^"developer"GET /kit HTTP/1.1^^ => HTTP/1.1 404 Not Found^content-type: application/json^content-length: 20^^{"error":"NotFound"}HTTP/1.1 401 Unauthorized^content-type: application/json^content-length: 20^www-authenticate: Bearer^connection: close^^{"error":"NoCaller"} => 2 2 Closed
+HEAD /kit HTTP/1.1^^ => HTTP/1.1 404 Not Found^content-type: application/json^content-length: 20^connection: close^^{"error":"NotFound"} => 1 0 Closed
+GET /-/team/lab HTTP/1.1^^GET /kit HTTP/1.1^^ => HTTP/1.1 500 Internal Server Error^content-type: application/json^content-length: 20^connection: close^^{"error":"Database"} => 1 1 Faulted(Database)
+PUT /-/org/lab/eve HTTP/1.1^content-length: 12^^"developer" => HTTP/1.1 400 Bad Request^content-type: application/json^content-length: 19^connection: close^^{"error":"BadBody"} => 0 0 BadInput"#;
 
-fn is_served<R: ByteIn + Drop>(
+const OTHERS: &str =
+    r#"PUT /kit HTTP/1.1^content-length: +3^^abc => HTTP/1.1 400 Bad Request^content-type: application/json^content-length: 19^connection: close^^{"error":"BadBody"} => 0 0 BadInput
+PUT /kit HTTP/1.1^content-length: 3, 3^^abc => HTTP/1.1 400 Bad Request^content-type: application/json^content-length: 19^connection: close^^{"error":"BadBody"} => 0 0 BadInput
+PUT /kit HTTP/1.1^content-length: 3^content-length: 3^^abc => HTTP/1.1 400 Bad Request^content-type: application/json^content-length: 19^connection: close^^{"error":"BadBody"} => 0 0 BadInput
+PUT /kit HTTP/1.1^transfer-encoding: chunked^^ => HTTP/1.1 400 Bad Request^content-type: application/json^content-length: 19^connection: close^^{"error":"BadBody"} => 0 0 BadInput
+PUT /kit HTTP/1.1^content-length: 5^^abc => HTTP/1.1 400 Bad Request^content-type: application/json^content-length: 19^connection: close^^{"error":"BadBody"} => 0 0 BadInput
+PUT /kit HTTP/1.1^content-length: 4194305^^ => HTTP/1.1 413 Payload Too Large^content-type: application/json^content-length: 20^connection: close^^{"error":"TooLarge"} => 0 0 BadInput,0,breaks
+PUT /kit HTTP/1.1^content-length: 18446744073709551616^^ => HTTP/1.1 413 Payload Too Large^content-type: application/json^content-length: 20^connection: close^^{"error":"TooLarge"} => 0 0 BadInput,0,breaks
+GET /-/package/@lab%2fkit/dist-tags HTTP/1.1^authorization: Bearer npm_bob_000000001^^ => HTTP/1.1 200 OK^content-type: application/json^content-length: 18^^{"latest":"1.0.0"} => 1 1 Closed,999
+GET /-/package/@lab%2fkit/dist-tags HTTP/1.1^authorization: Bearer npm_bob_000000001^^ =>  => 0 0 ReadFault,1000
+ =>  => 0 0 ReadFault,0,breaks"#;
+
+// The text with the ends of its lines.
+pub fn bytes(rt: &impl Abort, alloc: Global, text: &str) -> String {
+    text.replace(alloc, "^", "\r\n").expect(rt, "memory")
+}
+
+// Checks how a connection is served whose input comes in pieces of this many bytes.
+fn comes_out(
     rt: &impl Abort,
     alloc: Global,
-    case: &str,
-    reader: R,
-    written: &str,
-    served: Served,
+    input: &str,
+    output: &str,
+    told: &str,
+    piece_len: usize,
 ) {
+    let wanted = field(told, ',', 0);
+    let interruptions = field(told, ',', 1);
+    let breaks = field(told, ',', 2);
     let mut service = FixedTags {
         asked: Vec::new(alloc),
     };
-    let mut clock = Steps { next: 0 };
+    let reader = FromRead::new(Source {
+        interruptions: interruptions.parse::<u32>().unwrap_or(0),
+        text: input.as_bytes(),
+        piece_len,
+        breaks: breaks == "breaks",
+    });
     let mut inbox = Inbox::new(alloc, reader);
     let mut out = Vec::new(alloc);
     let mut writer = ToWrite::new(&mut out);
-    let came_out = serve(alloc, &mut service, &mut inbox, &mut writer, &mut clock);
-    same(rt, case, &came_out, &served);
-    same(rt, case, as_text(&out), written);
-    same(rt, case, &service.asked.is_sorted(), &true);
+    let mut clock = Steps { next: 0 };
+    let served = serve(alloc, &mut service, &mut inbox, &mut writer, &mut clock);
+    let shows = input.get(..60).unwrap_or(input);
+    let (requests, end, asked) = (served.requests, served.end, service.asked.len());
+    let told = format!(in alloc; "{requests} {asked} {end:?}").expect(rt, "memory");
+    same(rt, shows, told.as_str(), wanted);
+    same(rt, shows, as_text(&out) == output, true);
+    same(rt, shows, service.asked.is_sorted(), true);
+}
+
+// The same with all bytes at once, and with one byte a read.
+fn both_come_out(rt: &impl Abort, alloc: Global, input: &str, output: &str, told: &str) {
+    comes_out(rt, alloc, input, output, told, usize::MAX);
+    comes_out(rt, alloc, input, output, told, 1);
+}
+
+#[test]
+fn connections_are_served(rt: HostRuntime) {
+    let alloc = rt.alloc();
+    for line in CONNECTIONS.lines().chain(OTHERS.lines()) {
+        let (input, rest) = line.split_once(" => ").expect(&rt, line);
+        let (output, told) = rest.split_once(" => ").expect(&rt, line);
+        let (input, output) = (bytes(&rt, alloc, input), bytes(&rt, alloc, output));
+        both_come_out(&rt, alloc, input.as_str(), output.as_str(), told);
+    }
 }
 
 pub const TAGS: &str =
@@ -125,117 +181,34 @@ pub const TAGS_OUT: &str =
 pub const CUT_OUT: &str =
     "HTTP/1.1 400 Bad Request\r\ncontent-type: application/json\r\ncontent-length: 19\r\nconnection: close\r\n\r\n{\"error\":\"BadBody\"}";
 
-pub static CONNECTIONS: [Case; 8] = [
-    ("", "", 0, End::Closed),
-    (TAGS, TAGS_OUT, 1, End::Closed),
-    ("GET /kit HTTP/1.1\r\nhost: l", CUT_OUT, 0, End::BadInput),
-    (
-        "PUT /kit HTTP/1.1\r\ncontent-length: 4194305\r\n\r\n",
-        "HTTP/1.1 413 Payload Too Large\r\ncontent-type: application/json\r\ncontent-length: 20\r\nconnection: close\r\n\r\n{\"error\":\"TooLarge\"}",
-        0,
-        End::BadInput,
-    ),
-    (
-        "GET /kit HTTP/1.1\r\n\r\nPUT /-/org/lab/eve HTTP/1.1\r\nconnection: close\r\ncontent-length: 11\r\n\r\n\"developer\"GET /kit HTTP/1.1\r\n\r\n",
-        "HTTP/1.1 404 Not Found\r\ncontent-type: application/json\r\ncontent-length: 20\r\n\r\n{\"error\":\"NotFound\"}HTTP/1.1 401 Unauthorized\r\ncontent-type: application/json\r\ncontent-length: 20\r\nwww-authenticate: Bearer\r\nconnection: close\r\n\r\n{\"error\":\"NoCaller\"}",
-        2,
-        End::Closed,
-    ),
-    (
-        "HEAD /kit HTTP/1.1\r\n\r\n",
-        "HTTP/1.1 404 Not Found\r\ncontent-type: application/json\r\ncontent-length: 20\r\nconnection: close\r\n\r\n{\"error\":\"NotFound\"}",
-        1,
-        End::Closed,
-    ),
-    (
-        "GET /-/team/lab HTTP/1.1\r\n\r\nGET /kit HTTP/1.1\r\n\r\n",
-        "HTTP/1.1 500 Internal Server Error\r\ncontent-type: application/json\r\ncontent-length: 20\r\nconnection: close\r\n\r\n{\"error\":\"Database\"}",
-        1,
-        End::Faulted(Fault::Database),
-    ),
-    (
-        "PUT /-/org/lab/eve HTTP/1.1\r\ncontent-length: 12\r\n\r\n\"developer\"",
-        CUT_OUT,
-        0,
-        End::BadInput,
-    ),
-];
-
-fn both_served(rt: &impl Abort, alloc: Global, case: &Case) {
-    let (input, out, requests, end) = case;
-    let served = Served {
-        requests: *requests,
-        end: *end,
-    };
-    let text = input.as_bytes();
-    is_served(rt, alloc, input, FromRead::new(text), out, served);
-    is_served(rt, alloc, input, FromRead::new(Drip { text }), out, served);
-}
-
-#[test]
-fn connections_are_served(rt: HostRuntime) {
-    for case in &CONNECTIONS {
-        both_served(&rt, rt.alloc(), case);
-    }
-}
-
 const LAST_OUT: &str =
     "HTTP/1.1 200 OK\r\ncontent-type: application/json\r\ncontent-length: 18\r\nconnection: close\r\n\r\n{\"latest\":\"1.0.0\"}";
 
+const NOT_FOUND_OUT: &str =
+    "HTTP/1.1 404 Not Found\r\ncontent-type: application/json\r\ncontent-length: 20\r\n\r\n{\"error\":\"NotFound\"}";
+
+const NOT_FOUND_LAST: &str =
+    "HTTP/1.1 404 Not Found\r\ncontent-type: application/json\r\ncontent-length: 20\r\nconnection: close\r\n\r\n{\"error\":\"NotFound\"}";
+
+// A head has 16,384 bytes at most and 64 fields, and a connection a thousand requests.
 #[test]
-fn a_connection_has_a_thousand_requests(rt: HostRuntime) {
+fn long_connections_are_served(rt: HostRuntime) {
     let alloc = rt.alloc();
+    let head = "GET /kit HTTP/1.1\r\n";
+    let input = around(&rt, alloc, head, "a: b", 1, "");
+    let input = around(&rt, alloc, input.as_str(), "b", 16_362, "");
+    same(&rt, "its length", input.len(), 16_385);
+    both_come_out(&rt, alloc, &input, CUT_OUT, "0 0 BadInput");
+    let input = around(&rt, alloc, head, "a:\r\n", 64, "\r\n");
+    both_come_out(&rt, alloc, &input, NOT_FOUND_OUT, "1 1 Closed");
+    let input = around(&rt, alloc, head, "a:\r\n", 65, "\r\n");
+    both_come_out(&rt, alloc, &input, CUT_OUT, "0 0 BadInput");
     let input = repeated(&rt, alloc, TAGS, 1_001);
-    let wanted = around(&rt, alloc, "", TAGS_OUT, 999, LAST_OUT);
-    let served = Served {
-        requests: 1_000,
-        end: End::Limit,
-    };
-    let reader = FromRead::new(input.as_bytes());
-    is_served(&rt, alloc, "a thousand", reader, &wanted, served);
-}
-
-const ONE_SERVED: Served = Served {
-    requests: 1,
-    end: End::Closed,
-};
-
-const NONE_SERVED: Served = Served {
-    requests: 0,
-    end: End::ReadFault,
-};
-
-/// What a case shows, how reads fail, how many do, what is written, and how it ends.
-type Failed = (&'static str, ErrorKind, u32, &'static str, Served);
-
-static FAILED_READS: [Failed; 3] = [
-    (
-        "999 times",
-        ErrorKind::Interrupted,
-        999,
-        TAGS_OUT,
-        ONE_SERVED,
-    ),
-    (
-        "1,000 times",
-        ErrorKind::Interrupted,
-        1_000,
-        "",
-        NONE_SERVED,
-    ),
-    ("broken", ErrorKind::TimedOut, 1, "", NONE_SERVED),
-];
-
-#[test]
-fn interrupted_reads_are_tried_again(rt: HostRuntime) {
-    for (shows, kind, failures, written, served) in &FAILED_READS {
-        let reader = FromRead::new(Faltering {
-            text: TAGS.as_bytes(),
-            kind: *kind,
-            failures: *failures,
-        });
-        is_served(&rt, rt.alloc(), shows, reader, written, *served);
-    }
+    let output = around(&rt, alloc, "", TAGS_OUT, 999, LAST_OUT);
+    both_come_out(&rt, alloc, &input, &output, "1000 1000 Limit");
+    let input = repeated(&rt, alloc, "GET /kit HTTP/1.1\r\n\r\n", 1_001);
+    let output = around(&rt, alloc, "", NOT_FOUND_OUT, 999, NOT_FOUND_LAST);
+    both_come_out(&rt, alloc, &input, &output, "1000 1000 Limit");
 }
 
 // Checks how a connection of two requests ends where this many bytes are taken.

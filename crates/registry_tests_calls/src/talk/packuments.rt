@@ -11,7 +11,7 @@ use crate::wire::reader::Narrow;
 use registry_names::{ByteOut, Fault, FromRead, Moment, Refusal, ToWrite, write_whole};
 use registry_packument::{Opener, Sent};
 use registry_rules::{Reply, Request};
-use registry_service::{End, HttpService, PackumentService, Served, Service, Turned, serve, turn};
+use registry_service::{End, HttpService, PackumentService, Service, Turned, serve, turn};
 use registry_wire::{Inbox, Wanted};
 use std::alloc::Global;
 use std::process::Abort;
@@ -107,72 +107,28 @@ const TWO: &str = "GET /kit HTTP/1.1\r\n\r\nGET /kit HTTP/1.1\r\nconnection: clo
 const KIT_OUT: &str =
     "HTTP/1.1 200 OK\r\ncontent-type: application/json\r\ncontent-length: 14\r\n\r\n{\"name\":\"kit\"}";
 
-/// Where the packument breaks off, what comes, what is written of it, how many packuments are asked
-/// for, how many requests are answered, and how the connection ends.
-type Case = (Break, &'static str, &'static str, u32, u32, End);
+const TWO_OUT: &str =
+    "HTTP/1.1 200 OK\r\ncontent-type: application/json\r\ncontent-length: 14\r\n\r\n{\"name\":\"kit\"}HTTP/1.1 200 OK\r\ncontent-type: application/json\r\ncontent-length: 14\r\nconnection: close\r\n\r\n{\"name\":\"kit\"}";
 
-static CASES: [Case; 3] = [
-    (
-        Break::Nowhere,
-        TWO,
-        "HTTP/1.1 200 OK\r\ncontent-type: application/json\r\ncontent-length: 14\r\n\r\n{\"name\":\"kit\"}HTTP/1.1 200 OK\r\ncontent-type: application/json\r\ncontent-length: 14\r\nconnection: close\r\n\r\n{\"name\":\"kit\"}",
-        2,
-        2,
-        End::Closed,
-    ),
-    (
-        Break::BeforeItsHead,
-        TWO,
-        "HTTP/1.1 500 Internal Server Error\r\ncontent-type: application/json\r\ncontent-length: 20\r\nconnection: close\r\n\r\n{\"error\":\"Database\"}",
-        1,
-        1,
-        End::Faulted(Fault::Database),
-    ),
-    (
-        Break::BehindItsHead,
-        TWO,
-        "HTTP/1.1 200 OK\r\ncontent-type: application/json\r\ncontent-length: 14\r\n\r\n",
-        1,
-        0,
-        End::Faulted(Fault::Database),
-    ),
-];
+const FAULT_OUT: &str =
+    "HTTP/1.1 500 Internal Server Error\r\ncontent-type: application/json\r\ncontent-length: 20\r\nconnection: close\r\n\r\n{\"error\":\"Database\"}";
 
-// Checks that a case comes out as wanted.
-fn comes_out(rt: &impl Abort, alloc: Global, case: &Case) {
-    let (breaks, input, output, asked, requests, end) = case;
-    let mut service = OnePackument {
-        breaks: *breaks,
-        asked: 0,
-    };
+const HEAD_OUT: &str =
+    "HTTP/1.1 200 OK\r\ncontent-type: application/json\r\ncontent-length: 14\r\n\r\n";
+
+// Checks what is written where this many bytes are taken, how many packuments are asked for, how many
+// requests are answered, and how the connection ends.
+fn comes_out(
+    rt: &impl Abort,
+    alloc: Global,
+    breaks: Break,
+    input: &str,
+    limit: usize,
+    output: &str,
+    wanted: (u32, u32, End),
+) {
+    let mut service = OnePackument { breaks, asked: 0 };
     let mut inbox = Inbox::new(alloc, FromRead::new(input.as_bytes()));
-    let mut out = Vec::new(alloc);
-    let mut writer = ToWrite::new(&mut out);
-    let mut clock = Steps { next: 0 };
-    let served = serve(alloc, &mut service, &mut inbox, &mut writer, &mut clock);
-    let wanted = Served {
-        requests: *requests,
-        end: *end,
-    };
-    same(rt, breaks, &served, &wanted);
-    same(rt, breaks, &service.asked, asked);
-    same(rt, breaks, as_text(&out), *output);
-}
-
-#[test]
-fn packuments_are_sent_behind_their_head(rt: HostRuntime) {
-    for case in &CASES {
-        comes_out(&rt, rt.alloc(), case);
-    }
-}
-
-// Checks that as many bytes of the response to one request are written as are taken.
-fn is_cut(rt: &impl Abort, alloc: Global, limit: usize) {
-    let mut service = OnePackument {
-        breaks: Break::Nowhere,
-        asked: 0,
-    };
-    let mut inbox = Inbox::new(alloc, FromRead::new(KIT.as_bytes()));
     let mut narrow = Narrow {
         taken: Vec::new(alloc),
         limit,
@@ -180,18 +136,43 @@ fn is_cut(rt: &impl Abort, alloc: Global, limit: usize) {
     let mut writer = ToWrite::new(&mut narrow);
     let mut clock = Steps { next: 0 };
     let served = serve(alloc, &mut service, &mut inbox, &mut writer, &mut clock);
-    let wanted = Served {
-        requests: 0,
-        end: End::WriteFault,
-    };
-    same(rt, &limit, &served, &wanted);
-    let front = KIT_OUT.get(..limit).unwrap_or(KIT_OUT);
-    same(rt, &limit, as_text(&narrow.taken), front);
+    let came_out = (service.asked, served.requests, served.end);
+    same(rt, (breaks, limit), came_out, wanted);
+    same(rt, (breaks, limit), as_text(&narrow.taken), output);
+}
+
+#[test]
+fn packuments_are_sent_behind_their_head(rt: HostRuntime) {
+    let all = usize::MAX;
+    let whole = (2, 2, End::Closed);
+    comes_out(&rt, rt.alloc(), Break::Nowhere, TWO, all, TWO_OUT, whole);
+    let none = (1, 1, End::Faulted(Fault::Database));
+    comes_out(
+        &rt,
+        rt.alloc(),
+        Break::BeforeItsHead,
+        TWO,
+        all,
+        FAULT_OUT,
+        none,
+    );
+    let cut = (1, 0, End::Faulted(Fault::Database));
+    comes_out(
+        &rt,
+        rt.alloc(),
+        Break::BehindItsHead,
+        TWO,
+        all,
+        HEAD_OUT,
+        cut,
+    );
 }
 
 #[test]
 fn a_failed_write_leaves_a_prefix_of_a_packument(rt: HostRuntime) {
+    let wanted = (1, 0, End::WriteFault);
     for limit in 0..KIT_OUT.len() {
-        is_cut(&rt, rt.alloc(), limit);
+        let front = KIT_OUT.get(..limit).unwrap_or(KIT_OUT);
+        comes_out(&rt, rt.alloc(), Break::Nowhere, KIT, limit, front, wanted);
     }
 }

@@ -7,158 +7,103 @@ use registry_wire::{FieldValue, First, accepts_abbreviated, first_in};
 use std::alloc::Global;
 use std::process::Abort;
 
-// The value of `accept`, and whether an abbreviated document is given.
-type Case = (&'static str, bool);
+// Each line says whether a value of `accept`, which stands behind the colon, accepts an abbreviated
+// document or declines it.
 
 // What clients send: yarn, pnpm and `npm outdated` the first, `npm install` the third, a browser the
 // fourth and curl the last.
-static CLIENTS: [Case; 5] = [
-    (
-        "application/vnd.npm.install-v1+json; q=1.0, application/json; q=0.8, */*",
-        true,
-    ),
-    ("application/vnd.npm.install-v1+json", true),
-    ("application/json", false),
-    (
-        "text/html,application/xhtml+xml,application/xml;q=0.9,*/*;q=0.8",
-        false,
-    ),
-    ("*/*", false),
-];
+const CLIENTS: &str =
+    "accepts: application/vnd.npm.install-v1+json; q=1.0, application/json; q=0.8, */*
+accepts: application/vnd.npm.install-v1+json
+declines: application/json
+declines: text/html,application/xhtml+xml,application/xml;q=0.9,*/*;q=0.8
+declines: */*";
 
 // The examples of RFC 9110, and the same with the type in them.
-static EXAMPLES: [Case; 8] = [
-    ("audio/*; q=0.2, audio/basic", false),
-    (
-        "text/plain; q=0.5, text/html, text/x-dvi; q=0.8, text/x-c",
-        false,
-    ),
-    ("text/*, text/plain, text/plain;format=flowed, */*", false),
-    (
-        "text/*;q=0.3, text/plain;q=0.7, text/plain;format=flowed, text/plain;format=fixed;q=0.4, */*;q=0.5",
-        false,
-    ),
-    ("audio/*; q=0.2, application/vnd.npm.install-v1+json", true),
-    (
-        "text/plain; q=0.5, text/html, application/vnd.npm.install-v1+json; q=0.8, text/x-c",
-        true,
-    ),
-    (
-        "text/*;q=0.3, application/vnd.npm.install-v1+json;format=fixed;q=0.4, */*;q=0.5",
-        true,
-    ),
-    (
-        "text/*;q=0.3, application/vnd.npm.install-v1+json;format=fixed;q=0, */*;q=0.5",
-        false,
-    ),
-];
+const EXAMPLES: &str = "declines: audio/*; q=0.2, audio/basic
+declines: text/plain; q=0.5, text/html, text/x-dvi; q=0.8, text/x-c
+declines: text/*, text/plain, text/plain;format=flowed, */*
+declines: text/*;q=0.3, text/plain;q=0.7, text/plain;format=flowed, text/plain;format=fixed;q=0.4, */*;q=0.5
+accepts: audio/*; q=0.2, application/vnd.npm.install-v1+json
+accepts: text/plain; q=0.5, text/html, application/vnd.npm.install-v1+json; q=0.8, text/x-c
+accepts: text/*;q=0.3, application/vnd.npm.install-v1+json;format=fixed;q=0.4, */*;q=0.5
+declines: text/*;q=0.3, application/vnd.npm.install-v1+json;format=fixed;q=0, */*;q=0.5";
 
 // Weights, behind the type. A weight has three digits at most, so what isn't one refuses nothing.
-static WEIGHTS: [Case; 27] = [
-    (";q=0", false),
-    (";q=0.", false),
-    (";q=0.0", false),
-    (";q=0.00", false),
-    (";q=0.000", false),
-    (";Q=0", false),
-    (";Q=0.000", false),
-    ("; q=0", false),
-    (" ;q=0 ", false),
-    ("\t; \tq=0.0\t ", false),
-    (";level=1;q=0", false),
-    (";q=0;level=1", false),
-    (";;q=0", false),
-    (";q=0, */*", false),
-    ("", true),
-    (";", true),
-    (";q=1", true),
-    (";q=1.000", true),
-    (";q=0.001", true),
-    (";q=0.5", true),
-    (";q=0.0000", true),
-    (";q=00", true),
-    (";q=", true),
-    (";q", true),
-    (";q = 0", true),
-    (";qq=0", true),
-    (";q=0, application/vnd.npm.install-v1+json", true),
-];
+const WEIGHTS: &str = "declines: application/vnd.npm.install-v1+json;q=0
+declines: application/vnd.npm.install-v1+json;q=0.
+declines: application/vnd.npm.install-v1+json;q=0.0
+declines: application/vnd.npm.install-v1+json;q=0.00
+declines: application/vnd.npm.install-v1+json;q=0.000
+declines: application/vnd.npm.install-v1+json;Q=0
+declines: application/vnd.npm.install-v1+json;Q=0.000
+declines: application/vnd.npm.install-v1+json; q=0
+declines: application/vnd.npm.install-v1+json ;q=0 
+declines: application/vnd.npm.install-v1+json\t; \tq=0.0\t 
+declines: application/vnd.npm.install-v1+json;level=1;q=0
+declines: application/vnd.npm.install-v1+json;q=0;level=1
+declines: application/vnd.npm.install-v1+json;;q=0
+declines: application/vnd.npm.install-v1+json;q=0, */*
+accepts: application/vnd.npm.install-v1+json
+accepts: application/vnd.npm.install-v1+json;
+accepts: application/vnd.npm.install-v1+json;q=1
+accepts: application/vnd.npm.install-v1+json;q=1.000
+accepts: application/vnd.npm.install-v1+json;q=0.001
+accepts: application/vnd.npm.install-v1+json;q=0.5
+accepts: application/vnd.npm.install-v1+json;q=0.0000
+accepts: application/vnd.npm.install-v1+json;q=00
+accepts: application/vnd.npm.install-v1+json;q=
+accepts: application/vnd.npm.install-v1+json;q
+accepts: application/vnd.npm.install-v1+json;q = 0
+accepts: application/vnd.npm.install-v1+json;qq=0
+accepts: application/vnd.npm.install-v1+json;q=0, application/vnd.npm.install-v1+json";
 
 // Lists, empty elements and white space in them, and letters of either case.
-static LISTS: [Case; 10] = [
-    (",application/vnd.npm.install-v1+json", true),
-    ("application/vnd.npm.install-v1+json,", true),
-    (", ,,\tapplication/vnd.npm.install-v1+json\t, ,", true),
-    ("a/b,application/vnd.npm.install-v1+json,c/d", true),
-    ("Application/VND.npm.Install-V1+JSON", true),
-    ("APPLICATION/VND.NPM.INSTALL-V1+JSON;Q=0.1", true),
-    ("", false),
-    (",", false),
-    (" , ,", false),
-    (";q=1", false),
-];
+const LISTS: &str = "accepts: ,application/vnd.npm.install-v1+json
+accepts: application/vnd.npm.install-v1+json,
+accepts: , ,,\tapplication/vnd.npm.install-v1+json\t, ,
+accepts: a/b,application/vnd.npm.install-v1+json,c/d
+accepts: Application/VND.npm.Install-V1+JSON
+accepts: APPLICATION/VND.NPM.INSTALL-V1+JSON;Q=0.1
+declines: 
+declines: ,
+declines:  , ,
+declines: ;q=1";
 
 // Other types, and values with a quotation mark.
-static OTHERS: [Case; 14] = [
-    ("application/*", false),
-    ("application/vnd.npm.install-v1", false),
-    ("application/vnd.npm.install-v1+jso", false),
-    ("application/vnd.npm.install-v1+jsonx", false),
-    ("xapplication/vnd.npm.install-v1+json", false),
-    ("application/ vnd.npm.install-v1+json", false),
-    ("application/vnd.npm.install-v1+json a/b", false),
-    ("application/vnd-npm.install-v1+json", false),
-    ("a/b;application/vnd.npm.install-v1+json", false),
-    ("a/b;c=\", application/vnd.npm.install-v1+json, \"", false),
-    ("application/vnd.npm.install-v1+json;c=\";q=0\"", false),
-    ("application/vnd.npm.install-v1+json, a/b;c=\"d\"", false),
-    ("\"application/vnd.npm.install-v1+json\"", false),
-    ("application/vnd.npm.install-v1+json, \"", false),
-];
+const OTHERS: &str = "declines: application/*
+declines: application/vnd.npm.install-v1
+declines: application/vnd.npm.install-v1+jso
+declines: application/vnd.npm.install-v1+jsonx
+declines: xapplication/vnd.npm.install-v1+json
+declines: application/ vnd.npm.install-v1+json
+declines: application/vnd.npm.install-v1+json a/b
+declines: application/vnd-npm.install-v1+json
+declines: a/b;application/vnd.npm.install-v1+json
+declines: a/b;c=\", application/vnd.npm.install-v1+json, \"
+declines: application/vnd.npm.install-v1+json;c=\";q=0\"
+declines: application/vnd.npm.install-v1+json, a/b;c=\"d\"
+declines: \"application/vnd.npm.install-v1+json\"
+declines: application/vnd.npm.install-v1+json, \"";
 
 fn once(rt: &impl Abort, alloc: Global, value: &str) -> FieldValue {
     FieldValue::Once(blob(rt, alloc, value.as_bytes()))
 }
 
-fn are_accepted(rt: &impl Abort, alloc: Global, cases: &[Case]) {
-    for (value, wanted) in cases {
-        let field = once(rt, alloc, value);
-        same(rt, *value, &accepts_abbreviated(&field), wanted);
+fn are_accepted(rt: &impl Abort, alloc: Global, lines: &str) {
+    for line in lines.lines() {
+        let (told, value) = line.split_once(':').expect(rt, line);
+        let value = value.strip_prefix(' ').unwrap_or("");
+        let is_accepted = accepts_abbreviated(&once(rt, alloc, value));
+        same(rt, line, is_accepted, told == "accepts");
     }
 }
 
 #[test]
-fn clients_ask_for_abbreviated_documents(rt: HostRuntime) {
-    are_accepted(&rt, rt.alloc(), &CLIENTS);
-}
-
-#[test]
-fn examples_accept_abbreviated_documents(rt: HostRuntime) {
-    are_accepted(&rt, rt.alloc(), &EXAMPLES);
-}
-
-#[test]
-fn lists_accept_abbreviated_documents(rt: HostRuntime) {
-    are_accepted(&rt, rt.alloc(), &LISTS);
-}
-
-#[test]
-fn other_ranges_accept_no_abbreviated_document(rt: HostRuntime) {
-    are_accepted(&rt, rt.alloc(), &OTHERS);
-}
-
-#[test]
-fn weights_refuse_abbreviated_documents(rt: HostRuntime) {
-    let alloc = rt.alloc();
-    for (weight, wanted) in &WEIGHTS {
-        let value = format!(in alloc; "application/vnd.npm.install-v1+json{weight}");
-        let field = once(&rt, alloc, value.expect(&rt, "memory").as_str());
-        same(&rt, *weight, &accepts_abbreviated(&field), wanted);
+fn values_accept_abbreviated_documents(rt: HostRuntime) {
+    for lines in [CLIENTS, EXAMPLES, WEIGHTS, LISTS, OTHERS] {
+        are_accepted(&rt, rt.alloc(), lines);
     }
-}
-
-#[test]
-fn only_one_field_accepts_an_abbreviated_document(rt: HostRuntime) {
     let absent = accepts_abbreviated(&FieldValue::Absent);
     same(&rt, "absent", absent, false);
     let repeated = accepts_abbreviated(&FieldValue::Repeated);

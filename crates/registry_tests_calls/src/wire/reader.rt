@@ -1,43 +1,30 @@
-//! Readers and writers that handle one byte a call, that are interrupted, and that fail.
+//! Readers and writers that handle few bytes a call, that are interrupted, and that fail.
 
 use std::io;
 use std::io::{ErrorKind, Read, Write};
 
-/// A reader that gives one byte a call.
+/// A reader that is interrupted this many times, and then gives a text, in pieces of at most this
+/// many bytes. After the text it ends, or breaks once and then ends.
 #[derive(Drop)]
-pub struct Drip<'a> {
+pub struct Source<'a> {
+    pub interruptions: u32,
     pub text: &'a [u8],
+    pub piece_len: usize,
+    pub breaks: bool,
 }
 
-impl Read for Drip<'_> {
+impl Read for Source<'_> {
     fn read(&mut self, buf: &mut [u8]) -> io::Result<usize> {
-        let [byte, rest @ ..] = self.text else {
-            return Ok(0);
-        };
-        let [place, ..] = buf else {
-            return Ok(0);
-        };
-        *place = *byte;
-        self.text = rest;
-        Ok(1)
-    }
-}
-
-/// A reader whose first reads fail with this kind of error, and that then gives a text.
-#[derive(Drop)]
-pub struct Faltering<'a> {
-    pub text: &'a [u8],
-    pub kind: ErrorKind,
-    pub failures: u32,
-}
-
-impl Read for Faltering<'_> {
-    fn read(&mut self, buf: &mut [u8]) -> io::Result<usize> {
-        if self.failures == 0 {
-            return self.text.read(buf);
+        if self.interruptions > 0 {
+            self.interruptions -= 1;
+            return Err(io::Error::from(ErrorKind::Interrupted));
         }
-        self.failures -= 1;
-        Err(io::Error::from(self.kind))
+        if self.text.is_empty() && self.breaks {
+            self.breaks = false;
+            return Err(io::Error::from(ErrorKind::ConnectionReset));
+        }
+        let room = self.piece_len.min(buf.len());
+        self.text.read(&mut buf[..room])
     }
 }
 

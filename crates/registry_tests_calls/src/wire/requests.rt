@@ -1,38 +1,28 @@
 //! What bytes spell, where no answer shows it. The stories of HTTP have what an answer shows.
 
-use super::reader::{Drip, Faltering, Halting};
+use super::reader::{Halting, Source};
 use crate::outcome::same;
-use crate::parts::{as_text, concat, joined, shown, string};
+use crate::parts::{as_text, shown, string};
 use registry_names::{ByteIn, FromRead};
 use registry_wire::{
     FIELD_LIMIT, FieldValue, First, Inbox, Incoming, Taken, Wanted, ending_of, first_in,
 };
 use std::alloc::Global;
-use std::io::ErrorKind;
 use std::process::Abort;
 
 // A request as a line: its method, its target, its authorization, its body, and whether it is the
 // last of its connection.
 fn asked(rt: &impl Abort, alloc: Global, wanted: &Wanted) -> String {
-    let method = shown(rt, alloc, &wanted.method);
-    let target = as_text(wanted.target.as_slice());
-    let front = concat(rt, alloc, &[method.as_str(), "|", target, "|"]);
-    let body = as_text(wanted.body.as_slice());
-    let back = if wanted.closes { "|last" } else { "|" };
-    let end = concat(rt, alloc, &["|", body, back]);
-    concat(
-        rt,
-        alloc,
-        &[front.as_str(), authorization(wanted), end.as_str()],
-    )
-}
-
-fn authorization(wanted: &Wanted) -> &str {
-    match &wanted.authorization {
+    let authorization = match &wanted.authorization {
         FieldValue::Absent => "",
         FieldValue::Once(value) => as_text(value.as_slice()),
         FieldValue::Repeated => "several",
-    }
+    };
+    let (method, target) = (wanted.method, as_text(wanted.target.as_slice()));
+    let body = as_text(wanted.body.as_slice());
+    let end = if wanted.closes { "last" } else { "" };
+    let line = format!(in alloc; "{method:?}|{target}|{authorization}|{body}|{end}");
+    line.expect(rt, "memory")
 }
 
 // What a read of a request gave, as a line.
@@ -46,103 +36,74 @@ fn told(rt: &impl Abort, alloc: Global, taken: &Taken) -> String {
     }
 }
 
-// Checks that the next read gives this.
-fn is_read<R: ByteIn + Drop>(
-    rt: &impl Abort,
-    alloc: Global,
-    case: &str,
-    inbox: &mut Inbox<R>,
-    wanted: &str,
-) {
-    let taken = inbox.read_request(alloc);
-    same(rt, case, told(rt, alloc, &taken).as_str(), wanted);
-}
-
-// Checks that reads give these, one after the other.
-fn all_read<R: ByteIn + Drop>(
-    rt: &impl Abort,
-    alloc: Global,
-    case: &str,
-    reader: R,
-    wanted: &[&str],
-) {
+// Checks that reads give these, one after the other, with `; ` between them.
+fn all_read<R: ByteIn + Drop>(rt: &impl Abort, alloc: Global, case: &str, reader: R, wanted: &str) {
     let mut inbox = Inbox::new(alloc, reader);
-    for line in wanted {
-        is_read(rt, alloc, case, &mut inbox, line);
+    for line in wanted.split("; ") {
+        let taken = inbox.read_request(alloc);
+        same(rt, case, told(rt, alloc, &taken).as_str(), line);
     }
 }
 
-// The same, both where all bytes come at once and where each read gives one byte.
-fn both_read(rt: &impl Abort, alloc: Global, input: &[u8], wanted: &[&str]) {
-    let case = as_text(input);
-    all_read(rt, alloc, case, FromRead::new(input), wanted);
-    all_read(rt, alloc, case, FromRead::new(Drip { text: input }), wanted);
+// What a line has before ` => `, with the end of a line for each `^`, and what it has behind.
+fn input_of<'a>(rt: &impl Abort, alloc: Global, line: &'a str) -> (String, &'a str) {
+    let (input, wanted) = line.split_once(" => ").expect(rt, line);
+    (
+        input.replace(alloc, "^", "\r\n").expect(rt, "memory"),
+        wanted,
+    )
 }
 
-// Input, and what reads of it give, one after the other.
-type Case = (&'static str, &'static [&'static str]);
-
-fn all_come_out(rt: &impl Abort, alloc: Global, cases: &[Case]) {
-    for (input, wanted) in cases {
-        both_read(rt, alloc, input.as_bytes(), wanted);
+// A reader of one byte a call, whose first calls are interrupted.
+fn source(text: &[u8], interruptions: u32) -> Source<'_> {
+    Source {
+        interruptions,
+        text,
+        piece_len: 1,
+        breaks: false,
     }
 }
 
 // What a connection doesn't show, because it ends: what a read gives after the end of the input,
 // after input that isn't a request, and after the last request.
-static READ_AGAIN: [Case; 4] = [
-    ("", &["closed", "closed"]),
-    ("GET /kit HTTP/1.1\r\nhost: l", &["BadBody", "BadBody"]),
-    (
-        "PUT /a HTTP/1.1\r\ncontent-length: 4194305\r\n\r\n",
-        &["TooLarge", "TooLarge"],
-    ),
-    (
-        "GET /kit HTTP/1.1\r\n\r\nPUT /-/org/lab/eve HTTP/1.1\r\nconnection: close\r\ncontent-length: 11\r\n\r\n\"developer\"GET /kit HTTP/1.1\r\n\r\n",
-        &[
-            "Get|/kit|||",
-            "Put|/-/org/lab/eve||\"developer\"|last",
-            "Get|/kit|||",
-            "closed",
-        ],
-    ),
-];
+const READ_AGAIN: &str = r#" => closed; closed
+GET /kit HTTP/1.1^host: l => BadBody; BadBody
+PUT /a HTTP/1.1^content-length: 4194305^^ => TooLarge; TooLarge
+GET /kit HTTP/1.1^^PUT /-/org/lab/eve HTTP/1.1^connection: close^content-length: 11^^"developer"GET /kit HTTP/1.1^^ => Get|/kit|||; Put|/-/org/lab/eve||"developer"|last; Get|/kit|||; closed"#;
 
+// All bytes come at once, or each read gives one byte.
 #[test]
 fn reads_go_on_after_an_end(rt: HostRuntime) {
-    all_come_out(&rt, rt.alloc(), &READ_AGAIN);
+    let alloc = rt.alloc();
+    for line in READ_AGAIN.lines() {
+        let (input, wanted) = input_of(&rt, alloc, line);
+        let whole = FromRead::new(input.as_bytes());
+        all_read(&rt, alloc, line, whole, wanted);
+        let one_by_one = FromRead::new(source(input.as_bytes(), 0));
+        all_read(&rt, alloc, line, one_by_one, wanted);
+    }
 }
 
-static KIT: &str = "GET /kit HTTP/1.1\r\n\r\n";
+const KIT: &str = "GET /kit HTTP/1.1\r\n\r\n";
 
-// A reader whose first reads fail, and that then gives a request.
-fn faltering(kind: ErrorKind, failures: u32) -> FromRead<Faltering<'static>> {
-    FromRead::new(Faltering {
-        text: KIT.as_bytes(),
-        kind,
-        failures,
-    })
-}
-
-// What a case shows, how many reads are interrupted, and what reads of requests give.
-static INTERRUPTED: [(&str, u32, &[&str]); 3] = [
-    ("999", 999, &["Get|/kit|||", "closed"]),
-    ("1,000", 1_000, &["a read failed", "Get|/kit|||"]),
-    ("1,001", 1_001, &["a read failed", "a read failed"]),
+// How many reads are interrupted, and what reads of requests give.
+const INTERRUPTED: [(u32, &str); 3] = [
+    (999, "Get|/kit|||; closed"),
+    (1_000, "a read failed; Get|/kit|||"),
+    (1_001, "a read failed; a read failed"),
 ];
 
 #[test]
 fn interrupted_reads_are_tried_again(rt: HostRuntime) {
-    for (shows, failures, wanted) in &INTERRUPTED {
-        let reader = faltering(ErrorKind::Interrupted, *failures);
-        all_read(&rt, rt.alloc(), shows, reader, wanted);
+    for (interruptions, wanted) in INTERRUPTED {
+        let reader = FromRead::new(source(KIT.as_bytes(), interruptions));
+        all_read(&rt, rt.alloc(), wanted, reader, wanted);
     }
 }
 
-static HALTED: [&str; 3] = ["a read failed", "Get|/kit|||", "closed"];
-
 #[test]
 fn a_failed_read_loses_nothing(rt: HostRuntime) {
+    let wanted = "a read failed; Get|/kit|||; closed";
     for len in 0..KIT.len() {
         let (front, rest) = KIT.as_bytes().split_at(len);
         let reader = FromRead::new(Halting {
@@ -150,67 +111,54 @@ fn a_failed_read_loses_nothing(rt: HostRuntime) {
             rest,
             halted: false,
         });
-        all_read(&rt, rt.alloc(), as_text(front), reader, &HALTED);
+        all_read(&rt, rt.alloc(), as_text(front), reader, wanted);
     }
 }
 
 // What comes at once, and what reads of it give, where the next call of the reader fails: input
 // that is whole or refused is answered before that call.
-static ANSWERED_AT_ONCE: [Case; 4] = [
-    (
-        "GET /kit HTTP/1.1\r\n\r\n",
-        &["Get|/kit|||", "a read failed", "closed"],
-    ),
-    (
-        "PUT /a HTTP/1.1\r\ncontent-length: 2\r\n\r\nab",
-        &["Put|/a||ab|", "a read failed", "closed"],
-    ),
-    (
-        "GET /kit HTTP/1.1\r\n\r\nGET",
-        &["Get|/kit|||", "a read failed", "BadBody"],
-    ),
-    (
-        "PUT /a HTTP/1.1\r\ncontent-length: 4194305\r\n\r\n",
-        &["TooLarge", "TooLarge"],
-    ),
-];
+const ANSWERED_AT_ONCE: &str = "GET /kit HTTP/1.1^^ => Get|/kit|||; a read failed; closed
+PUT /a HTTP/1.1^content-length: 2^^ab => Put|/a||ab|; a read failed; closed
+GET /kit HTTP/1.1^^GET => Get|/kit|||; a read failed; BadBody
+PUT /a HTTP/1.1^content-length: 4194305^^ => TooLarge; TooLarge";
 
 #[test]
 fn nothing_is_read_after_a_whole_request(rt: HostRuntime) {
-    for (front, wanted) in &ANSWERED_AT_ONCE {
+    for line in ANSWERED_AT_ONCE.lines() {
+        let (input, wanted) = input_of(&rt, rt.alloc(), line);
         let reader = FromRead::new(Halting {
-            front: front.as_bytes(),
+            front: input.as_bytes(),
             rest: b"",
             halted: false,
         });
-        all_read(&rt, rt.alloc(), front, reader, wanted);
+        all_read(&rt, rt.alloc(), line, reader, wanted);
     }
 }
 
 // What bytes that have come say of the first request, as a line with its length.
-fn said(rt: &impl Abort, alloc: Global, bytes: &[u8]) -> String {
-    let first = first_in(alloc, bytes).expect(rt, "memory");
-    line_of(rt, alloc, bytes, &first)
-}
-
 fn line_of(rt: &impl Abort, alloc: Global, bytes: &[u8], first: &First) -> String {
     match first {
-        First::Whole(wanted, len) => whole(rt, alloc, wanted, *len),
+        First::Whole(wanted, len) => {
+            let asked = asked(rt, alloc, wanted);
+            let asked = asked.as_str();
+            format!(in alloc; "{asked} {len}").expect(rt, "memory")
+        }
         First::Unfinished => shown(rt, alloc, &ending_of(bytes)),
         First::Bad(refusal) => string(rt, alloc, refusal.text()),
     }
 }
 
-fn whole(rt: &impl Abort, alloc: Global, wanted: &Wanted, len: usize) -> String {
-    let (asked, len) = (asked(rt, alloc, wanted), shown(rt, alloc, &len));
-    joined(rt, alloc, &[asked.as_str(), len.as_str()])
-}
-
 fn is_said(rt: &impl Abort, alloc: Global, bytes: &[u8], wanted: &str) {
-    same(rt, bytes, said(rt, alloc, bytes).as_str(), wanted);
+    let first = first_in(alloc, bytes).expect(rt, "memory");
+    same(
+        rt,
+        bytes,
+        line_of(rt, alloc, bytes, &first).as_str(),
+        wanted,
+    );
 }
 
-static INPUT: &[u8] = b"PUT /a HTTP/1.1\r\ncontent-length: 2\r\n\r\nabGET";
+const INPUT: &[u8] = b"PUT /a HTTP/1.1\r\ncontent-length: 2\r\n\r\nabGET";
 
 #[test]
 fn a_prefix_of_a_request_is_unfinished(rt: HostRuntime) {
@@ -225,32 +173,25 @@ fn a_prefix_of_a_request_is_unfinished(rt: HostRuntime) {
     is_said(&rt, alloc, b"G\0", "BadBody");
 }
 
-// Heads with each kind of byte at each of their places, and with one that may not stand there.
-static COMING: [&[u8]; 24] = [
+// Heads with each kind of byte at each of their places, and with one that may not stand there, with `|`
+// between them. Two more have bytes of no text.
+const COMING: &str = "GET /\u{e9} HTTP/1.1\nhost: a\n\n|\
+PUT /a HTTP/1.1\r\ncontent-length: 4194305\r\n\r\n|\
+PUT /a HTTP/1.1\r\ntransfer-encoding: chunked\r\n\r\n|\
+\rGET / HTTP/1.1\r\n\r\n| GET / HTTP/1.1\r\n\r\n|\
+G@T / HTTP/1.1\r\n\r\n|GET\t/ HTTP/1.1\r\n\r\n|\
+GET  / HTTP/1.1\r\n\r\n|GET /\x7f HTTP/1.1\r\n\r\n|\
+GET /\r\n\r\n|GET / HTTQ/1.1\r\n\r\n|\
+GET / HTTP/2.1\r\n\r\n|GET / HTTP/1.2\r\n\r\n|\
+GET / HTTP/1.1 \r\n\r\n|GET / HTTP/1.1\rhost: a\r\n\r\n|\
+GET / HTTP/1.1\r\n host: a\r\n\r\n|GET / HTTP/1.1\r\n: a\r\n\r\n|\
+GET / HTTP/1.1\r\nhost : a\r\n\r\n|GET / HTTP/1.1\r\nhost\r\n\r\n|\
+GET / HTTP/1.1\r\nhost: a\x01\r\n\r\n|GET / HTTP/1.1\r\nhost: a\r\r\n\r\n|\
+GET / HTTP/1.1\r\n\rhost: a\r\n\r\n";
+
+const NO_TEXT: [&[u8]; 2] = [
     b"\n\r\n\r\nPUT /a?x=%20 HTTP/1.0\r\na:\n!b: \t\x80c \r\ncontent-length: 3\r\n\r\nabcGET",
-    b"GET /\xc3\xa9 HTTP/1.1\nhost: a\n\n",
-    b"PUT /a HTTP/1.1\r\ncontent-length: 4194305\r\n\r\n",
-    b"PUT /a HTTP/1.1\r\ntransfer-encoding: chunked\r\n\r\n",
-    b"\rGET / HTTP/1.1\r\n\r\n",
-    b" GET / HTTP/1.1\r\n\r\n",
-    b"G@T / HTTP/1.1\r\n\r\n",
-    b"GET\t/ HTTP/1.1\r\n\r\n",
-    b"GET  / HTTP/1.1\r\n\r\n",
-    b"GET /\x7f HTTP/1.1\r\n\r\n",
     b"GET /\xff HTTP/1.1\r\n\r\n",
-    b"GET /\r\n\r\n",
-    b"GET / HTTQ/1.1\r\n\r\n",
-    b"GET / HTTP/2.1\r\n\r\n",
-    b"GET / HTTP/1.2\r\n\r\n",
-    b"GET / HTTP/1.1 \r\n\r\n",
-    b"GET / HTTP/1.1\rhost: a\r\n\r\n",
-    b"GET / HTTP/1.1\r\n host: a\r\n\r\n",
-    b"GET / HTTP/1.1\r\n: a\r\n\r\n",
-    b"GET / HTTP/1.1\r\nhost : a\r\n\r\n",
-    b"GET / HTTP/1.1\r\nhost\r\n\r\n",
-    b"GET / HTTP/1.1\r\nhost: a\x01\r\n\r\n",
-    b"GET / HTTP/1.1\r\nhost: a\r\r\n\r\n",
-    b"GET / HTTP/1.1\r\n\rhost: a\r\n\r\n",
 ];
 
 // Checks that these bytes say the same of the first request where they come one by one.
@@ -266,7 +207,10 @@ fn says_the_same(rt: &impl Abort, alloc: Global, bytes: &[u8]) {
 
 #[test]
 fn bytes_that_come_one_by_one_say_the_same(rt: HostRuntime) {
-    for bytes in &COMING {
+    for text in COMING.split('|') {
+        says_the_same(&rt, rt.alloc(), text.as_bytes());
+    }
+    for bytes in NO_TEXT {
         says_the_same(&rt, rt.alloc(), bytes);
     }
 }

@@ -1,83 +1,139 @@
-//! The bytes of responses that no story shows, and of a response that is cut.
+//! The bytes of responses: of those that no story shows, of those that say something to those who keep
+//! documents, of bodies in two pieces, and of a response that is cut.
 
 use super::reader::Narrow;
 use crate::outcome::same;
-use crate::parts::as_text;
+use crate::parts::{as_text, concat, field, repeated};
 use http::StatusCode;
 use registry_names::{ToWrite, WriteFailed};
-use registry_wire::{ContentKind, Labels, Response, ShortText, write_response};
+use registry_wire::{
+    Caching, ContentKind, DocumentForm, EntityTag, Labels, Response, ShortText, write_response,
+};
 use std::alloc::Global;
 use std::process::Abort;
 
-// A status, a body, whether the connection ends, and the bytes of the response.
-type Case = (u16, &'static str, bool, &'static str);
+// A status, a tag or `-`, how long the document may be kept, its form, whether the connection ends or
+// stays, and both pieces of the body; ` => ` and the response, with `|` at the end of each line. Nothing
+// is sent behind the head of a 304.
+const RESPONSES: &str =
+    r#"200 xyzzy Checked Only stays {"ok" :true} => HTTP/1.1 200 OK|content-type: application/json|content-length: 11|etag: "xyzzy"|cache-control: no-cache||{"ok":true}
+200 !~ Kept Only closes  {} => HTTP/1.1 200 OK|content-type: application/json|content-length: 2|etag: "!~"|cache-control: private, max-age=31536000, immutable|connection: close||{}
+200 - Shared Only stays {}  => HTTP/1.1 200 OK|content-type: application/json|content-length: 2|cache-control: public, max-age=31536000, immutable||{}
+200 - Unsaid Only stays { } => HTTP/1.1 200 OK|content-type: application/json|content-length: 2||{}
+304 xyzzy Checked Only stays   => HTTP/1.1 304 Not Modified|etag: "xyzzy"|cache-control: no-cache||
+304 xyzzy Unsaid Only closes   => HTTP/1.1 304 Not Modified|etag: "xyzzy"|connection: close||
+200 xyzzy Checked Full stays { } => HTTP/1.1 200 OK|content-type: application/json|content-length: 2|etag: "xyzzy"|cache-control: no-cache|vary: accept||{}
+200 xyzzy Checked Abbreviated closes {}  => HTTP/1.1 200 OK|content-type: application/vnd.npm.install-v1+json|content-length: 2|etag: "xyzzy"|cache-control: no-cache|vary: accept|connection: close||{}
+304 xyzzy Checked Full stays   => HTTP/1.1 304 Not Modified|etag: "xyzzy"|cache-control: no-cache|vary: accept||
+304 xyzzy Unsaid Abbreviated stays   => HTTP/1.1 304 Not Modified|etag: "xyzzy"|vary: accept||
+304 xyzzy Unsaid Only stays { } => HTTP/1.1 304 Not Modified|etag: "xyzzy"||
+400 - Unsaid Only closes {"error":"BadBody"}  => HTTP/1.1 400 Bad Request|content-type: application/json|content-length: 19|connection: close||{"error":"BadBody"}
+413 - Unsaid Only stays   => HTTP/1.1 413 Payload Too Large|content-type: application/json|content-length: 0||
+431 - Unsaid Only stays 0  => HTTP/1.1 431 Request Header Fields Too Large|content-type: application/json|content-length: 1||0
+503 - Unsaid Only closes {"error":"Memory"}  => HTTP/1.1 503 Service Unavailable|content-type: application/json|content-length: 18|connection: close||{"error":"Memory"}"#;
 
-static CASES: [Case; 4] = [
-    (
-        400,
-        "{\"error\":\"BadBody\"}",
-        true,
-        "HTTP/1.1 400 Bad Request\r\ncontent-type: application/json\r\ncontent-length: 19\r\nconnection: close\r\n\r\n{\"error\":\"BadBody\"}",
-    ),
-    (
-        413,
-        "",
-        false,
-        "HTTP/1.1 413 Payload Too Large\r\ncontent-type: application/json\r\ncontent-length: 0\r\n\r\n",
-    ),
-    (
-        431,
-        "0",
-        false,
-        "HTTP/1.1 431 Request Header Fields Too Large\r\ncontent-type: application/json\r\ncontent-length: 1\r\n\r\n0",
-    ),
-    (
-        503,
-        "{\"error\":\"Memory\"}",
-        true,
-        "HTTP/1.1 503 Service Unavailable\r\ncontent-type: application/json\r\ncontent-length: 18\r\nconnection: close\r\n\r\n{\"error\":\"Memory\"}",
-    ),
-];
+fn labels(rt: &impl Abort, tag: &str, caching: &str, form: &str) -> Labels {
+    let tag = if tag == "-" {
+        None
+    } else {
+        Some(EntityTag::of(tag.as_bytes()).expect(rt, "a tag"))
+    };
+    let caching = match caching {
+        "Checked" => Caching::Checked,
+        "Kept" => Caching::Kept,
+        "Shared" => Caching::Shared,
+        _ => Caching::Unsaid,
+    };
+    let form = match form {
+        "Full" => DocumentForm::Full,
+        "Abbreviated" => DocumentForm::Abbreviated,
+        _ => DocumentForm::Only,
+    };
+    Labels { tag, caching, form }
+}
 
-// What is written of the case's response where this many bytes are taken, one a call.
-fn is_written(
-    rt: &impl Abort,
+// Checks what is written of a line's response where this many bytes are taken, one a call.
+fn is_written(rt: &impl Abort, alloc: Global, line: &str, limit: usize) {
+    let (told, wanted) = line.split_once(" => ").expect(rt, line);
+    let tag = field(told, ' ', 1);
+    let labels = labels(rt, tag, field(told, ' ', 2), field(told, ' ', 3));
+    let status = field(told, ' ', 0).parse::<u16>().expect(rt, line);
+    let status = StatusCode::from_u16(status).expect(rt, line);
+    let closes = field(told, ' ', 4) == "closes";
+    let body = field(told, ' ', 5).as_bytes();
+    let rest = field(told, ' ', 6).as_bytes();
+    let (outcome, taken) = written(alloc, status, &labels, body, rest, closes, limit);
+    let whole = wanted.replace(alloc, "|", "\r\n").expect(rt, "memory");
+    let front = whole.as_str().get(..limit).unwrap_or(whole.as_str());
+    same(rt, (line, limit), outcome.is_err(), limit < whole.len());
+    same(rt, (line, limit), as_text(&taken), front);
+}
+
+// What is written of a response where this many bytes are taken, one a call, and how that ends.
+fn written<'a>(
     alloc: Global,
-    case: &Case,
+    status: StatusCode,
+    labels: &'a Labels,
+    body: &'a [u8],
+    rest: &'a [u8],
+    closes: bool,
     limit: usize,
-    wanted: (Result<(), WriteFailed>, &str),
-) {
-    let labels = Labels::none();
+) -> (Result<(), WriteFailed>, Vec<u8>) {
     let response = Response {
-        status: StatusCode::from_u16(case.0).expect(rt, "a status"),
+        status,
         kind: ContentKind::Json,
-        labels: &labels,
-        body: case.1.as_bytes(),
-        rest: b"",
-        closes: case.2,
+        labels,
+        body,
+        rest,
+        closes,
     };
     let mut narrow = Narrow {
         taken: Vec::new(alloc),
         limit,
     };
     let outcome = write_response(&response, &mut ToWrite::new(&mut narrow));
-    same(rt, &limit, &(outcome, as_text(&narrow.taken)), &wanted);
+    (outcome, narrow.taken)
 }
 
 #[test]
-fn responses_are_written(rt: HostRuntime) {
-    for case in &CASES {
-        is_written(&rt, rt.alloc(), case, usize::MAX, (Ok(()), case.3));
+fn labels_are_written(rt: HostRuntime) {
+    for line in RESPONSES.lines() {
+        is_written(&rt, rt.alloc(), line, usize::MAX);
     }
 }
 
 #[test]
 fn a_failed_write_leaves_a_prefix_of_a_response(rt: HostRuntime) {
-    let [case, ..] = &CASES;
-    for limit in 0..case.3.len() {
-        let front = case.3.get(..limit).unwrap_or(case.3);
-        is_written(&rt, rt.alloc(), case, limit, (Err(WriteFailed), front));
+    let first = RESPONSES.lines().next().expect(&rt, "a first line");
+    let last = RESPONSES.lines().last().expect(&rt, "a last line");
+    for limit in 0..150 {
+        is_written(&rt, rt.alloc(), first, limit);
+        is_written(&rt, rt.alloc(), last, limit);
     }
+}
+
+// A body whose first piece is longer than what is gathered with the head.
+#[test]
+fn long_pieces_are_written_whole(rt: HostRuntime) {
+    let alloc = rt.alloc();
+    let body = repeated(&rt, alloc, "a", 5_000);
+    let rest = repeated(&rt, alloc, "b", 3_000);
+    let labels = Labels::none();
+    let response = Response {
+        status: StatusCode::OK,
+        kind: ContentKind::Bytes,
+        labels: &labels,
+        body: body.as_bytes(),
+        rest: rest.as_bytes(),
+        closes: false,
+    };
+    let mut taken = Vec::new(alloc);
+    let outcome = write_response(&response, &mut ToWrite::new(&mut taken));
+    same(&rt, "both", outcome, Ok(()));
+    let front =
+        "HTTP/1.1 200 OK\r\ncontent-type: application/octet-stream\r\ncontent-length: 8000\r\n\r\n";
+    let wanted = concat(&rt, alloc, &[front, body.as_str(), rest.as_str()]);
+    same(&rt, "all", as_text(&taken) == wanted.as_str(), true);
 }
 
 #[test]

@@ -7,45 +7,47 @@ use registry_wire::{EntityTag, FieldValue, TAG_LIMIT, names_tag};
 use std::alloc::Global;
 use std::process::Abort;
 
-// A text, and whether it may be a tag (8.8.3).
-static TEXTS: [(&[u8], bool); 16] = [
-    (b"xyzzy", true),
-    (b"", false),
-    (b"a", true),
-    (b"!", true),
-    (b"#", true),
-    (b"~", true),
-    (b"a,b", true),
-    (b"a\\", true),
-    (b"*", true),
-    (b"\x80\xff", true),
-    (b"\"", false),
-    (b"a\"b", false),
-    (b"a b", false),
-    (b"a\tb", false),
-    (b"\x1f", false),
-    (b"\x7f", false),
-];
+// Texts that may be tags (8.8.3), and texts that may not.
+const TAGS: &str = "xyzzy
+a
+!
+#
+~
+a,b
+a\\
+*";
 
-#[test]
-fn texts_are_tags(rt: HostRuntime) {
-    for (text, wanted) in &TEXTS {
-        let tag = EntityTag::of(text);
-        same(&rt, *text, &tag.is_some(), wanted);
-        let kept = match &tag {
-            Some(tag) => tag.as_slice() == *text,
-            None => false,
-        };
-        same(&rt, *text, &kept, wanted);
-    }
+const NO_TAGS: &str = "
+\"
+a\"b
+a b
+a\tb
+\x1f
+\x7f";
+
+fn is_tag(rt: &impl Abort, text: &[u8], wanted: bool) {
+    let tag = EntityTag::of(text);
+    same(rt, text, tag.is_some(), wanted);
+    let is_kept = match &tag {
+        Some(tag) => tag.as_slice() == text,
+        None => false,
+    };
+    same(rt, text, is_kept, wanted);
 }
 
 #[test]
-fn tags_have_64_bytes_at_most(rt: HostRuntime) {
-    let text = [b'a'; TAG_LIMIT + 1];
-    let (longest, _) = text.split_at(TAG_LIMIT);
-    same(&rt, "64", EntityTag::of(longest).is_some(), true);
-    same(&rt, "65", EntityTag::of(&text).is_some(), false);
+fn texts_are_tags(rt: HostRuntime) {
+    for text in TAGS.lines() {
+        is_tag(&rt, text.as_bytes(), true);
+    }
+    for text in NO_TAGS.lines() {
+        is_tag(&rt, text.as_bytes(), false);
+    }
+    is_tag(&rt, b"\x80\xff", true);
+    let long = [b'a'; TAG_LIMIT + 1];
+    is_tag(&rt, &long, false);
+    let (longest, _) = long.split_at(TAG_LIMIT);
+    is_tag(&rt, longest, true);
 }
 
 // Each line says whether a value of `if-none-match`, which stands behind the colon, names a tag.
@@ -135,30 +137,15 @@ fn is_named(rt: &impl Abort, alloc: Global, value: &[u8], tag: &[u8]) -> bool {
 }
 
 #[test]
-fn examples_name_tags(rt: HostRuntime) {
-    are_named(&rt, rt.alloc(), EXAMPLES);
-}
-
-#[test]
-fn lists_name_tags(rt: HostRuntime) {
-    are_named(&rt, rt.alloc(), LISTS);
+fn values_name_tags(rt: HostRuntime) {
+    for lines in [EXAMPLES, LISTS, OTHERS] {
+        are_named(&rt, rt.alloc(), lines);
+    }
     let is_named = is_named(&rt, rt.alloc(), b"\"\x80\xff\"", b"\x80\xff");
     same(&rt, "no UTF-8", is_named, true);
-}
-
-#[test]
-fn other_values_name_nothing(rt: HostRuntime) {
-    are_named(&rt, rt.alloc(), OTHERS);
-}
-
-#[test]
-fn only_one_field_names_a_tag(rt: HostRuntime) {
     let tag = EntityTag::of(b"1").expect(&rt, "a tag");
-    same(&rt, "absent", names_tag(&FieldValue::Absent, &tag), false);
-    same(
-        &rt,
-        "repeated",
-        names_tag(&FieldValue::Repeated, &tag),
-        false,
-    );
+    let absent = names_tag(&FieldValue::Absent, &tag);
+    same(&rt, "absent", absent, false);
+    let repeated = names_tag(&FieldValue::Repeated, &tag);
+    same(&rt, "repeated", repeated, false);
 }

@@ -1,70 +1,130 @@
-//! Commands beside a server.
+//! Commands beside a server, and connections that hold or stop it.
 
-use crate::guests::client::{ADDS_ANN, ask, connect, hears, is_done, is_done_since, message, send};
+use crate::guests::client::send;
 use crate::guests::files::{forget, lay};
-use crate::guests::server::ServerSide;
+use crate::guests::stage::play;
 use crate::outcome::same;
-use registry_guests::{GUEST_COUNT, GUEST_TIME_LIMIT, connect_to_server};
+use registry_guests::{Hold, connect_to_server};
+use std::os::unix::net::UnixStream;
+
+/// Scripts, each on a file of its own.
+const SCRIPTS: &str = "
+# a command beside a server is answered
+connect command
+rounds 0
+hears 0 r
+ask 0 --operator user-add ann
+rounds 0
+done-since 0
+server asked 1
+
+# a command that has gone is not done
+connect command
+ask 0 --operator user-add ann
+drop 0
+rounds 0
+server asked 0
+
+# a held server takes no command
+# the first command comes before the hold, and two come during it, of which one goes
+connect command
+rounds 0
+hears 0 r
+connect control
+send 1 h
+rounds 0
+hears 1 h
+connect command
+connect command
+ask 0 --operator user-add ann
+ask 2 --operator user-add ann
+ask 3 --operator user-add ann
+rounds 1
+hears 3
+drop 2
+drop 1
+rounds 2
+done-since 0
+done 3
+server asked 2
+
+# a ninth command waits
+# eight are there, and silent until they are late, after 8 s
+connect command
+connect command
+connect command
+connect command
+connect command
+connect command
+connect command
+connect command
+connect command
+ask 8 --operator user-add ann
+rounds 7999
+hears 8
+rounds 15999
+done 8
+server asked 1
+
+# a newcomer does not end a hold
+connect control
+send 0 h
+rounds 0
+hears 0 h
+server holds true
+connect control
+send 1 h
+rounds 1
+hears 1
+send 0 k
+rounds 1
+hears 0 k
+drop 0
+rounds 2
+hears 1 h
+
+# a stop is kept
+# the second rounds come as late as a clock can say
+connect control
+send 0 s
+rounds 0
+server stops true
+rounds 18446744073709551615
+server stops true
+hears 0
+listening false
+close
+ended 0
+";
 
 #[test]
-fn a_command_beside_a_server_is_answered(rt: HostRuntime) {
-    let alloc = rt.alloc();
-    let file = "answered.db";
-    lay(&rt, file).expect(&rt, "a file");
-    let mut server = ServerSide::open(&rt, &rt, file);
-    let client = connect(&rt, file, "command").expect(&rt, "a client");
-    server.go_on(&rt, alloc, 0);
-    hears(&rt, alloc, "before it asks", &client, "r");
-    ask(&rt, alloc, &client, &ADDS_ANN);
-    server.go_on(&rt, alloc, 0);
-    is_done_since(&rt, alloc, "the answer", &client);
-    same(&rt, "asked once", server.service.asked, 1);
-    forget(&rt, file);
+fn commands_and_holds_take_turns(rt: HostRuntime) {
+    for script in SCRIPTS.trim().split("\n\n") {
+        play(&rt, &rt, "turns.db", script);
+    }
 }
 
 /// Commands, and what the service is told of each. Words that the program doesn't take name nobody.
-static TOLD: [(&[&str], &str); 8] = [
-    (
-        &["--operator", "user-add", "ann"],
-        "operator user-add ann done\n",
-    ),
-    (
-        &["--as", "ann", "org-create", "lab", "ann"],
-        "ann org-create lab ann done\n",
-    ),
-    (&["tags", "kit"], "operator tags kit done\n"),
-    (
-        &["--operator", "token-add", "ann", "npm_ann_000000001"],
-        "operator token-add ann done\n",
-    ),
-    (
-        &["--operator", "token-add", "npm_ann_000000001", "ann"],
-        "operator token-add not done\n",
-    ),
-    (
-        &["--as", "npm_ann_000000001", "tags", "kit"],
-        " tags kit done\n",
-    ),
-    (
-        &["--operator", "user-add", "Ann"],
-        "operator user-add Ann not done\n",
-    ),
-    (&["what", "npm_ann_000000001"], " not done\n"),
-];
+const TOLD: &str = "
+--operator user-add ann -> operator user-add ann done
+--as ann org-create lab ann -> ann org-create lab ann done
+tags kit -> operator tags kit done
+--operator token-add ann npm_ann_000000001 -> operator token-add ann done
+--operator token-add npm_ann_000000001 ann -> operator token-add not done
+--as npm_ann_000000001 tags kit ->  tags kit done
+--operator user-add Ann -> operator user-add Ann not done
+what npm_ann_000000001 ->  not done
+";
 
 #[test]
 fn a_service_is_told_of_commands_without_tokens(rt: HostRuntime) {
-    let alloc = rt.alloc();
-    let file = "told.db";
-    lay(&rt, file).expect(&rt, "a file");
-    for (words, told) in &TOLD {
-        let mut server = ServerSide::open(&rt, &rt, file);
-        let client = connect(&rt, file, "command").expect(&rt, "a client");
-        ask(&rt, alloc, &client, words);
-        server.go_on(&rt, alloc, 0);
-        same(&rt, *told, server.service.told.as_str(), *told);
+    for line in TOLD.trim().lines() {
+        let (words, told) = line.split_once(" -> ").expect(&rt, line);
+        let script = format!(in rt.alloc();
+            "connect command\nask 0 {words}\nrounds 0\nserver told {told}"
+        );
+        play(&rt, &rt, "told.db", &script.expect(&rt, "memory"));
     }
-    forget(&rt, file);
 }
 
 #[test]
@@ -78,115 +138,67 @@ fn without_a_server_none_is_found(rt: HostRuntime) {
 
 #[test]
 fn a_message_in_two_pieces_is_answered(rt: HostRuntime) {
-    let alloc = rt.alloc();
-    let file = "pieces.db";
-    lay(&rt, file).expect(&rt, "a file");
-    let mut server = ServerSide::open(&rt, &rt, file);
-    let client = connect(&rt, file, "command").expect(&rt, "a client");
-    let message = message(&rt, alloc, &ADDS_ANN);
-    let (first, second) = message.split_at(message.len() / 2);
-    send(&rt, &client, first);
-    server.go_on(&rt, alloc, 0);
-    same(&rt, "a half", server.service.asked, 0);
-    send(&rt, &client, second);
-    server.go_on(&rt, alloc, GUEST_TIME_LIMIT - 1);
-    is_done(&rt, alloc, "the whole", &client);
-    same(&rt, "asked once", server.service.asked, 1);
-    forget(&rt, file);
+    play(&rt, &rt, "pieces.db", PIECES);
 }
+
+/// A message is read for at most 8 s.
+const PIECES: &str = "
+connect command
+begin 0 --operator user-add ann
+rounds 0
+server asked 0
+finish 0 --operator user-add ann
+rounds 7999
+done 0
+server asked 1
+";
 
 #[test]
 fn a_message_is_read_without_what_another_sent(rt: HostRuntime) {
-    let alloc = rt.alloc();
-    let file = "another.db";
-    lay(&rt, file).expect(&rt, "a file");
-    let mut server = ServerSide::open(&rt, &rt, file);
-    // The longer message of another, which is out of form, lies in the buffer before.
-    let long = connect(&rt, file, "command").expect(&rt, "a client");
-    let words = [
-        "--operator",
-        "user-add",
-        "somebody-with-a-long-name",
-        "and",
-        "more",
-    ];
-    ask(&rt, alloc, &long, &words);
-    server.go_on(&rt, alloc, 0);
-    same(&rt, "out of form", server.service.asked, 0);
-    let short = connect(&rt, file, "command").expect(&rt, "a client");
-    ask(&rt, alloc, &short, &ADDS_ANN);
-    server.go_on(&rt, alloc, 0);
-    is_done(&rt, alloc, "the short one", &short);
-    same(&rt, "asked once", server.service.asked, 1);
-    forget(&rt, file);
+    play(&rt, &rt, "another.db", ANOTHER);
 }
 
-#[test]
-fn a_command_that_has_gone_is_not_done(rt: HostRuntime) {
-    let alloc = rt.alloc();
-    let file = "gone.db";
-    lay(&rt, file).expect(&rt, "a file");
-    let mut server = ServerSide::open(&rt, &rt, file);
-    let client = connect(&rt, file, "command").expect(&rt, "a client");
-    ask(&rt, alloc, &client, &ADDS_ANN);
-    drop(client);
-    server.go_on(&rt, alloc, 0);
-    same(&rt, "it has gone", server.service.asked, 0);
-    forget(&rt, file);
-}
+/// The longer message of another, which is out of form, lies in the buffer before.
+const ANOTHER: &str = "
+connect command
+ask 0 --operator user-add somebody-with-a-long-name and more
+rounds 0
+server asked 0
+connect command
+ask 1 --operator user-add ann
+rounds 0
+done 1
+server asked 1
+";
 
 #[test]
-fn a_held_server_takes_no_command(rt: HostRuntime) {
-    let alloc = rt.alloc();
-    let file = "held.db";
-    lay(&rt, file).expect(&rt, "a file");
-    let mut server = ServerSide::open(&rt, &rt, file);
-    let waits = connect(&rt, file, "command").expect(&rt, "a client");
-    server.go_on(&rt, alloc, 0);
-    hears(&rt, alloc, "before the hold", &waits, "r");
-    let holder = connect(&rt, file, "control").expect(&rt, "a client");
-    send(&rt, &holder, b"h");
-    server.go_on(&rt, alloc, 0);
-    hears(&rt, alloc, "it is held", &holder, "h");
-    let gone = connect(&rt, file, "command").expect(&rt, "a client");
-    let late = connect(&rt, file, "command").expect(&rt, "a client");
-    for client in [&waits, &gone, &late] {
-        ask(&rt, alloc, client, &ADDS_ANN);
+fn a_hold_ends_when_its_time_is_up(rt: HostRuntime) {
+    play(&rt, &rt, "lapsed.db", LAPSED);
+}
+
+/// A hold lasts for at most 60 s.
+const LAPSED: &str = "
+connect control
+send 0 h
+rounds 0
+hears 0 h
+server holds true
+rounds 59999
+server holds true
+rounds 60000
+server holds false
+loses 0
+";
+
+#[test]
+fn a_hold_is_confirmed(rt: HostRuntime) {
+    let (stream, server) = UnixStream::pair(&rt).expect(&rt, "two ends");
+    let mut hold = Hold::of(stream).expect(&rt, "a hold");
+    for (sent, wanted) in [("k", true), ("x", false)] {
+        send(&rt, &server, sent.as_bytes());
+        same(&rt, sent, hold.confirm().expect(&rt, "it is asked"), wanted);
     }
-    server.go_on(&rt, alloc, 1);
-    hears(&rt, alloc, "while it is held", &late, "");
-    drop(gone);
-    drop(holder);
-    server.go_on(&rt, alloc, 2);
-    is_done_since(&rt, alloc, "one that came before the hold", &waits);
-    is_done(&rt, alloc, "one that came during the hold", &late);
-    same(
-        &rt,
-        "but not the one that had gone",
-        server.service.asked,
-        2,
-    );
-    forget(&rt, file);
-}
-
-#[test]
-fn a_ninth_command_waits(rt: HostRuntime) {
-    let alloc = rt.alloc();
-    let file = "ninth.db";
-    lay(&rt, file).expect(&rt, "a file");
-    let mut server = ServerSide::open(&rt, &rt, file);
-    let mut silent = Vec::new(alloc);
-    for _ in 0..GUEST_COUNT {
-        silent
-            .push(connect(&rt, file, "command"))
-            .expect(&rt, "memory");
-    }
-    let ninth = connect(&rt, file, "command").expect(&rt, "a client");
-    ask(&rt, alloc, &ninth, &ADDS_ANN);
-    server.go_on(&rt, alloc, GUEST_TIME_LIMIT - 1);
-    hears(&rt, alloc, "while eight are there", &ninth, "");
-    server.go_on(&rt, alloc, 2 * GUEST_TIME_LIMIT - 1);
-    is_done(&rt, alloc, "once they are late", &ninth);
-    same(&rt, "asked once", server.service.asked, 1);
-    forget(&rt, file);
+    drop(server);
+    let is_held = hold.confirm().expect(&rt, "it is asked");
+    same(&rt, "the server has ended", is_held, false);
 }

@@ -1,6 +1,6 @@
 //! The folder of a server's sockets.
 
-use crate::guests::client::{ADDS_ANN, ask, connect, is_done, is_listening};
+use crate::guests::client::{ADDS_ANN, connect, is_done, is_listening, message, send};
 use crate::guests::files::{folder, forget, lay, temporary};
 use crate::guests::server::ServerSide;
 use crate::outcome::same;
@@ -59,10 +59,6 @@ fn set_mode(rt: &HostRuntime, path: &str, mode: u32) -> bool {
     fs::set_permissions(rt, path, Permissions::from_mode(mode)).is_ok()
 }
 
-fn mode_of(rt: &HostRuntime, path: &str) -> io::Result<u32> {
-    Ok(fs::metadata(rt, path)?.permissions().mode())
-}
-
 // Whether the sockets of a server's side were removed.
 fn are_removed(rt: &HostRuntime, listener: &CommandListener, file: &str) -> bool {
     listener.remove_sockets(rt, rt.alloc(), file).is_ok()
@@ -74,8 +70,8 @@ fn a_new_folder_is_its_owners_alone(rt: HostRuntime) {
     lay(&rt, file).expect(&rt, "a file");
     let server = ServerSide::open(&rt, &rt, file);
     let folder = folder(rt.alloc(), file).expect(&rt, "memory");
-    let mode = mode_of(&rt, folder.as_str()).expect(&rt, "a folder");
-    same(&rt, "its mode", mode & 0o777, 0o700);
+    let made = fs::metadata(&rt, folder.as_str()).expect(&rt, "a folder");
+    same(&rt, "its mode", made.permissions().mode() & 0o777, 0o700);
     let are_removed = are_removed(&rt, &server.listener, file);
     same(&rt, "its sockets are removed", are_removed, true);
     let is_gone = fs::metadata(&rt, folder.as_str()).is_err();
@@ -127,9 +123,7 @@ fn a_command_by_a_link_finds_the_server(rt: HostRuntime) {
     symlink(&rt, file, link).expect(&rt, "a link");
     let mut server = ServerSide::open(&rt, &rt, link);
     let client = connect(&rt, file, "command").expect(&rt, "a client");
-    ask(&rt, alloc, &client, &ADDS_ANN);
-    server.go_on(&rt, alloc, 0);
-    is_done(&rt, alloc, "its socket lies beside the file", &client);
+    answers(&rt, alloc, &mut server, &client);
     same(&rt, "by the link", has_other(&rt, link), Some(false));
     same(&rt, "by the file", has_other(&rt, file), Some(false));
     forget(&rt, link);
@@ -171,9 +165,9 @@ fn a_server_of_another_file_is_told_from_its_own(rt: HostRuntime) {
 
 // A server's side answers a client's command.
 fn answers(rt: &impl Abort, alloc: Global, server: &mut ServerSide, client: &UnixStream) {
-    ask(rt, alloc, client, &ADDS_ANN);
+    send(rt, client, &message(rt, alloc, ADDS_ANN));
     server.go_on(rt, alloc, 0);
-    is_done(rt, alloc, "its command", client);
+    is_done(rt, alloc, "its command", client, b"r");
 }
 
 #[test]

@@ -4,11 +4,11 @@
 use crate::asking::{Asks, First, answered, requests};
 use crate::disks::{Came, Kept, NEVER, Visit, asked_and_closed, visited};
 use crate::outcome::same;
-use crate::requests::{ADD_ANN, COMMANDS, QUERIES, TAGS_OF_NONE};
+use crate::requests::{ADD_ANN, COMMANDS, TAGS_OF_NONE};
 use registry_desk::Registry;
 use registry_names::{Fault, Refusal};
 use registry_rules::Reply;
-use registry_tests_requests::Outcome;
+use registry_tests_requests::{Outcome, QUERIES};
 use sqlite::Start;
 use sqlite_disk::Wary;
 use std::alloc::Global;

@@ -5,10 +5,10 @@
 use crate::asking::{Asks, First, answered, requests};
 use crate::disks::{Kept, Leaves, NEVER, Stop, Stopping, Visit, visited};
 use crate::outcome::same;
-use crate::requests::{COMMANDS, QUERIES};
+use crate::requests::COMMANDS;
 use registry_desk::Registry;
 use registry_rules::{Reply, Request};
-use registry_tests_requests::{Outcome, outcome_of, outcomes_of};
+use registry_tests_requests::{Outcome, QUERIES, outcome_of, outcomes_of};
 use sqlite::Alter;
 use std::alloc::Global;
 use std::env;

@@ -1,13 +1,15 @@
-//! Statements on a table of a database other than the registry's, and rows that are read as values
-//! of a struct.
+//! Statements, rows that are read as values of a struct, and the making of the registry's tables, each
+//! on an empty database.
 
 ghost use Rattle.std.specs.Prelude.{◌≡◌, false, ℕ, List, string_bytes};
 ghost use Rattle.sqlite_value.specs.Order.{column};
 ghost use Rattle.registry_rows.specs.Columns.{text_in, number_in};
 
 use crate::outcome::same;
+use crate::tests::schema::SCHEMA;
 use registry_names::Fault;
 use registry_rows::{RowKind, fault_of, read, value_of_first_row, values_of_rows, write};
+use registry_tables::{create, opened};
 use sqlite::{Alter, Connection, Constraint, Error, ErrorCode, Row, Transaction, params};
 use std::alloc::Global;
 use std::process::Abort;
@@ -34,101 +36,131 @@ impl RowKind for Count {
     }
 }
 
-/// What is done with the table, in the state that earlier calls left.
-#[derive(Clone, Copy)]
-enum Call {
-    /// A statement that writes is run.
-    Write(&'static str),
-    /// A word is put with its times.
-    Put(&'static str, i64),
-    /// A query is run, and its rows are counted.
-    Read(&'static str),
-    /// All rows of a query are read as words, each with its times.
-    All(&'static str),
-    /// The first row of a query is read in the same way.
-    First(&'static str),
-}
+/// Statements on a table of words with their times.
+const COUNTS: &str = "
+a table that is no table of the registry is written and read
+write CREATE TABLE counts (word TEXT NOT NULL, times INTEGER NOT NULL, PRIMARY KEY (word)) STRICT -> done
+read SELECT * FROM counts -> 0
+all SELECT * FROM counts ->
+first SELECT * FROM counts ->
+put and 7 -> done
+put the 9 -> done
+put the 3 -> Database
+read SELECT * FROM counts -> 2
+all SELECT * FROM counts ORDER BY times DESC -> the:9 and:7
+first SELECT * FROM counts -> and:7
+all SELECT times, word FROM counts -> Database
+first SELECT times, word FROM counts -> Database
+first SELECT word, -1 FROM counts -> Database
+read SELECT * FROM sums -> Database
+write DELETE FROM sums -> Database
+";
 
-/// Calls, and what each returns.
-static CALLS: [(Call, Result<&str, Fault>); 15] = [
-    (
-        Call::Write(
-            "CREATE TABLE counts (word TEXT NOT NULL, times INTEGER NOT NULL, PRIMARY KEY (word)) STRICT",
-        ),
-        Ok("done"),
-    ),
-    (Call::Read("SELECT * FROM counts"), Ok("0")),
-    (Call::All("SELECT * FROM counts"), Ok("")),
-    (Call::First("SELECT * FROM counts"), Ok("")),
-    (Call::Put("and", 7), Ok("done")),
-    (Call::Put("the", 9), Ok("done")),
-    (Call::Put("the", 3), Err(Fault::Database)),
-    (Call::Read("SELECT * FROM counts"), Ok("2")),
-    (
-        Call::All("SELECT * FROM counts ORDER BY times DESC"),
-        Ok(" the:9 and:7"),
-    ),
-    (Call::First("SELECT * FROM counts"), Ok(" and:7")),
-    (
-        Call::All("SELECT times, word FROM counts"),
-        Err(Fault::Database),
-    ),
-    (
-        Call::First("SELECT times, word FROM counts"),
-        Err(Fault::Database),
-    ),
-    (
-        Call::First("SELECT word, -1 FROM counts"),
-        Err(Fault::Database),
-    ),
-    (Call::Read("SELECT * FROM sums"), Err(Fault::Database)),
-    (Call::Write("DELETE FROM sums"), Err(Fault::Database)),
-];
+const BROKEN_KEY: Error = Error::SqliteFailure(ErrorCode::ConstraintViolation(
+    Constraint::ForeignKey,
+));
 
+// A case has an empty database. Its first line is what it shows. Each other line is a call, and what
+// comes out of it after an arrow; a text that breaks a foreign key has no arrow.
 #[test]
 fn statements_are_run(rt: HostRuntime) {
-    let mut conn = Connection::open_in_memory(rt.alloc()).expect(&rt, "a database");
-    all_come_out(&rt, rt.alloc(), &mut conn);
-}
-
-fn all_come_out<S: Alter>(rt: &impl Abort, alloc: Global, conn: &mut Connection<S>)
-    requires idle { conn.old.in_transaction ≡ false }
-{
-    let mut tx = conn.transaction();
-    come_out(rt, alloc, &mut tx);
-}
-
-fn come_out<S: Alter>(rt: &impl Abort, alloc: Global, tx: &mut Transaction<'_, S>)
-    ensures same_reference { tx.new.conn.ghost_name ≡ tx.old.conn.ghost_name }
-{
-    for (place, (call, wanted)) in CALLS.iter().enumerate() {
-        let came_out = told(alloc, tx, *call);
-        same(rt, place, came_out.as_deref(), wanted.as_deref());
+    for cases in [COUNTS, SCHEMA] {
+        for case in cases.trim().split("\n\n") {
+            let mut conn = Connection::open_in_memory(rt.alloc()).expect(&rt, "a database");
+            comes_out_on(&rt, rt.alloc(), &mut conn, case);
+        }
     }
 }
 
-fn told<S: Alter>(alloc: Global, tx: &mut Transaction<'_, S>, call: Call) -> Result<String, Fault>
+fn comes_out_on<S: Alter>(rt: &impl Abort, alloc: Global, conn: &mut Connection<S>, case: &str)
+    requires idle { conn.old.in_transaction ≡ false }
+{
+    let mut tx = conn.transaction();
+    all_come_out(rt, alloc, &mut tx, case);
+}
+
+fn all_come_out<S: Alter>(rt: &impl Abort, alloc: Global, tx: &mut Transaction<'_, S>, case: &str)
     ensures same_reference { tx.new.conn.ghost_name ≡ tx.old.conn.ghost_name }
 {
-    match call {
-        Call::Write(text) => {
-            write(tx, text, &[])?;
-            Ok(String::from_str(alloc, "done")?)
+    let (shows, lines) = case.split_once('\n').expect(rt, case);
+    for line in lines.lines() {
+        comes_out(rt, alloc, tx, (shows, line));
+    }
+}
+
+fn comes_out<S: Alter>(
+    rt: &impl Abort,
+    alloc: Global,
+    tx: &mut Transaction<'_, S>,
+    case: (&str, &str),
+)
+    ensures same_reference { tx.new.conn.ghost_name ≡ tx.old.conn.ghost_name }
+{
+    match case.1.split_once(" ->") {
+        Some((call, wanted)) => match told(rt, alloc, tx, call) {
+            Ok(text) => same(rt, case, text.trim(), wanted.trim()),
+            Err(fault) => same(rt, case, fault.text(), wanted.trim()),
+        },
+        None => {
+            let text = case.1.strip_prefix("break ").expect(rt, case.1);
+            same(rt, case, tx.execute(text, &[]).err(), Some(BROKEN_KEY));
         }
-        Call::Put(word, times) => {
-            write(
-                tx,
-                "INSERT INTO counts VALUES (?1, ?2)",
-                params![word, times],
-            )?;
-            Ok(String::from_str(alloc, "done")?)
+    }
+}
+
+// What a call comes to. The first word says which call it is:
+//
+// - `create` makes the tables, and `schema` asks for the number of the schema.
+// - `write` runs a text, and `put` puts a word with its times.
+// - `read` counts the rows of a text. `all` reads them as words with their times, and `first` the first
+//   of them.
+fn told<S: Alter>(
+    rt: &impl Abort,
+    alloc: Global,
+    tx: &mut Transaction<'_, S>,
+    call: &str,
+) -> Result<String, Fault>
+    ensures same_reference { tx.new.conn.ghost_name ≡ tx.old.conn.ghost_name }
+{
+    let (does, text) = call.split_once(' ').expect(rt, call);
+    match does {
+        "create" => create(tx)?,
+        "write" => write(tx, text, &[])?,
+        "put" => put(rt, tx, text)?,
+        "schema" => return schema_text(alloc, opened(tx)?),
+        _ => return rows_text(rt, alloc, does, &read(tx, text, &[])?),
+    }
+    Ok(String::from_str(alloc, "done")?)
+}
+
+fn rows_text(rt: &impl Abort, alloc: Global, does: &str, rows: &[Row]) -> Result<String, Fault> {
+    match does {
+        "read" => {
+            let count = rows.len();
+            Ok(format!(in alloc; "{count}")?)
         }
-        Call::Read(text) => {
-            let rows = read(tx, text, &[])?.len();
-            Ok(format!(in alloc; "{rows}")?)
-        }
-        Call::All(text) => all_text(alloc, &read(tx, text, &[])?),
-        Call::First(text) => first_text(alloc, &read(tx, text, &[])?),
+        "all" => all_text(alloc, rows),
+        "first" => first_text(alloc, rows),
+        _ => panic!(rt; "{does} is no call"),
+    }
+}
+
+fn put<S: Alter>(rt: &impl Abort, tx: &mut Transaction<'_, S>, row: &str) -> Result<(), Fault>
+    ensures same_reference { tx.new.conn.ghost_name ≡ tx.old.conn.ghost_name }
+{
+    let (word, times) = row.split_once(' ').expect(rt, row);
+    let times = times.parse::<i64>().ok().expect(rt, row);
+    write(
+        tx,
+        "INSERT INTO counts VALUES (?1, ?2)",
+        params![word, times],
+    )
+}
+
+fn schema_text(alloc: Global, schema: Option<u32>) -> Result<String, Fault> {
+    match schema {
+        Some(number) => Ok(format!(in alloc; "{number}")?),
+        None => Ok(String::from_str(alloc, "none")?),
     }
 }
 

@@ -8,30 +8,22 @@ ghost use Rattle.registry_tables.specs.Walking.{lent, stopped_at};
 ghost use Rattle.registry_tables.specs.Walks.{Begins, HasGoneOn, IsLeftAlone, reference, shown_by};
 ghost use Rattle.registry_tests_tables.specs.Resting.{AwaitsWalk};
 
-use super::call::{Case, all_tell};
-use super::text::push_version;
+use super::call::all_answer;
 use crate::outcome::same;
 use registry_names::{Fault, Name, Stop};
-use registry_packument::VersionSource;
+use registry_packument::{VersionRow, VersionSource};
 use registry_rows::{commit, fault_of};
 use registry_tables::{LiveRows, VersionWalk, create, walk_versions};
 use sqlite::{Alter, Connection};
-use std::alloc::Global;
+use std::alloc::{AllocError, Global};
 use std::process::Abort;
 
-/// Versions that are put into an empty database, and walks over them, one after another.
-pub struct Walk {
-    /// The calls that put them.
-    pub put: Case,
-    /// What each walk gives, with the name of its package.
-    pub gives: &'static [(&'static str, &'static str)],
-}
-
-/// Checks that all walks give what they should.
-pub fn all_give(rt: &impl Abort, alloc: Global, walks: &[Walk]) {
-    for walk in walks {
+/// Checks that all walks over versions that cases put give what they should. After the lines of a case
+/// come lines with the name of a package each, and what the walk over its versions gives.
+pub fn all_give(rt: &impl Abort, alloc: Global, cases: &str) {
+    for case in cases.trim().split("\n\n") {
         let mut conn = Connection::open_in_memory(alloc).expect(rt, "a database");
-        gives_on(rt, alloc, &mut conn, walk).expect(rt, "tables");
+        gives_on(rt, alloc, &mut conn, case).expect(rt, "tables");
     }
 }
 
@@ -39,12 +31,13 @@ fn gives_on<S: Alter>(
     rt: &impl Abort,
     alloc: Global,
     conn: &mut Connection<S>,
-    walk: &Walk,
+    case: &str,
 ) -> Result<(), Fault>
     requires empty { IsEmpty (state S.Store conn.old) }
 {
-    put(rt, alloc, conn, &walk.put)?;
-    each_gives(rt, alloc, conn, walk);
+    let (lines, walks) = case.split_once("\nthen walks\n").expect(rt, case);
+    put(rt, alloc, conn, lines)?;
+    each_gives(rt, alloc, conn, walks);
     Ok(())
 }
 
@@ -53,50 +46,38 @@ fn put<S: Alter>(
     rt: &impl Abort,
     alloc: Global,
     conn: &mut Connection<S>,
-    case: &Case,
+    lines: &str,
 ) -> Result<(), Fault>
     requires empty { IsEmpty (state S.Store conn.old) }
     ensures awaits { OnOk result (AwaitsWalk (state S.Store conn.new)) }
 {
     let mut tx = conn.transaction();
     create(&mut tx)?;
-    all_tell(rt, alloc, &mut tx, case);
+    all_answer(rt, alloc, &mut tx, lines);
     match commit(tx) {
         Ok(()) => Ok(()),
         Err(fault) => Err(fault),
     }
 }
 
-fn each_gives<S: Alter>(rt: &impl Abort, alloc: Global, conn: &mut Connection<S>, walk: &Walk)
+fn each_gives<S: Alter>(rt: &impl Abort, alloc: Global, conn: &mut Connection<S>, walks: &str)
     requires awaits { AwaitsWalk (state S.Store conn.old) }
 {
-    for (name, wanted) in walk.gives {
-        gives(rt, alloc, conn, (walk.put.shows, *name), *wanted);
+    for walk in walks.lines() {
+        gives(rt, alloc, conn, walk);
     }
 }
 
-fn gives<S: Alter>(
-    rt: &impl Abort,
-    alloc: Global,
-    conn: &mut Connection<S>,
-    asked: (&'static str, &'static str),
-    wanted: &'static str,
-)
+fn gives<S: Alter>(rt: &impl Abort, alloc: Global, conn: &mut Connection<S>, walk: &str)
     requires awaits { AwaitsWalk (state S.Store conn.old) }
     ensures awaits { AwaitsWalk (state S.Store conn.new) }
 {
-    match given(alloc, conn, asked.1) {
-        Ok(text) => same(rt, asked, text.as_str(), wanted),
-        Err(stop) => panic!(rt; "{asked:?} comes out as {stop:?}"),
+    let (name, wanted) = walk.split_once(" ->").expect(rt, walk);
+    let name = Name::parse(alloc, name).expect(rt, walk);
+    match walked(alloc, conn, &name) {
+        Ok(text) => same(rt, walk, text.as_str(), wanted),
+        Err(stop) => panic!(rt; "{walk} comes out as {stop:?}"),
     }
-}
-
-fn given<S: Alter>(alloc: Global, conn: &mut Connection<S>, name: &str) -> Result<String, Stop>
-    requires awaits { AwaitsWalk (state S.Store conn.old) }
-    ensures awaits { OnOk result (AwaitsWalk (state S.Store conn.new)) }
-{
-    let name = Name::parse(alloc, name)?;
-    walked(alloc, conn, &name)
 }
 
 // A walk leaves the connection as the next one awaits it.
@@ -156,7 +137,14 @@ fn source_text<S: VersionSource>(alloc: Global, source: &mut S) -> Result<String
 {
     let mut text = String::new(alloc);
     'rows: while let Some(row) = source.next(alloc)? {
-        push_version(&mut text, &row)?;
+        push_version(alloc, &mut text, &row)?;
     }
     Ok(text)
+}
+
+// Adds a version with its manifest and its message in brackets.
+fn push_version(alloc: Global, text: &mut String, row: &VersionRow) -> Result<(), AllocError> {
+    let (version, manifest) = (row.version.as_str(), row.manifest.as_str());
+    let message = row.message.as_str();
+    text.push_str(&format!(in alloc; " {version} {manifest} [{message}]")?)
 }

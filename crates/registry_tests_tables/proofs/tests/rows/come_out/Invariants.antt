@@ -1,6 +1,0 @@
-use Rattle.std.proofs.Common.{◌≡◌}
-use Rattle.registry_tests_tables.proofs.tests.rows.come_out.Given as goal
-
--- the transaction is the one that was handed in
-abbrev pub invariant-loop-place : goal.invariant-loop-place
-invariant-loop-place g l = record { same_reference : l.tx.conn.ghost_name ≡ l.fn.tx.conn.ghost_name }
