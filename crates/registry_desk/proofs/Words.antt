@@ -9,7 +9,7 @@ pub use Rattle.registry_desk.specs.Early.{EarlyRefusalsStand, FoundTells, IsFoun
 pub use Rattle.registry_desk.specs.Found.{AreRowsOf, AreTaken, AreTimesOf, IsCallerIn, IsCandidate, IsGrantable, IsLeaver, IsNewcomer, IsPlace, NeedsFor}
 pub use Rattle.registry_desk.specs.Opened.{GivesFound, HoldsEach, HoldsFound, IsFreshIfEmpty, IsLeftOf, IsMigrated, IsOurs, LeavesFound, LeavesMigrated}
 pub use Rattle.registry_desk.specs.Promises.{Answered, Applied, HasHeadline, HasRun, HideAlong, HidesUnreadRun, HoldsReferences, IsLost, IsOpenOrLost, IsSure, Keeps, KeepsRun, LeavesOne, LeavesTheRest, LosesInTurn, NeedsForEach, RanTo, Served, Stepped, SurvivesInTurn, SurvivesOne, SurvivesRun, SurvivesTurns, Unchanged, WritesHistory}
-pub use Rattle.registry_desk.specs.Resting.{HasTables, IsAsWritten, IsRegistryOf, Rests, Serves, end_stored, left_by, left_together, next_stored, settled_by, stepped, unless}
+pub use Rattle.registry_desk.specs.Resting.{HasTables, HoldsFirst, IsAsWritten, IsRegistryOf, MadeAlone, MadeInRow, Rests, Serves, end_stored, left_by, next_stored, settled_by, stepped, unless}
 pub use Rattle.registry_desk.specs.Sending.{BrokenBeginTheAnswer, IsAnyPackument, IsFrom, IsMadeOf, IsOrigin, IsShownBy, LeavesAll, MayAnswer, Sends, SentAreAsked, ShowsAlone, answers_as_apply, front_names, head_in, versions_in}
 pub use Rattle.registry_desk.specs.Views.{asks_packument, changes_view, form_of, names_in_front, text_behind, viewed}
 pub use Rattle.registry_desk.specs.declared.cache.Caches.{Caches}
