@@ -1,11 +1,12 @@
 -- What lives of a registry come to.
 use Rattle.registry_desk.proofs.Words.{◌≡◌, ◌⊎◌, ◌∙◌, ◌++◌, ◌&&◌, cond, inl, inr, Bool, true, false, List, [], ◌∷◌, Ok, Err, IsTrue, refl, sym, ap, subst, append-nil, append_assoc, AllByRecursion}
-use Rattle.registry_desk.proofs.Words.{Shown, HasCleanDisk, Trees, Fault, is_command, Change, effects_of, step, State, Reply, Request, HeldAreStored, HoldsArchives, all_stored, stored_by, Contents}
+use Rattle.registry_desk.proofs.Words.{Ghosts, Held, state, Shown, HasCleanDisk, Trees, Fault, is_command, Change, effects_of, step, State, Reply, Request, HeldAreStored, HoldsArchives, all_stored, stored_by, Contents}
 use Rattle.registry_desk.proofs.Words.{registry_of, stored, fresh, HoldsNeeds, GrantsInScope, fresh_holds, fresh_archives, fresh_is_nothing, change_keeps, answer, Outcome, HaveOutcomes, IsAnswer, Ran}
 use Rattle.registry_desk.proofs.Words.{end_of, enters, next, headline_from, run_says, Applied, SurvivesOne, SurvivesRun, HoldsFirst, IsLost, IsSure, MadeAlone, MadeInRow, NeedsForEach, registry_in, IsRegistryOf, end_stored, left_by, next_stored, settled_by, stepped}
 use Rattle.std.proofs.lemmas.Bool.{cases_Bool}
 use Rattle.registry_rules.specs.Requests.{IsInForm}
 use Rattle.registry_desk.specs.Lives.{AloneAreRuns, AreFaults, AreInForm, AreLives, AskedBy, ComesTo, Did, DidAll, DidLate, FirstOf, Follows, HasLived, IsInOrder, IsOpenedAgain, Life, LivesAreOneRun, LivesComeToRuns, LivesHaveHeadline, StopsKeepOutcomes, StopsLeaveAllOrNothing, SurvivesAs, TurnsAreRuns}
+use Rattle.registry_desk.specs.Together.{GroupsKeepOutcomes, GroupsLeaveAllOrNothing, all_settled, at_rest, shown_at}
 use Rattle.registry_desk.proofs.GrantFacts.{grants_next}
 use Rattle.registry_desk.proofs.KeepingFacts.{archives_kept, holds_next, needs_kept, registry_next}
 use Rattle.registry_desk.proofs.SettlingFacts.{faulted_next, settled_next}
@@ -458,3 +459,16 @@ module _ {C : Type 0} (show : C → Shown) where
       ))
       first last [] [] rs os (has_run_none (show first), survives_run_none (show first)) asked in
       (all.0.run, all.1)
+
+module _ {S T : Type 0} (store : Ghosts S) (store_next : Ghosts T) where
+  pub groups_leave_all_or_nothing : GroupsLeaveAllOrNothing store store_next
+  groups_leave_all_or_nothing first last next rs os needs sure together again clean =
+      elim (together.survives.crash again.was_clean again.db again.left) [
+        | inl before ↦ inl (found_after (state store last) (state store_next next) (stored (state store first)) again clean (sure again.db before))
+        | inr made ↦ inr (found_after (state store last) (state store_next next) (all_settled rs (stored (state store first))) again clean (made.form, made.settled needs))
+      ]
+
+  pub groups_keep_outcomes : GroupsKeepOutcomes store store_next
+  groups_keep_outcomes first last next rs os needs sure together on again clean =
+      let run = turns_are_runs (shown_at store) (at_rest first) (at_rest last) rs os together.in_turn in
+      found_after (state store last) (state store_next next) (stored (state store last)) again clean (run.durable (λ _ _. sure) again.was_clean on again.db again.left) ∙ run.stored needs again.was_clean on
