@@ -25,8 +25,8 @@
 -- | survives  | t   | the same, or what it makes of what earlier requests of the same | N         |
 -- |           |     | commit made, where a fault of the disk ended that commit        |           |
 -- | survives  | r   | what a crash leaves, by the outcomes; no reply is lost          | N         |
--- | survives  | ts  | the same, and of requests that met faults, where one ended a    | N         |
--- |           |     | commit of several: what some in a row make, the first first     |           |
+-- | survives  | ts  | the same; and where a fault ended a commit of several, what a   | N         |
+-- |           |     | row of requests that met faults makes, without gaps             |           |
 -- | durable   | a   | a crash leaves what is stored, and nothing else                 | open      |
 -- | durable   | r   | it still does, where it did at the entry                        | open      |
 -- | closes    | r   | only a fault of the disk shuts it                               |           |
