@@ -136,6 +136,16 @@ impl Group {
         }
     }
 
+    /// Whether the next command is that of the place of this number.
+    pub fn is_next(&self, number: usize) -> bool
+        ensures { result ≡ false → IsNotNext number self.now.commands.items }
+    {
+        match self.commands.front() {
+            Some(command) => command.number == number,
+            None => false,
+        }
+    }
+
     /// The next command, once they are answered, with its outcome, if it is that of the place of this
     /// number.
     pub fn take(&mut self, number: usize) -> Option<(Command, Result<Reply, Fault>)>

@@ -1,6 +1,6 @@
 //! The open connections, and which of them can go on.
 
-ghost use Rattle.std.specs.Prelude.{◌≡◌, ◌≢◌, ◌&&◌, ℕ, List, Option, None, Some, true, false, IfOk, IsSome, is_none, length, map, position, replicate};
+ghost use Rattle.std.specs.Prelude.{◌≡◌, ◌≢◌, ◌&&◌, ℕ, List, Option, None, Some, true, false, IfOk, IsSome, is_none, length, map, not, position, replicate};
 ghost use Rattle.std.specs.List.{list_all, list_any};
 ghost use Rattle.registry_server.specs.Connections.{IsDone, IsLost, LeavesLittle, Visits, may_command, must_wait};
 ghost use Rattle.registry_server.specs.Groups.{Adds, AnswersNext, AnswersPlace, AnswersPlaces, AreSpelled, AskedEach, IsEmpty, IsStill, SetsAside, VisitsFirst, VisitsOrSetsAside, in_order};
@@ -184,9 +184,41 @@ impl<S: Socket> Place<S> {
             D.speaks (answering commands_wait D.answers) D.over commands_wait is_crowd now (length buffer.old) number self.old self.new
             group.old group.new service.old service.new (C.readings clock.old) (C.readings clock.new) }
     {
+        // Most places have nothing to do: the test spares them the room for a visit.
         if !self.is_to_visit(commands_wait) || service.is_over() {
             return;
         }
+        self.visit_ready(
+            alloc,
+            service,
+            clock,
+            buffer,
+            now,
+            commands_wait,
+            is_crowd,
+            number,
+            group,
+        );
+    }
+
+    // The same where it is to be visited, and the service isn't over.
+    fn visit_ready<D: HttpService, C: Clock>(
+        &mut self,
+        alloc: Global,
+        service: &mut D,
+        clock: &mut C,
+        buffer: &mut [u8],
+        now: u64,
+        commands_wait: bool,
+        is_crowd: bool,
+        number: usize,
+        group: &mut Group,
+    )
+        requires { (spec.is_to_visit commands_wait self.old && not (D.over service.old)) ≡ true }
+        ensures { VisitsOrSetsAside S.received S.sent S.has_none S.is_full S.has_more S.is_ended S.is_broken
+            D.speaks (answering commands_wait D.answers) D.over commands_wait is_crowd now (length buffer.old) number self.old self.new
+            group.old group.new service.old service.new (C.readings clock.old) (C.readings clock.new) }
+    {
         if self.is_held_back(is_crowd) {
             self.wait(now);
             return;
@@ -251,6 +283,10 @@ impl<S: Socket> Place<S> {
         ensures many { length group.new.outcomes.items ≡ length group.new.commands.items }
         ensures service { service.new ≡ service.old }
     {
+        // Most places have no command: the test spares them the room for one.
+        if !group.is_next(number) {
+            return;
+        }
         if let Some((command, outcome)) = group.take(number) {
             self.answer(alloc, service, &command, outcome, now);
         }
