@@ -1,11 +1,12 @@
 -- What SELECT by the second text of a key shows: the first texts.
-use Rattle.registry_tables.proofs.Words.{◌≡◌, ◌∙◌, ◌&&◌, ◌||◌, ℕ, Bool, true, false, cond, List, [], ◌∷◌, drop, filter, map, is_some, refl, sym, ap, codes, list_any, map-map, Value, Stored, Shown}
-use Rattle.registry_tables.proofs.Words.{HasCleanDisk, Row, column, Binary, Compare, Eq, Term, col, op2, Table, Has, all_has, Pair, pair_is, PairMap, among, at, entries, keys, seen, Text, is}
-use Rattle.registry_tables.proofs.Words.{among_keys, pair_key, at-entries, is_sym, text_is, takes, text_in, IsMapped, IsReady, Queried, Reads, Ready, key_of, map_of, MeansQuery, select_where}
-use Rattle.registry_tables.proofs.Words.{in_order, is_wanted, TextsMap, by_texts_given, select_passes_by, and_true, row_parts, Contents, contents, stored, firsts_of, schema, text_spelled, ShowsAll}
+use Rattle.registry_tables.proofs.Words.{◌≡◌, ◌∙◌, ℕ, Bool, true, List, [], ◌∷◌, drop, filter, map, is_some, refl, sym, ap, codes, map-map, Value, Stored, Shown, HasCleanDisk, Row, column, Binary}
+use Rattle.registry_tables.proofs.Words.{Compare, Eq, Term, col, op2, Table, Has, all_has, Pair, PairMap, among, at, entries, seen, Text, is, pair_key, text_is, takes, text_in, IsMapped, IsReady}
+use Rattle.registry_tables.proofs.Words.{Queried, Reads, Ready, key_of, map_of, MeansQuery, select_where, in_order, is_wanted, TextsMap, by_texts_given, select_passes_by, and_true, row_parts}
+use Rattle.registry_tables.proofs.Words.{Contents, contents, firsts_of, schema, text_spelled, ShowsAll, some_has, some_from, has_mapped, map_has, has_filtered, has_kept, is_self, ap₂}
 use Rattle.sqlite.specs.Listing.{understood}
 use Rattle.sqlite_tied.specs.Compute.{everything}
 use Rattle.registry_tables.specs.Schema as table
+use Rattle.registry_tables.proofs.FoundFacts.{at_entry, entry_at, one_truth, some_at}
 use Rattle.registry_tables.proofs.MappedFacts.{members_mapped, owners_mapped}
 
 -- the second text is the parameter
@@ -51,7 +52,7 @@ pub maintained_means : MeansQuery schema maintained_text (select_where table.own
 unfolding understood everything
 maintained_means = ((refl, (refl, refl)), refl)
 
-pub maintained_listed : (u : Text) (old new : Shown) → ShowsAll maintained_text (Stored u ∷ []) old new text_spelled (firsts_of (stored old).owners u)
+pub maintained_listed : (u : Text) (old new : Shown) → ShowsAll maintained_text (Stored u ∷ []) old new text_spelled (λ c. firsts_of c.owners u)
 maintained_listed u = firsts_listed owners_mapped (λ v. refl) u maintained_text _ maintained_means
 
 -- ---- the organisations of a user
@@ -63,28 +64,24 @@ pub organisations_means : MeansQuery schema organisations_text (select_where tab
 unfolding understood everything
 organisations_means = ((refl, (refl, refl)), refl)
 
-pub organisations_listed : (u : Text) (old new : Shown) → ShowsAll organisations_text (Stored u ∷ []) old new text_spelled (firsts_of (stored old).members u)
+pub organisations_listed : (u : Text) (old new : Shown) → ShowsAll organisations_text (Stored u ∷ []) old new text_spelled (λ c. firsts_of c.members u)
 organisations_listed u = firsts_listed members_mapped (λ v. refl) u organisations_text _ organisations_means
 
 -- ---- which texts they are
 
 -- a text is one of them where the map has it with the second
 pub among_firsts : {X : Type 0} (m : PairMap X) (u k : Text) → among is (firsts_of m u) k ≡ is_some (at m (k, u))
-among_firsts {X} m u k = by_keys (entries m) ∙ among_keys pair_key (entries m) (k, u) ∙ ap is_some (sym (at-entries pair_key m (k, u)))
+among_firsts {X} m u k = one_truth _ _
+    (λ h.
+        let q = some_has (λ (q : Text). is q k) (firsts_of m u) h in
+        let e = has_mapped (λ (e : Pair × X). e.0.0) (filter by_second (entries m)) q.0 q.1 in
+        let kept = has_filtered by_second (entries m) e.0 e.1 in
+        let key : (k, u) ≡ e.0.0 = ap₂ (λ (a b : Text). (a, b)) (sym (text_is q.0 k q.2) ∙ e.2) (text_is u e.0.0.1 kept.1) in
+        ap (λ (j : Pair). is_some (at m j)) key ∙ ap is_some (entry_at pair_key m e.0.0 e.0.1 kept.0))
+    (λ there.
+        let x = some_at (at m (k, u)) there in
+        let kept = has_kept by_second (entries m) ((k, u), x.0) (at_entry pair_key m (k, u) x.0 x.1) (is_self u) in
+        some_from (λ (q : Text). is q k) (firsts_of m u) k (map_has (λ (e : Pair × X). e.0.0) (filter by_second (entries m)) ((k, u), x.0) kept) (is_self k))
   where
-    each : (a b : Bool) (left : List Text) (e : Text) (rest : Bool) → is e k ≡ b → list_any (λ q. is q k) left ≡ rest → list_any (λ q. is q k) (cond a (e ∷ left) left) ≡ ((b && a) || rest)
-    each true true left e rest here later = ap (λ c. c || list_any (λ q. is q k) left) here
-    each true false left e rest here later = ap (λ c. c || list_any (λ q. is q k) left) here ∙ later
-    each false true left e rest here later = later
-    each false false left e rest here later = later
-
-    moved : (a : Bool) (e : Pair × X) (left : List (Pair × X)) → map (λ (x : Pair × X). x.0.0) (cond a (e ∷ left) left) ≡ cond a (e.0.0 ∷ map (λ (x : Pair × X). x.0.0) left) (map (λ (x : Pair × X). x.0.0) left)
-    moved true e left = refl
-    moved false e left = refl
-
-    by_keys : (es : List (Pair × X)) → among is (map (λ (e : Pair × X). e.0.0) (filter (λ (e : Pair × X). is u e.0.1) es)) k ≡ among pair_is (keys es) (k, u)
-    by_keys [] = refl
-    by_keys (e ∷ es) =
-        ap (λ l. among is l k) (moved (is u e.0.1) e (filter (λ (x : Pair × X). is u x.0.1) es))
-        ∙ each (is u e.0.1) (is e.0.0 k) (map (λ (x : Pair × X). x.0.0) (filter (λ (x : Pair × X). is u x.0.1) es)) e.0.0 (among pair_is (keys es) (k, u)) refl (by_keys es)
-        ∙ ap (λ b. (is e.0.0 k && b) || among pair_is (keys es) (k, u)) (is_sym u e.0.1)
+    by_second : Pair × X → Bool
+    by_second e = is u e.0.1

@@ -1,13 +1,13 @@
 -- What the statements on withdrawn versions show.
 use Rattle.registry_tables.proofs.Words.{◌≡◌, ◌+◌, ◌<◌, List, [], ◌∷◌, ◌++◌, map, take, Option, Some, is_some, length, arith, refl, sym, ap, ◌∙◌, codes, ℕ, max, slice_index_or, unwrap_or, map-map}
-use Rattle.registry_tables.proofs.Words.{Stored, Select, Shown, HasCleanDisk, Row, column, col, Text, at, of, seen, Withdrawal, last_of, last_withdrawal, text_in, Ready, Reads, Queried, MeansQuery}
-use Rattle.registry_tables.proofs.Words.{scan, by_texts, in_order, select_finds, select_lists, schema, Contents, SpentVersion, as_withdrawal, registry_of, stored, seconds_of, held_spelled}
-use Rattle.registry_tables.proofs.Words.{number_spelled, second_spelled, last_number, ShowsAll, ShowsWhether, text_key}
+use Rattle.registry_tables.proofs.Words.{Stored, Select, Shown, HasCleanDisk, Row, column, col, Text, at, of, seen, Withdrawal, last_of, last_withdrawal, text_in, Ready, Reads, Queried}
+use Rattle.registry_tables.proofs.Words.{MeansQuery, scan, by_texts, in_order, select_lists, schema, Contents, SpentVersion, as_withdrawal, registry_of, stored, seconds_of, number_spelled}
+use Rattle.registry_tables.proofs.Words.{second_spelled, last_number, ShowsAll, ShowsWhether, text_key}
 use Rattle.sqlite.specs.Listing.{understood}
 use Rattle.sqlite_tied.specs.Compute.{everything}
 use Rattle.registry_rules.specs.Moments.{spent_publications}
 use Rattle.registry_rules.proofs.ListedFacts.{mapped_more}
-use Rattle.registry_tables.proofs.FoundFacts.{some_found, some_seen}
+use Rattle.registry_tables.proofs.FoundFacts.{there_found}
 use Rattle.registry_tables.proofs.MappedFacts.{spent_mapped}
 use Rattle.registry_tables.proofs.NumberFacts.{as_seconds}
 use Rattle.registry_tables.proofs.ReadFacts.{part-read}
@@ -19,10 +19,8 @@ pub find_means : MeansQuery schema find_text (Select (record { lets = []; body =
 unfolding understood everything
 find_means = ((refl, (refl, refl)), refl)
 
-pub withdrawal_found : (p v : Text) (old new : Shown) → ShowsWhether find_text (Stored p ∷ Stored v ∷ []) old new (is_some (at (stored old).spent (p, v)))
-withdrawal_found p v old new rows form call clean =
-    let it = select_finds spent_mapped find_text (col 1 4 ∷ []) _ find_means (p, v) held_spelled (λ (w : SpentVersion). w.withdrawn) (λ id vs. refl) old new rows form call clean in
-    (it.0, some_found held_spelled rows _ it.1 ∙ some_seen (λ (w : SpentVersion). w.withdrawn) (at (stored old).spent (p, v)))
+pub withdrawal_found : (p v : Text) (old new : Shown) → ShowsWhether find_text (Stored p ∷ Stored v ∷ []) old new (λ c. is_some (at c.spent (p, v)))
+withdrawal_found p v = there_found spent_mapped find_text (col 1 4 ∷ []) _ find_means (p, v)
 
 -- ---- SELECT by package
 
@@ -60,7 +58,7 @@ last_found p old new rows form call clean =
 abbrev published_entry : Row → Text × ℕ
 published_entry r = (text_in (column r 2), second_spelled r)
 
-pub publications_found : (p : Text) (old new : Shown) → ShowsAll last_text (Stored p ∷ []) old new second_spelled (spent_publications (of (registry_of (stored old)).spent p))
+pub publications_found : (p : Text) (old new : Shown) → ShowsAll last_text (Stored p ∷ []) old new second_spelled (λ c. spent_publications (of (registry_of c).spent p))
 publications_found p old new rows form call clean =
     let es = of (stored old).spent p in
     let it = select_lists spent_mapped last_text _ _ last_means p published_entry (λ (w : SpentVersion). seconds_of w.published) (λ id vs. ap (λ (n : ℕ). (text_in (column vs 1), n)) (as_seconds (column vs 2))) old new rows form call clean in (

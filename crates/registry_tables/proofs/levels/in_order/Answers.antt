@@ -1,6 +1,7 @@
-use Rattle.registry_tables.proofs.Words.{◌≡◌, ◌∙◌, ◌∷◌, [], cond, List, None, Some, ap, arith, length, map, sym, get, into_iter_items, IfOk-weaker, first_at, Text, text_cmp, is, Level, last_at}
-use Rattle.registry_tables.proofs.Words.{level_entry, PackageLevel}
+use Rattle.registry_tables.proofs.Words.{◌≡◌, ◌∙◌, ◌∷◌, [], cond, List, None, Some, ap, map, sym, get, into_iter_items, IfOk-weaker, first_at, Text, text_cmp, is, Level, last_at, level_entry}
+use Rattle.registry_tables.proofs.Words.{PackageLevel}
 use Rattle.registry_tables.proofs.SortFacts.{emptied, looked_up, next_put}
+use Rattle.registry_tables.proofs.OverviewFacts.{one_fewer}
 use Rattle.registry_tables.proofs.levels.in_order.Goals as goal
 
 pub loop-package-preserved : goal.loop-package-preserved
@@ -13,11 +14,7 @@ loop-package-preserved c =
       last = λ q.
           ap (last_at (map level_entry (into_iter_items c.next.new.self)) q) (next_put at.levels c.insert.new.self row q c.in_ok-insert.ensures.updates ∙ ap (λ (k : Text). cond (is k q) (Some row.level) (get text_cmp at.levels q)) named)
           ∙ sym (ap (λ (ps : List PackageLevel). last_at (map level_entry ps) q (get text_cmp at.levels q)) steps) ∙ at.invariant.last q;
-      remain =
-          let was = at.invariant.remain in
-          let gone = c.in-Some.ensures.steps.1 in
-          let short = ap length steps in
-          omega arith;
+      remain = one_fewer _ _ _ _ _ at.invariant.remain c.in-Some.ensures.steps;
     }
 
 pub returns-clause-last : goal.returns-clause-last
