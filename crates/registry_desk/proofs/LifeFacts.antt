@@ -1,16 +1,17 @@
 -- What lives of a registry come to.
 use Rattle.registry_desk.proofs.Words.{◌≡◌, ◌⊎◌, ◌∙◌, ◌++◌, ◌&&◌, cond, inl, inr, Bool, true, false, List, [], ◌∷◌, Ok, Err, IsTrue, refl, sym, ap, subst, append-nil, append_assoc, AllByRecursion}
-use Rattle.registry_desk.proofs.Words.{Shown, HasCleanDisk, Trees, Fault, is_command, Change, effects_of, step, State, Reply, Request, HeldAreStored, HoldsArchives, all_stored, stored_by, Contents}
+use Rattle.registry_desk.proofs.Words.{Ghosts, Held, state, Shown, HasCleanDisk, Trees, Fault, is_command, Change, effects_of, step, State, Reply, Request, HeldAreStored, HoldsArchives, all_stored, stored_by, Contents}
 use Rattle.registry_desk.proofs.Words.{registry_of, stored, fresh, HoldsNeeds, GrantsInScope, fresh_holds, fresh_archives, fresh_is_nothing, change_keeps, answer, Outcome, HaveOutcomes, IsAnswer, Ran}
-use Rattle.registry_desk.proofs.Words.{end_of, enters, next, headline_from, run_says, Applied, SurvivesOne, SurvivesRun, IsSure, NeedsForEach, registry_in, IsOpenOrLost, IsRegistryOf, end_stored, left_by, left_together, next_stored, settled_by, stepped}
+use Rattle.registry_desk.proofs.Words.{end_of, enters, next, headline_from, run_says, Applied, SurvivesOne, SurvivesRun, HoldsFirst, IsLost, IsSure, MadeAlone, MadeInRow, NeedsForEach, registry_in, IsRegistryOf, end_stored, left_by, next_stored, settled_by, stepped}
 use Rattle.std.proofs.lemmas.Bool.{cases_Bool}
 use Rattle.registry_rules.specs.Requests.{IsInForm}
-use Rattle.registry_desk.specs.Lives.{AloneAreRuns, AreFaults, AreInForm, AreLives, AskedBy, ComesTo, Did, DidAll, DidLate, Follows, HasLived, IsInOrder, IsOpenedAgain, Life, LivesAreOneRun, LivesComeToRuns, LivesHaveHeadline, SomeOf, StopsKeepOutcomes, StopsLeaveAllOrNothing, SurvivesAs, TurnsAreRuns}
+use Rattle.registry_desk.specs.Lives.{AloneAreRuns, AreFaults, AreInForm, AreLives, AskedBy, ComesTo, Did, DidAll, DidLate, FirstOf, Follows, HasLived, IsInOrder, IsOpenedAgain, Life, LivesAreOneRun, LivesComeToRuns, LivesHaveHeadline, StopsKeepOutcomes, StopsLeaveAllOrNothing, SurvivesAs, TurnsAreRuns}
+use Rattle.registry_desk.specs.Together.{GroupsKeepOutcomes, GroupsLeaveAllOrNothing, all_settled, at_rest, shown_at}
 use Rattle.registry_desk.proofs.GrantFacts.{grants_next}
 use Rattle.registry_desk.proofs.KeepingFacts.{archives_kept, holds_next, needs_kept, registry_next}
 use Rattle.registry_desk.proofs.SettlingFacts.{faulted_next, settled_next}
 use Rattle.registry_desk.proofs.StopFacts.{found_again, still_stored, stops_in_a_row_lose_nothing}
-use Rattle.registry_desk.proofs.StoredFacts.{RunsTo, adds, has_run_more, has_run_none, needs_for_each, survives_run_more, survives_run_none}
+use Rattle.registry_desk.proofs.StoredFacts.{RunsTo, has_run_more, has_run_none, needs_for_each, survives_run_more, survives_run_none}
 
 -- ---- one request
 
@@ -78,14 +79,14 @@ joined (d ∷ ds) [] es qs c held first then = absurd first
 
 -- ---- what a crash leaves after a life
 
-module _ (Opened : Type 0) where
+module _ (Made : List Request → Contents → Trees → Type 0) where
   -- where more may have been left before, more may be left after
   more_left : (P Q : Trees → Type 0) (S : State) (rs : List Request) (os : List Outcome) (c : Contents) (db : Trees) → HaveOutcomes S rs os → ((d : Trees) → P d → Q d)
-      → left_by Opened P rs os c db → left_by Opened Q rs os c db
+      → left_by Made P rs os c db → left_by Made Q rs os c db
   more_left P Q S [] [] c db answers more left = more db left
   more_left P Q S (r ∷ rs) (Ok reply ∷ os) c db answers more left = left
   more_left P Q S (r ∷ rs) (Err fault ∷ os) c db answers more left =
-      let made : Trees → Type 0 = λ d. Opened × IsRegistryOf d (settled_by r c) in
+      let made : Trees → Type 0 = Made (r ∷ rs) c in
       more_left (λ d. P d ⊎ made d) (λ d. Q d ⊎ made d) (next S r (Err fault)) rs os c db answers.1
       (λ d either. elim either [
         | inl was ↦ inl (more d was)
@@ -98,14 +99,14 @@ module _ (Opened : Type 0) where
   -- of two that may have been left before, either is left, and the second only where nothing was
   -- answered since
   either_left : (P Q : Trees → Type 0) (S : State) (rs : List Request) (os : List Outcome) (c : Contents) (db : Trees) → HaveOutcomes S rs os
-      → left_by Opened (λ d. P d ⊎ Q d) rs os c db → left_by Opened P rs os c db ⊎ (AreFaults os × Q db)
+      → left_by Made (λ d. P d ⊎ Q d) rs os c db → left_by Made P rs os c db ⊎ (AreFaults os × Q db)
   either_left P Q S [] [] c db answers left = elim left [
     | inl was ↦ inl was
     | inr is ↦ inr (tt, is)
   ]
   either_left P Q S (r ∷ rs) (Ok reply ∷ os) c db answers left = inl left
   either_left P Q S (r ∷ rs) (Err fault ∷ os) c db answers left =
-      let made : Trees → Type 0 = λ d. Opened × IsRegistryOf d (settled_by r c) in
+      let made : Trees → Type 0 = Made (r ∷ rs) c in
       either_left (λ d. P d ⊎ made d) Q (next S r (Err fault)) rs os c db answers.1
       (more_left (λ d. (P d ⊎ Q d) ⊎ made d) (λ d. (P d ⊎ made d) ⊎ Q d) (next S r (Err fault)) rs os c db answers.1
       (λ d either. elim either [
@@ -118,78 +119,6 @@ module _ (Opened : Type 0) where
       left)
   either_left P Q S [] (o ∷ os) c db answers left = absurd answers
   either_left P Q S (r ∷ rs) [] c db answers left = absurd answers
-
--- ---- and where some may have shared a commit
-
--- where more may be stored, more may be left after
-module _ (Opened : Type 0) (may : Trees → Type 0) where
-  more_stored : (P Q : Contents → Type 0) (S : State) (rs : List Request) (os : List Outcome) (c : Contents) (db : Trees) → HaveOutcomes S rs os → ((d : Contents) → P d → Q d)
-      → left_together Opened may P rs os c db → left_together Opened may Q rs os c db
-  more_stored P Q S [] [] c db answers more left = elim left [
-    | inl was ↦ inl was
-    | inr made ↦ inr (made.0, (made.1.0, more made.1.0 made.1.1, made.1.2))
-  ]
-  more_stored P Q S (r ∷ rs) (Ok reply ∷ os) c db answers more left = left
-  more_stored P Q S (r ∷ rs) (Err fault ∷ os) c db answers more left = more_stored (adds P r) (adds Q r) (next S r (Err fault)) rs os c db answers.1
-      (λ d either. elim either [
-        | inl was ↦ inl (more d was)
-        | inr made ↦ inr (made.0, more made.0 made.1, made.2)
-      ])
-      left
-  more_stored P Q S [] (o ∷ os) c db answers more left = absurd answers
-  more_stored P Q S (r ∷ rs) [] c db answers more left = absurd answers
-
--- some of the requests, in their order, make the one of the other
-abbrev SomeMake : List Request → Contents → Contents → Type 0
-SomeMake [] c d = d ≡ c
-SomeMake (r ∷ rs) c d = SomeMake rs c d ⊎ SomeMake rs (settled_by r c) d
-
--- nothing was answered since, and this was left: what some of the later requests make of Q
-record LeftOf (Q : Contents → Type 0) (rs : List Request) (os : List Outcome) (db : Trees) : Type 0 where
-  faults : AreFaults os
-  first : Contents
-  is_first : Q first
-  last : Contents
-  some : SomeMake rs first last
-  is : IsRegistryOf db last
-
--- one more request met a fault
-left_of_more : (Q : Contents → Type 0) (r : Request) (fault : Fault) (rs : List Request) (os : List Outcome) (db : Trees) → LeftOf (adds Q r) rs os db → LeftOf Q (r ∷ rs) (Err fault ∷ os) db
-left_of_more Q r fault rs os db left = elim left.is_first [
-  | inl was ↦ record { faults = left.faults; first = left.first; is_first = was; last = left.last; some = inl left.some; is = left.is }
-  | inr made ↦ record { faults = left.faults; first = made.0; is_first = made.1; last = left.last; some = inr (subst (λ (e : Contents). SomeMake rs e left.last) made.2 left.some); is = left.is }
-]
-
--- of two that may be stored, either is gone on from, and the second only where nothing was answered since
-either_stored : (Opened : Type 0) (may : Trees → Type 0) (P Q : Contents → Type 0) (S : State) (rs : List Request) (os : List Outcome) (c : Contents) (db : Trees) → HaveOutcomes S rs os
-    → left_together Opened may (λ d. P d ⊎ Q d) rs os c db → left_together Opened may P rs os c db ⊎ LeftOf Q rs os db
-either_stored Opened may P Q S [] [] c db answers left = elim left [
-  | inl was ↦ inl (inl was)
-  | inr made ↦ elim made.1.1 [
-    | inl first ↦ inl (inr (made.0, (made.1.0, first, made.1.2)))
-    | inr second ↦ inr (record { faults = tt; first = made.1.0; is_first = second; last = made.1.0; some = refl; is = made.1.2 })
-  ]
-]
-either_stored Opened may P Q S (r ∷ rs) (Ok reply ∷ os) c db answers left = inl left
-either_stored Opened may P Q S (r ∷ rs) (Err fault ∷ os) c db answers left =
-    elim (either_stored Opened may (adds P r) (adds Q r) (next S r (Err fault)) rs os c db answers.1
-    (more_stored Opened may (adds (λ d. P d ⊎ Q d) r) (λ d. adds P r d ⊎ adds Q r d) (next S r (Err fault)) rs os c db answers.1
-    (λ d either. elim either [
-      | inl was ↦ elim was [
-        | inl first ↦ inl (inl first)
-        | inr second ↦ inr (inl second)
-      ]
-      | inr made ↦ elim made.1 [
-        | inl first ↦ inl (inr (made.0, first, made.2))
-        | inr second ↦ inr (inr (made.0, second, made.2))
-      ]
-    ])
-    left)) [
-      | inl first ↦ inl first
-      | inr second ↦ inr (left_of_more Q r fault rs os db second)
-    ]
-either_stored Opened may P Q S [] (o ∷ os) c db answers left = absurd answers
-either_stored Opened may P Q S (r ∷ rs) [] c db answers left = absurd answers
 
 -- ---- what was done
 
@@ -219,119 +148,127 @@ did_nothing c is_open together r fault rs os rest = record {
   answers = rest.answers;
 }
 
--- a fault that shut the registry, and all was done
-did_all : (c : Contents) (is_open : Bool) (r : Request) (fault : Fault) (rs : List Request) (os : List Outcome) → is_open ≡ false → AreFaults os → DidFrom c is_open false (r ∷ rs) (Err fault ∷ os)
-did_all c is_open r fault rs os shut faults = record {
-  requests = r ∷ [];
-  replies = Ok (answer (registry_of c) r) ∷ [];
-  did = inr (shut, faults, (answer (registry_of c) r, refl, refl));
-  answers = (refl, tt);
-}
-
--- what a crash leaves of a registry that was shut holds what was done
-left_after : (Opened : Type 0) (may : Trees → Type 0) (is_open : Bool) (rs : List Request) (os : List Outcome) (c : Contents) (db : Trees) → is_open ≡ false → ((d : Trees) → may d → IsRegistryOf d c) → HeldAreStored c
-    → HaveOutcomes (registry_of c) rs os → left_by Opened may rs os c db → (it : DidFrom c is_open false rs os) × IsRegistryOf db (end_stored it.requests it.replies c)
-unfolding did_more did_nothing did_all
-left_after Opened may is_open [] [] c db shut sure held answers left = (record { requests = []; replies = []; did = (refl, refl); answers = tt }, sure db left)
-left_after Opened may is_open (r ∷ rs) (Ok reply ∷ os) c db shut sure held answers left =
-    let later = next_stored r (Ok reply) c in
-    let rest = left_after Opened (λ d. IsRegistryOf d later) is_open rs os later db shut (λ d is. is) (held_next c r (Ok reply) held) (rest_of c r (Ok reply) rs os held answers.1) left in
-    (did_more c is_open false r reply rs os held answers.0 rest.0, rest.1)
-left_after Opened may is_open (r ∷ rs) (Err fault ∷ os) c db shut sure held answers left =
-    elim (either_left Opened may (λ d. Opened × IsRegistryOf d (settled_by r c)) (next (registry_of c) r (Err fault)) rs os c db answers.1 left) [
-      | inl before ↦
-          let rest = left_after Opened may is_open rs os c db shut sure held (after_fault (registry_of c) r fault rs os answers.1) before in
-          (did_nothing c is_open false r fault rs os rest.0, rest.1)
-      | inr made ↦ (did_all c is_open r fault rs os shut made.0, subst (IsRegistryOf db) (settled_next c r (answer (registry_of c) r) refl) made.1.1)
-    ]
-left_after Opened may is_open [] (o ∷ os) c db shut sure held answers left = absurd answers
-left_after Opened may is_open (r ∷ rs) [] c db shut sure held answers left = absurd answers
-
--- some of the requests, with replies, from what was stored before
-record DidSome (c : Contents) (rs : List Request) : Type 0 where
-  requests : List Request
-  replies : List Outcome
-  some : SomeOf rs requests replies
-  answers : HaveOutcomes (registry_of c) requests replies
-
 -- what a request that nothing refused has made
 settles : (c : Contents) (r : Request) → settled_by r c ≡ next_stored r (Ok (answer (registry_of c) r)) c
 settles c r = settled_next c r (answer (registry_of c) r) refl
 
--- not this one
-some_less : (c : Contents) (r : Request) (rs : List Request) → DidSome c rs → DidSome c (r ∷ rs)
-some_less c r rs rest = record {
-  requests = rest.requests;
-  replies = rest.replies;
-  some = inl rest.some;
-  answers = rest.answers;
-}
+-- the first of the requests, with replies, from what was stored before
+record DidFirst (c : Contents) (rs : List Request) : Type 0 where
+  requests : List Request
+  replies : List Outcome
+  first : FirstOf rs requests replies
+  answers : HaveOutcomes (registry_of c) requests replies
 
--- this one, too
-some_more : (c : Contents) (r : Request) (rs : List Request) → HeldAreStored c → DidSome (next_stored r (Ok (answer (registry_of c) r)) c) rs → DidSome c (r ∷ rs)
-some_more c r rs held rest = record {
+-- none
+first_none : (rs : List Request) → FirstOf rs [] []
+first_none [] = (refl, refl)
+first_none (r ∷ rs) = inl (refl, refl)
+
+did_none : (c : Contents) (rs : List Request) → DidFirst c rs
+did_none c rs = record { requests = []; replies = []; first = first_none rs; answers = tt }
+
+-- this one, and the first of those after it
+first_more : (c : Contents) (r : Request) (rs : List Request) → HeldAreStored c → DidFirst (next_stored r (Ok (answer (registry_of c) r)) c) rs → DidFirst c (r ∷ rs)
+first_more c r rs held rest = record {
   requests = r ∷ rest.requests;
   replies = Ok (answer (registry_of c) r) ∷ rest.replies;
-  some = inr (answer (registry_of c) r, rest.requests, rest.replies, rest.some, refl, refl);
+  first = inr (answer (registry_of c) r, rest.requests, rest.replies, rest.first, refl, refl);
   answers = (refl, back_to c r (Ok (answer (registry_of c) r)) rest.requests rest.replies held rest.answers);
 }
 
--- those that make it are done
-some_done : (rs : List Request) (c d : Contents) → HeldAreStored c → SomeMake rs c d → (it : DidSome c rs) × (d ≡ end_stored it.requests it.replies c)
-unfolding some_less some_more
-some_done [] c d held same = (record { requests = []; replies = []; some = (refl, refl); answers = tt }, same)
-some_done (r ∷ rs) c d held (inl make) = let rest = some_done rs c d held make in (some_less c r rs rest.0, rest.1)
-some_done (r ∷ rs) c d held (inr make) =
+-- those that a database holds are done
+first_done : (rs : List Request) (c : Contents) (db : Trees) → HeldAreStored c → HoldsFirst rs c db → (it : DidFirst c rs) × IsRegistryOf db (end_stored it.requests it.replies c)
+unfolding did_none first_more
+first_done [] c db held is = (did_none c [], is)
+first_done (r ∷ rs) c db held (inl is) = (did_none c (r ∷ rs), is)
+first_done (r ∷ rs) c db held (inr more) =
     let told = Ok (answer (registry_of c) r) in
-    let rest = some_done rs (next_stored r told c) d (held_next c r told held) (subst (λ (e : Contents). SomeMake rs e d) (settles c r) make) in
-    (some_more c r rs held rest.0, rest.1)
+    let rest = first_done rs (next_stored r told c) db (held_next c r told held) (subst (λ (e : Contents). HoldsFirst rs e db) (settles c r) more) in
+    (first_more c r rs held rest.0, rest.1)
 
--- a fault that shut the registry, and some were done of those that shared its commit
-did_several : (c : Contents) (is_open : Bool) (r : Request) (fault : Fault) (rs : List Request) (os : List Outcome) → is_open ≡ false → AreFaults os → HeldAreStored c
-    → DidSome (next_stored r (Ok (answer (registry_of c) r)) c) rs → DidFrom c is_open true (r ∷ rs) (Err fault ∷ os)
-did_several c is_open r fault rs os shut faults held rest = record {
-  requests = r ∷ rest.requests;
-  replies = Ok (answer (registry_of c) r) ∷ rest.replies;
-  did = inr (shut, faults, (answer (registry_of c) r, rest.requests, rest.replies, rest.some, refl, refl));
-  answers = (refl, back_to c r (Ok (answer (registry_of c) r)) rest.requests rest.replies held rest.answers);
-}
+-- ---- what was done by a registry that a fault has shut
 
--- what a crash leaves of a registry that was shut holds what was done, where some may have shared a commit
-together_after : (Opened : Type 0) (may : Trees → Type 0) (is_open : Bool) (rs : List Request) (os : List Outcome) (c : Contents) (db : Trees) → is_open ≡ false → ((d : Trees) → may d → IsRegistryOf d c) → HeldAreStored c
-    → HaveOutcomes (registry_of c) rs os → left_together Opened may (λ d. d ≡ c) rs os c db → (it : DidFrom c is_open true rs os) × IsRegistryOf db (end_stored it.requests it.replies c)
-unfolding did_more did_nothing did_several
-together_after Opened may is_open [] [] c db shut sure held answers left =
-    let is : IsRegistryOf db c = elim left [
-      | inl was ↦ sure db was
-      | inr made ↦ subst (IsRegistryOf db) made.1.1 made.1.2
-    ] in
-    (record { requests = []; replies = []; did = (refl, refl); answers = tt }, is)
-together_after Opened may is_open (r ∷ rs) (Ok reply ∷ os) c db shut sure held answers left =
+-- the database holds what was done
+abbrev HoldsDone : Contents → Bool → Bool → List Request → List Outcome → Trees → Type 0
+HoldsDone c is_open together rs os db = (it : DidFrom c is_open together rs os) × IsRegistryOf db (end_stored it.requests it.replies c)
+
+-- nothing was
+none_did : (is_open together : Bool) (rs : List Request) (os : List Outcome) → AreFaults os → Did is_open together rs os [] []
+none_did is_open together [] os faults = (refl, refl)
+none_did is_open together (r ∷ rs) [] faults = (refl, refl)
+none_did is_open together (r ∷ rs) (Ok reply ∷ os) faults = absurd faults
+none_did is_open together (r ∷ rs) (Err fault ∷ os) faults = inl (none_did is_open together rs os faults)
+
+nothing_done : (c : Contents) (is_open together : Bool) (rs : List Request) (os : List Outcome) (db : Trees) → AreFaults os → IsRegistryOf db c → HoldsDone c is_open together rs os db
+nothing_done c is_open together rs os db faults is = (record { requests = []; replies = []; did = none_did is_open together rs os faults; answers = tt }, is)
+
+-- Where nothing was answered: a request that was asked alone was done, or, where requests may have shared a
+-- commit, the first in a row
+alone_done : (Opened : Type 0) (is_open : Bool) (rs : List Request) (os : List Outcome) (c : Contents) (db : Trees) → is_open ≡ false → AreFaults os → HeldAreStored c → HaveOutcomes (registry_of c) rs os
+    → MadeAlone Opened rs c db → HoldsDone c is_open false rs os db
+alone_done Opened is_open [] os c db shut faults held answers made = absurd made
+alone_done Opened is_open (r ∷ rs) (Ok reply ∷ os) c db shut faults held answers made = absurd faults
+alone_done Opened is_open (r ∷ rs) (Err fault ∷ os) c db shut faults held answers made = (
+  record {
+    requests = r ∷ [];
+    replies = Ok (answer (registry_of c) r) ∷ [];
+    did = inr (shut, faults, (answer (registry_of c) r, refl, refl));
+    answers = (refl, tt);
+  },
+  subst (IsRegistryOf db) (settles c r) made.1,
+)
+alone_done Opened is_open (r ∷ rs) [] c db shut faults held answers made = absurd answers
+
+row_done : (Opened : Type 0) (is_open : Bool) (rs : List Request) (os : List Outcome) (c : Contents) (db : Trees) → is_open ≡ false → AreFaults os → HeldAreStored c → HaveOutcomes (registry_of c) rs os
+    → MadeInRow Opened rs c db → HoldsDone c is_open true rs os db
+row_done Opened is_open [] os c db shut faults held answers (on, is) = nothing_done c is_open true [] os db faults is
+row_done Opened is_open (r ∷ rs) (Ok reply ∷ os) c db shut faults held answers made = absurd faults
+row_done Opened is_open (r ∷ rs) (Err fault ∷ os) c db shut faults held answers (on, inl is) = nothing_done c is_open true (r ∷ rs) (Err fault ∷ os) db faults is
+row_done Opened is_open (r ∷ rs) (Err fault ∷ os) c db shut faults held answers (on, inr more) =
+    let told = Ok (answer (registry_of c) r) in
+    let rest = first_done rs (next_stored r told c) db (held_next c r told held) (subst (λ (e : Contents). HoldsFirst rs e db) (settles c r) more) in (
+      record {
+        requests = r ∷ rest.0.requests;
+        replies = told ∷ rest.0.replies;
+        did = inr (shut, faults, (answer (registry_of c) r, rest.0.requests, rest.0.replies, rest.0.first, refl, refl));
+        answers = (refl, back_to c r told rest.0.requests rest.0.replies held rest.0.answers);
+      },
+      rest.1,
+    )
+row_done Opened is_open (r ∷ rs) [] c db shut faults held answers made = absurd answers
+
+-- what a crash leaves of such a registry holds what was done, if it does where nothing was answered
+left_after : (Made : List Request → Contents → Trees → Type 0) (is_open together : Bool)
+    → ((rs : List Request) (os : List Outcome) (c : Contents) (db : Trees) → AreFaults os → HeldAreStored c → HaveOutcomes (registry_of c) rs os → Made rs c db → HoldsDone c is_open together rs os db)
+    → (may : Trees → Type 0) (rs : List Request) (os : List Outcome) (c : Contents) (db : Trees) → ((d : Trees) → may d → IsRegistryOf d c) → HeldAreStored c → HaveOutcomes (registry_of c) rs os
+    → left_by Made may rs os c db → HoldsDone c is_open together rs os db
+unfolding did_more did_nothing
+left_after Made is_open together done may [] [] c db sure held answers left = (record { requests = []; replies = []; did = (refl, refl); answers = tt }, sure db left)
+left_after Made is_open together done may (r ∷ rs) (Ok reply ∷ os) c db sure held answers left =
     let later = next_stored r (Ok reply) c in
-    let rest = together_after Opened (λ d. IsRegistryOf d later) is_open rs os later db shut (λ d is. is) (held_next c r (Ok reply) held) (rest_of c r (Ok reply) rs os held answers.1) left in
-    (did_more c is_open true r reply rs os held answers.0 rest.0, rest.1)
-together_after Opened may is_open (r ∷ rs) (Err fault ∷ os) c db shut sure held answers left =
-    elim (either_stored Opened may (λ d. d ≡ c) (λ d. (e : Contents) × (e ≡ c) × (d ≡ settled_by r e)) (next (registry_of c) r (Err fault)) rs os c db answers.1 left) [
+    let rest = left_after Made is_open together done (λ d. IsRegistryOf d later) rs os later db (λ d is. is) (held_next c r (Ok reply) held) (rest_of c r (Ok reply) rs os held answers.1) left in
+    (did_more c is_open together r reply rs os held answers.0 rest.0, rest.1)
+left_after Made is_open together done may (r ∷ rs) (Err fault ∷ os) c db sure held answers left =
+    elim (either_left Made may (Made (r ∷ rs) c) (next (registry_of c) r (Err fault)) rs os c db answers.1 left) [
       | inl before ↦
-          let rest = together_after Opened may is_open rs os c db shut sure held (after_fault (registry_of c) r fault rs os answers.1) before in
-          (did_nothing c is_open true r fault rs os rest.0, rest.1)
-      | inr made ↦
-          let told = Ok (answer (registry_of c) r) in
-          let first : made.first ≡ next_stored r told c = made.is_first.2 ∙ ap (settled_by r) made.is_first.1 ∙ settles c r in
-          let rest = some_done rs (next_stored r told c) made.last (held_next c r told held) (subst (λ (e : Contents). SomeMake rs e made.last) first made.some) in
-          (did_several c is_open r fault rs os shut made.faults held rest.0, subst (IsRegistryOf db) rest.1 made.is)
+          let rest = left_after Made is_open together done may rs os c db sure held (after_fault (registry_of c) r fault rs os answers.1) before in
+          (did_nothing c is_open together r fault rs os rest.0, rest.1)
+      | inr made ↦ done (r ∷ rs) (Err fault ∷ os) c db made.0 held answers made.1
     ]
-together_after Opened may is_open [] (o ∷ os) c db shut sure held answers left = absurd answers
-together_after Opened may is_open (r ∷ rs) [] c db shut sure held answers left = absurd answers
+left_after Made is_open together done may [] (o ∷ os) c db sure held answers left = absurd answers
+left_after Made is_open together done may (r ∷ rs) [] c db sure held answers left = absurd answers
 
--- either way
+-- so it is of requests of which some may have shared a commit, or none
 shut_after : (together is_open : Bool) (first last : Shown) (rs : List Request) (os : List Outcome) (db : Trees) → is_open ≡ false → IsSure first → HeldAreStored (stored first)
-    → HaveOutcomes (registry_in first) rs os → NeedsForEach rs (stored first) → HasCleanDisk last → last.may_leave db → SurvivesAs together first last rs os
-    → (it : DidFrom (stored first) is_open together rs os) × IsRegistryOf db (end_stored it.requests it.replies (stored first))
+    → HaveOutcomes (registry_in first) rs os → NeedsForEach rs (stored first) → HasCleanDisk last → last.may_leave db → SurvivesAs together first last rs os → HoldsDone (stored first) is_open together rs os db
 shut_after false is_open first last rs os db shut sure held answers needs clean left survives =
-    left_after (IsTrue first.is_open) first.may_leave is_open rs os (stored first) db shut sure held answers (survives needs clean db left)
+    left_after (MadeAlone (IsTrue first.is_open)) is_open false (λ rs os c db. alone_done (IsTrue first.is_open) is_open rs os c db shut) first.may_leave rs os (stored first) db sure held answers (survives needs clean db left)
 shut_after true is_open first last rs os db shut sure held answers needs clean left survives =
-    together_after (IsOpenOrLost first) first.may_leave is_open rs os (stored first) db shut sure held answers (survives needs clean db left)
+    let Made : List Request → Contents → Trees → Type 0 = MadeInRow (IsTrue first.is_open) in
+    elim (either_left Made first.may_leave (MadeInRow (IsLost first) rs (stored first)) (registry_in first) rs os (stored first) db answers (survives needs clean db left)) [
+      | inl was ↦ left_after Made is_open true (λ rs os c db. row_done (IsTrue first.is_open) is_open rs os c db shut) first.may_leave rs os (stored first) db sure held answers was
+      | inr made ↦ row_done (IsLost first) is_open rs os (stored first) db shut made.0 held answers made.1
+    ]
 
 -- an open registry has done what it answered, and nothing else
 kept_after : (is_open together : Bool) (rs : List Request) (os : List Outcome) (c : Contents) → HeldAreStored c → HaveOutcomes (registry_of c) rs os
@@ -348,14 +285,14 @@ kept_after is_open together [] (o ∷ os) c held answers = absurd answers
 kept_after is_open together (r ∷ rs) [] c held answers = absurd answers
 
 -- what was done was asked
-some_form : (rs ds : List Request) (ps : List Outcome) → AllByRecursion IsInForm rs → SomeOf rs ds ps → AllByRecursion IsInForm ds
-some_form [] ds ps forms did = subst (AllByRecursion IsInForm) (sym did.0) tt
-some_form (r ∷ rs) ds ps forms (inl did) = some_form rs ds ps forms.1 did
-some_form (r ∷ rs) ds ps forms (inr did) = subst (AllByRecursion IsInForm) (sym did.4) (forms.0, some_form rs did.1 did.2 forms.1 did.3)
+first_form : (rs ds : List Request) (ps : List Outcome) → AllByRecursion IsInForm rs → FirstOf rs ds ps → AllByRecursion IsInForm ds
+first_form [] ds ps forms did = subst (AllByRecursion IsInForm) (sym did.0) tt
+first_form (r ∷ rs) ds ps forms (inl none) = subst (AllByRecursion IsInForm) (sym none.0) tt
+first_form (r ∷ rs) ds ps forms (inr did) = subst (AllByRecursion IsInForm) (sym did.4) (forms.0, first_form rs did.1 did.2 forms.1 did.3)
 
 late_form : (together : Bool) (r : Request) (rs ds : List Request) (ps : List Outcome) → AllByRecursion IsInForm (r ∷ rs) → DidLate together r rs ds ps → AllByRecursion IsInForm ds
 late_form false r rs ds ps forms did = subst (AllByRecursion IsInForm) (sym did.1) (forms.0, tt)
-late_form true r rs ds ps forms did = subst (AllByRecursion IsInForm) (sym did.4) (forms.0, some_form rs did.1 did.2 forms.1 did.3)
+late_form true r rs ds ps forms did = subst (AllByRecursion IsInForm) (sym did.4) (forms.0, first_form rs did.1 did.2 forms.1 did.3)
 
 did_form : (is_open together : Bool) (rs : List Request) (os : List Outcome) (ds : List Request) (ps : List Outcome) → AllByRecursion IsInForm rs → Did is_open together rs os ds ps → AllByRecursion IsInForm ds
 did_form is_open together [] os ds ps forms did = subst (AllByRecursion IsInForm) (sym did.0) tt
@@ -522,3 +459,16 @@ module _ {C : Type 0} (show : C → Shown) where
       ))
       first last [] [] rs os (has_run_none (show first), survives_run_none (show first)) asked in
       (all.0.run, all.1)
+
+module _ {S T : Type 0} (store : Ghosts S) (store_next : Ghosts T) where
+  pub groups_leave_all_or_nothing : GroupsLeaveAllOrNothing store store_next
+  groups_leave_all_or_nothing first last next rs os needs sure together again clean =
+      elim (together.survives.crash again.was_clean again.db again.left) [
+        | inl before ↦ inl (found_after (state store last) (state store_next next) (stored (state store first)) again clean (sure again.db before))
+        | inr made ↦ inr (found_after (state store last) (state store_next next) (all_settled rs (stored (state store first))) again clean (made.form, made.settled needs))
+      ]
+
+  pub groups_keep_outcomes : GroupsKeepOutcomes store store_next
+  groups_keep_outcomes first last next rs os needs sure together on again clean =
+      let run = turns_are_runs (shown_at store) (at_rest first) (at_rest last) rs os together.in_turn in
+      found_after (state store last) (state store_next next) (stored (state store last)) again clean (run.durable (λ _ _. sure) again.was_clean on again.db again.left) ∙ run.stored needs again.was_clean on

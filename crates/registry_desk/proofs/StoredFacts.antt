@@ -1,7 +1,7 @@
 -- Runs, one request at a time, and what they leave of all that is stored.
 use Rattle.registry_desk.proofs.Words.{◌≡◌, ◌⊎◌, inl, inr, ◌∙◌, arith, Bool, true, false, List, [], ◌∷◌, ◌++◌, Ok, Err, OnOk, IsTrue, true≢false, length-append, refl, sym, ap, subst, Shown}
-use Rattle.registry_desk.proofs.Words.{HasCleanDisk, Survives, survives_then, survives_weaker, Trees, State, Action, Withdraw, WithdrawAll, Request, Contents, registry_in, stored, Fault, HoldsArchives, HoldsNeeds, HoldsReferences, contents, on_answer, NeedsFor, Reply, Applied, IsLost, IsOpenOrLost, LeavesOne, LosesInTurn, SurvivesInTurn, SurvivesOne, SurvivesRun}
-use Rattle.registry_desk.proofs.Words.{HasHeadline, HasRun, HasTables, HidesUnreadRun, Keeps, KeepsRun, NeedsForEach, RanTo, WritesHistory, IsRegistryOf, Serves, end_stored, left_by, left_together, next_stored, settled_by, Outcome}
+use Rattle.registry_desk.proofs.Words.{HasCleanDisk, Survives, survives_then, survives_weaker, Trees, State, Action, Withdraw, WithdrawAll, Request, Contents, registry_in, stored, Fault, HoldsArchives, HoldsNeeds, HoldsReferences, on_answer, NeedsFor, Reply, Applied, IsLost, IsOpenOrLost, LeavesOne, LosesInTurn, MadeAlone, MadeInRow, SurvivesInTurn, SurvivesOne, SurvivesRun}
+use Rattle.registry_desk.proofs.Words.{HasHeadline, HasRun, HidesUnreadRun, HoldsFirst, Keeps, KeepsRun, NeedsForEach, RanTo, WritesHistory, IsRegistryOf, Serves, end_stored, left_by, next_stored, settled_by, Outcome}
 use Rattle.registry_desk.proofs.Words.{HaveOutcomes, IsAnswer, next, headline_from, ran_none, ran_push, run_says}
 use Rattle.std.proofs.lemmas.Bool.{cases_Bool}
 use Rattle.registry_desk.proofs.HiddenFacts.{hide_along}
@@ -39,91 +39,87 @@ end_stored_push S c (q ∷ rs) (p ∷ os) r o before = end_stored_push (next S q
 end_stored_push S c [] (p ∷ os) r o before = absurd before
 end_stored_push S c (q ∷ rs) [] r o before = absurd before
 
-module _ (Opened : Type 0) where
-  -- what a crash leaves after one outcome more
-  left_by_push : (S : State) (may : Trees → Type 0) (rs : List Request) (os : List Outcome) (r : Request) (o : Outcome) (c : Contents) (db : Trees) → HaveOutcomes S rs os
-      → left_by Opened (left_by Opened may rs os c) (r ∷ []) (o ∷ []) (end_stored rs os c) db → left_by Opened may (rs ++ r ∷ []) (os ++ o ∷ []) c db
-  left_by_push S may [] [] r o c db before left = left
-  left_by_push S may (q ∷ rs) (Ok reply ∷ os) r o c db before left =
-      left_by_push (next S q (Ok reply)) (λ db. IsRegistryOf db (next_stored q (Ok reply) c)) rs os r o (next_stored q (Ok reply) c) db before.1 left
-  left_by_push S may (q ∷ rs) (Err fault ∷ os) r o c db before left =
-      let since : Trees → Type 0 = λ db. may db ⊎ (Opened × IsRegistryOf db (settled_by q c)) in
-      left_by_push (next S q (Err fault)) since rs os r o c db before.1
-      (subst (λ d. left_by Opened (left_by Opened since rs os c) (r ∷ []) (o ∷ []) (end_stored rs os d) db) (sym (faulted_next c q fault)) left)
-  left_by_push S may [] (p ∷ os) r o c db before left = absurd before
-  left_by_push S may (q ∷ rs) [] r o c db before left = absurd before
+module _ (Made : List Request → Contents → Trees → Type 0) where
+  -- what a crash leaves after one outcome more, where no less is made and left of more requests
+  left_by_push : (S : State) (P Q : Trees → Type 0) (rs : List Request) (os : List Outcome) (r : Request) (o : Outcome) (c : Contents) (db : Trees) → HaveOutcomes S rs os
+      → ((qs : List Request) (d : Contents) (e : Trees) → Made qs d e → Made (qs ++ r ∷ []) d e) → ((e : Trees) → P e → Q e)
+      → left_by Made (left_by Made P rs os c) (r ∷ []) (o ∷ []) (end_stored rs os c) db → left_by Made Q (rs ++ r ∷ []) (os ++ o ∷ []) c db
+  left_by_push S P Q [] [] r (Ok reply) c db before grows more left = left
+  left_by_push S P Q [] [] r (Err fault) c db before grows more left = elim left [
+    | inl was ↦ inl (more db was)
+    | inr made ↦ inr made
+  ]
+  left_by_push S P Q (q ∷ rs) (Ok reply ∷ os) r o c db before grows more left =
+      let then : Trees → Type 0 = λ e. IsRegistryOf e (next_stored q (Ok reply) c) in
+      left_by_push (next S q (Ok reply)) then then rs os r o (next_stored q (Ok reply) c) db before.1 grows (λ e is. is) left
+  left_by_push S P Q (q ∷ rs) (Err fault ∷ os) r o c db before grows more left =
+      left_by_push (next S q (Err fault)) (λ e. P e ⊎ Made (q ∷ rs) c e) (λ e. Q e ⊎ Made (q ∷ (rs ++ r ∷ [])) c e) rs os r o c db before.1 grows
+      (λ e either. elim either [
+        | inl was ↦ inl (more e was)
+        | inr made ↦ inr (grows (q ∷ rs) c e made)
+      ])
+      (subst (λ d. left_by Made (left_by Made (λ e. P e ⊎ Made (q ∷ rs) c e) rs os c) (r ∷ []) (o ∷ []) (end_stored rs os d) db) (sym (faulted_next c q fault)) left)
+  left_by_push S P Q [] (p ∷ os) r o c db before grows more left = absurd before
+  left_by_push S P Q (q ∷ rs) [] r o c db before grows more left = absurd before
 
   -- what a crash leaves after one outcome
-  left_by_one : (may : Trees → Type 0) (r : Request) (o : Outcome) (c : Contents) (db : Trees) → may db ⊎ (Opened × IsRegistryOf db (settled_by r c)) → OnOk o (IsRegistryOf db (next_stored r o c))
-      → left_by Opened may (r ∷ []) (o ∷ []) c db
+  left_by_one : (may : Trees → Type 0) (r : Request) (o : Outcome) (c : Contents) (db : Trees) → may db ⊎ Made (r ∷ []) c db → OnOk o (IsRegistryOf db (next_stored r o c))
+      → left_by Made may (r ∷ []) (o ∷ []) c db
   left_by_one may r (Ok reply) c db earlier sure = sure
   left_by_one may r (Err fault) c db earlier sure = earlier
 
+alone_grows : (Opened : Type 0) (r : Request) (qs : List Request) (c : Contents) (db : Trees) → MadeAlone Opened qs c db → MadeAlone Opened (qs ++ r ∷ []) c db
+alone_grows Opened r [] c db made = absurd made
+alone_grows Opened r (q ∷ qs) c db made = made
+
 -- ---- what a crash leaves of requests that may have shared a commit
 
--- what one more that met a fault adds to what may be stored
-abbrev pub adds : (Contents → Type 0) → Request → Contents → Type 0
-adds could r d = could d ⊎ ((e : Contents) × could e × (d ≡ settled_by r e))
+first_grows : (r : Request) (qs : List Request) (c : Contents) (db : Trees) → HoldsFirst qs c db → HoldsFirst (qs ++ r ∷ []) c db
+first_grows r [] c db is = inl is
+first_grows r (q ∷ qs) c db (inl is) = inl is
+first_grows r (q ∷ qs) c db (inr more) = inr (first_grows r qs (settled_by q c) db more)
 
--- what may be stored by those that met faults since the last reply
-abbrev could_after : (Contents → Type 0) → List Request → List Outcome → Contents → Contents → Type 0
-could_after could (r ∷ rs) (Ok reply ∷ os) c = could_after (λ d. d ≡ next_stored r (Ok reply) c) rs os (next_stored r (Ok reply) c)
-could_after could (r ∷ rs) (Err fault ∷ os) c = could_after (adds could r) rs os c
-could_after could _ _ c = could
+row_grows : (Opened : Type 0) (r : Request) (qs : List Request) (c : Contents) (db : Trees) → MadeInRow Opened qs c db → MadeInRow Opened (qs ++ r ∷ []) c db
+row_grows Opened r qs c db made = (made.0, first_grows r qs c db made.1)
 
-could_push : (S : State) (could : Contents → Type 0) (rs : List Request) (os : List Outcome) (r : Request) (fault : Fault) (c d : Contents) → HaveOutcomes S rs os
-    → adds (could_after could rs os c) r d → could_after could (rs ++ r ∷ []) (os ++ Err fault ∷ []) c d
-could_push S could [] [] r fault c d before added = added
-could_push S could (q ∷ rs) (Ok reply ∷ os) r fault c d before added =
-    could_push (next S q (Ok reply)) (λ d. d ≡ next_stored q (Ok reply) c) rs os r fault (next_stored q (Ok reply) c) d before.1 added
-could_push S could (q ∷ rs) (Err met ∷ os) r fault c d before added = could_push (next S q (Err met)) (adds could q) rs os r fault c d before.1 added
-could_push S could [] (p ∷ os) r fault c d before added = absurd before
-could_push S could (q ∷ rs) [] r fault c d before added = absurd before
-
--- what the outcomes leave may be stored
-could_end : (S : State) (could : Contents → Type 0) (rs : List Request) (os : List Outcome) (c : Contents) → HaveOutcomes S rs os → could c → could_after could rs os c (end_stored rs os c)
-could_end S could [] [] c before may = may
-could_end S could (q ∷ rs) (Ok reply ∷ os) c before may = could_end (next S q (Ok reply)) (λ d. d ≡ next_stored q (Ok reply) c) rs os (next_stored q (Ok reply) c) before.1 refl
-could_end S could (q ∷ rs) (Err met ∷ os) c before may =
-    subst (λ d. could_after (adds could q) rs os c (end_stored rs os d)) (faulted_next c q met) (could_end (next S q (Err met)) (adds could q) rs os c before.1 (inl may))
-could_end S could [] (p ∷ os) c before may = absurd before
-could_end S could (q ∷ rs) [] c before may = absurd before
-
+-- What a registry may show whose commit was lost, and what requests in a row made that end here: `could`
+-- says it of a row that was begun before
 module _ (Opened : Type 0) where
-  -- what a crash leaves after a reply more
-  together_answered : (S : State) (may : Trees → Type 0) (could : Contents → Type 0) (rs : List Request) (os : List Outcome) (r : Request) (reply : Reply) (c : Contents) (db : Trees) → HaveOutcomes S rs os
-      → IsRegistryOf db (next_stored r (Ok reply) (end_stored rs os c)) → left_together Opened may could (rs ++ r ∷ []) (os ++ Ok reply ∷ []) c db
-  together_answered S may could [] [] r reply c db before is = inl is
-  together_answered S may could (q ∷ rs) (Ok told ∷ os) r reply c db before is = let later = next_stored q (Ok told) c in
-      together_answered (next S q (Ok told)) (λ db. IsRegistryOf db later) (λ d. d ≡ later) rs os r reply later db before.1 is
-  together_answered S may could (q ∷ rs) (Err met ∷ os) r reply c db before is =
-      together_answered (next S q (Err met)) may (adds could q) rs os r reply c db before.1
-      (subst (λ d. IsRegistryOf db (next_stored r (Ok reply) (end_stored rs os d))) (sym (faulted_next c q met)) is)
-  together_answered S may could [] (p ∷ os) r reply c db before is = absurd before
-  together_answered S may could (q ∷ rs) [] r reply c db before is = absurd before
+  abbrev row_shows : (Contents → Type 0) → List Request → List Outcome → Contents → Contents → Type 0
+  row_shows could (r ∷ rs) (Ok reply ∷ os) c = row_shows (λ d. ⊥) rs os (next_stored r (Ok reply) c)
+  row_shows could (r ∷ rs) (Err fault ∷ os) c = row_shows (λ d. (Opened × (d ≡ settled_by r c)) ⊎ ((e : Contents) × could e × (d ≡ settled_by r e))) rs os c
+  row_shows could _ _ c = could
 
-  -- after a fault more it leaves what it could have left before
-  together_still : (S : State) (may : Trees → Type 0) (could : Contents → Type 0) (rs : List Request) (os : List Outcome) (r : Request) (fault : Fault) (c : Contents) (db : Trees) → HaveOutcomes S rs os
-      → left_together Opened may could rs os c db → left_together Opened may could (rs ++ r ∷ []) (os ++ Err fault ∷ []) c db
-  together_still S may could [] [] r fault c db before left = elim left [
-    | inl was ↦ inl was
-    | inr made ↦ inr (made.0, (made.1.0, inl made.1.1, made.1.2))
-  ]
-  together_still S may could (q ∷ rs) (Ok told ∷ os) r fault c db before left = let later = next_stored q (Ok told) c in
-      together_still (next S q (Ok told)) (λ db. IsRegistryOf db later) (λ d. d ≡ later) rs os r fault later db before.1 left
-  together_still S may could (q ∷ rs) (Err met ∷ os) r fault c db before left = together_still (next S q (Err met)) may (adds could q) rs os r fault c db before.1 left
-  together_still S may could [] (p ∷ os) r fault c db before left = absurd before
-  together_still S may could (q ∷ rs) [] r fault c db before left = absurd before
+  -- one more that met a fault begins a row, or goes on with one
+  row_push : (S : State) (could : Contents → Type 0) (rs : List Request) (os : List Outcome) (r : Request) (fault : Fault) (c d : Contents) → HaveOutcomes S rs os
+      → (Opened × (d ≡ settled_by r (end_stored rs os c))) ⊎ ((e : Contents) × row_shows could rs os c e × (d ≡ settled_by r e)) → row_shows could (rs ++ r ∷ []) (os ++ Err fault ∷ []) c d
+  row_push S could [] [] r fault c d before made = made
+  row_push S could (q ∷ rs) (Ok reply ∷ os) r fault c d before made = row_push (next S q (Ok reply)) (λ e. ⊥) rs os r fault (next_stored q (Ok reply) c) d before.1 made
+  row_push S could (q ∷ rs) (Err met ∷ os) r fault c d before made =
+      let goes_on : Contents → Type 0 = λ e. (Opened × (e ≡ settled_by q c)) ⊎ ((b : Contents) × could b × (e ≡ settled_by q b)) in
+      row_push (next S q (Err met)) goes_on rs os r fault c d before.1
+      (subst (λ b. (Opened × (d ≡ settled_by r (end_stored rs os b))) ⊎ ((e : Contents) × row_shows goes_on rs os c e × (d ≡ settled_by r e))) (sym (faulted_next c q met)) made)
+  row_push S could [] (p ∷ os) r fault c d before made = absurd before
+  row_push S could (q ∷ rs) [] r fault c d before made = absurd before
 
-  -- and what may be stored
-  together_made : (S : State) (may : Trees → Type 0) (could : Contents → Type 0) (rs : List Request) (os : List Outcome) (c d : Contents) (db : Trees) → HaveOutcomes S rs os
-      → Opened → could_after could rs os c d → IsRegistryOf db d → left_together Opened may could rs os c db
-  together_made S may could [] [] c d db before on made is = inr (on, (d, made, is))
-  together_made S may could (q ∷ rs) (Ok told ∷ os) c d db before on made is = let later = next_stored q (Ok told) c in
-      together_made (next S q (Ok told)) (λ db. IsRegistryOf db later) (λ d. d ≡ later) rs os later d db before.1 on made is
-  together_made S may could (q ∷ rs) (Err met ∷ os) c d db before on made is = together_made (next S q (Err met)) may (adds could q) rs os c d db before.1 on made is
-  together_made S may could [] (p ∷ os) c d db before on made is = absurd before
-  together_made S may could (q ∷ rs) [] c d db before on made is = absurd before
+  -- what one more makes of that may be left
+  row_left : (S : State) (may : Trees → Type 0) (could : Contents → Type 0) (rs : List Request) (os : List Outcome) (r : Request) (fault : Fault) (c e : Contents) (db : Trees) → HaveOutcomes S rs os
+      → ((d : Contents) → could d → HoldsFirst (rs ++ r ∷ []) d db → may db) → row_shows could rs os c e → IsRegistryOf db (settled_by r e)
+      → left_by (MadeInRow Opened) may (rs ++ r ∷ []) (os ++ Err fault ∷ []) c db
+  row_left S may could [] [] r fault c e db before begun shows is = inl (begun e shows (inr is))
+  row_left S may could (q ∷ rs) (Ok reply ∷ os) r fault c e db before begun shows is =
+      let later = next_stored q (Ok reply) c in
+      row_left (next S q (Ok reply)) (λ d. IsRegistryOf d later) (λ d. ⊥) rs os r fault later e db before.1 (λ d none. absurd none) shows is
+  row_left S may could (q ∷ rs) (Err met ∷ os) r fault c e db before begun shows is =
+      let qs = rs ++ r ∷ [] in
+      row_left (next S q (Err met)) (λ d. may d ⊎ MadeInRow Opened (q ∷ qs) c d) (λ d. (Opened × (d ≡ settled_by q c)) ⊎ ((b : Contents) × could b × (d ≡ settled_by q b))) rs os r fault c e db before.1
+      (λ d either holds. elim either [
+        | inl here ↦ inr (here.0, inr (subst (λ (b : Contents). HoldsFirst qs b db) here.1 holds))
+        | inr on ↦ inl (begun on.0 on.1 (inr (subst (λ (b : Contents). HoldsFirst qs b db) on.2 holds)))
+      ])
+      shows is
+  row_left S may could [] (p ∷ os) r fault c e db before begun shows is = absurd before
+  row_left S may could (q ∷ rs) [] r fault c e db before begun shows is = absurd before
 
 -- ---- open or shut
 
@@ -183,11 +179,18 @@ turns_of_apply old new r survives idle = record {
   lost = λ clean lost. absurd (not_lost new.in_transaction idle lost.1);
 }
 
--- What the registry shows is what was stored at the last reply, or what some of the requests make
--- that met faults since
+-- what may be left where a commit was lost before the first of these requests, which are in a row with
+-- those of that commit
+abbrev may_at : Shown → List Request → Trees → Type 0
+may_at old rs db = old.may_leave db ⊎ MadeInRow (IsLost old) rs (stored old) db
+
+-- and what was shown then
+abbrev shown_lost : Shown → Contents → Type 0
+shown_lost old d = IsLost old × (d ≡ stored old)
+
+-- The registry, whose commit was lost, shows what requests in a row made of which this is the last
 pub record IsMadeBy (old new : Shown) (rs : List Request) (os : List Outcome) : Type 0 where
-  pub from : IsOpenOrLost old
-  pub could : could_after (λ d. d ≡ stored old) rs os (stored old) (stored new)
+  pub shows : row_shows (IsTrue old.is_open) (shown_lost old) rs os (stored old) (stored new)
   pub needs : HoldsNeeds (stored old) → HoldsNeeds (stored new)
 
 -- a run that may end in the middle of requests whose commit was lost
@@ -215,7 +218,7 @@ has_run_none s = record {
     durable = λ sure. sure;
     closes = record { clean = omega arith; shield = λ h. h; counts = omega arith; limit = refl; closes = λ _ on. inl on; crash = λ _ db left. inl left };
   };
-  lost = λ sound clean lost. record { from = inr lost; could = refl; needs = λ holds. holds };
+  lost = λ sound clean lost. record { shows = (lost, refl); needs = λ holds. holds };
 }
 
 pub survives_run_none : (s : Shown) → SurvivesRun s s [] []
@@ -234,65 +237,68 @@ module _ (old mid : Shown) (rs : List Request) (os : List Outcome) (r : Request)
   same_before : IsTrue mid.is_open → stored mid ≡ end_stored rs os (stored old)
   same_before on = before.run.stored needs_before clean on
 
+  opened_before : IsTrue mid.is_open → IsTrue old.is_open
+  opened_before on = before.run.opened clean on
+
   -- what is shown before the next one
-  made_before : IsOpenOrLost mid → IsMadeBy old mid rs os
-  made_before (inl on) = record {
-    from = inl (before.run.opened clean on);
-    could = subst (could_after (λ d. d ≡ stored old) rs os (stored old)) (sym (same_before on)) (could_end (registry_in old) (λ d. d ≡ stored old) rs os (stored old) ran_before refl);
-    needs = before.run.needs needs_before clean on;
-  }
-  made_before (inr lost) = before.lost needs_before clean lost
+  made_before : IsLost mid → IsMadeBy old mid rs os
+  made_before lost = before.lost needs_before clean lost
+
+  kept_before : IsOpenOrLost mid → HoldsNeeds (stored old) → HoldsNeeds (stored mid)
+  kept_before (inl on) = before.run.needs needs_before clean on
+  kept_before (inr lost) = (made_before lost).needs
 
   -- and what decides it
   needs_still : IsOpenOrLost mid → NeedsFor r.what (stored mid)
-  needs_still was = needs_stay r.what (stored old) (stored mid) (made_before was).needs (needs_split rs r (stored old) sound).1
+  needs_still was = needs_stay r.what (stored old) (stored mid) (kept_before was) (needs_split rs r (stored old) sound).1
 
-  -- what it makes may be stored, where it meets a fault
-  could_then : (fault : Fault) (d : Contents) → IsOpenOrLost mid → d ≡ settled_by r (stored mid) → could_after (λ e. e ≡ stored old) (rs ++ r ∷ []) (os ++ Err fault ∷ []) (stored old) d
-  could_then fault d was is = could_push (registry_in old) (λ e. e ≡ stored old) rs os r fault (stored old) d ran_before (inr (stored mid, (made_before was).could, is))
+  -- where it meets a fault, it begins a row, or goes on with one
+  shows_then : (fault : Fault) (d : Contents) → IsOpenOrLost mid → d ≡ settled_by r (stored mid)
+      → row_shows (IsTrue old.is_open) (shown_lost old) (rs ++ r ∷ []) (os ++ Err fault ∷ []) (stored old) d
+  shows_then fault d (inl on) is =
+      row_push (IsTrue old.is_open) (registry_in old) (shown_lost old) rs os r fault (stored old) d ran_before (inl (opened_before on, is ∙ ap (settled_by r) (same_before on)))
+  shows_then fault d (inr lost) is =
+      row_push (IsTrue old.is_open) (registry_in old) (shown_lost old) rs os r fault (stored old) d ran_before (inr (stored mid, (made_before lost).shows, is))
 
   -- in the middle of requests whose commit was lost it meets one
   lost_then : (new : Shown) (o : Outcome) → OnOk o (IsTrue mid.is_open × IsTrue new.is_open) → IsLost new → LosesInTurn r mid new → IsMadeBy old new (rs ++ r ∷ []) (os ++ o ∷ [])
   lost_then new (Ok reply) served lost made = absurd (true≢false (sym served.1 ∙ lost.0))
   lost_then new (Err fault) served lost made = record {
-    from = (made_before made.was).from;
-    could = could_then fault (stored new) made.was (made.made (needs_still made.was));
-    needs = λ holds. made.needs (needs_still made.was) ((made_before made.was).needs holds);
+    shows = shows_then fault (stored new) made.was (made.made (needs_still made.was));
+    needs = λ holds. made.needs (needs_still made.was) (kept_before made.was holds);
   }
 
   -- what a crash may leave after these
   abbrev left_then : List Request → List Outcome → Trees → Type 0
-  left_then qs ps db = left_together (IsOpenOrLost old) old.may_leave (λ d. d ≡ stored old) qs ps (stored old) db
+  left_then qs ps db = left_by (MadeInRow (IsTrue old.is_open)) (may_at old qs) qs ps (stored old) db
 
-  -- what it makes of what was shown
-  made_then : (fault : Fault) (db : Trees) → HaveOutcomes (registry_in old) (rs ++ r ∷ []) (os ++ Err fault ∷ []) → IsOpenOrLost mid → HasTables db → contents db ≡ settled_by r (stored mid)
-      → left_then (rs ++ r ∷ []) (os ++ Err fault ∷ []) db
-  made_then fault db answers was form is =
-      together_made (IsOpenOrLost old) (registry_in old) old.may_leave (λ d. d ≡ stored old) (rs ++ r ∷ []) (os ++ Err fault ∷ []) (stored old) (settled_by r (stored mid)) db answers (made_before was).from
-      (could_then fault (settled_by r (stored mid)) was refl) (form, is)
+  -- one outcome more
+  then_one : (o : Outcome) (db : Trees) → left_by (MadeInRow (IsTrue old.is_open)) (left_then rs os) (r ∷ []) (o ∷ []) (end_stored rs os (stored old)) db → left_then (rs ++ r ∷ []) (os ++ o ∷ []) db
+  then_one o db = left_by_push (MadeInRow (IsTrue old.is_open)) (registry_in old) (may_at old rs) (may_at old (rs ++ r ∷ [])) rs os r o (stored old) db ran_before (row_grows (IsTrue old.is_open) r)
+      (λ e may. elim may [
+        | inl was ↦ inl was
+        | inr made ↦ inr (row_grows (IsLost old) r rs (stored old) e made)
+      ])
 
-  -- what could be left before
-  still_then : (fault : Fault) (db : Trees) → left_then rs os db → left_then (rs ++ r ∷ []) (os ++ Err fault ∷ []) db
-  still_then fault db = together_still (IsOpenOrLost old) (registry_in old) old.may_leave (λ d. d ≡ stored old) rs os r fault (stored old) db ran_before
+  -- what it makes in a row with those before it
+  then_in_row : (fault : Fault) (db : Trees) → IsLost mid → IsRegistryOf db (settled_by r (stored mid)) → left_then (rs ++ r ∷ []) (os ++ Err fault ∷ []) db
+  then_in_row fault db lost is =
+      row_left (IsTrue old.is_open) (registry_in old) (may_at old (rs ++ r ∷ [])) (shown_lost old) rs os r fault (stored old) (stored mid) db ran_before
+      (λ d begun holds. inr (begun.0, subst (λ (b : Contents). HoldsFirst (rs ++ r ∷ []) b db) begun.1 holds)) (made_before lost).shows is
 
-  -- what was shown
-  shown_then : (fault : Fault) (db : Trees) → IsTrue mid.is_open → IsRegistryOf db (stored mid) → left_then (rs ++ r ∷ []) (os ++ Err fault ∷ []) db
-  shown_then fault db on is = let made = made_before (inl on) in
-      still_then fault db (together_made (IsOpenOrLost old) (registry_in old) old.may_leave (λ d. d ≡ stored old) rs os (stored old) (stored mid) db ran_before made.from made.could is)
-
-  left_after : (new : Shown) (o : Outcome) → Applied mid new r o → HasCleanDisk new → HaveOutcomes (registry_in old) (rs ++ r ∷ []) (os ++ o ∷ []) → (db : Trees) → new.may_leave db
-      → left_then (rs ++ r ∷ []) (os ++ o ∷ []) db
-  left_after new (Ok reply) made now answers db left = let on = made.served now in
-      together_answered (IsOpenOrLost old) (registry_in old) old.may_leave (λ d. d ≡ stored old) rs os r reply (stored old) db ran_before
-      (subst (IsRegistryOf db) (made.step (needs_still (inl on.0)) now on.1 ∙ ap (next_stored r (Ok reply)) (same_before on.0)) (made.durable now on.1 db left))
-  left_after new (Err fault) made now answers db left = elim (cases_Bool new.is_open) [
+  left_after : (new : Shown) (o : Outcome) → Applied mid new r o → HasCleanDisk new → (db : Trees) → new.may_leave db → left_then (rs ++ r ∷ []) (os ++ o ∷ []) db
+  left_after new (Ok reply) made now db left = let on = made.served now in
+      then_one (Ok reply) db (subst (IsRegistryOf db) (made.step (needs_still (inl on.0)) now on.1 ∙ ap (next_stored r (Ok reply)) (same_before on.0)) (made.durable now on.1 db left))
+  left_after new (Err fault) made now db left = elim (cases_Bool new.is_open) [
     | inl on ↦ let was = made.opened now on in
-        shown_then fault db was (subst (IsRegistryOf db) (made.step (needs_still (inl was)) now on ∙ sym (faulted_next (stored mid) r fault)) (made.durable now on db left))
+        let is = subst (IsRegistryOf db) (made.step (needs_still (inl was)) now on ∙ sym (faulted_next (stored mid) r fault) ∙ same_before was) (made.durable now on db left) in
+        then_one (Err fault) db (inr (opened_before was, inl is))
     | inr shut ↦ elim (made.survives.shut now shut db left) [
-      | inl earlier ↦ still_then fault db (before.run.survives needs_before clean db earlier)
+      | inl earlier ↦ then_one (Err fault) db (inl (before.run.survives needs_before clean db earlier))
       | inr done ↦ elim done [
-        | inl one ↦ made_then fault db answers (inl one.was_open) one.form (one.settled (needs_still (inl one.was_open)))
-        | inr later ↦ made_then fault db answers (inr later.was_lost) later.form (later.settled (needs_still (inr later.was_lost)))
+        | inl one ↦ let is = subst (IsRegistryOf db) (ap (settled_by r) (same_before one.was_open)) (one.form, one.settled (needs_still (inl one.was_open))) in
+            then_one (Err fault) db (inr (opened_before one.was_open, inr is))
+        | inr later ↦ then_in_row fault db later.was_lost (later.form, later.settled (needs_still (inr later.was_lost)))
       ]
     ]
   ]
@@ -347,7 +353,7 @@ module _ (old mid new : Shown) (rs : List Request) (os : List Outcome) (r : Requ
     archives = keeps_more HoldsArchives before.run.archives made.archives;
     form = λ sound clean on kept. let was = made.opened clean on in
         made.form (next_needs sound clean was) clean on (before.run.form (first_needs sound clean) (was_clean clean) was kept);
-    survives = λ sound clean db left. left_after old mid rs os r before sound (was_clean clean) new o made clean (ran_more sound clean).answers db left;
+    survives = λ sound clean db left. left_after old mid rs os r before sound (was_clean clean) new o made clean db left;
     durable = λ sure. made.durable;
     closes = survives_then old mid new _ _ (λ db. Unit {0}) (λ _ _ any. any) (λ _ _ any. any) before.run.closes made.survives.closes;
   }
@@ -360,8 +366,11 @@ module _ (old mid new : Shown) (rs : List Request) (os : List Outcome) (r : Requ
 
   -- where no commit is shared, a crash leaves no more than one of those that met a fault
   pub survives_run_more : SurvivesRun old mid rs os → SurvivesOne mid new r → SurvivesRun old new (rs ++ r ∷ []) (os ++ o ∷ [])
-  survives_run_more first one sound clean db left = left_by_push (IsTrue old.is_open) (registry_in old) old.may_leave rs os r o (stored old) db (before.run.ran (first_needs sound clean) (was_clean clean)).answers
-      (left_by_one (IsTrue old.is_open) _ r o _ db
+  survives_run_more first one sound clean db left =
+      let Made : List Request → Contents → Trees → Type 0 = MadeAlone (IsTrue old.is_open) in
+      left_by_push Made (registry_in old) old.may_leave old.may_leave rs os r o (stored old) db (before.run.ran (first_needs sound clean) (was_clean clean)).answers
+      (alone_grows (IsTrue old.is_open) r) (λ e may. may)
+      (left_by_one Made _ r o _ db
       (elim (one.crash clean db left) [
         | inl earlier ↦ inl (first (first_needs sound clean) (was_clean clean) db earlier)
         | inr leaves ↦ inr (first_opened clean leaves.was_open, subst (IsRegistryOf db) (ap (settled_by r) (first_same sound clean leaves.was_open)) (leaves.form, leaves.settled (next_needs sound clean leaves.was_open)))

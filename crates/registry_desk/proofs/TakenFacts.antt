@@ -1,6 +1,6 @@
 -- What is known of a package without being asked for.
-use Rattle.registry_desk.proofs.Words.{◌≡◌, ◌||◌, List, [], ◌∷◌, Bool, true, false, not, Option, Some, None, is_some, refl, sym, ap, ◌∙◌, true≢false, Database, Shown, among, at, keys, of, latest}
-use Rattle.registry_desk.proofs.Words.{Text, is, text_key, any-part, State, Release, Withdrawal, has_live, is_empty, is_live, is_spent, stands, last_withdrawal, IsReady, contents, registry_of, stored}
+use Rattle.registry_desk.proofs.Words.{◌≡◌, ◌||◌, List, [], ◌∷◌, Bool, true, false, not, Option, Some, None, is_some, refl, sym, ◌∙◌, true≢false, Shown, among, at, keys, of, latest}
+use Rattle.registry_desk.proofs.Words.{Text, is, text_key, any-part, State, Release, Withdrawal, has_live, is_empty, is_live, is_spent, stands, last_withdrawal, IsReady, Contents, registry_of, stored}
 use Rattle.registry_desk.proofs.Words.{schema, lives_as_row, named_lives}
 use Rattle.registry_rules.specs.Withdrawals.{last_of}
 
@@ -20,22 +20,19 @@ none_withdrawn S p v h = sym (any-part text_key S.spent p v) ∙ none (of S.spen
     none [] h = refl
     none (e ∷ es) h = absurd (true≢false h)
 
-module _ (s : Shown) (ready : IsReady schema s) where
-  -- and where a tag is there, since that names one
-  pub named_is_there : (p t : Text) → stands (registry_of (stored s)) p t ≡ true → has_live (registry_of (stored s)) p ≡ true
-  named_is_there p t there = names (at (stored s).tags (p, t)) refl there
-    where
-      names : (named : Option Text) → at (stored s).tags (p, t) ≡ named → is_some named ≡ true → has_live (registry_of (stored s)) p ≡ true
-      names None e h = absurd (true≢false (sym h))
-      names (Some v) e h = one_lives (registry_of (stored s)) p v (lives_as_row (stored s) (p, v) ∙ named_lives s ready p t v e)
+-- a tag names a version, so one lives where a tag is there
+abbrev pub NamesLive : Contents → Type 0
+NamesLive c = (p t : Text) → stands (registry_of c) p t ≡ true → has_live (registry_of c) p ≡ true
 
-  -- one lives where the version does or `latest` is there, by what was stored before
-  pub known_lives : (d : Database) → s.now ≡ d → (p v : Text) (lives there : Bool) → lives ≡ is_live (registry_of (contents d.trees)) p v → there ≡ stands (registry_of (contents d.trees)) p latest
-      → (lives || there) ≡ true → has_live (registry_of (stored s)) p ≡ true
-  known_lives d same p v lives there is_lives is_there =
-      either lives there (is_lives ∙ sym (ap (λ (d : Database). is_live (registry_of (contents d.trees)) p v) same)) (is_there ∙ sym (ap (λ (d : Database). stands (registry_of (contents d.trees)) p latest) same))
-    where
-      either : (a b : Bool) → a ≡ is_live (registry_of (stored s)) p v → b ≡ stands (registry_of (stored s)) p latest → (a || b) ≡ true → has_live (registry_of (stored s)) p ≡ true
-      either true b e f h = one_lives (registry_of (stored s)) p v (sym e)
-      either false true e f h = named_is_there p latest (sym f)
-      either false false e f h = absurd (true≢false (sym h))
+pub names_live : (s : Shown) → IsReady schema s → NamesLive (stored s)
+names_live s ready p t there = names (at (stored s).tags (p, t)) refl there
+  where
+    names : (named : Option Text) → at (stored s).tags (p, t) ≡ named → is_some named ≡ true → has_live (registry_of (stored s)) p ≡ true
+    names None e h = absurd (true≢false (sym h))
+    names (Some v) e h = one_lives (registry_of (stored s)) p v (lives_as_row (stored s) (p, v) ∙ named_lives s ready p t v e)
+
+-- one lives where the version does or `latest` is there
+pub known_lives : (c : Contents) → NamesLive c → (p v : Text) (lives there : Bool) → lives ≡ is_live (registry_of c) p v → there ≡ stands (registry_of c) p latest → (lives || there) ≡ true → has_live (registry_of c) p ≡ true
+known_lives c names p v true there e f h = one_lives (registry_of c) p v (sym e)
+known_lives c names p v false true e f h = names p latest (sym f)
+known_lives c names p v false false e f h = absurd (true≢false (sym h))

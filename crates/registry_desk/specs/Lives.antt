@@ -42,21 +42,21 @@ AreFaults [] = Unit {0}
 AreFaults (Ok reply ∷ os) = ⊥
 AreFaults (Err fault ∷ os) = AreFaults os
 
--- some of these requests, in their order, with replies
-abbrev pub SomeOf : List Request → List Request → List Outcome → Type 0
-SomeOf [] ds ps = (ds ≡ []) × (ps ≡ [])
-SomeOf (r ∷ rs) ds ps = SomeOf rs ds ps ⊎ ((reply : Reply) × (es : List Request) × (qs : List Outcome) × SomeOf rs es qs × (ds ≡ r ∷ es) × (ps ≡ Ok reply ∷ qs))
+-- the first of these requests, none, some or all of them, with replies
+abbrev pub FirstOf : List Request → List Request → List Outcome → Type 0
+FirstOf [] ds ps = (ds ≡ []) × (ps ≡ [])
+FirstOf (r ∷ rs) ds ps = ((ds ≡ []) × (ps ≡ [])) ⊎ ((reply : Reply) × (es : List Request) × (qs : List Outcome) × FirstOf rs es qs × (ds ≡ r ∷ es) × (ps ≡ Ok reply ∷ qs))
 
 -- What may be done, from this request on, of those that met a fault when nothing was answered any
--- more: this one or, where requests may have shared a commit, this one and some of the later ones
+-- more: this one or, where requests may have shared a commit, this one and the next ones in a row
 abbrev pub DidLate : Bool → Request → List Request → List Request → List Outcome → Type 0
 DidLate false r rs ds ps = (reply : Reply) × (ds ≡ r ∷ []) × (ps ≡ Ok reply ∷ [])
-DidLate true r rs ds ps = (reply : Reply) × (es : List Request) × (qs : List Outcome) × SomeOf rs es qs × (ds ≡ r ∷ es) × (ps ≡ Ok reply ∷ qs)
+DidLate true r rs ds ps = (reply : Reply) × (es : List Request) × (qs : List Outcome) × FirstOf rs es qs × (ds ≡ r ∷ es) × (ps ≡ Ok reply ∷ qs)
 
 -- What was done, with its replies: each request that was answered, with its reply, in their order.
 -- What met a fault wasn't done, as long as the registry is open at the end. Where a fault of the
 -- disk has shut it, one of the requests that met a fault when nothing was answered any more may be
--- done, and others with it if they may have shared its commit
+-- done, and with it the next ones in a row, if they may have shared its commit
 abbrev pub Did : Bool → Bool → List Request → List Outcome → List Request → List Outcome → Type 0
 Did is_open together [] os ds ps = (ds ≡ []) × (ps ≡ [])
 Did is_open together (r ∷ rs) [] ds ps = (ds ≡ []) × (ps ≡ [])

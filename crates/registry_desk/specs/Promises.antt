@@ -25,7 +25,8 @@
 -- | survives  | t   | the same, or what it makes of what earlier requests of the same | N         |
 -- |           |     | commit made, where a fault of the disk ended that commit        |           |
 -- | survives  | r   | what a crash leaves, by the outcomes; no reply is lost          | N         |
--- | survives  | ts  | the same, where a fault may have ended a commit of several      | N         |
+-- | survives  | ts  | the same; and where a fault ended a commit of several, what a   | N         |
+-- |           |     | row of requests that met faults makes, without gaps             |           |
 -- | durable   | a   | a crash leaves what is stored, and nothing else                 | open      |
 -- | durable   | r   | it still does, where it did at the entry                        | open      |
 -- | closes    | r   | only a fault of the disk shuts it                               |           |
@@ -68,7 +69,7 @@ use Rattle.registry_laws_hidden.specs.Concerns.{is_shown}
 use Rattle.registry_laws_hidden.specs.Levels.{IsStranger}
 use Rattle.registry_laws_hidden.specs.Without.{state_without}
 use Rattle.registry_desk.specs.Found.{NeedsFor}
-use Rattle.registry_desk.specs.Resting.{HasTables, HoldsAsWritten, IsRegistryOf, Serves, end_stored, left_by, left_together, next_stored, settled_by}
+use Rattle.registry_desk.specs.Resting.{HasTables, HoldsAsWritten, HoldsFirst, IsRegistryOf, MadeAlone, MadeInRow, Serves, end_stored, left_by, next_stored, settled_by}
 
 -- an open after a crash finds what is stored now, and nothing else
 abbrev pub IsSure : Shown → Type 0
@@ -261,13 +262,14 @@ module _ (old new : Shown) where
   -- after each reply a crash leaves what is stored then and nothing else, and after a fault what it
   -- could have left before, or what an open registry makes of the request
   abbrev pub SurvivesRun : List Request → List Outcome → Type 0
-  SurvivesRun rs os = NeedsForEach rs (stored old) → HasCleanDisk new → (db : Trees) → new.may_leave db → left_by (IsTrue old.is_open) old.may_leave rs os (stored old) db
+  SurvivesRun rs os = NeedsForEach rs (stored old) → HasCleanDisk new → (db : Trees) → new.may_leave db → left_by (MadeAlone (IsTrue old.is_open)) old.may_leave rs os (stored old) db
 
   -- The same where some of the requests may have shared a commit: after faults a crash leaves what it
-  -- could have left before them, or what some of the requests that met them make, one after another
+  -- could have left before them, or what one of the requests that met them makes with the next ones in
+  -- a row, one after another. Where a commit was lost before the first, these are the first in a row
   abbrev pub SurvivesTurns : List Request → List Outcome → Type 0
   SurvivesTurns rs os = NeedsForEach rs (stored old) → HasCleanDisk new → (db : Trees) → new.may_leave db
-      → left_together (IsOpenOrLost old) old.may_leave (λ d. d ≡ stored old) rs os (stored old) db
+      → left_by (MadeInRow (IsTrue old.is_open)) (λ d. old.may_leave d ⊎ MadeInRow (IsLost old) rs (stored old) d) rs os (stored old) db
 
   -- where a crash left what was stored and nothing else, as long as it was open, it still does
   abbrev pub KeepsSure : Type 0

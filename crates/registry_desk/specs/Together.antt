@@ -14,9 +14,9 @@ use Rattle.registry_tables.specs.Effects.{stored}
 use Rattle.registry_tables.specs.Schema.{schema}
 use Rattle.registry_laws_history.specs.Runs.{Outcome, enters}
 use Rattle.registry_desk.specs.Found.{NeedsFor}
-use Rattle.registry_desk.specs.Lives.{AskedInTurn}
-use Rattle.registry_desk.specs.Promises.{Answered, NeedsForEach}
-use Rattle.registry_desk.specs.Resting.{HasTables, IsAsWritten, settled_by}
+use Rattle.registry_desk.specs.Lives.{AskedInTurn, IsOpenedAgain}
+use Rattle.registry_desk.specs.Promises.{Answered, IsSure, NeedsForEach}
+use Rattle.registry_desk.specs.Resting.{HasTables, IsAsWritten, end_stored, settled_by}
 
 -- ---- where a request is asked
 
@@ -111,3 +111,22 @@ pub record AnsweredTogether {S : Type 0} (store : Ghosts S) (old new : Held S) (
 -- the same where all of them meet this fault
 abbrev pub FailTogether : {S : Type 0} → Ghosts S → Held S → Held S → List Request → Fault → Type 0
 FailTogether store old new rs fault = (os : List Outcome) → length os ≡ length rs → MeetFault fault os → AnsweredTogether store old new rs os
+
+-- ---- what a stop leaves of them
+
+-- The files may be opened by another run of the program, over another store
+module _ {S T : Type 0} (store : Ghosts S) (store_next : Ghosts T) where
+  -- Commands are answered together by a registry of which a crash leaves what it holds and nothing else.
+  -- Wherever they are stopped, the registry that is opened from what a crash leaves holds what was held
+  -- before all of them, or what all of them make. So none is done without the others
+  abbrev pub GroupsLeaveAllOrNothing : Type 0
+  GroupsLeaveAllOrNothing = (first last : Held S) (next : Held T) (rs : List Request) (os : List Outcome) → NeedsForEach rs (stored (state store first)) → IsSure (state store first)
+      → AnsweredTogether store first last rs os → IsOpenedAgain (state store last) (state store_next next) → HasCleanDisk (state store_next next)
+      → (stored (state store_next next) ≡ stored (state store first)) ⊎ (stored (state store_next next) ≡ all_settled rs (stored (state store first)))
+
+  -- where they leave the registry open, it holds what the outcomes say: after replies what all of them
+  -- make, and after a fault of all of them what was held before
+  abbrev pub GroupsKeepOutcomes : Type 0
+  GroupsKeepOutcomes = (first last : Held S) (next : Held T) (rs : List Request) (os : List Outcome) → NeedsForEach rs (stored (state store first)) → IsSure (state store first)
+      → AnsweredTogether store first last rs os → IsTrue (state store last).is_open → IsOpenedAgain (state store last) (state store_next next) → HasCleanDisk (state store_next next)
+      → stored (state store_next next) ≡ end_stored rs os (stored (state store first))

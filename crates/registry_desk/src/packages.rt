@@ -1,15 +1,13 @@
 //! What decides an action about packages, their versions and their tags.
 
-ghost use Rattle.std.specs.Prelude.{◌≡◌, ◌||◌, ℕ, false, true};
+ghost use Rattle.std.specs.Prelude.{◌≡◌, ◌||◌, false, true};
 ghost use Rattle.registry_names.specs.Tags.{latest};
 ghost use Rattle.registry_names.specs.declared.status.Status.{Status};
-ghost use Rattle.registry_rows.specs.Frames.{Stays};
 ghost use Rattle.registry_tables.specs.Contents.{registry_of};
-ghost use Rattle.registry_tables.specs.Effects.{InForm, Knows, Loads};
+ghost use Rattle.registry_tables.specs.Inside.{Finds, Knows};
 ghost use Rattle.registry_tables.specs.Teams.{AreTeamsSound};
 ghost use Rattle.registry_desk.specs.Found.{AreTaken};
-ghost use Rattle.registry_rules.specs.Facts.{AboutTells};
-ghost use Rattle.registry_desk.specs.Early.{FoundTells};
+ghost use Rattle.registry_desk.specs.Early.{Decides};
 ghost use Rattle.registry_rules.specs.State as state;
 ghost use Rattle.registry_rules.specs.declared.request.Action.TheVariants as asked;
 ghost use Rattle.registry_rules.specs.declared.request.Asked.TheVariants as which;
@@ -31,16 +29,13 @@ pub(crate) fn facts_for_set_access<S: Alter>(
     tx: &mut Transaction<'_, S>,
     caller: &Caller,
     name: &Name,
-) -> Result<About, Fault>
-    requires in_form { InForm S.Store tx.old }
-    ensures stays { Stays S.Store tx.old tx.new }
-    ensures loads { Loads S.Store tx.old tx.new result (λ about c. (status : Status)
+) -> Result<Found, Fault>
+    ensures { Finds S.Store tx.old tx.new result (λ found c. (status : Status)
         → AreTeamsSound c
-        → AboutTells about (registry_of c) caller.now (asked.SetAccess name.now status)) }
+        → Decides found c caller.now (asked.SetAccess name.now status)) }
 {
-    Ok(About::Rights {
-        standing: load_standing(alloc, tx, caller, name, &Ask::Write(name))?,
-    })
+    let standing = load_standing(alloc, tx, caller, name, &Ask::Write(name))?;
+    Ok(Found::About(About::Rights { standing }))
 }
 
 /// Loads what decides a query for the maintainers of a package.
@@ -49,15 +44,12 @@ pub(crate) fn facts_for_maintainers<S: Alter>(
     tx: &mut Transaction<'_, S>,
     caller: &Caller,
     name: &Name,
-) -> Result<About, Fault>
-    requires in_form { InForm S.Store tx.old }
-    ensures stays { Stays S.Store tx.old tx.new }
-    ensures loads { Loads S.Store tx.old tx.new result (λ about c. AreTeamsSound c
-        → AboutTells about (registry_of c) caller.now (asked.Maintainers name.now)) }
+) -> Result<Found, Fault>
+    ensures { Finds S.Store tx.old tx.new result (λ found c. AreTeamsSound c
+        → Decides found c caller.now (asked.Maintainers name.now)) }
 {
-    Ok(About::Rights {
-        standing: load_standing(alloc, tx, caller, name, &Ask::Read(name))?,
-    })
+    let standing = load_standing(alloc, tx, caller, name, &Ask::Read(name))?;
+    Ok(Found::About(About::Rights { standing }))
 }
 
 /// Loads what decides a publish, if the policy allows it.
@@ -67,10 +59,8 @@ pub(crate) fn facts_for_publish<S: Alter>(
     caller: &Caller,
     form: &PublishForm,
 ) -> Result<Found, Fault>
-    requires in_form { InForm S.Store tx.old }
-    ensures stays { Stays S.Store tx.old tx.new }
-    ensures loads { Loads S.Store tx.old tx.new result (λ found c. (at : ℕ) → AreTeamsSound c
-        → FoundTells found (registry_of c) at caller.now (asked.Publish form.now)) }
+    ensures { Finds S.Store tx.old tx.new result (λ found c. AreTeamsSound c
+        → Decides found c caller.now (asked.Publish form.now)) }
 {
     let name = form.name();
     let standing = match standing_if_allowed(alloc, tx, caller, name, &Ask::Publish(name))? {
@@ -102,9 +92,7 @@ struct Taken {
 }
 
 fn find_taken<S: Alter>(tx: &mut Transaction<'_, S>, form: &PublishForm) -> Result<Taken, Fault>
-    requires in_form { InForm S.Store tx.old }
-    ensures stays { Stays S.Store tx.old tx.new }
-    ensures loads { Loads S.Store tx.old tx.new result
+    ensures { Finds S.Store tx.old tx.new result
         (λ taken c. AreTaken taken (registry_of c) form.now) }
 {
     let (name, version) = (form.name(), form.version().text());
@@ -130,9 +118,7 @@ fn has_latest<S: Alter>(
     form: &PublishForm,
     tag_stands: bool,
 ) -> Result<bool, Fault>
-    requires in_form { InForm S.Store tx.old }
-    ensures stays { Stays S.Store tx.old tx.new }
-    ensures knows { Knows S.Store tx.old tx.new result (λ has c.
+    ensures { Knows S.Store tx.old tx.new result (λ has c.
         tag_stands ≡ state.stands (registry_of c) form.now.name form.now.tag
         → has ≡ state.stands (registry_of c) form.now.name latest) }
 {
@@ -156,9 +142,7 @@ fn has_some<S: Alter>(
     name: &Name,
     is_known: bool,
 ) -> Result<bool, Fault>
-    requires in_form { InForm S.Store tx.old }
-    ensures stays { Stays S.Store tx.old tx.new }
-    ensures knows { Knows S.Store tx.old tx.new result (λ lives c.
+    ensures { Knows S.Store tx.old tx.new result (λ lives c.
         (is_known ≡ true → state.has_live (registry_of c) name.now ≡ true)
         → lives ≡ state.has_live (registry_of c) name.now) }
 {
@@ -176,9 +160,7 @@ fn was_withdrawn<S: Alter>(
     version: &str,
     any_was: bool,
 ) -> Result<bool, Fault>
-    requires in_form { InForm S.Store tx.old }
-    ensures stays { Stays S.Store tx.old tx.new }
-    ensures knows { Knows S.Store tx.old tx.new result (λ was c.
+    ensures { Knows S.Store tx.old tx.new result (λ was c.
         (any_was ≡ false → state.is_spent (registry_of c) name.now version.now ≡ false)
         → was ≡ state.is_spent (registry_of c) name.now version.now) }
 {
@@ -197,18 +179,15 @@ pub(crate) fn facts_for_tag_set<S: Alter>(
     name: &Name,
     tag: &TagText,
     version: &Ver,
-) -> Result<About, Fault>
-    requires in_form { InForm S.Store tx.old }
-    ensures stays { Stays S.Store tx.old tx.new }
-    ensures loads { Loads S.Store tx.old tx.new result (λ about c. AreTeamsSound c
-        → AboutTells about (registry_of c) caller.now
-        (asked.TagSet name.now tag.now version.now)) }
+) -> Result<Found, Fault>
+    ensures { Finds S.Store tx.old tx.new result (λ found c. AreTeamsSound c
+        → Decides found c caller.now (asked.TagSet name.now tag.now version.now)) }
 {
-    Ok(About::TagSet {
+    Ok(Found::About(About::TagSet {
         standing: load_standing(alloc, tx, caller, name, &Ask::Write(name))?,
         version_lives: has_version(tx, name, version.text())?,
         tag_stands: has_tag(tx, name, tag.text())?,
-    })
+    }))
 }
 
 /// Loads what decides whether a tag is removed.
@@ -218,16 +197,14 @@ pub(crate) fn facts_for_tag_remove<S: Alter>(
     caller: &Caller,
     name: &Name,
     tag: &TagText,
-) -> Result<About, Fault>
-    requires in_form { InForm S.Store tx.old }
-    ensures stays { Stays S.Store tx.old tx.new }
-    ensures loads { Loads S.Store tx.old tx.new result (λ about c. AreTeamsSound c
-        → AboutTells about (registry_of c) caller.now (asked.TagRemove name.now tag.now)) }
+) -> Result<Found, Fault>
+    ensures { Finds S.Store tx.old tx.new result (λ found c. AreTeamsSound c
+        → Decides found c caller.now (asked.TagRemove name.now tag.now)) }
 {
-    Ok(About::TagRemove {
+    Ok(Found::About(About::TagRemove {
         standing: load_standing(alloc, tx, caller, name, &Ask::Write(name))?,
         tag_stands: has_tag(tx, name, tag.text())?,
-    })
+    }))
 }
 
 /// Loads what decides a query for the tags of a package.
@@ -236,16 +213,14 @@ pub(crate) fn facts_about_package<S: Alter>(
     tx: &mut Transaction<'_, S>,
     caller: &Caller,
     name: &Name,
-) -> Result<About, Fault>
-    requires in_form { InForm S.Store tx.old }
-    ensures stays { Stays S.Store tx.old tx.new }
-    ensures loads { Loads S.Store tx.old tx.new result (λ about c. AreTeamsSound c
-        → AboutTells about (registry_of c) caller.now (asked.Tags name.now)) }
+) -> Result<Found, Fault>
+    ensures { Finds S.Store tx.old tx.new result (λ found c. AreTeamsSound c
+        → Decides found c caller.now (asked.Tags name.now)) }
 {
-    Ok(About::Package {
+    Ok(Found::About(About::Package {
         standing: load_standing(alloc, tx, caller, name, &Ask::Read(name))?,
         lives: has_live(tx, name)?,
-    })
+    }))
 }
 
 /// Loads what decides a query for the document of a version.
@@ -255,16 +230,14 @@ pub(crate) fn facts_about_document<S: Alter>(
     caller: &Caller,
     name: &Name,
     version: &Asked,
-) -> Result<About, Fault>
-    requires in_form { InForm S.Store tx.old }
-    ensures stays { Stays S.Store tx.old tx.new }
-    ensures loads { Loads S.Store tx.old tx.new result (λ about c. AreTeamsSound c
-        → AboutTells about (registry_of c) caller.now
-        (asked.VersionDoc name.now version.now)) }
+) -> Result<Found, Fault>
+    ensures { Finds S.Store tx.old tx.new result (λ found c. AreTeamsSound c
+        → Decides found c caller.now (asked.VersionDoc name.now version.now)) }
 {
-    let standing = load_standing(alloc, tx, caller, name, &Ask::Read(name))?;
-    let lives = asked_lives(tx, name, version)?;
-    Ok(About::Version { standing, lives })
+    Ok(Found::About(About::Version {
+        standing: load_standing(alloc, tx, caller, name, &Ask::Read(name))?,
+        lives: asked_lives(tx, name, version)?,
+    }))
 }
 
 // Whether the version that is asked for lives.
@@ -273,9 +246,7 @@ fn asked_lives<S: Alter>(
     name: &Name,
     version: &Asked,
 ) -> Result<bool, Fault>
-    requires in_form { InForm S.Store tx.old }
-    ensures stays { Stays S.Store tx.old tx.new }
-    ensures loads { Loads S.Store tx.old tx.new result (λ lives c. lives ≡ state.lives
+    ensures { Finds S.Store tx.old tx.new result (λ lives c. lives ≡ state.lives
         (registry_of c) name.now (state.asked_version (registry_of c) name.now version.now)) }
 {
     match version {
@@ -286,9 +257,7 @@ fn asked_lives<S: Alter>(
 
 // Whether the version that `latest` names lives. None does where the tag doesn't exist.
 fn latest_lives<S: Alter>(tx: &mut Transaction<'_, S>, name: &Name) -> Result<bool, Fault>
-    requires in_form { InForm S.Store tx.old }
-    ensures stays { Stays S.Store tx.old tx.new }
-    ensures loads { Loads S.Store tx.old tx.new result (λ lives c. lives ≡ state.lives
+    ensures { Finds S.Store tx.old tx.new result (λ lives c. lives ≡ state.lives
         (registry_of c) name.now (state.asked_version (registry_of c) name.now which.Latest)) }
 {
     match load_tag(tx, name, LATEST)? {
@@ -307,14 +276,12 @@ pub(crate) fn facts_about_archive<S: Alter>(
     caller: &Caller,
     name: &Name,
     version: &Ver,
-) -> Result<About, Fault>
-    requires in_form { InForm S.Store tx.old }
-    ensures stays { Stays S.Store tx.old tx.new }
-    ensures loads { Loads S.Store tx.old tx.new result (λ about c. AreTeamsSound c
-        → AboutTells about (registry_of c) caller.now (asked.Archive name.now version.now)) }
+) -> Result<Found, Fault>
+    ensures { Finds S.Store tx.old tx.new result (λ found c. AreTeamsSound c
+        → Decides found c caller.now (asked.Archive name.now version.now)) }
 {
-    Ok(About::Version {
+    Ok(Found::About(About::Version {
         standing: load_standing(alloc, tx, caller, name, &Ask::Read(name))?,
         lives: has_version(tx, name, version.text())?,
-    })
+    }))
 }

@@ -7,7 +7,7 @@ ghost use Rattle.sqlite.specs.State.{Survives};
 ghost use Rattle.registry_desk.specs.Promises.{KeepsStored, WasOpen};
 ghost use Rattle.registry_desk.specs.Sending.{answers_as_apply};
 ghost use Rattle.registry_desk.specs.Together.{AnsweredTogether, LeavesTogether, MeetFault};
-ghost use Rattle.registry_desk.specs.TokenUsers.{NamesUser};
+ghost use Rattle.registry_desk.specs.TokenUsers.{IsAskedOpen, NamesUser};
 ghost use Rattle.registry_http.specs.Services as spec;
 ghost use Rattle.registry_http.specs.Services.{EachEndsByFault, EachEndsIfShut, EndTogether, EndsBy, EndsByFault, EndsIfShut, EndsShut, SendsByFault, SendsIfShut, applied, serving, shown};
 ghost use Rattle.registry_packument.specs.Sendings.{failures_after};
@@ -72,6 +72,7 @@ impl<S: Alter> RegistryService<S> {
     pub fn user_of(&mut self, alloc: Global, digest: &TokenDigest) -> Result<Option<Ident>, Fault>
         ensures names { NamesUser (shown S.Store self.old) (shown S.Store self.new)
             digest.now result }
+        ensures asked { IsAskedOpen (shown S.Store self.old) (shown S.Store self.new) result }
         ensures opened { WasOpen (shown S.Store self.old) (shown S.Store self.new) }
         ensures stored { KeepsStored (shown S.Store self.old) (shown S.Store self.new) }
         ensures survives { Survives (shown S.Store self.old) (shown S.Store self.new) (λ _. ⊥) }

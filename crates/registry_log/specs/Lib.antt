@@ -4,3 +4,4 @@ pub mod Waitings
 pub mod Logs
 pub mod Laws
 pub mod TargetLaws
+pub mod LookUps

@@ -1,10 +1,15 @@
 //! A registry as a service that may keep a log.
 
-ghost use Rattle.std.specs.Prelude.{◌≡◌, ◌≤◌, length, true};
+ghost use Rattle.std.specs.Prelude.{◌≡◌, ◌<◌, length, true};
 ghost use Rattle.std.specs.List.{AllByRecursion};
+ghost use Rattle.sqlite.specs.State.{HasCleanDisk, Survives};
+ghost use Rattle.registry_desk.specs.Together.{LeavesTogether};
 ghost use Rattle.registry_http.specs.Services.{EachEndsByFault, EachEndsIfShut, EndTogether, EndsByFault, EndsIfShut, applied, shown};
 ghost use Rattle.registry_log.specs.Logs.{AreFirstAsked};
+ghost use Rattle.registry_log.specs.LookUps.{FindsUser, LooksUp, MayNameEach, NamesAsker, NamesAskers};
 ghost use Rattle.registry_rules.specs.Actions.{is_command};
+ghost use Rattle.registry_rules.specs.declared.request.Credential.TheVariants.{Token};
+ghost use Rattle.registry_tables.specs.Effects.{stored};
 ghost use Rattle.registry_service.proofs.DialectFacts.{profile_asks_queries};
 ghost use Rattle.registry_service.specs.Dialects.{AsksOne};
 ghost use Rattle.registry_service.specs.Turns.{AnswersAsBefore, AnswersEach, exchanges, profile};
@@ -113,6 +118,8 @@ impl<S: Alter, K: LogClock, W: LineSink> Service for LoggedService<S, K, W> {
         ensures answers { AnswersEach (applied (shown S.Store)) self.old
             (exchanges requests.now outcomes.new) self.new }
         ensures one { EndTogether outcomes.new }
+        ensures survives { Survives (shown S.Store self.old) (shown S.Store self.new)
+            (LeavesTogether requests.now (shown S.Store self.old)) }
         ensures shut { EachEndsIfShut S.Store self.new outcomes.new }
         ensures ends { EachEndsByFault S.Store self.old self.new outcomes.new }
         ensures latched { self.old.is_over ≡ true → self.new.is_over ≡ true }
@@ -186,6 +193,8 @@ fn asked<S: Alter, K: LogClock, W: LineSink>(
     ensures shut { EndsIfShut S.Store inner.new result }
     ensures ends { EndsByFault S.Store inner.old inner.new result }
     ensures latched { inner.old.is_over ≡ true → inner.new.is_over ≡ true }
+    ensures names { NamesAsker (shown S.Store inner.old) (shown S.Store inner.new) request.now
+        log.old log.new }
 {
     let user = user_of(alloc, inner, &request.who);
     let begun = log.start_micros();
@@ -208,9 +217,13 @@ fn asked_together<S: Alter, K: LogClock, W: LineSink>(
     ensures answers { AnswersEach (applied (shown S.Store)) inner.old
         (exchanges requests.now outcomes.new) inner.new }
     ensures one { EndTogether outcomes.new }
+    ensures survives { Survives (shown S.Store inner.old) (shown S.Store inner.new)
+        (LeavesTogether requests.now (shown S.Store inner.old)) }
     ensures shut { EachEndsIfShut S.Store inner.new outcomes.new }
     ensures ends { EachEndsByFault S.Store inner.old inner.new outcomes.new }
     ensures latched { inner.old.is_over ≡ true → inner.new.is_over ≡ true }
+    ensures names { 0 < length requests.now → NamesAskers (shown S.Store inner.old)
+        (shown S.Store inner.new) requests.now log.old log.new }
 {
     // Where nothing is asked, nobody is looked up.
     if requests.is_empty() {
@@ -232,7 +245,9 @@ fn known<S: Alter>(
     ensures first { AreFirstAsked requests.now result.items }
     ensures before { AnswersAsBefore (applied (shown S.Store)) inner.old inner.new }
     ensures over { inner.new.is_over ≡ inner.old.is_over }
-    ensures faults { (shown S.Store inner.old).faults ≤ (shown S.Store inner.new).faults }
+    ensures looks { LooksUp (shown S.Store inner.old) (shown S.Store inner.new) }
+    ensures named { HasCleanDisk (shown S.Store inner.new)
+        → MayNameEach (stored (shown S.Store inner.old)) requests.now result.items }
 {
     let mut asked = VecDeque::new(alloc);
     for request in requests {
@@ -273,7 +288,8 @@ fn user_of<S: Alter>(
 ) -> Option<Ident>
     ensures before { AnswersAsBefore (applied (shown S.Store)) inner.old inner.new }
     ensures over { inner.new.is_over ≡ inner.old.is_over }
-    ensures faults { (shown S.Store inner.old).faults ≤ (shown S.Store inner.new).faults }
+    ensures looks { LooksUp (shown S.Store inner.old) (shown S.Store inner.new) }
+    ensures finds { FindsUser (shown S.Store inner.old) (shown S.Store inner.new) who.now result }
 {
     match who {
         Credential::Token(digest) => found_user(alloc, inner, digest),
@@ -290,7 +306,9 @@ fn found_user<S: Alter>(
 ) -> Option<Ident>
     ensures before { AnswersAsBefore (applied (shown S.Store)) inner.old inner.new }
     ensures over { inner.new.is_over ≡ inner.old.is_over }
-    ensures faults { (shown S.Store inner.old).faults ≤ (shown S.Store inner.new).faults }
+    ensures looks { LooksUp (shown S.Store inner.old) (shown S.Store inner.new) }
+    ensures finds { FindsUser (shown S.Store inner.old) (shown S.Store inner.new)
+        (Token token.now) result }
 {
     let found = inner.user_of(alloc, token);
     inner.between_requests();

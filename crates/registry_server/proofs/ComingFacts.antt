@@ -177,7 +177,7 @@ module _ {S : Type 0} (received sent : S → Option (List ℕ)) (has_none is_ful
     λ is. waiting-stays (is_to_visit true p && not (over M)) (is_held_back crowd p) now most p q M v.0 r v.1 (unvisited p.is_ready (may_command_at p) (not (over M)) is) is v.2,
     visits-stay crowd now most ps qs v.0 K L N v.1 r1 s s2 v.3,
   )
-  visits-stay crowd now most (p ∷ ps) (q ∷ qs) M K L N r r1 s s2 (inr v) = absurd (false≢true (sym v.0))
+  visits-stay crowd now most (p ∷ ps) (q ∷ qs) M K L N r r1 s s2 (inr v) = absurd (false≢true (sym v.0.0))
 
   serve-stays : (now most : ℕ) (old new : List (Place S)) (M N : D) (r r2 : Option (List ℕ))
       → ServesQueries received sent has_none is_full has_more is_ended is_broken speaks answers over now most old new M N r r2 → Stay MayCommand old new

@@ -21,10 +21,10 @@ use Rattle.registry_service.specs.declared.turning.Turned.{Turned}
 use Rattle.registry_service.proofs.LabelFacts.{plain-answers}
 use Rattle.registry_service.proofs.TogetherFacts.{reads-later}
 use Rattle.registry_server.specs.ConnectionStates.{MayTakeTurn, Pending, TakesTurn, pending}
-use Rattle.registry_server.specs.Connections.{AnswersOnce, IsDone, IsLost, LeavesLittle, OpenConnection, SendsDue, Visits, must_wait}
+use Rattle.registry_server.specs.Connections.{AnswersOnce, IsDone, IsLost, LeavesLittle, OpenConnection, SendsDue, Visits, asked_in_answer, asked_in_visit, must_wait}
 use Rattle.registry_server.specs.Groups.{AnswersAside, AnswersNext, AnswersPlace, AnswersPlaces, AreAsked, AreSpelled, AskedEach, IsAsked, IsFirst, IsNotNext, IsStill, SetsPlaceAside, VisitsFirst, VisitsOrSetsAside, in_order}
 use Rattle.registry_server.specs.Phases.{SentAt, entered, takes_turns}
-use Rattle.registry_server.specs.Pools.{VisitsAll, VisitsAt, VisitsIf, VisitsLater, VisitsOne, VisitsThere, after_visit, is_held_back, is_to_visit, with_connection}
+use Rattle.registry_server.specs.Pools.{IsOneCommand, VisitsAll, VisitsAt, VisitsIf, VisitsLater, VisitsOne, VisitsThere, after_visit, asked_if, asked_there, is_held_back, is_to_visit, with_connection}
 use Rattle.registry_server.specs.declared.connection.Visit.{Visit}
 use Rattle.registry_server.specs.declared.connection.Visit.TheVariants.{Again, Rests, Over}
 use Rattle.registry_server.specs.declared.group.Command.{Command}
@@ -34,7 +34,7 @@ use Rattle.registry_server.specs.declared.phase.Stage.TheVariants.{Begun, Next, 
 use Rattle.registry_server.specs.declared.pool.Place.{Place}
 use Rattle.registry_server.proofs.IdleFacts.{nothing-unfinished}
 use Rattle.registry_server.proofs.PoolFacts.{all-back, visits-there}
-use Rattle.registry_server.proofs.StateFacts.{whole-turn}
+use Rattle.registry_server.proofs.StateFacts.{whole-asked, whole-turn}
 
 -- ---- a turn
 
@@ -67,6 +67,12 @@ module _ (speaks : Dialect) {D : Type 0} (answers : Answering D) where
         counts = with_it.counts;
       }
 
+  -- that command is asked in it
+  command-asked : (c : Command) (o : Outcome) (last : Bool) (t : Turned) (M N : D) (r r2 : Option (List ℕ)) (one : AsksOne speaks c.wanted) (asked : IsAsked answers c o M N r r2) (with_it : IsTurnWith o last c.wanted.closes t)
+      → (command-turn c o last t M N r r2 one asked with_it).exchanges ≡ exchange asked.request o ∷ []
+  unfolding command-turn
+  command-asked c o last t M N r r2 one asked with_it = refl
+
 -- where nothing is left to answer, nothing is held
 done-if : (p : Pending) → (p.held ≡ []) ⊎ IsSome p.ends → p.ends ≡ None → p.held ≡ []
 done-if p (inl none) goes = none
@@ -81,17 +87,21 @@ no-request held rest w none has = absurd (held-no_request [] [] w rest nothing-u
 
 module _ {S : Type 0} (received sent : S → Option (List ℕ)) {D : Type 0} (answers : Dialogue D) where
   -- a turn was taken, and some of what is due was sent
-  pub sent-answer : (now : ℕ) (old mid new : OpenConnection S) (M N : D) (r r2 : Option (List ℕ)) → MayTakeTurn old.state → TakesTurn answers old.state mid.state M N r r2 old.is_over
-      → mid.socket ≡ old.socket → mid.phase ≡ entered old.phase Sends now → mid.is_over ≡ old.is_over → SendsDue received sent now mid new → AnswersOnce received sent answers now old new M N r r2
-  sent-answer now old mid new M N r r2 may takes socket phase over s = record {
-    due = mid.state;
-    put = s.put;
-    turns = inl (record { may = may; takes = takes }, subst (λ (p : Phase). SentAt now (length s.put) p new.phase) phase s.times);
-    took = s.took ∙ ap (λ (x : S). append_known (sent x) s.put) socket;
-    unread = s.unread ∙ ap received socket;
-    sends = s.state;
-    over = s.over ∙ over;
-  }
+  pub sent-answer : (now : ℕ) (old mid new : OpenConnection S) (M N : D) (r r2 : Option (List ℕ)) → MayTakeTurn old.state → (takes : TakesTurn answers old.state mid.state M N r r2 old.is_over)
+      → mid.socket ≡ old.socket → mid.phase ≡ entered old.phase Sends now → mid.is_over ≡ old.is_over → SendsDue received sent now mid new
+      → (a : AnswersOnce received sent answers now old new M N r r2) × (asked_in_answer received sent answers a ≡ takes.turns.exchanges)
+  sent-answer now old mid new M N r r2 may takes socket phase over s = (
+    record {
+      due = mid.state;
+      put = s.put;
+      turns = inl (record { may = may; takes = takes }, subst (λ (p : Phase). SentAt now (length s.put) p new.phase) phase s.times);
+      took = s.took ∙ ap (λ (x : S). append_known (sent x) s.put) socket;
+      unread = s.unread ∙ ap received socket;
+      sends = s.state;
+      over = s.over ∙ over;
+    },
+    refl,
+  )
 
 module _ {S : Type 0} (received sent : S → Option (List ℕ)) (has_none is_full has_more is_ended is_broken : S → Bool) (speaks : Dialect) {D : Type 0} (answers : Answering D) where
   -- the command that was set aside was answered
@@ -102,9 +112,14 @@ module _ {S : Type 0} (received sent : S → Option (List ℕ)) (has_none is_ful
       → AnswersAside received sent has_none is_full has_more is_ended is_broken speaks answers now old new visit c o
   answers-aside now old mid new visit c o last t first may is_last with_it state socket phase over s more rests waits lost = record {
     asked = λ M N r r2 asked.
-        let turns = subst (λ (b : Bool). Turns (spoken speaks answers) M (request c.wanted asked.request.at) b t N) is_last (command-turn speaks answers c o last t M N r r2 first.one asked with_it) in
+        let with_last = subst (λ (b : Bool). IsTurnWith o b c.wanted.closes t) is_last with_it in
+        let turns = command-turn speaks answers c o (old.state.left == 1) t M N r r2 first.one asked with_last in
         let takes = whole-turn (spoken speaks answers) old.state mid.state M N r r2 old.is_over c.wanted c.used asked.request.at t first.first turns asked.gave state in
-        sent-answer received sent (spoken speaks answers) now old mid new M N r r2 may takes socket phase over s;
+        let all = sent-answer received sent (spoken speaks answers) now old mid new M N r r2 may takes socket phase over s in (
+          all.0,
+          all.1 ∙ whole-asked (spoken speaks answers) old.state mid.state M N r r2 old.is_over c.wanted c.used asked.request.at t first.first turns asked.gave state
+              ∙ command-asked speaks answers c o (old.state.left == 1) t M N r r2 first.one asked with_last,
+        );
     over = s.over ∙ over;
     rests = rests;
     waits = waits;
@@ -199,6 +214,11 @@ same-here {A} old items i p rest is =
     let second : get_or (drop i old) 0 p ≡ get_or old i p = get_or-drop i old 0 p ∙ ap (λ (n : ℕ). get_or old n p) none in
     is ∙ sym first ∙ ap (λ (l : List A). get_or l 0 p) rest ∙ second
 
+-- a service that isn't over
+pub not-over : (b : Bool) → not b ≡ true → b ≡ false
+not-over true is = absurd (false≢true is)
+not-over false is = refl
+
 pub still : (g : Group) → IsStill g g
 still g = record { commands = refl; requests = refl; outcomes = refl }
 
@@ -241,9 +261,17 @@ module _ {S : Type 0} (received sent : S → Option (List ℕ)) (has_none is_ful
   none-later now number [] cs os none = tt
   none-later now number (q ∷ qs) cs os none = inr (subst (IsNotNext number) (sym none) tt, refl, none-later now (number + 1) qs cs os none)
 
-  later-there : (now most : ℕ) (p q : Place S) (o : Option (OpenConnection S)) (c d : OpenConnection S) (visit : Visit) (M N : D) (r r2 : Option (List ℕ)) → o ≡ Some c
-      → VisitsOne received sent has_none is_full has_more is_ended is_broken (spoken speaks answers) now most p c q M N r r2 → VisitsThere received sent has_none is_full has_more is_ended is_broken (spoken speaks answers) now most p o q M N r r2
-  later-there now most p q o c d visit M N r r2 at one = subst (λ (x : Option (OpenConnection S)). VisitsThere received sent has_none is_full has_more is_ended is_broken (spoken speaks answers) now most p x q M N r r2) (sym at) one
+  -- what is asked there is one command
+  abbrev LaterThere : ℕ → ℕ → Place S → Option (OpenConnection S) → Place S → D → D → Option (List ℕ) → Option (List ℕ) → Type 0
+  LaterThere now most p o q M N r r2 = (visit : VisitsThere received sent has_none is_full has_more is_ended is_broken (spoken speaks answers) now most p o q M N r r2)
+      × IsOneCommand (asked_there received sent has_none is_full has_more is_ended is_broken (spoken speaks answers) now most p o q M N r r2 visit)
+
+  later-if : (b held : Bool) (now most : ℕ) (p q : Place S) (M N : D) (r r2 : Option (List ℕ)) → b ≡ true → held ≡ false → LaterThere now most p p.connection q M N r r2
+      → (visit : VisitsIf received sent has_none is_full has_more is_ended is_broken (spoken speaks answers) b held now most p q M N r r2)
+      × IsOneCommand (asked_if received sent has_none is_full has_more is_ended is_broken (spoken speaks answers) b held now most p q M N r r2 visit)
+  later-if true true now most p q M N r r2 is not there = absurd (false≢true (sym not))
+  later-if true false now most p q M N r r2 is not there = there
+  later-if false held now most p q M N r r2 is not there = absurd (false≢true is)
 
   after-same : (v : Visit) (p : Place S) (d : OpenConnection S) (o : Option (OpenConnection S)) → after_visit v (with_connection p o false) d ≡ after_visit v p d
   after-same Again p d o = refl
@@ -254,18 +282,20 @@ module _ {S : Type 0} (received sent : S → Option (List ℕ)) (has_none is_ful
   after-aside v p m d o is = ap (λ (x : Place S). after_visit v x d) is ∙ after-same v p d o
 
   -- the command of a place that was set aside was answered: that is a visit
-  later-one : (paused crowd : Bool) (now most number : ℕ) (p m q : Place S) (c : Command) (a : Request) (o : Outcome) (L N : D) (s s2 : Option (List ℕ))
-      → SetsPlaceAside received sent has_none is_full has_more is_ended is_broken speaks answers paused crowd now most p m number c a
+  later-one : (paused crowd is_over : Bool) (now most number : ℕ) (p m q : Place S) (c : Command) (a : Request) (o : Outcome) (L N : D) (s s2 : Option (List ℕ))
+      → SetsPlaceAside received sent has_none is_full has_more is_ended is_broken speaks answers paused crowd is_over now most p m number c a
       → AnswersPlace received sent has_none is_full has_more is_ended is_broken speaks answers now m q c o → IsAsked answers c o L N s s2
       → VisitsLater received sent has_none is_full has_more is_ended is_broken (spoken speaks answers) over paused crowd now most p q L N s s2
-  later-one paused crowd now most number p m q c a o L N s s2 x y asked =
+  later-one paused crowd is_over now most number p m q c a o L N s s2 x y asked =
       let ready = x.aside.ready in
       let there : m.connection ≡ Some x.is = ap (λ (l : Place S). l.connection) x.place in
       let idle : m.is_ready ≡ false = ap (λ (l : Place S). l.is_ready) x.place in
       let (d, visit, place, z) = y.answered x.is there ready.turning x.aside.first in
+      let answered = z.asked L N s s2 asked in
+      let visited = ready.visits d L N s s2 answered.0 in
       let one : VisitsOne received sent has_none is_full has_more is_ended is_broken (spoken speaks answers) now most p x.was q L N s s2 = record {
         connection = d;
-        visits = ready.visits d L N s s2 (z.asked L N s s2 asked);
+        visits = visited.0;
         visit = visit;
         place = place idle ∙ after-aside visit p m d (Some x.is) x.place;
         rests = z.rests;
@@ -274,12 +304,10 @@ module _ {S : Type 0} (received sent : S → Option (List ℕ)) (has_none is_ful
         over = z.lost;
         ends = λ done is_over. no-request x.is.state.held (drop c.used x.is.state.held) c.wanted (ready.ends done (sym z.over ∙ is_over)) x.aside.first.first;
         leaves = λ goes little. ready.leaves d (z.rest goes) little;
-      } in (
-        subst (λ (b : Bool). VisitsIf received sent has_none is_full has_more is_ended is_broken (spoken speaks answers) b (is_held_back crowd p) now most p q L N s s2) (sym x.is_ready)
-            (subst (λ (b : Bool). VisitsIf received sent has_none is_full has_more is_ended is_broken (spoken speaks answers) true b now most p q L N s s2) (sym x.unheld)
-            (later-there now most p q p.connection x.was d visit L N s s2 x.there one)),
-        (asked.request, o, asked.command, (N, asked.answered, refl)),
-      )
+      } in
+      let asks : IsOneCommand (asked_in_visit received sent (spoken speaks answers) visited.0) = subst IsOneCommand (sym (visited.1 ∙ answered.1)) asked.command in
+      later-if (is_to_visit paused p) (is_held_back crowd p) now most p q L N s s2 x.is_ready x.unheld
+      (subst (λ (o : Option (OpenConnection S)). LaterThere now most p o q L N s s2) (sym x.there) (one, asks))
 
   -- the first visits, and the commands that were answered together, are a round's visits
   pub visits-together : (paused crowd : Bool) (now most number : ℕ) (ps ms qs : List (Place S)) (cs : List Command) (rs : List Request) (os : List Outcome) (M K L N : D) (r r1 s s2 : Option (List ℕ))
@@ -310,10 +338,10 @@ module _ {S : Type 0} (received sent : S → Option (List ℕ)) (has_none is_ful
       let here = subst (λ (x : Command). AnswersPlace received sent has_none is_full has_more is_ended is_broken speaks answers now m q x w.1) same w.7 in
       let others = subst (λ (l : List Command). AnswersPlaces received sent has_none is_full has_more is_ended is_broken speaks answers now (number + 1) ms qs l w.3) rest w.8 in
       inr (
-        v.6.unpaused,
+        (v.6.unpaused, v.6.goes_on),
         both.0,
         both.1,
-        later-one paused crowd now most number p m q v.0 v.1 w.1 L both.0 s both.1 v.6 here both.2,
+        later-one paused crowd (over M) now most number p m q v.0 v.1 w.1 L both.0 s both.1 v.6 here both.2,
         visits-together paused crowd now most (number + 1) ps ms qs v.2 v.3 w.3 M K both.0 N r r1 both.1 s2 v.7 both.3 others,
       )
   visits-together paused crowd now most number [] [] (q ∷ qs) cs rs os M K L N r r1 s s2 v asked places = absurd places
@@ -366,7 +394,7 @@ module _ {S : Type 0} (received sent : S → Option (List ℕ)) (has_none is_ful
 
   aside-more : (paused crowd : Bool) (now most number : ℕ) (ps qs : List (Place S)) (p q : Place S) (c : Command) (a : Request) (cs : List Command) (rs : List Request) (M m : D) (r r1 : Option (List ℕ))
       → VisitsFirst received sent has_none is_full has_more is_ended is_broken speaks answers over paused crowd now most number ps qs cs rs M m r r1
-      → SetsPlaceAside received sent has_none is_full has_more is_ended is_broken speaks answers paused crowd now most p q (number + length ps) c a
+      → SetsPlaceAside received sent has_none is_full has_more is_ended is_broken speaks answers paused crowd (over m) now most p q (number + length ps) c a
       → VisitsFirst received sent has_none is_full has_more is_ended is_broken speaks answers over paused crowd now most number (ps ++ p ∷ []) (qs ++ q ∷ []) (cs ++ c ∷ []) (rs ++ a ∷ []) M m r r1
   aside-more paused crowd now most number [] [] p q c a cs rs M m r r1 v one = inr (
     c,
@@ -375,7 +403,8 @@ module _ {S : Type 0} (received sent : S → Option (List ℕ)) (has_none is_ful
     [],
     ap (λ (l : List Command). l ++ c ∷ []) v.0,
     ap (λ (l : List Request). l ++ a ∷ []) v.1,
-    subst (λ (n : ℕ). SetsPlaceAside received sent has_none is_full has_more is_ended is_broken speaks answers paused crowd now most p q n c a) (omega arith) one,
+    subst (λ (d : D). SetsPlaceAside received sent has_none is_full has_more is_ended is_broken speaks answers paused crowd (over d) now most p q number c a) v.2
+        (subst (λ (n : ℕ). SetsPlaceAside received sent has_none is_full has_more is_ended is_broken speaks answers paused crowd (over m) now most p q n c a) (omega arith) one),
     (refl, refl, v.2, v.3),
   )
   aside-more paused crowd now most number (x ∷ ps) (y ∷ qs) p q c a cs rs M m r r1 (inl v) one = inl (
@@ -383,7 +412,7 @@ module _ {S : Type 0} (received sent : S → Option (List ℕ)) (has_none is_ful
     v.1,
     v.2,
     aside-more paused crowd now most (number + 1) ps qs p q c a cs rs v.0 m v.1 r1 v.3
-        (subst (λ (n : ℕ). SetsPlaceAside received sent has_none is_full has_more is_ended is_broken speaks answers paused crowd now most p q n c a) (omega arith) one),
+        (subst (λ (n : ℕ). SetsPlaceAside received sent has_none is_full has_more is_ended is_broken speaks answers paused crowd (over m) now most p q n c a) (omega arith) one),
   )
   aside-more paused crowd now most number (x ∷ ps) (y ∷ qs) p q c a cs rs M m r r1 (inr v) one = inr (
     v.0,
@@ -394,7 +423,7 @@ module _ {S : Type 0} (received sent : S → Option (List ℕ)) (has_none is_ful
     ap (λ (l : List Request). l ++ a ∷ []) v.5,
     v.6,
     aside-more paused crowd now most (number + 1) ps qs p q c a v.2 v.3 M m r r1 v.7
-        (subst (λ (n : ℕ). SetsPlaceAside received sent has_none is_full has_more is_ended is_broken speaks answers paused crowd now most p q n c a) (omega arith) one),
+        (subst (λ (n : ℕ). SetsPlaceAside received sent has_none is_full has_more is_ended is_broken speaks answers paused crowd (over m) now most p q n c a) (omega arith) one),
   )
   aside-more paused crowd now most number [] (y ∷ qs) p q c a cs rs M m r r1 v one = absurd v
   aside-more paused crowd now most number (x ∷ ps) [] p q c a cs rs M m r r1 v one = absurd v
@@ -409,7 +438,7 @@ module _ {S : Type 0} (received sent : S → Option (List ℕ)) (has_none is_ful
       (visited-more paused crowd now most 0 ps qs p q g.commands.items g.requests.items M m N r r1 r2 v one))
   one-more paused crowd now most i ps qs p q g h M m N r r1 r2 at v (inr x) =
       let adds = x.2 in
-      let here = subst (λ (n : ℕ). SetsPlaceAside received sent has_none is_full has_more is_ended is_broken speaks answers paused crowd now most p q n x.0 x.1) (omega (arith, at)) x.3 in
+      let here = subst (λ (n : ℕ). SetsPlaceAside received sent has_none is_full has_more is_ended is_broken speaks answers paused crowd (over m) now most p q n x.0 x.1) (omega (arith, at)) x.3 in
       let more = aside-more paused crowd now most 0 ps qs p q x.0 x.1 g.commands.items g.requests.items M m r r1 v here in
       subst (λ (d : D). VisitsFirst received sent has_none is_full has_more is_ended is_broken speaks answers over paused crowd now most 0 (ps ++ p ∷ []) (qs ++ q ∷ []) h.commands.items h.requests.items M d r r2) (sym x.4)
       (subst (λ (k : Option (List ℕ)). VisitsFirst received sent has_none is_full has_more is_ended is_broken speaks answers over paused crowd now most 0 (ps ++ p ∷ []) (qs ++ q ∷ []) h.commands.items h.requests.items M m r k) (sym x.5)

@@ -1,5 +1,5 @@
 -- Requests that begin as queries do are queries.
-use Rattle.std.proofs.Common.{◌≡◌, ◌≢◌, ◌<◌, ◌≤◌, ◌++◌, ◌∷◌, ◌∙◌, ◌==◌, ◌&&◌, not, [], ℕ, Bool, true, false, List, Option, None, Some, IsSome, if◌then◌else◌, append_assoc, bytes_eq, codes, drop, length, nat_eq, refl, ap, subst, sym, inl, inr, arith}
+use Rattle.std.proofs.Common.{◌≡◌, ◌≢◌, ◌<◌, ◌≤◌, ◌⊎◌, ◌++◌, ◌∷◌, ◌∙◌, ◌==◌, ◌&&◌, not, [], ℕ, Bool, true, false, List, Option, None, Some, IsSome, if◌then◌else◌, append_assoc, bytes_eq, codes, drop, length, nat_eq, refl, ap, subst, sym, inl, inr, arith}
 use Rattle.std.specs.List.{starts_with}
 use Rattle.std.proofs.lemmas.Bool.{false≢true}
 use Rattle.std.proofs.lemmas.Bool.Decides.{Decides-eqb}
@@ -16,12 +16,12 @@ use Rattle.registry_wire.specs.declared.wanted.Wanted.{Wanted}
 use Rattle.registry_wire.specs.Reading.{TakenOf}
 use Rattle.registry_service.specs.Courses.{taken_for}
 use Rattle.registry_service.specs.Dialects.{AreQueries, AsksQueriesByGet, IsReader}
-use Rattle.registry_service.specs.Turns.{Answering, AnswersAsBefore, AnswersEach, Cause, Dialect, Exchange, Turns, bad_input, exchange, no_memory, request, spoken}
+use Rattle.registry_service.specs.Turns.{Answering, AnswersAsBefore, AnswersEach, Cause, Dialect, Exchange, Turns, bad_input, no_memory, request, spoken}
 use Rattle.registry_service.specs.declared.turning.Turned.{Turned}
 use Rattle.registry_server.specs.ConnectionStates.{MayTakeTurn, Pending, holding}
-use Rattle.registry_server.specs.Connections.{IsInOrder, Keeps, LeavesLittle, OpenConnection, TakesOne, Visits, may_command, query_start}
+use Rattle.registry_server.specs.Connections.{IsInOrder, Keeps, LeavesLittle, OpenConnection, TakesOne, Visits, asked_in_turn, may_command, query_start}
 use Rattle.registry_server.specs.Phases.{HeardAt, is_under_way}
-use Rattle.registry_server.specs.Pools.{AsksCommand, HoldsAskQueries, QueriesAreAnswers, ServesQueries, no_round, one_round, VisitsAll, VisitsIf, VisitsThere, is_crowd, is_held_back, is_to_visit}
+use Rattle.registry_server.specs.Pools.{HoldsAskQueries, IsOneCommand, QueriesAreAnswers, ServesQueries, no_round, one_round, VisitsAll, VisitsIf, VisitsThere, asked_if, asked_there, is_crowd, is_held_back, is_to_visit}
 use Rattle.registry_server.specs.Queries.{AskQueries, IsQueried, one_more, queries, unasked}
 use Rattle.registry_server.specs.declared.phase.Phase.{Phase}
 use Rattle.registry_server.specs.declared.phase.Stage.{Stage}
@@ -73,6 +73,11 @@ module _ {D : Type 0} (answers : Answering D) where
   each-answered M [] N same = same
   each-answered M (e ∷ es) N (K, first, rest) = (K, first.1, each-answered K es N rest)
 
+  each-no_command : (M : D) (es : List Exchange) (N : D) → AnswersEach (queries answers) M es N → IsOneCommand es → ⊥
+  each-no_command M [] N asked one = one
+  each-no_command M (e ∷ []) N (K, first, rest) one = false≢true (sym first.0 ∙ one)
+  each-no_command M (e ∷ f ∷ es) N asked one = one
+
   still : (K M N : D) → N ≡ M → AskQueries answers K M → AskQueries answers K N
   still K M N same was = subst (λ (d : D). AskQueries answers K d) (sym same) was
 
@@ -81,9 +86,16 @@ module _ {D : Type 0} (answers : Answering D) where
   each-leaves K M (e ∷ es) N was (P, first, rest) = each-leaves K P es N (one_more M P e.asked e.outcome was first.0 first.1) rest
 
 module _ (speaks : Dialect) {D : Type 0} (answers : Answering D) where
-  -- so is a command
-  command-answered : (M N : D) → AsksCommand (spoken speaks (queries answers)) M N → AsksCommand (spoken speaks answers) M N
-  command-answered M N (r, o, is, asked) = (r, o, is, each-answered answers M (exchange r o ∷ []) N asked)
+  -- none of them is a command
+  turn-no_command : (c : Cause) (M : D) (last : Bool) (t : Turned) (N : D) (x : Turns (spoken speaks (queries answers)) M c last t N) → IsOneCommand x.exchanges → ⊥
+  turn-no_command (request w at) M last t N x one = each-no_command answers M x.exchanges N x.is_turn.answered.1 one
+  turn-no_command (bad_input r) M last t N x one = subst IsOneCommand x.is_turn.2 one
+  turn-no_command no_memory M last t N x one = subst IsOneCommand x.is_turn.2 one
+
+  taken-no_command : {A B : Type 0} (old new : Pending) (M N : D) (r r2 : Option (List ℕ)) (over : Bool) (t : (TakesOne (spoken speaks (queries answers)) old new M N r r2 over × A) ⊎ B)
+      → IsOneCommand (asked_in_turn (spoken speaks (queries answers)) t) → ⊥
+  taken-no_command old new M N r r2 over (inl t) one = turn-no_command t.0.takes.cause M (old.left == 1) t.0.takes.turned N t.0.takes.turns one
+  taken-no_command old new M N r r2 over (inr t) one = one
 
   -- where its request begins as a query does, it asks queries alone
   turn-query : AsksQueriesByGet speaks → (c : Cause) (M : D) (last : Bool) (t : Turned) (N : D) → ((w : Wanted) (at : ℕ) → c ≡ request w at → IsReader w.method)
@@ -277,6 +289,21 @@ module _ {S : Type 0} (received sent : S → Option (List ℕ)) (has_none is_ful
   visited-answered true false now most p q M N r r2 v = there-answered now most p p.connection q M N r r2 v
   visited-answered false held now most p q M N r r2 v = record { place = v.place; service = v.service; unasked = v.unasked }
 
+  -- no command is asked
+  there-no_command : (now most : ℕ) (p : Place S) (o : Option (OpenConnection S)) (q : Place S) (M N : D) (r r2 : Option (List ℕ))
+      (v : VisitsThere received sent has_none is_full has_more is_ended is_broken (spoken speaks (queries answers)) now most p o q M N r r2)
+      → IsOneCommand (asked_there received sent has_none is_full has_more is_ended is_broken (spoken speaks (queries answers)) now most p o q M N r r2 v) → ⊥
+  there-no_command now most p None q M N r r2 v one = one
+  there-no_command now most p (Some c) q M N r r2 v one =
+      taken-no_command speaks answers v.visits.read v.visits.due M N r r2 v.connection.is_over v.visits.turns one
+
+  visited-no_command : (b held : Bool) (now most : ℕ) (p q : Place S) (M N : D) (r r2 : Option (List ℕ))
+      (v : VisitsIf received sent has_none is_full has_more is_ended is_broken (spoken speaks (queries answers)) b held now most p q M N r r2)
+      → IsOneCommand (asked_if received sent has_none is_full has_more is_ended is_broken (spoken speaks (queries answers)) b held now most p q M N r r2 v) → ⊥
+  visited-no_command true true now most p q M N r r2 v one = one
+  visited-no_command true false now most p q M N r r2 v one = there-no_command now most p p.connection q M N r r2 v one
+  visited-no_command false held now most p q M N r r2 v one = one
+
   all-answered : (paused crowd : Bool) (now most : ℕ) (ps qs : List (Place S)) (M K L N : D) (r r1 s s2 : Option (List ℕ))
       → VisitsAll received sent has_none is_full has_more is_ended is_broken (spoken speaks (queries answers)) over paused crowd now most ps qs M K L N r r1 s s2
       → VisitsAll received sent has_none is_full has_more is_ended is_broken (spoken speaks answers) over paused crowd now most ps qs M K L N r r1 s s2
@@ -287,13 +314,8 @@ module _ {S : Type 0} (received sent : S → Option (List ℕ)) (has_none is_ful
     visited-answered (is_to_visit paused p && not (over M)) (is_held_back crowd p) now most p q M v.0 r v.1 v.2,
     all-answered paused crowd now most ps qs v.0 K L N v.1 r1 s s2 v.3,
   )
-  all-answered paused crowd now most (p ∷ ps) (q ∷ qs) M K L N r r1 s s2 (inr v) = inr (
-    v.0,
-    v.1,
-    v.2,
-    (visited-answered (is_to_visit paused p) (is_held_back crowd p) now most p q L v.1 s v.2 v.3.0, command-answered speaks answers L v.1 v.3.1),
-    all-answered paused crowd now most ps qs M K v.1 N r r1 v.2 s2 v.4,
-  )
+  all-answered paused crowd now most (p ∷ ps) (q ∷ qs) M K L N r r1 s s2 (inr v) =
+      absurd (visited-no_command (is_to_visit paused p) (is_held_back crowd p) now most p q L v.1 s v.2 v.3.0 v.3.1)
   all-answered paused crowd now most [] (q ∷ qs) M K L N r r1 s s2 v = absurd v
   all-answered paused crowd now most (p ∷ ps) [] M K L N r r1 s s2 v = absurd v
 

@@ -70,3 +70,11 @@ whole-turn answers old new M N readings readings2 over w used at t has turns ask
   ends = ap (λ (p : Pending). p.ends) state;
   left = ap (λ (p : Pending). p.left) state;
 }
+
+-- and the same is asked
+pub whole-asked : {D : Type 0} (answers : Dialogue D) (old new : Pending) (M N : D) (readings readings2 : Option (List ℕ)) (over : Bool) (w : Wanted) (used at : ℕ) (t : Turned)
+    → (has : HasRequest old.held w (drop used old.held)) (turns : Turns answers M (request w at) (old.left == 1) t N) (asked : Gave readings readings2 (at ∷ []))
+    (state : new ≡ pending (drop used old.held) (bytes_of t) (old.left - 1) t.end)
+    → (whole-turn answers old new M N readings readings2 over w used at t has turns asked state).turns.exchanges ≡ turns.exchanges
+unfolding whole-turn
+whole-asked answers old new M N readings readings2 over w used at t has turns asked state = refl

@@ -4,11 +4,13 @@ use Rattle.std.proofs.lemmas.Bool.{false≢true}
 use Rattle.std.proofs.lemmas.List.{length-take, take-append-drop}
 use Rattle.std.specs.Io.KnownBytes.{append_known}
 use Rattle.registry_wire.specs.Spelling.{IsUnfinished}
+use Rattle.registry_wire.specs.Reading.{TakenOf}
+use Rattle.registry_service.specs.Courses.{taken_for}
 use Rattle.registry_service.specs.Turns.{Dialogue}
 use Rattle.registry_service.specs.declared.turning.End.{End}
 use Rattle.registry_server.specs.ConnectionStates.{IsStarved, MayTakeTurn, Pending, TakesNone, holding, sending}
-use Rattle.registry_server.specs.Connections.{AnswersOnce, Drops, Keeps, MayReceive, OpenConnection, Receives, SendsDue, StarvesOnce, TakesOne, Visits, connected, must_wait_in}
-use Rattle.registry_server.specs.Phases.{LookedAt, SentAt, receives, takes_turns}
+use Rattle.registry_server.specs.Connections.{AnswersOnce, Drops, Keeps, MayReceive, OpenConnection, Receives, SendsDue, StarvesOnce, TakesOne, Visits, asked_in_answer, asked_in_turn, asked_in_visit, connected, must_wait_in}
+use Rattle.registry_server.specs.Phases.{LookedAt, SentAt, entered, receives, takes_turns}
 use Rattle.registry_server.specs.Sockets.{moved}
 use Rattle.registry_server.specs.declared.phase.Phase.{Phase}
 use Rattle.registry_server.specs.declared.phase.Stage.{Stage}
@@ -155,48 +157,83 @@ module _ {S : Type 0} (received sent : S → Option (List ℕ)) {D : Type 0} (an
     over = h.over;
   }
 
+  -- the same turn, in which the same is asked
+  same-taken : (old new : Pending) (M N : D) (r r2 : Option (List ℕ)) (was is : Bool) → is ≡ was → (t : TakesOne answers old new M N r r2 was)
+      → (u : TakesOne answers old new M N r r2 is) × (u.takes.turns.exchanges ≡ t.takes.turns.exchanges)
+  same-taken old new M N r r2 was is same t = (
+    record {
+      may = t.may;
+      takes = record {
+        cause = t.takes.cause;
+        turned = t.takes.turned;
+        took = subst (λ (b : Bool). TakenOf old.held new.held (b ≡ true) (taken_for t.takes.cause)) (sym same) t.takes.took;
+        turns = t.takes.turns;
+        asked = t.takes.asked;
+        outgoing = t.takes.outgoing;
+        ends = t.takes.ends;
+        left = t.takes.left;
+      };
+    },
+    refl,
+  )
+
+  same-turn : {A B P Q : Type 0} (old new : Pending) (M N : D) (r r2 : Option (List ℕ)) (was is : Bool) → is ≡ was → (A → P) → (B → Q) → (t : (TakesOne answers old new M N r r2 was × A) ⊎ B)
+      → (u : (TakesOne answers old new M N r r2 is × P) ⊎ Q) × (asked_in_turn answers u ≡ asked_in_turn answers t)
+  same-turn old new M N r r2 was is same f g (inl t) = let one = same-taken old new M N r r2 was is same t.0 in (inl (one.0, f t.1), one.1)
+  same-turn old new M N r r2 was is same f g (inr t) = (inr (g t), refl)
+
   -- bytes were received, and a turn was taken
   pub visit-answered : (now most : ℕ) (old mid new : OpenConnection S) (M N : D) (r r2 : Option (List ℕ)) → Receives received sent now most old mid true → MayTakeTurn old.state
       → IsUnfinished old.state.held → receives old.phase.stage ≡ true → (old.phase.stage ≡ Idle → old.state.held ≡ []) → takes_turns old.phase.stage ≡ true
-      → AnswersOnce received sent answers now mid new M N r r2 → Visits received sent answers now most old new M N r r2
-  visit-answered now most old mid new M N r r2 h may waits receiving idle turning a = record {
-    got = h.got;
-    few = h.few;
-    gave = a.unread ∙ h.gave;
-    lean = inr (may-receive old.phase.stage old.state receiving may waits idle);
-    read = mid.state;
-    due = a.due;
-    keeps = inl (may.goes_on, h.state, h.none);
-    turns = elim a.turns [
-      | inl t ↦ inl (subst (λ (b : Bool). TakesOne answers mid.state a.due M N r r2 b) (sym a.over) t.0, subst (λ (x : Phase). SentAt now (length a.put) x new.phase) (heard-sends now old.phase mid.phase turning h.times) t.1)
-      | inr t ↦ inr (t.0, subst (λ (l : List ℕ). SentAt now (length l) old.phase new.phase) (sym t.1) (heard-looked now old.phase mid.phase new.phase h.times t.2))
-    ];
-    put = a.put;
-    took = a.took ∙ ap (λ (known : Option (List ℕ)). append_known known a.put) h.unsent;
-    sends = a.sends;
-    over = λ was. a.over ∙ h.over was;
-  }
+      → (a : AnswersOnce received sent answers now mid new M N r r2) → (v : Visits received sent answers now most old new M N r r2) × (asked_in_visit received sent answers v ≡ asked_in_answer received sent answers a)
+  visit-answered now most old mid new M N r r2 h may waits receiving idle turning a =
+      let t = same-turn mid.state a.due M N r r2 mid.is_over new.is_over a.over
+      (λ (x : SentAt now (length a.put) (entered mid.phase Sends now) new.phase). subst (λ (y : Phase). SentAt now (length a.put) y new.phase) (heard-sends now old.phase mid.phase turning h.times) x)
+      (λ (x : TakesNone answers mid.state a.due M N r r2 × (a.put ≡ []) × LookedAt now mid.phase new.phase).
+      (x.0, subst (λ (l : List ℕ). SentAt now (length l) old.phase new.phase) (sym x.1) (heard-looked now old.phase mid.phase new.phase h.times x.2)))
+      a.turns in (
+        record {
+          got = h.got;
+          few = h.few;
+          gave = a.unread ∙ h.gave;
+          lean = inr (may-receive old.phase.stage old.state receiving may waits idle);
+          read = mid.state;
+          due = a.due;
+          keeps = inl (may.goes_on, h.state, h.none);
+          turns = t.0;
+          put = a.put;
+          took = a.took ∙ ap (λ (known : Option (List ℕ)). append_known known a.put) h.unsent;
+          sends = a.sends;
+          over = λ was. a.over ∙ h.over was;
+        },
+        t.1,
+      )
 
   -- a turn was taken of what was held
   pub visit-turned : (now most : ℕ) (old new : OpenConnection S) (M N : D) (r r2 : Option (List ℕ)) → MayTakeTurn old.state
-      → AnswersOnce received sent answers now old new M N r r2 → Visits received sent answers now most old new M N r r2
-  visit-turned now most old new M N r r2 may a = record {
-    got = [];
-    few = omega arith;
-    gave = a.unread ∙ none-added (received old.socket);
-    lean = inl refl;
-    read = old.state;
-    due = a.due;
-    keeps = inl (may.goes_on, none-held old.state, λ _. refl);
-    turns = elim a.turns [
-      | inl t ↦ inl (subst (λ (b : Bool). TakesOne answers old.state a.due M N r r2 b) (sym a.over) t.0, t.1)
-      | inr t ↦ inr (t.0, subst (λ (l : List ℕ). SentAt now (length l) old.phase new.phase) (sym t.1) (looked-sent now old.phase new.phase t.2))
-    ];
-    put = a.put;
-    took = a.took;
-    sends = a.sends;
-    over = λ was. a.over ∙ was;
-  }
+      → (a : AnswersOnce received sent answers now old new M N r r2) → (v : Visits received sent answers now most old new M N r r2) × (asked_in_visit received sent answers v ≡ asked_in_answer received sent answers a)
+  visit-turned now most old new M N r r2 may a =
+      let t = same-turn old.state a.due M N r r2 old.is_over new.is_over a.over
+      (λ (x : SentAt now (length a.put) (entered old.phase Sends now) new.phase). x)
+      (λ (x : TakesNone answers old.state a.due M N r r2 × (a.put ≡ []) × LookedAt now old.phase new.phase).
+      (x.0, subst (λ (l : List ℕ). SentAt now (length l) old.phase new.phase) (sym x.1) (looked-sent now old.phase new.phase x.2)))
+      a.turns in (
+        record {
+          got = [];
+          few = omega arith;
+          gave = a.unread ∙ none-added (received old.socket);
+          lean = inl refl;
+          read = old.state;
+          due = a.due;
+          keeps = inl (may.goes_on, none-held old.state, λ _. refl);
+          turns = t.0;
+          put = a.put;
+          took = a.took;
+          sends = a.sends;
+          over = λ was. a.over ∙ was;
+        },
+        t.1,
+      )
 
   -- there was no memory for what was received
   pub visit-starved : (now most : ℕ) (old mid new : OpenConnection S) (M : D) (r : Option (List ℕ)) → Receives received sent now most old mid false → MayTakeTurn old.state

@@ -1,10 +1,11 @@
 -- An open connection with its socket, and what a visit makes of both.
 use Rattle.std.specs.Prelude.{◌≡◌, ◌≢◌, ◌≤◌, ◌==◌, ◌⊎◌, ◌++◌, ◌&&◌, [], ℕ, Bool, true, false, List, Option, None, Some, IsSome, codes, is_none, is_some, length, nat_eq, nat_lt, not, if◌then◌else◌}
+use Rattle.std.proofs.Common.{inl, inr}
 use Rattle.std.specs.Io.KnownBytes.{append_known}
 use Rattle.std.specs.List.{starts_with}
 use Rattle.registry_wire.specs.Spelling.{HasRequest, IsUnfinished, head_limit}
 use Rattle.registry_wire.specs.declared.wanted.Wanted.{Wanted}
-use Rattle.registry_service.specs.Turns.{Dialogue}
+use Rattle.registry_service.specs.Turns.{Dialogue, Exchange}
 use Rattle.registry_service.specs.declared.turning.End.{End}
 use Rattle.registry_server.specs.ConnectionStates.{IsStarved, MayTakeTurn, Pending, TakesNone, TakesTurn, holding, lasting, sending}
 use Rattle.registry_server.specs.Phases.{HeardAt, LookedAt, SentAt, entered, is_under_way, receives, takes_turns, waited}
@@ -188,6 +189,11 @@ module _ {D : Type 0} (answers : Dialogue D) where
     pub may : MayTakeTurn old
     pub takes : TakesTurn answers old new M N readings readings2 over
 
+  -- what is asked of the service in the turn, if one is taken
+  abbrev pub asked_in_turn : {old new : Pending} {M N : D} {readings readings2 : Option (List ℕ)} {over : Bool} {A B : Type 0} → (TakesOne old new M N readings readings2 over × A) ⊎ B → List Exchange
+  asked_in_turn (inl turn) = turn.0.takes.turns.exchanges
+  asked_in_turn (inr none) = []
+
 module _ {S : Type 0} (received sent : S → Option (List ℕ)) {D : Type 0} (answers : Dialogue D) where
   -- A turn was taken, or none, and the socket took some of what is due then.
   pub record AnswersOnce (now : ℕ) (old new : OpenConnection S) (M N : D) (readings readings2 : Option (List ℕ)) : Type 0 where
@@ -219,3 +225,11 @@ module _ {S : Type 0} (received sent : S → Option (List ℕ)) {D : Type 0} (an
     pub took : sent new.socket ≡ append_known (sent old.socket) put
     pub sends : due ≡ sending new.state (put ++ new.state.outgoing)
     pub over : old.is_over ≡ true → new.is_over ≡ true
+
+  -- what is asked of the service in a visit
+  abbrev pub asked_in_visit : {now most : ℕ} {old new : OpenConnection S} {M N : D} {readings readings2 : Option (List ℕ)} → Visits now most old new M N readings readings2 → List Exchange
+  asked_in_visit visit = asked_in_turn answers visit.turns
+
+  -- and in an answer to what is held
+  abbrev pub asked_in_answer : {now : ℕ} {old new : OpenConnection S} {M N : D} {readings readings2 : Option (List ℕ)} → AnswersOnce now old new M N readings readings2 → List Exchange
+  asked_in_answer answered = asked_in_turn answers answered.turns

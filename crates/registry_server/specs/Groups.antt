@@ -7,8 +7,8 @@ use Rattle.registry_service.specs.Courses.{Gave}
 use Rattle.registry_service.specs.Dialects.{AsksOne}
 use Rattle.registry_service.specs.HttpAnswers.{Outcome}
 use Rattle.registry_service.specs.Requests.{reads_request}
-use Rattle.registry_service.specs.Turns.{Answering, Dialect, Dialogue, spoken}
-use Rattle.registry_server.specs.Connections.{AnswersOnce, IsDone, IsLost, LeavesLittle, LeavesRest, OpenConnection, Visits, must_wait}
+use Rattle.registry_service.specs.Turns.{Answering, Dialect, Dialogue, exchange, spoken}
+use Rattle.registry_server.specs.Connections.{AnswersOnce, IsDone, IsLost, LeavesLittle, LeavesRest, OpenConnection, Visits, asked_in_answer, asked_in_visit, must_wait}
 use Rattle.registry_server.specs.Phases.{takes_turns}
 use Rattle.registry_server.specs.Pools.{VisitsAt, after_visit, is_held_back, is_to_visit, with_connection}
 use Rattle.registry_server.specs.declared.connection.Visit.{Visit}
@@ -102,11 +102,11 @@ pub record IsFirst (speaks : Dialect) (held : List ℕ) (c : Command) : Type 0 w
 
 module _ {S : Type 0} (received sent : S → Option (List ℕ)) {D : Type 0} (answers : Dialogue D) where
   -- What was received is held, and a turn may be taken of it: an answer to it makes a visit of the
-  -- connection as it was.
+  -- connection as it was, in which the same is asked.
   pub record IsReady (now most : ℕ) (old new : OpenConnection S) : Type 0 where
     pub turning : takes_turns new.phase.stage ≡ true
-    pub visits : (last : OpenConnection S) (M N : D) (readings readings2 : Option (List ℕ)) → AnswersOnce received sent answers now new last M N readings readings2
-        → Visits received sent answers now most old last M N readings readings2
+    pub visits : (last : OpenConnection S) (M N : D) (readings readings2 : Option (List ℕ)) (answered : AnswersOnce received sent answers now new last M N readings readings2)
+        → (visit : Visits received sent answers now most old last M N readings readings2) × (asked_in_visit received sent answers visit ≡ asked_in_answer received sent answers answered)
     pub ends : IsDone old.state → new.is_over ≡ true → new.state.held ≡ []
     pub leaves : (last : OpenConnection S) → LeavesRest new.state.held last → LeavesLittle most old → LeavesLittle most last
 
@@ -121,7 +121,8 @@ module _ {S : Type 0} (received sent : S → Option (List ℕ)) (has_none is_ful
   -- The command that was set aside is answered by this outcome, and as much is sent as the socket
   -- takes at once.
   pub record AnswersAside (now : ℕ) (old new : OpenConnection S) (visit : Visit) (c : Command) (o : Outcome) : Type 0 where
-    pub asked : (M N : D) (readings readings2 : Option (List ℕ)) → IsAsked answers c o M N readings readings2 → AnswersOnce received sent (spoken speaks answers) now old new M N readings readings2
+    pub asked : (M N : D) (readings readings2 : Option (List ℕ)) (asked : IsAsked answers c o M N readings readings2)
+        → (answered : AnswersOnce received sent (spoken speaks answers) now old new M N readings readings2) × (asked_in_answer received sent (spoken speaks answers) answered ≡ exchange asked.request o ∷ [])
     pub over : new.is_over ≡ old.is_over
     pub rests : visit ≡ Rests → new.phase.stage ≢ Next
     pub waits : visit ≡ Rests → must_wait has_none is_full new ≡ true
@@ -131,9 +132,10 @@ module _ {S : Type 0} (received sent : S → Option (List ℕ)) (has_none is_ful
 
   -- ---- a pool
 
-  -- the command of the connection at a place is set aside
-  pub record SetsPlaceAside (paused crowd : Bool) (now most : ℕ) (old new : Place S) (number : ℕ) (c : Command) (r : Request) : Type 0 where
+  -- the command of the connection at a place is set aside, where the service isn't over
+  pub record SetsPlaceAside (paused crowd is_over : Bool) (now most : ℕ) (old new : Place S) (number : ℕ) (c : Command) (r : Request) : Type 0 where
     pub unpaused : paused ≡ false
+    pub goes_on : is_over ≡ false
     pub is_ready : is_to_visit paused old ≡ true
     pub unheld : is_held_back crowd old ≡ false
     pub was : OpenConnection S
@@ -169,7 +171,7 @@ module _ {S : Type 0} (received sent : S → Option (List ℕ)) (has_none is_ful
   abbrev pub VisitsOrSetsAside : Bool → Bool → ℕ → ℕ → ℕ → Place S → Place S → Group → Group → D → D → Option (List ℕ) → Option (List ℕ) → Type 0
   VisitsOrSetsAside paused crowd now most number old new group group2 M N readings readings2 =
       (IsStill group group2 × VisitsAt received sent has_none is_full has_more is_ended is_broken (spoken speaks answers) over paused crowd now most old new M N readings readings2)
-      ⊎ ((c : Command) × (r : Request) × Adds group group2 c r × SetsPlaceAside received sent has_none is_full has_more is_ended is_broken speaks answers paused crowd now most old new number c r
+      ⊎ ((c : Command) × (r : Request) × Adds group group2 c r × SetsPlaceAside received sent has_none is_full has_more is_ended is_broken speaks answers paused crowd (over M) now most old new number c r
       × (N ≡ M) × (readings2 ≡ readings))
 
   -- From the place of this number on, each is visited, or its command is set aside: these commands,
@@ -180,7 +182,7 @@ module _ {S : Type 0} (received sent : S → Option (List ℕ)) (has_none is_ful
       ((between : D) × (readings1 : Option (List ℕ)) × VisitsAt received sent has_none is_full has_more is_ended is_broken (spoken speaks answers) over paused crowd now most p q M between readings readings1
       × VisitsFirst paused crowd now most (number + 1) places places2 cs rs between N readings1 readings2)
       ⊎ ((c : Command) × (r : Request) × (cs1 : List Command) × (rs1 : List Request) × (cs ≡ c ∷ cs1) × (rs ≡ r ∷ rs1)
-      × SetsPlaceAside received sent has_none is_full has_more is_ended is_broken speaks answers paused crowd now most p q number c r
+      × SetsPlaceAside received sent has_none is_full has_more is_ended is_broken speaks answers paused crowd (over M) now most p q number c r
       × VisitsFirst paused crowd now most (number + 1) places places2 cs1 rs1 M N readings readings2)
   VisitsFirst paused crowd now most number [] (q ∷ places2) cs rs M N readings readings2 = ⊥
   VisitsFirst paused crowd now most number (p ∷ places) [] cs rs M N readings readings2 = ⊥

@@ -3,11 +3,9 @@ use Rattle.std.specs.Prelude.{◌≡◌, ◌≢◌, ◌<◌, ◌≤◌, ◌+◌,
 use Rattle.std.specs.List.{list_all, list_any}
 use Rattle.registry_wire.specs.Spelling.{request_limit}
 use Rattle.registry_rules.specs.Actions.{is_command}
-use Rattle.registry_rules.specs.declared.request.Request.{Request}
-use Rattle.registry_service.specs.HttpAnswers.{Outcome}
-use Rattle.registry_service.specs.Turns.{Answering, AnswersAsBefore, Dialect, Dialogue, exchange, spoken}
+use Rattle.registry_service.specs.Turns.{Answering, AnswersAsBefore, Dialect, Dialogue, Exchange, spoken}
 use Rattle.registry_server.specs.ConnectionStates.{fresh}
-use Rattle.registry_server.specs.Connections.{IsDone, IsLost, LeavesLittle, OpenConnection, Visits, body_least, body_since, connected, finishing, has_body, is_answered, may_command, must_wait, waiting}
+use Rattle.registry_server.specs.Connections.{IsDone, IsLost, LeavesLittle, OpenConnection, Visits, asked_in_visit, body_least, body_since, connected, finishing, has_body, is_answered, may_command, must_wait, waiting}
 use Rattle.registry_server.specs.Queries.{IsQueried, queries}
 use Rattle.registry_server.specs.Phases.{after, first_phase, idle_since, is_late}
 use Rattle.registry_server.specs.declared.connection.Visit.{Visit}
@@ -342,9 +340,21 @@ module _ {S : Type 0} (received sent : S → Option (List ℕ)) (has_none is_ful
   VisitsIf true false now most old new M N readings readings2 = VisitsThere now most old old.connection new M N readings readings2
   VisitsIf false held now most old new M N readings readings2 = VisitsNone old new M N readings readings2
 
--- the service is asked one command, and nothing else
-abbrev pub AsksCommand : {D : Type 0} → Dialogue D → D → D → Type 0
-AsksCommand answers M N = (r : Request) × (o : Outcome) × (is_command r.what ≡ true) × answers.answers M (exchange r o ∷ []) N
+  -- what is asked of the service at a place: in the turn of its visit, if one is taken
+  abbrev pub asked_there : (now most : ℕ) (at : Place S) (o : Option (OpenConnection S)) (new : Place S) (M N : D) (readings readings2 : Option (List ℕ)) → VisitsThere now most at o new M N readings readings2 → List Exchange
+  asked_there now most at None new M N readings readings2 none = []
+  asked_there now most at (Some c) new M N readings readings2 one = asked_in_visit received sent answers one.visits
+
+  abbrev pub asked_if : (is_visited is_held : Bool) (now most : ℕ) (old new : Place S) (M N : D) (readings readings2 : Option (List ℕ)) → VisitsIf is_visited is_held now most old new M N readings readings2 → List Exchange
+  asked_if true true now most old new M N readings readings2 none = []
+  asked_if true false now most old new M N readings readings2 visit = asked_there now most old old.connection new M N readings readings2 visit
+  asked_if false held now most old new M N readings readings2 none = []
+
+-- this is one command, and nothing else
+abbrev pub IsOneCommand : List Exchange → Type 0
+IsOneCommand [] = ⊥
+IsOneCommand (e ∷ []) = is_command e.asked.what ≡ true
+IsOneCommand (e ∷ f ∷ es) = ⊥
 
 module _ {S : Type 0} (received sent : S → Option (List ℕ)) (has_none is_full has_more is_ended is_broken : S → Bool) {D : Type 0} (answers : Dialogue D) (over : D → Bool) where
   -- A place is visited where it is to be and isn't held back, unless the service is over. `paused`
@@ -353,22 +363,24 @@ module _ {S : Type 0} (received sent : S → Option (List ℕ)) (has_none is_ful
   VisitsAt paused crowd now most old new M N readings readings2 =
       VisitsIf received sent has_none is_full has_more is_ended is_broken answers (is_to_visit paused old && not (over M)) (is_held_back crowd old) now most old new M N readings readings2
 
-  -- The same of a place that is visited later, for which the service is asked one command. Its visit
-  -- was begun before, and goes on even where the service is over by now.
+  -- The same of a place that is visited later: in the turn of its visit the service is asked one command,
+  -- and nothing else. The visit was begun before, and goes on even where the service is over by now.
   abbrev pub VisitsLater : Bool → Bool → ℕ → ℕ → Place S → Place S → D → D → Option (List ℕ) → Option (List ℕ) → Type 0
   VisitsLater paused crowd now most old new M N readings readings2 =
-      VisitsIf received sent has_none is_full has_more is_ended is_broken answers (is_to_visit paused old) (is_held_back crowd old) now most old new M N readings readings2 × AsksCommand answers M N
+      (visit : VisitsIf received sent has_none is_full has_more is_ended is_broken answers (is_to_visit paused old) (is_held_back crowd old) now most old new M N readings readings2)
+      × IsOneCommand (asked_if received sent has_none is_full has_more is_ended is_broken answers (is_to_visit paused old) (is_held_back crowd old) now most old new M N readings readings2 visit)
 
   -- Each connection that is to be visited and isn't held back is visited once, and no other is: in the
   -- order of the places, first or later. The first visits lead from M to K, and those that come later,
   -- each for a command, from L to N. After the visit in which the service is over, none is visited
-  -- first. While commands wait, none is visited later. At most this many bytes are received from each.
+  -- first, and none is put off for later. While commands wait, none is put off. At most this many bytes
+  -- are received from each.
   abbrev pub VisitsAll : Bool → Bool → ℕ → ℕ → List (Place S) → List (Place S) → D → D → D → D → Option (List ℕ) → Option (List ℕ) → Option (List ℕ) → Option (List ℕ) → Type 0
   VisitsAll paused crowd now most [] [] M K L N first first2 later later2 = (K ≡ M) × (first2 ≡ first) × (N ≡ L) × (later2 ≡ later)
   VisitsAll paused crowd now most (p ∷ places) (q ∷ places2) M K L N first first2 later later2 =
       ((between : D) × (first1 : Option (List ℕ)) × VisitsAt paused crowd now most p q M between first first1
       × VisitsAll paused crowd now most places places2 between K L N first1 first2 later later2)
-      ⊎ ((paused ≡ false) × (between : D) × (later1 : Option (List ℕ)) × VisitsLater paused crowd now most p q L between later later1
+      ⊎ (((paused ≡ false) × (over M ≡ false)) × (between : D) × (later1 : Option (List ℕ)) × VisitsLater paused crowd now most p q L between later later1
       × VisitsAll paused crowd now most places places2 M K between N first first2 later1 later2)
   VisitsAll paused crowd now most [] (q ∷ places2) M K L N first first2 later later2 = ⊥
   VisitsAll paused crowd now most (p ∷ places) [] M K L N first first2 later later2 = ⊥

@@ -51,7 +51,7 @@ pub maintained_means : MeansQuery schema maintained_text (select_where table.own
 unfolding understood everything
 maintained_means = ((refl, (refl, refl)), refl)
 
-pub maintained_listed : (u : Text) (old new : Shown) → ShowsAll maintained_text (Stored u ∷ []) old new text_spelled (firsts_of (stored old).owners u)
+pub maintained_listed : (u : Text) (old new : Shown) → ShowsAll maintained_text (Stored u ∷ []) old new text_spelled (λ c. firsts_of c.owners u)
 maintained_listed u = firsts_listed owners_mapped (λ v. refl) u maintained_text _ maintained_means
 
 -- ---- the organisations of a user
@@ -63,7 +63,7 @@ pub organisations_means : MeansQuery schema organisations_text (select_where tab
 unfolding understood everything
 organisations_means = ((refl, (refl, refl)), refl)
 
-pub organisations_listed : (u : Text) (old new : Shown) → ShowsAll organisations_text (Stored u ∷ []) old new text_spelled (firsts_of (stored old).members u)
+pub organisations_listed : (u : Text) (old new : Shown) → ShowsAll organisations_text (Stored u ∷ []) old new text_spelled (λ c. firsts_of c.members u)
 organisations_listed u = firsts_listed members_mapped (λ v. refl) u organisations_text _ organisations_means
 
 -- ---- which texts they are

@@ -58,7 +58,7 @@ pub find_means : MeansQuery schema find_text (Select (record { lets = []; body =
 unfolding understood everything
 find_means = ((refl, (refl, refl)), refl)
 
-pub grant_found : (o t p : Text) (old new : Shown) → ShowsWhether find_text (Stored o ∷ Stored t ∷ Stored p ∷ []) old new (is_some (at (access_of (stored old)).grants (o, (t, p))))
+pub grant_found : (o t p : Text) (old new : Shown) → ShowsWhether find_text (Stored o ∷ Stored t ∷ Stored p ∷ []) old new (λ c. is_some (at (access_of c).grants (o, (t, p))))
 grant_found o t p old new rows form call clean =
     let it = there_found grants_mapped find_text (col 1 4 ∷ []) _ find_means (o, (t, p)) old new rows form call clean in
     (it.0, it.1 ∙ sym (some-read triple_key (stored old).grants (λ _ n. grant_of n) (o, (t, p))))
@@ -70,7 +70,7 @@ pub list_means : MeansQuery schema list_text (Select (record { lets = []; body =
 unfolding understood everything
 list_means = ((refl, (refl, refl)), refl)
 
-pub grants_listed : (o t : Text) (old new : Shown) → ShowsAll list_text (Stored o ∷ Stored t ∷ []) old new granted_spelled (grants_of (stored old) o t)
+pub grants_listed : (o t : Text) (old new : Shown) → ShowsAll list_text (Stored o ∷ Stored t ∷ []) old new granted_spelled (λ c. grants_of c o t)
 grants_listed o t old new rows form call clean =
     let it = select_lists_two grants_mapped list_text _ _ list_means o t granted_spelled grant_of (λ id vs. refl) old new rows form call clean in
     (it.0, it.1 ∙ sym (ap (λ es. parts es t) (part-read pair_key (stored old).grants grant_of o) ∙ parts-read grant_of (pairs_of (stored old).grants o) t))

@@ -11,6 +11,7 @@ pub mod FirstsFacts
 pub mod FoundFacts
 pub mod GrantFacts
 pub mod HeldNeedFacts
+pub mod InsideFacts
 pub mod JoinedFacts
 pub mod KeptArchiveFacts
 pub mod LevelFacts
@@ -27,7 +28,6 @@ pub mod OpeningFacts
 pub mod OrganisationFacts
 pub mod OverviewFacts
 pub mod ParentFacts
-pub mod QueryFacts
 pub mod RangeFacts
 pub mod ReadFacts
 pub mod ReadableFacts
@@ -48,6 +48,7 @@ pub mod TeamFacts
 pub mod TeamReferenceFacts
 pub mod TeamListFacts
 pub mod TeamMemberFacts
+pub mod ThenFacts
 pub mod TokenFacts
 pub mod UserFacts
 pub mod VersionFacts

@@ -43,7 +43,7 @@ pub find_means : MeansQuery schema find_text (Select (record { lets = []; body =
 unfolding understood everything
 find_means = ((refl, (refl, refl)), refl)
 
-pub role_found : (o u : Text) (old new : Shown) → ShowsFirst find_text (Stored o ∷ Stored u ∷ []) old new role_spelled (at (access_of (stored old)).roles (o, u))
+pub role_found : (o u : Text) (old new : Shown) → ShowsFirst find_text (Stored o ∷ Stored u ∷ []) old new role_spelled (λ c. at (access_of c).roles (o, u))
 role_found o u old new rows form call clean =
     let it = select_finds members_mapped find_text (col 1 3 ∷ []) _ find_means (o, u) role_spelled role_of (λ id vs. refl) old new rows form call clean in
     (it.0, first_listed role_spelled rows _ it.1 ∙ sym (at-read pair_key (stored old).members (λ _ n. role_of n) (o, u)))
@@ -55,7 +55,7 @@ pub list_means : MeansQuery schema list_text (Select (record { lets = []; body =
 unfolding understood everything
 list_means = ((refl, (refl, refl)), refl)
 
-pub members_listed : (o : Text) (old new : Shown) → ShowsAll list_text (Stored o ∷ []) old new member_spelled (of (access_of (stored old)).roles o)
+pub members_listed : (o : Text) (old new : Shown) → ShowsAll list_text (Stored o ∷ []) old new member_spelled (λ c. of (access_of c).roles o)
 members_listed o old new rows form call clean =
     let it = select_lists members_mapped list_text _ _ list_means o member_spelled role_of (λ id vs. refl) old new rows form call clean in
     (it.0, it.1 ∙ sym (part-read text_key (stored old).members role_of o))

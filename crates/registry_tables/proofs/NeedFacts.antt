@@ -1,8 +1,8 @@
 -- What the statements on needs make and show.
-use Rattle.registry_tables.proofs.Words.{◌≡◌, ℕ, List, [], ◌∷◌, ◌++◌, Bool, true, false, cond, Option, Some, None, is_some, take, get_or, length, ◌+◌, ◌<◌, Ok, refl, sym, ap, ◌∙◌, codes, take_more}
-use Rattle.registry_tables.proofs.Words.{option_map_id, Stored, Select, Shown, HasCleanDisk, col, Text, Wrote, Ready, Leaves, schema, contents, stored, at, put, same_true, at-put, same_map, Need}
-use Rattle.registry_tables.proofs.Words.{Means, MeansQuery, scan, by_texts, insert_values, Texts, TextsMap, texts_are, texts_key, insert_puts, select_finds, Contents, nothing_in, need_key, with_need}
-use Rattle.registry_tables.proofs.Words.{with_needs, ShowsWhether}
+use Rattle.registry_tables.proofs.Words.{◌≡◌, ℕ, List, [], ◌∷◌, ◌++◌, Bool, true, false, cond, Option, Some, None, is_some, take, get_or, length, ◌+◌, ◌<◌, Ok, refl, sym, ap, ◌∙◌, codes}
+use Rattle.registry_tables.proofs.Words.{take_more, option_map_id, Stored, Select, Shown, HasCleanDisk, col, Text, Wrote, Ready, Leaves, schema, contents, stored, at, put, same_true, at-put}
+use Rattle.registry_tables.proofs.Words.{same_map, Need, Means, MeansQuery, scan, by_texts, insert_values, Texts, TextsMap, texts_are, texts_key, insert_puts, select_finds, Contents, nothing_in}
+use Rattle.registry_tables.proofs.Words.{need_key, with_need, with_needs, ShowsWhether}
 use Rattle.sqlite.specs.Listing.{understood}
 use Rattle.sqlite_tied.specs.Compute.{everything}
 use Rattle.registry_tables.proofs.FoundFacts.{some_found}
@@ -30,7 +30,7 @@ pub find_means : MeansQuery schema find_text (Select (record { lets = []; body =
 unfolding understood everything
 find_means = ((refl, (refl, refl)), refl)
 
-pub need_found : (p v : Text) (need : Need) (old new : Shown) → ShowsWhether find_text (Stored p ∷ Stored v ∷ Stored need.target ∷ Stored need.range ∷ []) old new (is_some (at (stored old).need_ranges (need_key p v need)))
+pub need_found : (p v : Text) (need : Need) (old new : Shown) → ShowsWhether find_text (Stored p ∷ Stored v ∷ Stored need.target ∷ Stored need.range ∷ []) old new (λ c. is_some (at c.need_ranges (need_key p v need)))
 need_found p v need old new rows form call clean =
     let it = select_finds need_ranges_mapped find_text (col 1 3 ∷ []) _ find_means (need_key p v need) nothing_in (λ u. u) (λ id vs. refl) old new rows form call clean in
     (it.0, some_found nothing_in rows _ it.1 ∙ ap is_some (option_map_id (at (stored old).need_ranges (need_key p v need))))
@@ -58,9 +58,8 @@ with_needs-more p v [] need m = refl
 with_needs-more p v (first ∷ needs) need m = with_needs-more p v needs need (with_need m p v first)
 
 -- one more need of the list
-pub needs_next : (p v : Text) (needs : List Need) (i : ℕ) (need : Need) (first mid new : Contents) → i < length needs → need ≡ get_or needs i need → mid ≡ record first { need_ranges = with_needs first.need_ranges p v (take i needs) }
-    → new ≡ record mid { need_ranges = with_need mid.need_ranges p v need } → new ≡ record first { need_ranges = with_needs first.need_ranges p v (take (i + 1) needs) }
-needs_next p v needs i need first mid new within is_next so_far once =
+pub needs_next : (p v : Text) (needs : List Need) (i : ℕ) (need : Need) → i < length needs → need ≡ get_or needs i need → (c : Contents)
+    → record c { need_ranges = with_need (with_needs c.need_ranges p v (take i needs)) p v need } ≡ record c { need_ranges = with_needs c.need_ranges p v (take (i + 1) needs) }
+needs_next p v needs i need within is_next c =
     let more : take (i + 1) needs ≡ take i needs ++ need ∷ [] = take_more needs i need within ∙ ap (λ n. take i needs ++ n ∷ []) (sym is_next) in
-    once ∙ ap (λ (c : Contents). record c { need_ranges = with_need c.need_ranges p v need }) so_far
-    ∙ ap (λ m. record first { need_ranges = m }) (sym (ap (with_needs first.need_ranges p v) more ∙ with_needs-more p v (take i needs) need first.need_ranges))
+    ap (λ m. record c { need_ranges = m }) (sym (ap (with_needs c.need_ranges p v) more ∙ with_needs-more p v (take i needs) need c.need_ranges))

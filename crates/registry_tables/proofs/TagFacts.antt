@@ -56,10 +56,10 @@ pub find_means : MeansQuery schema find_text (Select (record { lets = []; body =
 unfolding understood everything
 find_means = ((refl, (refl, refl)), refl)
 
-pub tag_found : (p t : Text) (old new : Shown) → ShowsWhether find_text (Stored p ∷ Stored t ∷ []) old new (is_some (at (stored old).tags (p, t)))
+pub tag_found : (p t : Text) (old new : Shown) → ShowsWhether find_text (Stored p ∷ Stored t ∷ []) old new (λ c. is_some (at c.tags (p, t)))
 tag_found p t = there_found tags_mapped find_text (col 1 3 ∷ []) _ find_means (p, t)
 
-pub tag_named : (p t : Text) (old new : Shown) → ShowsFirst find_text (Stored p ∷ Stored t ∷ []) old new named_spelled (at (stored old).tags (p, t))
+pub tag_named : (p t : Text) (old new : Shown) → ShowsFirst find_text (Stored p ∷ Stored t ∷ []) old new named_spelled (λ c. at c.tags (p, t))
 tag_named p t old new rows form call clean =
     let it = select_finds tags_mapped find_text (col 1 3 ∷ []) _ find_means (p, t) named_spelled (λ (v : Text). v) (λ id vs. refl) old new rows form call clean in
     (it.0, first_listed named_spelled rows _ it.1 ∙ option_map_id (at (stored old).tags (p, t)))
@@ -71,7 +71,7 @@ pub list_means : MeansQuery schema list_text (Select (record { lets = []; body =
 unfolding understood everything
 list_means = ((refl, (refl, refl)), refl)
 
-pub tags_listed : (p : Text) (old new : Shown) → ShowsAll list_text (Stored p ∷ []) old new tag_spelled (of (stored old).tags p)
+pub tags_listed : (p : Text) (old new : Shown) → ShowsAll list_text (Stored p ∷ []) old new tag_spelled (λ c. of c.tags p)
 tags_listed p old new rows form call clean =
     let it = select_lists tags_mapped list_text _ _ list_means p tag_spelled (λ (v : Text). v) (λ id vs. refl) old new rows form call clean in
     (it.0, it.1 ∙ seen_as_is (of (stored old).tags p))

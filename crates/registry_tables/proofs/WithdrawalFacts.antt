@@ -92,7 +92,7 @@ pub holders_means : MeansQuery schema holders_text (select_first 1 table.held (c
 unfolding understood everything
 holders_means = ((refl, (refl, refl)), refl)
 
-pub archive_had : (n : ℤ) (old new : Shown) → ShowsWhether holders_text (Int n ∷ []) old new (is_held n (stored old))
+pub archive_had : (n : ℤ) (old new : Shown) → ShowsWhether holders_text (Int n ∷ []) old new (λ c. is_held n c)
 archive_had n = select_some_by (by_texts_given held_mapped) 2 (Int n) refl (λ (m : ℤ). int_eq n m) (λ vs. refl) holders_text (col 1 1 ∷ []) _ holders_means
 
 -- ---- among those that were withdrawn

@@ -60,7 +60,7 @@ pub use Rattle.registry_tables.specs.Numbers.{grant_number, grant_of, is_level, 
 pub use Rattle.registry_tables.specs.Opening.{HasNothing, HasNumber, HasRun, HasUsersAlone, IsMade, Understands, counts_query, first_creation, is_name_of_archives, listing_query, name_archives_alone, number_query}
 pub use Rattle.registry_tables.specs.Overviews.{counted, is_after_scope, package_entry, package_spelled, scope_statuses, viewed}
 pub use Rattle.registry_tables.specs.Queries.{IsQuery, ShowsAll, ShowsFirst, ShowsWhether}
-pub use Rattle.registry_tables.specs.Ranges.{HasMoments, HasNumbersInRange, NumbersAreReadBack, TellsRanges, all_pass, is_pair_of_moments, moments_entry, moments_spelled}
+pub use Rattle.registry_tables.specs.Ranges.{HasMoments, HasNumbersInRange, NumbersAreReadBack, TellsRanges, all_pass}
 pub use Rattle.registry_tables.specs.Schema.{schema, schema_2}
 pub use Rattle.registry_tables.specs.Spelled.{archive_spelled, blob_of_row, document, document_spelled, fourth_number, held_spelled, member_entry, member_spelled, named_spelled, number_among, number_spelled, published, role_spelled, row_entry, row_spelled, second_number, second_spelled, status_spelled, tag_spelled, third_number, time_spelled, version_spelled}
 pub use Rattle.registry_tables.specs.Teams.{AreGranted, AreGrantedTo, AreTeamsSound, GrantsInScope, TeamsAreOfMembers, grant_spelled, granted_entry, granted_in, granted_spelled, grants_of, readable, text_spelled, users_of, without_member, without_team}
@@ -76,7 +76,7 @@ pub use Rattle.sqlite.specs.declared.transaction.Transaction.{Transaction}
 pub use Rattle.sqlite.specs.declared.types.Value.{Value}
 pub use Rattle.sqlite.specs.declared.types.Value.TheVariants.{Blob, Int, Null, Real, Text as Stored}
 pub use Rattle.sqlite_resolve.specs.declared.error.CompileError.TheVariants.{Exists, NoSuchTable}
-pub use Rattle.sqlite_rules.proofs.ListLemmas.{all_from, all_has, has_filtered, has_found, has_got, has_kept, some_from, some_has}
+pub use Rattle.sqlite_rules.proofs.ListLemmas.{all_from, all_has, has_filtered, has_found, has_got, has_kept, some_from, some_has, test_from, test_has}
 pub use Rattle.sqlite_rules.specs.Lists.{Has}
 pub use Rattle.sqlite_schema.specs.Rules.{agree, has_null, parent_key}
 pub use Rattle.sqlite_schema.specs.declared.schema.Action.TheVariants.{Cascade, NoAction}

@@ -1,10 +1,9 @@
 //! Changes, made in the tables.
 
 ghost use Rattle.std.specs.Prelude.{OnOk};
-ghost use Rattle.registry_rows.specs.Frames.{Stays};
 ghost use Rattle.registry_rules.specs.Changes.{change_of};
 ghost use Rattle.registry_tables.specs.Changes.{Asks, stored_by};
-ghost use Rattle.registry_tables.specs.Effects.{InForm, Makes, OnlyWhere};
+ghost use Rattle.registry_tables.specs.Inside.{Makes};
 ghost use Rattle.registry_tables.specs.Ranges.{HasMoments};
 
 use crate::grants::{drop_grant, put_grant};
@@ -33,10 +32,9 @@ use sqlite::{Alter, Transaction};
 /// of a version that doesn't live. A grant refers to its team and its package's status, a
 /// maintainer to the user and to that status.
 pub fn make<S: Alter>(tx: &mut Transaction<'_, S>, change: &Change<'_>) -> Result<(), Fault>
-    requires in_form { InForm S.Store tx.old }
-    ensures stays { Stays S.Store tx.old tx.new }
-    ensures makes { Makes S.Store tx.old tx.new result (stored_by (change_of change.now)) }
-    ensures asks { OnlyWhere S.Store tx.old tx.new result (Asks (change_of change.now)) }
+    ensures makes { Makes S.Store tx.old tx.new result
+        (λ _. Asks (change_of change.now))
+        (stored_by (change_of change.now)) }
     ensures in_time { OnOk result (HasMoments (change_of change.now)) }
 {
     match *change {

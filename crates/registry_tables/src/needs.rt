@@ -1,17 +1,9 @@
 //! The table `need_ranges`: what every live version depends on.
 
-ghost use Rattle.std.specs.Prelude.{◌≡◌, IfOk, is_some};
-ghost use Rattle.std.specs.List.{list_any};
-ghost use Rattle.sqlite.specs.State.{HasCleanDisk};
+ghost use Rattle.std.specs.Prelude.{⊤, ◌≡◌, is_some};
 ghost use Rattle.registry_names.specs.Maps.{at};
-ghost use Rattle.registry_names.specs.Versions.{VersionParts};
-ghost use Rattle.registry_ranges.specs.Texts.{binds};
-ghost use Rattle.registry_rules.specs.Withdrawals.{is_depended};
-ghost use Rattle.registry_rows.specs.Frames.{Stays};
-ghost use Rattle.registry_tables.specs.Contents.{registry_of};
-ghost use Rattle.registry_tables.specs.Effects.{InForm, IsUnderWay, Makes, Loads, shown, stored_in};
-ghost use Rattle.registry_tables.specs.Needs.{HoldsNeeds, need_key, with_need, with_needs};
-ghost use Rattle.registry_tables.specs.Withdrawals.{ranges_on};
+ghost use Rattle.registry_tables.specs.Inside.{Finds, Makes, MayMake};
+ghost use Rattle.registry_tables.specs.Needs.{AreDependents, need_key, with_need, with_needs};
 
 use crate::queries::{has, texts};
 use registry_names::{Fault, Name, Text};
@@ -33,9 +25,8 @@ pub fn put_needs<S: Alter>(
     version: &str,
     needs: &[Need],
 ) -> Result<(), Fault>
-    requires under_way { IsUnderWay S.Store tx.old }
-    ensures stays { Stays S.Store tx.old tx.new }
-    ensures makes { Makes S.Store tx.old tx.new result
+    ensures { MayMake S.Store tx.old tx.new result
+        (λ _ _. ⊤)
         (λ c. record c { need_ranges = with_needs c.need_ranges name.now version.now needs.now }) }
 {
     let mut last = "";
@@ -58,9 +49,8 @@ fn put_need<S: Alter>(
     need: &Need,
     may_repeat: bool,
 ) -> Result<(), Fault>
-    requires under_way { IsUnderWay S.Store tx.old }
-    ensures stays { Stays S.Store tx.old tx.new }
-    ensures makes { Makes S.Store tx.old tx.new result
+    ensures { Makes S.Store tx.old tx.new result
+        (λ _ _. ⊤)
         (λ c. record c { need_ranges = with_need c.need_ranges name.now version.now need.now }) }
 {
     if !may_repeat {
@@ -78,9 +68,8 @@ fn insert_need<S: Alter>(
     version: &str,
     need: &Need,
 ) -> Result<(), Fault>
-    requires in_form { InForm S.Store tx.old }
-    ensures stays { Stays S.Store tx.old tx.new }
-    ensures makes { Makes S.Store tx.old tx.new result
+    ensures { Makes S.Store tx.old tx.new result
+        (λ _ _. ⊤)
         (λ c. record c { need_ranges = with_need c.need_ranges name.now version.now need.now }) }
 {
     write(
@@ -97,9 +86,7 @@ fn has_need<S: Alter>(
     version: &str,
     need: &Need,
 ) -> Result<bool, Fault>
-    requires in_form { InForm S.Store tx.old }
-    ensures stays { Stays S.Store tx.old tx.new }
-    ensures loads { Loads S.Store tx.old tx.new result
+    ensures { Finds S.Store tx.old tx.new result
         (λ has c. has ≡ is_some (at c.need_ranges (need_key name.now version.now need.now))) }
 {
     has(
@@ -118,13 +105,7 @@ pub fn load_dependents<S: Alter>(
     tx: &mut Transaction<'_, S>,
     name: &Name,
 ) -> Result<Vec<Text>, Fault>
-    requires in_form { InForm S.Store tx.old }
-    ensures stays { Stays S.Store tx.old tx.new }
-    ensures loads { Loads S.Store tx.old tx.new result
-        (λ texts c. texts.items ≡ ranges_on c name.now) }
-    ensures depended { HasCleanDisk (shown S.Store tx.new) → HoldsNeeds (stored_in S.Store tx.old)
-        → IfOk result (λ texts. (v : VersionParts) → list_any (λ text. binds text v) texts.items
-        ≡ is_depended (registry_of (stored_in S.Store tx.old)) name.now v) }
+    ensures { Finds S.Store tx.old tx.new result (λ texts c. AreDependents texts.items c name.now) }
 {
     texts(
         alloc,

@@ -3,10 +3,9 @@
 ghost use Rattle.std.specs.Prelude.{◌≡◌, IfOk};
 ghost use Rattle.registry_names.specs.Maps.{at};
 ghost use Rattle.registry_names.specs.declared.status.Status.{Status as Readers};
-ghost use Rattle.registry_rows.specs.Frames.{Stays};
 ghost use Rattle.registry_tables.specs.Changes.{IsFreeUnless, with_row};
 ghost use Rattle.registry_tables.specs.Contents.{access_of};
-ghost use Rattle.registry_tables.specs.Effects.{InForm, Makes, OnlyWhere, Loads};
+ghost use Rattle.registry_tables.specs.Inside.{Finds, Makes};
 ghost use Rattle.registry_tables.specs.Numbers.{status_number};
 ghost use Rattle.registry_tables.specs.Spelled.{status_spelled};
 
@@ -21,9 +20,7 @@ pub fn load_status<S: Alter>(
     tx: &mut Transaction<'_, S>,
     name: &Name,
 ) -> Result<Option<Status>, Fault>
-    requires in_form { InForm S.Store tx.old }
-    ensures stays { Stays S.Store tx.old tx.new }
-    ensures loads { Loads S.Store tx.old tx.new result
+    ensures { Finds S.Store tx.old tx.new result
         (λ status c. status ≡ at (access_of c).statuses name.now) }
 {
     find_status(tx, name.text())
@@ -34,9 +31,7 @@ pub(crate) fn find_status<S: Alter>(
     tx: &mut Transaction<'_, S>,
     name: &str,
 ) -> Result<Option<Status>, Fault>
-    requires in_form { InForm S.Store tx.old }
-    ensures stays { Stays S.Store tx.old tx.new }
-    ensures loads { Loads S.Store tx.old tx.new result
+    ensures { Finds S.Store tx.old tx.new result
         (λ status c. status ≡ at (access_of c).statuses name.now) }
 {
     find::<StatusRow, S>(
@@ -53,14 +48,9 @@ pub(crate) fn put_status<S: Alter>(
     status: Status,
     stands: bool,
 ) -> Result<(), Fault>
-    requires in_form { InForm S.Store tx.old }
-    ensures stays { Stays S.Store tx.old tx.new }
-    ensures makes { Makes S.Store tx.old tx.new result
-        (λ c. record c {
-          packages = with_row c.packages name.now (status_number status) stands;
-        }) }
-    ensures was_new { OnlyWhere S.Store tx.old tx.new result
-        (λ c. IsFreeUnless c.packages name.now stands) }
+    ensures { Makes S.Store tx.old tx.new result
+        (λ _ c. IsFreeUnless c.packages name.now stands)
+        (λ c. record c { packages = with_row c.packages name.now (status_number status) stands; }) }
 {
     set_row(
         tx,

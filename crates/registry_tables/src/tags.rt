@@ -1,13 +1,12 @@
 //! The table `tags`: the dist-tags of every package. A tag names a live version.
 
-ghost use Rattle.std.specs.Prelude.{◌≡◌, is_some, map};
+ghost use Rattle.std.specs.Prelude.{⊤, ◌≡◌, is_some, map};
 ghost use Rattle.registry_names.specs.Maps.{at, erase, of};
 ghost use Rattle.registry_names.specs.Texts.{Text as Bytes};
-ghost use Rattle.registry_rows.specs.Frames.{Stays};
 ghost use Rattle.registry_rules.specs.Withdrawals.{tags_of};
 ghost use Rattle.registry_tables.specs.Changes.{IsFreeUnless, with_row};
 ghost use Rattle.registry_tables.specs.Contents.{registry_of};
-ghost use Rattle.registry_tables.specs.Effects.{InForm, Makes, OnlyWhere, Loads};
+ghost use Rattle.registry_tables.specs.Inside.{Finds, Makes};
 ghost use Rattle.registry_tables.specs.Spelled.{tag_entry, tag_spelled};
 
 use crate::queries::{find, has, list, texts};
@@ -20,9 +19,7 @@ use std::alloc::Global;
 
 /// Whether the package has this tag.
 pub fn has_tag<S: Alter>(tx: &mut Transaction<'_, S>, name: &Name, tag: &str) -> Result<bool, Fault>
-    requires in_form { InForm S.Store tx.old }
-    ensures stays { Stays S.Store tx.old tx.new }
-    ensures loads { Loads S.Store tx.old tx.new result
+    ensures { Finds S.Store tx.old tx.new result
         (λ has c. has ≡ is_some (at c.tags (name.now, tag.now))) }
 {
     has(
@@ -38,9 +35,7 @@ pub fn load_tag<S: Alter>(
     name: &Name,
     tag: &str,
 ) -> Result<Option<Text>, Fault>
-    requires in_form { InForm S.Store tx.old }
-    ensures stays { Stays S.Store tx.old tx.new }
-    ensures loads { Loads S.Store tx.old tx.new result
+    ensures { Finds S.Store tx.old tx.new result
         (λ named c. named ≡ at c.tags (name.now, tag.now)) }
 {
     find::<TextRow, S>(
@@ -56,9 +51,7 @@ pub fn load_tags<S: Alter>(
     tx: &mut Transaction<'_, S>,
     name: &Name,
 ) -> Result<Vec<DistTag>, Fault>
-    requires in_form { InForm S.Store tx.old }
-    ensures stays { Stays S.Store tx.old tx.new }
-    ensures loads { Loads S.Store tx.old tx.new result
+    ensures { Finds S.Store tx.old tx.new result
         (λ tags c. map tag_entry tags.items ≡ of c.tags name.now) }
 {
     list::<ListedTag, S>(
@@ -76,9 +69,7 @@ pub fn load_version_tags<S: Alter>(
     name: &Name,
     version: &str,
 ) -> Result<Vec<Text>, Fault>
-    requires in_form { InForm S.Store tx.old }
-    ensures stays { Stays S.Store tx.old tx.new }
-    ensures loads { Loads S.Store tx.old tx.new result
+    ensures { Finds S.Store tx.old tx.new result
         (λ tags c. tags.items ≡ tags_of (registry_of c) name.now version.now) }
 {
     texts(
@@ -97,12 +88,9 @@ pub(crate) fn put_tag<S: Alter>(
     version: &str,
     stands: bool,
 ) -> Result<(), Fault>
-    requires in_form { InForm S.Store tx.old }
-    ensures stays { Stays S.Store tx.old tx.new }
-    ensures makes { Makes S.Store tx.old tx.new result
+    ensures { Makes S.Store tx.old tx.new result
+        (λ _ c. IsFreeUnless c.tags (name.now, tag.now) stands)
         (λ c. record c { tags = with_row c.tags (name.now, tag.now) version.now stands }) }
-    ensures was_new { OnlyWhere S.Store tx.old tx.new result
-        (λ c. IsFreeUnless c.tags (name.now, tag.now) stands) }
 {
     set_row(
         tx,
@@ -119,9 +107,8 @@ pub(crate) fn drop_tag<S: Alter>(
     name: &str,
     tag: &str,
 ) -> Result<(), Fault>
-    requires in_form { InForm S.Store tx.old }
-    ensures stays { Stays S.Store tx.old tx.new }
-    ensures makes { Makes S.Store tx.old tx.new result
+    ensures { Makes S.Store tx.old tx.new result
+        (λ _ _. ⊤)
         (λ c. record c { tags = erase c.tags (name.now, tag.now) }) }
 {
     write(

@@ -6,6 +6,6 @@ pub returns-in-Ok-clause-within : goal.returns-in-Ok-clause-within
 returns-in-Ok-clause-within g c clean =
     let same : c.conn-1.given.0 ≡ c.rows_within.new.rows.conn.now = search rules in
     let cleanly : HasCleanDisk (shown_by g.S.Store c.rows_within.new.rows) = subst (λ held. HasCleanDisk (state g.S.Store held)) same clean in
-    let were : HasCleanDisk (shown_by g.S.Store c.in-Ok.rows) = omega (arith, c.rows_within.ensures.left.survives.clean, cleanly) in
+    let were : HasCleanDisk (shown_by g.S.Store c.in-Ok.rows) = omega (arith, c.rows_within.ensures.walks.left.survives.clean, cleanly) in
     let stays : registry_in (shown_by g.S.Store c.in-Ok.rows) ≡ registry_in (state g.S.Store c.args.conn.now) = ap (λ (d : Database). registry_of (contents d.trees)) (c.in-Ok.ensures.unchanged were).0.now_is in
     subst (λ (T : State). IfOk c.rows_within.result (IsWithin c.args.limit c.args.head.now (versions_in T c.args.name.now))) stays (c.rows_within.ensures.within cleanly)

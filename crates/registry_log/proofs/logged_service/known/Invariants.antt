@@ -1,6 +1,9 @@
-use Rattle.std.proofs.Common.{◌≡◌, ◌≤◌, length}
+use Rattle.std.proofs.Common.{◌≡◌, length}
+use Rattle.sqlite.specs.State.{HasCleanDisk}
+use Rattle.registry_tables.specs.Effects.{stored}
 use Rattle.registry_http.specs.Services.{applied, shown}
 use Rattle.registry_log.specs.Logs.{AreFirstAsked}
+use Rattle.registry_log.specs.LookUps.{LooksUp, MayNameEach}
 use Rattle.registry_service.specs.Turns.{AnswersAsBefore}
 use Rattle.registry_log.proofs.logged_service.known.Given as goal
 
@@ -12,5 +15,6 @@ invariant-loop-request g l = record {
   first : AreFirstAsked l.requests l.asked.items;
   before : AnswersAsBefore (applied (shown g.S.Store)) l.fn.inner l.inner;
   over : l.inner.is_over ≡ l.fn.inner.is_over;
-  faults : (shown g.S.Store l.fn.inner).faults ≤ (shown g.S.Store l.inner).faults;
+  looks : LooksUp (shown g.S.Store l.fn.inner) (shown g.S.Store l.inner);
+  named : HasCleanDisk (shown g.S.Store l.inner) → MayNameEach (stored (shown g.S.Store l.fn.inner)) l.requests l.asked.items;
 }

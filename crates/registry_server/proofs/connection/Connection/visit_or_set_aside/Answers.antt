@@ -20,4 +20,4 @@ returns-in-Ready-clause-aside g c = λ none.
 pub returns-in-Ready-2-clause-visits : goal.returns-in-Ready-2-clause-visits
 returns-in-Ready-2-clause-visits g c = λ visit same.
     let answered = subst (λ (mid : OpenConnection g.row.S.Denot). AnswersOnce g.S.Socket.received g.S.Socket.sent (spoken g.D.HttpService.speaks g.D.Service.answers) c.args.now mid c.answer.new.self c.arrive.new.service c.answer.new.service (g.C.Clock.readings c.args.clock.now) (g.C.Clock.readings c.answer.new.clock)) c.set_aside.ensures.stays c.answer.ensures.answers in
-    rw c.arrive.ensures.service at ((c.in-Ready-2.ensures.ready refl).visits c.answer.new.self _ _ _ _ answered)
+    rw c.arrive.ensures.service at ((c.in-Ready-2.ensures.ready refl).visits c.answer.new.self _ _ _ _ answered).0

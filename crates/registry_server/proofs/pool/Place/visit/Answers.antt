@@ -4,7 +4,7 @@ use Rattle.registry_service.specs.Turns.{spoken}
 use Rattle.registry_server.specs.declared.connection.Visit.TheVariants.{Again, Rests, Over}
 use Rattle.registry_server.specs.Pools.{is_to_visit}
 use Rattle.registry_server.specs.Queries.{answering}
-use Rattle.registry_server.proofs.GroupFacts.{still, visited-place}
+use Rattle.registry_server.proofs.GroupFacts.{not-over, still, visited-place}
 use Rattle.registry_server.proofs.PoolFacts.{visits-free, visits-none, visits-waits}
 use Rattle.registry_server.proofs.pool.Place.visit.Goals as goal
 
@@ -55,6 +55,7 @@ returns-in-None g c =
       adds,
       record {
         unpaused = c.visited.ensures.unpaused none;
+        goes_on = not-over (g.D.Service.over c.args.service.now) (and_parts (is_to_visit c.args.commands_wait c.args.self.now) (not (g.D.Service.over c.args.service.now)) free).1;
         is_ready = (and_parts (is_to_visit c.args.commands_wait c.args.self.now) (not (g.D.Service.over c.args.service.now)) free).0;
         unheld = search rules;
         was = c.in-Some.connection;
