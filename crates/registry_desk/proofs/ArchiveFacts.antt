@@ -4,7 +4,7 @@ use Rattle.registry_desk.proofs.Words.{true≢false, list_all, list_any, Caller,
 use Rattle.registry_desk.proofs.Words.{at-put_other, at-revise, Cache, kept, is_command, version_of, Change, AddUser, AddToken, DropToken, AddOrg, PutMember, DropMember, AddTeam, PutTeamMember}
 use Rattle.registry_desk.proofs.Words.{DropTeamMember, DropTeam, PutGrant, DropGrant, PutOwner, DropOwner, PutStatus, AddVersion, RetireVersion, PutDeprecation, PutTag, DropTag, all_made, made}
 use Rattle.registry_desk.proofs.Words.{release_of, Release, State, Reply, Bytes, Refused, Action, Archive, HeldAreStored, all_stored, Contents, registry_of, changes_make, archive_in, reply_to}
-use Rattle.registry_desk.proofs.Words.{AreArchives, KeepsArchive, KeepsNoMore, LeavesArchivesRight, archive_key, moves, without_moved}
+use Rattle.registry_desk.proofs.Words.{AreArchives, KeepsArchive, KeepsNoMore, LeavesArchivesRight, archive_key, moves, without_touched}
 use Rattle.registry_names.specs.Idents.{is_ident_char}
 use Rattle.registry_names.proofs.NameFacts.{and_left, and_right}
 use Rattle.registry_names.proofs.TextFacts.{is_same, is_true}
@@ -113,7 +113,7 @@ shown_by S (Some who) p v bytes e = cc
 -- ---- what becomes of the archives that are kept
 
 pub archives_leave : (c d : Contents) (who : Option Caller) (what : Action) (cs : List Change) (old new : Cache) (given : Reply) → HeldAreStored c → d ≡ all_stored cs c
-    → (is_command what ≡ false → cs ≡ []) → new ≡ without_moved cs old
+    → (is_command what ≡ false → cs ≡ []) → new ≡ without_touched moves cs old
     → ((p : Text) (v : VersionParts) → what ≡ Archive p v → AreArchives c old → given ≡ reply_to (registry_of c) who what) → LeavesArchivesRight c d what old new given
 archives_leave c d who what cs old new given held is query left told = record {
   still = λ key bytes h p v at.
