@@ -26,7 +26,7 @@ use Rattle.registry_migration.specs.declared.older.Older.{Older}
 use Rattle.registry_migration.specs.declared.older.Older.TheVariants.{First, Second}
 use Rattle.registry_names.specs.Texts.{Text}
 use Rattle.registry_files.specs.Copies.{HoldsSeen, HoldsTold, IsCopy, IsHeld, IsOlder, IsRead, IsRestored, RestoresOlder, RestoresRegistry, StaysCommitted, alone}
-use Rattle.registry_files.specs.Lines.{lines_of}
+use Rattle.registry_machine.specs.Lines.{lines_of}
 use Rattle.registry_rows.specs.Tables.{no_tables}
 use Rattle.registry_rows.specs.Ready.{IsReady}
 use Rattle.registry_tables.specs.Contents.{Contents, contents}

@@ -1,3 +1,2 @@
 mod CheckFacts
 mod CopyFacts
-mod LineFacts

@@ -16,7 +16,7 @@ use Rattle.registry_migration.specs.declared.older.Older.{Older}
 use Rattle.registry_tables.specs.Contents.{Contents, contents}
 use Rattle.registry_tables.specs.Effects.{stored}
 use Rattle.registry_tables.specs.Schema.{schema}
-use Rattle.registry_files.specs.Lines.{lines_of}
+use Rattle.registry_machine.specs.Lines.{lines_of}
 
 -- a database file without a log
 abbrev pub alone : List ℕ → Image

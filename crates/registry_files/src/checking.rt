@@ -1,26 +1,22 @@
 //! Checking everything that a registry's file holds.
 
-ghost use Rattle.std.specs.Prelude.{◌≡◌, ◌++◌, [], false, IfOk, OnErr, OnOk, map};
+ghost use Rattle.std.specs.Prelude.{◌≡◌, [], false, IfErr, IfOk, IfSome};
 ghost use Rattle.sqlite.specs.Held.{state};
 ghost use Rattle.sqlite.specs.State.{HasCleanDisk};
-ghost use Rattle.registry_names.specs.ByteStreams.{Writes};
 ghost use Rattle.registry_check.specs.Right.{AreProblems, TellsRight};
 ghost use Rattle.registry_rows.specs.Ready.{Ready};
 ghost use Rattle.registry_tables.specs.Schema as tables;
 ghost use Rattle.registry_desk.specs.Adopted.{CanBeAdopted, CanBeAdoptedAgain};
-ghost use Rattle.registry_cli.specs.Prints.{done, newline};
 ghost use Rattle.registry_files.specs.Copies.{StaysCommitted};
-ghost use Rattle.registry_files.specs.Lines.{NoneFailed, printed_lines, problem_line};
 
-use crate::beside::{TRIES, busy, hold_server, is_busy, pause, require_no_other};
 use crate::checking_beside::problems_beside;
-use crate::ending::{Ending, Failure, Obstacle};
-use crate::lines::{DONE, print_wrong, print_wrong_line, problem_lines};
-use crate::opening::{obstacle_left, require_file, unopened};
-use crate::progress::{Progress, Work};
-use crate::reporting::obstacle_text;
+use crate::opening::{obstacle_in, obstacle_met, require_file, unopened};
 use registry_check::{Problem, check};
 use registry_desk::{Registry, Unopened, has_tables};
+use registry_machine::{
+    Ending, Failure, Obstacle, Progress, TRIES, Work, busy, hold_server, is_busy, obstacle_text,
+    pause, print_problems, print_wrong_line, require_no_other,
+};
 use registry_names::{ByteOut, Fault};
 use sqlite::{Alter, Connection, FileStore, Unknown};
 use sqlite_disk::Disk;
@@ -49,28 +45,6 @@ pub fn print_check<O: ByteOut, E: ByteOut>(
     }
 }
 
-// Says that all is done where there is no problem, and otherwise prints a line for each. Gives the exit
-// status.
-fn print_problems<O: ByteOut, E: ByteOut>(
-    alloc: Global,
-    problems: &[Problem],
-    output: &mut O,
-    errors: &mut E,
-) -> Result<u8, Ending>
-    ensures status { IfOk result (λ status. status
-        ≡ (printed_lines (done ++ newline) (map problem_line problems.now)).status) }
-    ensures output { OnOk result (Writes (O.bytes output.old) (O.bytes output.new)
-        (O.is_unknown output.new)
-        (printed_lines (done ++ newline) (map problem_line problems.now)).out) }
-    ensures errors { OnOk result (NoneFailed (E.failures errors.old) (E.failures errors.new)
-        → Writes (E.bytes errors.old) (E.bytes errors.new) (E.is_unknown errors.new)
-        (printed_lines (done ++ newline) (map problem_line problems.now)).err) }
-    ensures silent { OnErr result (errors.new ≡ errors.old) }
-{
-    let lines = problem_lines(alloc, problems)?;
-    print_wrong(&lines, DONE, output, errors)
-}
-
 // What is wrong in a file, even if another process has it.
 fn problems_at(rt: &HostRuntime, alloc: Global, path: &str) -> Result<Vec<Problem>, Ending> {
     require_file(rt, path)?;
@@ -91,7 +65,19 @@ fn problems_at(rt: &HostRuntime, alloc: Global, path: &str) -> Result<Vec<Proble
 
 // What is wrong in a file that no other process has.
 fn problems_alone(rt: &HostRuntime, alloc: Global, path: &str) -> Result<Vec<Problem>, Ending> {
-    match Registry::open_from(rt, path, Unknown) {
+    problems_opened(rt, alloc, path, Registry::open_from(rt, path, Unknown))
+}
+
+// What is wrong in a registry that was opened, or in what didn't open.
+fn problems_opened<D: Disk + Drop>(
+    rt: &HostRuntime,
+    alloc: Global,
+    path: &str,
+    opened: Result<Registry<FileStore<D>>, (Fault, Option<Unopened<D>>)>,
+) -> Result<Vec<Problem>, Ending>
+    requires again { IfErr opened (λ e. IfSome e.1 CanBeAdoptedAgain) }
+{
+    match opened {
         Ok(registry) => {
             let _checking = Progress::begin(rt, Work::Checking, path);
             problems_in(alloc, registry)
@@ -111,9 +97,11 @@ pub fn problems_left<D: Disk + Drop>(
 {
     let mut left = left;
     match problems_inside(alloc, &mut left) {
-        Ok(problems) if !problems.is_empty() => Ok(problems),
-        Err(Fault::Memory) => Err(Ending::from(Fault::Memory)),
-        _ => Err(Ending::Fault(Failure::Opening(obstacle_left(alloc, left)))),
+        Some(found) => found,
+        None => {
+            let obstacle = obstacle_met(left.into_files().tally());
+            Err(Ending::Fault(Failure::Opening(obstacle)))
+        }
     }
 }
 
@@ -121,16 +109,30 @@ pub fn problems_left<D: Disk + Drop>(
 fn problems_inside<D: Disk + Drop>(
     alloc: Global,
     left: &mut Unopened<D>,
-) -> Result<Vec<Problem>, Fault>
+) -> Option<Result<Vec<Problem>, Ending>>
     requires again { CanBeAdoptedAgain left.old }
 {
     match left {
-        Unopened::Database(conn) => problems_of_tables(alloc, conn),
-        Unopened::Files(_) => Ok(Vec::new(alloc)),
+        Unopened::Database(conn) => Some(problems_or_obstacle(alloc, conn)),
+        Unopened::Files(_) => None,
     }
 }
 
-// The same where its tables are a registry's. Of other tables nothing is said.
+// What is wrong in a database that isn't a registry, or what keeps it from being one.
+fn problems_or_obstacle<S: Alter>(
+    alloc: Global,
+    conn: &mut Connection<S>,
+) -> Result<Vec<Problem>, Ending>
+    requires rises { CanBeAdopted (state S.Store conn.old) }
+{
+    match problems_of_tables(alloc, conn) {
+        Ok(problems) if !problems.is_empty() => Ok(problems),
+        Err(Fault::Memory) => Err(Ending::from(Fault::Memory)),
+        _ => Err(Ending::Fault(Failure::Opening(obstacle_in(alloc, conn)))),
+    }
+}
+
+// What is wrong where its tables are a registry's. Of other tables nothing is said.
 fn problems_of_tables<S: Alter>(
     alloc: Global,
     conn: &mut Connection<S>,

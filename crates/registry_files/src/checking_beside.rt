@@ -1,14 +1,11 @@
 //! Checking the registry of a server, by a copy of its files.
 
-use crate::beside::require_held;
 use crate::checking::{problems_in, problems_left};
-use crate::ending::{Ending, Snag};
-use crate::held::{copy_files, new_file, snag};
 use crate::opening::open_obstacle;
-use crate::progress::{Progress, Work};
 use registry_check::Problem;
 use registry_desk::Registry;
 use registry_guests::{Hold, folder_of};
+use registry_machine::{Ending, Progress, Snag, Work, copy_files, new_file, require_held, snag};
 use registry_names::Fault;
 use sqlite::{File, Files, Options, Unknown};
 use sqlite_disk::Disk;

@@ -7,21 +7,21 @@ ghost use Rattle.sqlite.specs.Files.{file_state};
 ghost use Rattle.sqlite.specs.Held.{state};
 ghost use Rattle.sqlite.specs.State.{HasCleanDisk};
 ghost use Rattle.sqlite_wal.specs.Reads.{AreClean};
+ghost use Rattle.registry_desk.specs.Resting.{Rests};
 ghost use Rattle.registry_rows.specs.Ready.{Ready};
 ghost use Rattle.registry_tables.specs.Schema as tables;
 ghost use Rattle.registry_files.specs.Copies.{IsCopy, IsHeld, IsRead, StaysCommitted};
-ghost use Rattle.registry_files.specs.Lines.{lines_of};
+ghost use Rattle.registry_machine.specs.Lines.{lines_of};
 
-use crate::beside::{TRIES, busy, hold_server, is_busy, pause, require_held, require_no_other};
 use crate::checking::problems_of;
-use crate::ending::{Ending, Failure, Obstacle, Snag};
-use crate::held::{copy_files, new_file, snag, snagged, written};
-use crate::lines::problem_lines;
 use crate::opening::{close_files, open, open_once, require_file, unclosed};
-use crate::parts::Names;
-use crate::progress::{Progress, Shown, Work};
 use registry_desk::Registry;
 use registry_guests::Hold;
+use registry_machine::{
+    Ending, Failure, Names, Obstacle, Progress, Shown, Snag, TRIES, Work, busy, copy_files,
+    hold_server, is_busy, new_file, pause, problem_lines, require_held, require_no_other, snag,
+    snagged, written,
+};
 use sqlite::{Alter, Connection, FileStore, Files};
 use sqlite_disk::Disk;
 use std::alloc::Global;
@@ -242,12 +242,30 @@ pub fn see_inside<D: Disk + Drop>(
         → IsHeld (file_state registry) (D.Disk.seen seen.0.db) checks
         (map string_bytes seen.1.items)) }
 {
-    let mut conn = registry.release();
-    let lines = lines_in(rt, alloc, path, &mut conn, checks);
+    let (conn, lines) = look_inside(rt, alloc, path, registry, checks);
     match close_copy(conn) {
         Ok(files) => Ok((files, lines?)),
         Err(ending) => Err(ending),
     }
+}
+
+/// The connection of a registry, and a line for each thing that is wrong in it, if that is asked for.
+/// What is committed stays.
+pub fn look_inside<S: Alter>(
+    rt: &HostRuntime,
+    alloc: Global,
+    path: &str,
+    registry: Registry<S>,
+    checks: bool,
+) -> (Connection<S>, Result<Vec<String>, Ending>)
+    ensures rests { Rests (state S.Store registry) }
+    ensures still { StaysCommitted (state S.Store registry) (state S.Store result.0) }
+    ensures told { IfOk result.1 (λ lines. HasCleanDisk (state S.Store result.0)
+        → map string_bytes lines.items ≡ lines_of checks (state S.Store registry).now.trees) }
+{
+    let mut conn = registry.release();
+    let lines = lines_in(rt, alloc, path, &mut conn, checks);
+    (conn, lines)
 }
 
 /// Closes a database that was made from a copy. This copies its log into its file.
@@ -275,8 +293,8 @@ fn lines_in<S: Alter>(
     requires idle { conn.old.in_transaction ≡ false }
     requires ready { Ready tables.schema (state S.Store conn.old) }
     ensures still { StaysCommitted (state S.Store conn.old) (state S.Store conn.new) }
-    ensures told { HasCleanDisk (state S.Store conn.new) → IfOk result (λ lines.
-        map string_bytes lines.items ≡ lines_of checks (state S.Store conn.old).now.trees) }
+    ensures told { IfOk result (λ lines. HasCleanDisk (state S.Store conn.new)
+        → map string_bytes lines.items ≡ lines_of checks (state S.Store conn.old).now.trees) }
 {
     if checks {
         let _checking = Progress::begin(rt, Work::Checking, path);
@@ -291,8 +309,8 @@ fn wrong_in<S: Alter>(alloc: Global, conn: &mut Connection<S>) -> Result<Vec<Str
     requires idle { conn.old.in_transaction ≡ false }
     requires ready { Ready tables.schema (state S.Store conn.old) }
     ensures still { StaysCommitted (state S.Store conn.old) (state S.Store conn.new) }
-    ensures told { HasCleanDisk (state S.Store conn.new) → IfOk result (λ lines.
-        map string_bytes lines.items ≡ lines_of true (state S.Store conn.old).now.trees) }
+    ensures told { IfOk result (λ lines. HasCleanDisk (state S.Store conn.new)
+        → map string_bytes lines.items ≡ lines_of true (state S.Store conn.old).now.trees) }
 {
     let problems = problems_of(alloc, conn)?;
     Ok(problem_lines(alloc, &problems)?)

@@ -1,31 +1,16 @@
-//! The file of a registry, and the server that has it: what is asked of either, checks, copies and
-//! what is made of them, and why there is no answer.
+//! The file of a registry: opening it, checking it, copying it, going back to a copy, and ending its
+//! server.
 #![tactic(auto)]
 
-mod asking;
-mod beside;
 mod checking;
 mod checking_beside;
 mod copying;
-mod ending;
-mod held;
-mod lines;
 mod opening;
-mod parts;
-mod progress;
-mod registries;
-mod reporting;
 mod restoring;
 mod stopping;
 
-pub use crate::asking::{Answer, Question, answer_to};
-pub use crate::beside::{print_sent, print_sent_token};
 pub use crate::checking::print_check;
 pub use crate::copying::{back_up, write_copy};
-pub use crate::ending::{Blockage, Ending, Failure, Obstacle, Snag, Trouble};
-pub use crate::lines::{DONE, print_done, print_wrong};
-pub use crate::opening::{close_files, open_once, open_soon};
-pub use crate::registries::Registries;
-pub use crate::reporting::report;
+pub use crate::opening::{Visit, close_files, visit_once, visit_soon};
 pub use crate::restoring::{restore, settle_copy};
 pub use crate::stopping::stop;

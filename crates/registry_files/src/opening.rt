@@ -8,10 +8,10 @@ ghost use Rattle.sqlite_wal.specs.Reads.{AreClean};
 ghost use Rattle.registry_desk.specs.Resting.{Rests};
 ghost use Rattle.registry_files.specs.Copies.{IsOlder};
 
-use crate::beside::{TRIES, busy, is_busy, pause};
-use crate::ending::{Ending, Failure, Obstacle};
-use crate::progress::{Progress, Work};
-use registry_desk::{Registry, SCHEMA, Unopened};
+use registry_desk::{Registry, SCHEMA};
+use registry_machine::{
+    Ending, Failure, Obstacle, Progress, TRIES, Work, busy, pause, require_busy,
+};
 use registry_migration::older_schema;
 use registry_names::Fault;
 use sqlite::types::ValueRef;
@@ -22,6 +22,44 @@ use std::alloc::Global;
 use std::fs;
 use std::io::ErrorKind;
 
+/// What is done with a registry in files. The program names a store in the machine's files in this crate
+/// alone: the code of everything else is made once for it.
+pub trait Visit {
+    /// What comes of it.
+    type Outcome;
+
+    /// Does it with a registry that was opened, and lets go of the registry's files.
+    fn visit<D: Disk + Drop>(
+        self,
+        registry: Registry<FileStore<D>>,
+    ) -> Result<Self::Outcome, Ending>;
+}
+
+/// Opens the registry in the file at the path, shows nothing, and does this with it.
+pub fn visit_once<V: Visit + Drop>(
+    rt: &HostRuntime,
+    path: &str,
+    visitor: V,
+) -> Result<V::Outcome, Ending> {
+    match open_once(rt, path) {
+        Ok(registry) => visitor.visit(registry),
+        Err(ending) => Err(ending),
+    }
+}
+
+/// Opens the registry in the file at the path, and does this with it. Where another process has the
+/// file, it is tried again, for five seconds.
+pub fn visit_soon<V: Visit + Drop>(
+    rt: &HostRuntime,
+    path: &str,
+    visitor: V,
+) -> Result<V::Outcome, Ending> {
+    match open_soon(rt, path) {
+        Ok(registry) => visitor.visit(registry),
+        Err(ending) => Err(ending),
+    }
+}
+
 /// Opens the registry in the file at the path, and shows a line on a terminal meanwhile.
 pub fn open(rt: &HostRuntime, path: &str) -> Result<Registry<FileStore<File>>, Ending> {
     let _opening = Progress::begin(rt, Work::Opening, path);
@@ -30,31 +68,45 @@ pub fn open(rt: &HostRuntime, path: &str) -> Result<Registry<FileStore<File>>, E
 
 /// Opens the registry in the file at the path, and shows nothing.
 pub fn open_once(rt: &HostRuntime, path: &str) -> Result<Registry<FileStore<File>>, Ending> {
-    match Registry::open(rt, path) {
+    match opened(rt, path) {
         Ok(registry) => Ok(registry),
         Err(Fault::Memory) => Err(Ending::from(Fault::Memory)),
         Err(Fault::Database) => Err(unopened(rt, path)),
     }
 }
 
+// What is left of files that didn't open is let go of.
+fn opened(rt: &HostRuntime, path: &str) -> Result<Registry<FileStore<File>>, Fault> {
+    match Registry::open_from(rt, path, Unknown) {
+        Ok(registry) => Ok(registry),
+        Err((fault, _)) => Err(fault),
+    }
+}
+
 /// Why the file at the path wasn't opened. Where it opens now, another process had it.
 pub fn unopened(rt: &HostRuntime, path: &str) -> Ending {
     let seen = seen_obstacle(rt, path);
-    let obstacle = match Registry::open(rt, path) {
-        Ok(_registry) => Obstacle::Busy,
+    let obstacle = match opened(rt, path) {
+        Ok(registry) => {
+            let_go(registry);
+            Obstacle::Busy
+        }
         Err(_) => seen,
     };
     Ending::Fault(Failure::Opening(obstacle))
 }
 
-/// The registry in the file at the path. Where another process has the file, it is tried again, for
-/// five seconds.
-pub fn open_soon(rt: &HostRuntime, path: &str) -> Result<Registry<FileStore<File>>, Ending> {
+// Lets go of a registry's files. Its log isn't copied into its file.
+fn let_go<D: Disk + Drop>(_registry: Registry<FileStore<D>>) {}
+
+// The registry in the file at the path. Where another process has the file, it is tried again, for
+// five seconds.
+fn open_soon(rt: &HostRuntime, path: &str) -> Result<Registry<FileStore<File>>, Ending> {
     let _opening = Progress::begin(rt, Work::Opening, path);
     for _ in 0..TRIES {
-        let opened = open_once(rt, path);
-        if !is_busy(&opened) {
-            return opened;
+        match open_once(rt, path) {
+            Ok(registry) => return Ok(registry),
+            Err(ending) => require_busy(ending)?,
         }
         pause(rt);
     }
@@ -127,31 +179,24 @@ pub fn unclosed(error: Error) -> Ending {
 
 // Why the file doesn't open, as far as an attempt to open it as any database shows.
 fn seen_obstacle(rt: &HostRuntime, path: &str) -> Obstacle {
-    match Connection::open_with_sums(rt, path) {
-        Ok(conn) => obstacle_left(rt.alloc(), Unopened::Database(conn)),
-        Err(error) => obstacle_of(error),
+    match Connection::open_from(rt, path, true, Unknown) {
+        Ok(conn) => obstacle_inside(rt.alloc(), conn),
+        Err((error, _)) => obstacle_of(error),
     }
 }
 
-/// Why files didn't open, by what is left of them. They are let go of, and nothing is copied.
-pub fn obstacle_left<D: Disk + Drop>(alloc: Global, left: Unopened<D>) -> Obstacle {
-    let mut left = left;
-    match obstacle_inside(alloc, &mut left) {
-        Some(obstacle) => obstacle,
-        None => obstacle_met(left.into_files().tally()),
-    }
+// What keeps a database from being a registry. Its files are let go of, and nothing is copied.
+fn obstacle_inside<D: Disk + Drop>(alloc: Global, conn: Connection<FileStore<D>>) -> Obstacle {
+    obstacle_within(alloc, conn)
 }
 
-// What keeps a database from being a registry, if one was opened.
-fn obstacle_inside<D: Disk>(alloc: Global, left: &mut Unopened<D>) -> Option<Obstacle> {
-    match left {
-        Unopened::Database(conn) => Some(obstacle_in(alloc, conn)),
-        Unopened::Files(_) => None,
-    }
+fn obstacle_within<S: Alter + Drop>(alloc: Global, conn: Connection<S>) -> Obstacle {
+    let mut conn = conn;
+    obstacle_in(alloc, &mut conn)
 }
 
-// What keeps files without a database from being opened, by what the calls of their disk met.
-fn obstacle_met(met: Tally) -> Obstacle {
+/// What keeps files without a database from being opened, by what the calls of their disk met.
+pub fn obstacle_met(met: Tally) -> Obstacle {
     if met.refused > 0 {
         Obstacle::Full
     } else {

@@ -8,14 +8,13 @@ ghost use Rattle.registry_desk.specs.Adopted.{CanBeAdopted};
 ghost use Rattle.registry_tables.specs.Schema as tables;
 ghost use Rattle.registry_files.specs.Copies.{HoldsSeen, IsRestored};
 
-use crate::beside::require_no_server;
 use crate::copying::{close_copy, see_inside};
-use crate::ending::{Ending, Failure, Obstacle, Snag};
-use crate::held::{copy_bytes, copy_files, log_of, new_file, snag, snagged, written};
-use crate::opening::{is_older, obstacle_in, obstacle_left, open_obstacle};
-use crate::parts::Names;
-use crate::progress::{Progress, Work};
-use registry_desk::{Registry, Unopened, has_tables};
+use crate::opening::{is_older, obstacle_in, obstacle_met, open_obstacle};
+use registry_desk::{Registry, has_tables};
+use registry_machine::{
+    Ending, Failure, Names, Obstacle, Progress, Snag, Work, copy_bytes, copy_files, log_of,
+    new_file, require_no_server, snag, snagged, written,
+};
 use registry_names::Fault;
 use sqlite::{Alter, Connection, FileStore, Files, Options, Unknown};
 use sqlite_disk::Disk;
@@ -237,7 +236,8 @@ pub fn settle_copy<D: Disk + Drop>(
         }
         Err((Fault::Memory, _)) => Err(Ending::from(Fault::Memory)),
         Err((Fault::Database, left)) => {
-            Err(snag(snag_of(obstacle_left(alloc, Unopened::Files(left)))))
+            let obstacle = obstacle_met(left.into_files().tally());
+            Err(snag(snag_of(obstacle)))
         }
     }
 }

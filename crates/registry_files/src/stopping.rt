@@ -1,8 +1,7 @@
 //! Ending the server that has a registry's file.
 
-use crate::beside::{TRIES, busy, end_server, pause};
-use crate::ending::{Ending, Failure, Trouble};
 use crate::opening::is_taken;
+use registry_machine::{Ending, Failure, TRIES, Trouble, busy, end_server, pause};
 use std::alloc::Global;
 
 /// Ends the server that has the registry's file at the path, once everything that is under way is

@@ -3,7 +3,7 @@
 //! an empty registry in memory, and prints the packument of the package on standard output.
 #![tactic(auto)]
 
-use registry_files::{Ending, report};
+use registry_machine::{Ending, report};
 use registry_names::{Fault, FromRead, Text, ToWrite};
 use registry_program::program;
 use std::alloc::AllocError;

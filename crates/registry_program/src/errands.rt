@@ -1,15 +1,11 @@
 //! What the program does for the people who run the registry, besides requests.
 
-use crate::commands::{ask_line, given_alone};
 use crate::serving::serve_beside;
-use registry_cli::{Errand, NewToken, TOKEN_BYTES, print_token, token_of};
-use registry_files::{
-    Answer, DONE, Ending, Failure, Registries, back_up, print_check, print_done, print_sent_token,
-    print_wrong, restore, stop,
-};
-use registry_names::{ByteOut, Text};
+use registry_cli::Errand;
+use registry_files::{back_up, print_check, restore, stop};
+use registry_machine::{DONE, Ending, Registries, make_token, print_done, print_wrong};
+use registry_names::ByteOut;
 use std::alloc::Global;
-use std::random::RandomSource;
 
 /// What is printed for a copy or a file that was made, and in which nothing is wrong.
 const CHECKED: &str = "{\"ok\":true,\"checked\":true}\n";
@@ -47,45 +43,4 @@ pub fn run_errand<R: Registries, O: ByteOut, E: ByteOut>(
 // What is printed for a copy or a file that was made: whether it was checked, too.
 fn done_of(checks: bool) -> &'static str {
     if checks { CHECKED } else { DONE }
-}
-
-// Makes a token, adds it, and prints it where it was added. The registry keeps only its digest, so
-// nobody can print it again. Printing it takes no memory.
-fn make_token<R: Registries, O: ByteOut, E: ByteOut>(
-    rt: &HostRuntime,
-    alloc: Global,
-    registries: &mut R,
-    new: NewToken,
-    output: &mut O,
-    errors: &mut E,
-) -> Result<u8, Ending> {
-    let token = random_token(rt, alloc)?;
-    let token = token.as_str();
-    match add_token(rt, alloc, registries, new, token)? {
-        Answer::Reply(reply) => Ok(print_token(token, &reply, output, errors)?),
-        Answer::Sent(bytes) => print_sent_token(alloc, &bytes, token, output, errors),
-    }
-}
-
-// A token of the system's random bytes.
-fn random_token(rt: &HostRuntime, alloc: Global) -> Result<Text, Ending> {
-    let mut random = [0u8; TOKEN_BYTES];
-    match rt.fill_bytes(&mut random) {
-        Ok(()) => Ok(token_of(alloc, random)?),
-        Err(_) => Err(Ending::Fault(Failure::Read)),
-    }
-}
-
-// The answer to the line that adds a token.
-fn add_token<R: Registries>(
-    rt: &HostRuntime,
-    alloc: Global,
-    registries: &mut R,
-    new: NewToken,
-    token: &str,
-) -> Result<Answer, Ending> {
-    let arguments = new.arguments(alloc, token)?;
-    let line = new.line(alloc, Text::from_str(alloc, token)?)?;
-    let given = given_alone(rt, alloc, &line)?;
-    ask_line(rt, alloc, registries, &line, &arguments, &given)
 }

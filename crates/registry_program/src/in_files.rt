@@ -1,8 +1,9 @@
 //! Registries in files.
 
 use registry_desk::Registry;
-use registry_files::{Ending, Registries, open_once};
+use registry_files::{Visit, visit_once};
 use registry_http::RegistryService;
+use registry_machine::{Ending, Registries};
 use registry_names::Fault;
 use registry_rules::{Reply, Request};
 use registry_service::Service;
@@ -23,23 +24,26 @@ impl Registries for InFiles {
         path: &str,
         request: &Request,
     ) -> Result<Reply, Ending> {
-        match open_once(rt, path) {
-            Ok(registry) => reply_in(alloc, registry, request),
-            Err(ending) => Err(ending),
-        }
+        visit_once(rt, path, Asks { alloc, request })
     }
 }
 
-// The reply of a registry, whose file is let go of. Its log isn't copied into its file: the next
-// open does what is left to do.
-fn reply_in<D: Disk + Drop>(
+// A request, which a registry in files is asked.
+#[derive(Drop)]
+struct Asks<'a> {
     alloc: Global,
-    registry: Registry<FileStore<D>>,
-    request: &Request,
-) -> Result<Reply, Ending> {
-    match outcome_in(alloc, registry, request) {
-        Ok(reply) => Ok(reply),
-        Err(fault) => Err(Ending::from(fault)),
+    request: &'a Request,
+}
+
+impl Visit for Asks<'_> {
+    type Outcome = Reply;
+
+    // The registry's log isn't copied into its file: the next open does what is left to do.
+    fn visit<D: Disk + Drop>(self, registry: Registry<FileStore<D>>) -> Result<Reply, Ending> {
+        match outcome_in(self.alloc, registry, self.request) {
+            Ok(reply) => Ok(reply),
+            Err(fault) => Err(Ending::from(fault)),
+        }
     }
 }
 

@@ -4,10 +4,8 @@ ghost use Rattle.std.specs.Prelude.{◌≤◌, length, take};
 ghost use Rattle.std.specs.Io.KnownBytes.{Appends};
 
 use crate::log_output::LogOutput;
-use crate::log_place::{Named, Place, found_at, may_log};
-use crate::moment::read_moment;
-use registry_files::{Ending, Failure};
 use registry_log::{LineSink, Log, LogClock};
+use registry_machine::{Ending, Failure, Named, OUTPUT, Place, found_at, may_log, read_moment};
 use registry_names::{Moment, Text};
 use std::alloc::Global;
 use std::fs::{File, OpenOptions};
@@ -18,9 +16,6 @@ use std::{fs, io};
 
 /// The mode of a log that is made: its owner reads and writes it, and nobody else.
 const MODE: u32 = 0o600;
-
-/// The path that stands for standard output.
-const OUTPUT: &str = "-";
 
 /// A log of requests, with the clocks of the machine.
 pub(crate) type RequestLog = Log<MachineClock, LogSink>;
@@ -51,20 +46,6 @@ fn sink_at(rt: &HostRuntime, alloc: Global, path: &str, db: &str) -> Result<LogS
     let path = Text::from_str(alloc, path)?;
     let db = Text::from_str(alloc, db)?;
     Ok(LogSink::File(LogFile::at(*rt, path, db)))
-}
-
-/// Whether a log may be kept at the path beside a registry's file, which is open: it is standard
-/// output, or a file that is none of the registry's own, or nothing is there.
-pub(crate) fn is_allowed(
-    rt: &HostRuntime,
-    alloc: Global,
-    path: &str,
-    db: &str,
-) -> io::Result<bool> {
-    if path == OUTPUT {
-        return Ok(true);
-    }
-    may_log(rt, alloc, path, found_at(rt, path), db)
 }
 
 /// Where the lines of a log go.

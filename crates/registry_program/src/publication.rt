@@ -2,7 +2,7 @@
 
 use registry_cache::SharedText;
 use registry_desk::Registry;
-use registry_files::Ending;
+use registry_machine::Ending;
 use registry_names::{Fault, Ident, Moment, Name, Stop};
 use registry_publish::PublishForm;
 use registry_rules::{Action, Credential, Reply, Request};

@@ -3,12 +3,9 @@
 use crate::commands::answer_command;
 use crate::in_files::InFiles;
 use crate::publication::packument_of;
-use registry_files::{Ending, Registries, report};
-use registry_names::{BODY_LIMIT, ByteIn, ByteOut, Text, read_whole, write_whole};
+use registry_machine::{Ending, MOST_READ, Registries, report};
+use registry_names::{ByteIn, ByteOut, Text, read_whole, write_whole};
 use std::alloc::Global;
-
-/// One byte more than a body may have: enough to see that it is too large.
-pub(crate) const MOST_READ: usize = BODY_LIMIT + 1;
 
 /// Runs the program on the arguments after its name, and returns its exit status.
 ///

@@ -1,89 +1,28 @@
 //! Serving the registry in a file over HTTP.
 
-use crate::logging::{is_allowed, log_at};
-use crate::moment::read_moment;
+use crate::logging::log_at;
 use registry_cli::{Line, Serving};
 use registry_desk::Registry;
-use registry_files::{Blockage, Ending, Failure, close_files, open_soon};
+use registry_files::{Visit, close_files, visit_soon};
 use registry_guests::CommandListener;
 use registry_http::RegistryService;
 use registry_log::{LineSink, Log, LogClock, LoggedService};
-use registry_names::{ByteOut, Moment, Text, write_whole};
+use registry_machine::{
+    Ending, ServeOptions, begin_serving, end_serving, end_text, listen, run_server,
+};
+use registry_names::{ByteOut, Moment};
 use registry_npm::NpmService;
-use registry_server::{Ended, ListenAt, LocalSocket, Server, SocketFile};
+use registry_server::{Ended, Server};
 use registry_service::HttpService;
 use sqlite::{Alter, FileStore};
 use sqlite_disk::Disk;
 use std::alloc::{AllocError, Global};
-use std::io;
-use std::io::ErrorKind;
 
 /// What is said of a port or a number of connections that isn't a number.
 const NO_NUMBER: &str = "error: --port and --connections take whole numbers";
 
-/// What is said of a log that would be kept in something that isn't a file, or in one of the
-/// registry's files.
-const NO_LOG: &str = "error: --log takes a file that isn't one of the registry's";
-
-/// What is said where a server ends since enough connections came.
-const ENOUGH: &str = "ended: as many connections came as --connections says\n";
-
-/// What is said where a server ends since a command asked for it.
-const STOPPED: &str = "ended: a command told it to stop\n";
-
 /// How much room is taken and let go of before the first request, in bytes: that of the largest body.
 const ROOM: usize = 4_194_304;
-
-/// What is printed where commands can't be answered.
-const NO_COMMANDS: &str = "no command beside this server is answered: ";
-
-/// Where a server listens and for how many connections, the path of its file, the path of a log of
-/// requests, if one is kept, and whether npm's own requests are answered.
-#[derive(Clone, Copy)]
-struct ServeOptions<'a> {
-    port: Option<u16>,
-    socket: Option<&'a str>,
-    connections: u64,
-    path: &'a str,
-    log: Option<&'a str>,
-    answers_npm: bool,
-}
-
-impl<'a> ServeOptions<'a> {
-    // What a line says that asks to serve: after the name `serve` the port and the connections.
-    fn of(line: &'a Line) -> Option<ServeOptions<'a>> {
-        let arguments = line.what.as_slice();
-        let port = arguments.get(1)?.as_str().parse::<u16>().ok()?;
-        let connections = arguments.get(2)?.as_str().parse::<u64>().ok()?;
-        Some(ServeOptions {
-            port: Some(port),
-            socket: None,
-            connections,
-            path: line.db.as_str(),
-            log: None,
-            answers_npm: false,
-        })
-    }
-
-    // The same with a socket, a log, npm's own requests, or several of these.
-    fn beside(serving: &'a Serving) -> Option<ServeOptions<'a>> {
-        let options = ServeOptions::of(&serving.line)?;
-        Some(ServeOptions {
-            port: if serving.has_port { options.port } else { None },
-            socket: shown(&serving.socket),
-            log: shown(&serving.log),
-            answers_npm: serving.answers_npm,
-            ..options
-        })
-    }
-}
-
-fn shown(text: &Option<Text>) -> Option<&str> {
-    match text {
-        Some(text) => Some(text.as_str()),
-        None => None,
-    }
-}
 
 /// A server that listens, as its options say.
 #[derive(Drop)]
@@ -162,66 +101,51 @@ fn serve_with_commands<K: LogClock + Drop, W: LineSink + Drop, O: ByteOut, E: By
 ) -> Result<u8, Ending> {
     let mut listener = CommandListener::closed(alloc)?;
     let (server, file) = listen(rt, alloc, options)?;
-    let bound = Bound { server, options };
-    let ended = serve_file(rt, alloc, bound, log, &mut listener, output, errors);
+    let serves = Serves {
+        rt: *rt,
+        alloc,
+        bound: Bound { server, options },
+        log,
+        listener: &mut listener,
+        output,
+        errors: &mut *errors,
+    };
+    // A command may have the file for a moment.
+    let ended = visit_soon(rt, options.path, serves);
     if let Some(file) = file {
         let _ = file.remove(rt);
     }
-    end(ended?, errors)
+    end_serving(ended?, errors)
 }
 
-// A server that listens as its options say, and the file of its socket, if it has one.
-fn listen(
-    rt: &HostRuntime,
+// What a registry is served with.
+#[derive(Drop)]
+struct Serves<'a, K: LogClock, W: LineSink, O, E> {
+    rt: HostRuntime,
     alloc: Global,
-    options: ServeOptions<'_>,
-) -> Result<(Server, Option<SocketFile>), Ending> {
-    let Some(path) = options.socket else {
-        let port = options.port.unwrap_or(0);
-        return Ok((Server::bind(rt, alloc, port, options.connections)?, None));
-    };
-    let (socket, file) = LocalSocket::bind(rt, alloc, path).map_err(no_socket)?;
-    let at = match options.port {
-        Some(port) => ListenAt::Both(port, socket),
-        None => ListenAt::Socket(socket),
-    };
-    match Server::bind_at(rt, alloc, at, options.connections) {
-        Ok(server) => Ok((server, Some(file))),
-        Err(error) => {
-            let _ = file.remove(rt);
-            Err(Ending::from(error))
-        }
-    }
-}
-
-// Why the server can't listen at a socket.
-fn no_socket(error: io::Error) -> Ending {
-    let why = match error.kind() {
-        ErrorKind::OutOfMemory => return Ending::from(error),
-        ErrorKind::AddrInUse => Blockage::Taken,
-        ErrorKind::AlreadyExists => Blockage::Foreign,
-        ErrorKind::InvalidInput => Blockage::Long,
-        _ => Blockage::Unmade,
-    };
-    Ending::Fault(Failure::Socket(why))
-}
-
-// Opens the file, and serves its registry. A command may have the file for a moment.
-fn serve_file<K: LogClock + Drop, W: LineSink + Drop, O: ByteOut, E: ByteOut>(
-    rt: &HostRuntime,
-    alloc: Global,
-    bound: Bound<'_>,
+    bound: Bound<'a>,
     log: Option<Log<K, W>>,
-    listener: &mut CommandListener,
-    output: &mut O,
-    errors: &mut E,
-) -> Result<Ended, Ending> {
-    match open_soon(rt, bound.options.path) {
-        Ok(registry) => {
-            keep_room(alloc);
-            serve_registry(rt, alloc, bound, log, registry, listener, output, errors)
-        }
-        Err(ending) => Err(ending),
+    listener: &'a mut CommandListener,
+    output: &'a mut O,
+    errors: &'a mut E,
+}
+
+impl<K: LogClock + Drop, W: LineSink + Drop, O: ByteOut, E: ByteOut> Visit
+    for Serves<'_, K, W, O, E> {
+    type Outcome = Ended;
+
+    fn visit<D: Disk + Drop>(self, registry: Registry<FileStore<D>>) -> Result<Ended, Ending> {
+        let Serves {
+            rt,
+            alloc,
+            bound,
+            log,
+            listener,
+            output,
+            errors,
+        } = self;
+        keep_room(alloc);
+        serve_registry(&rt, alloc, bound, log, registry, listener, output, errors)
     }
 }
 
@@ -280,15 +204,15 @@ fn serve_until_end<S: Alter + Drop, K: LogClock + Drop, W: LineSink + Drop, O: B
 }
 
 // Serves with the service, which answers npm's own requests, too, where the options say so.
-fn serve_with<S: Alter + Drop, K: LogClock + Drop, W: LineSink + Drop, O: ByteOut, E: ByteOut>(
+fn serve_with<D: Told + Drop, O: ByteOut, E: ByteOut>(
     rt: &HostRuntime,
     alloc: Global,
     bound: Bound<'_>,
-    service: LoggedService<S, K, W>,
+    service: D,
     listener: &mut CommandListener,
     output: &mut O,
     errors: &mut E,
-) -> (Result<Ended, Ending>, LoggedService<S, K, W>) {
+) -> (Result<Ended, Ending>, D) {
     if bound.options.answers_npm {
         let mut npm = NpmService { service };
         let ended = serve_bound(rt, alloc, bound, &mut npm, listener, output, errors);
@@ -357,41 +281,10 @@ fn serve_bound<D: Told, O: ByteOut, E: ByteOut>(
     output: &mut O,
     errors: &mut E,
 ) -> Result<Ended, Ending> {
-    let Some(at) = read_moment(rt) else {
-        return Err(Ending::Fault(Failure::Read));
-    };
     let Bound { server, options } = bound;
-    require_log(rt, alloc, options)?;
-    open_listener(rt, alloc, &server, options.path, listener, errors);
-    match announce(alloc, &server, options.socket, output) {
-        Ok(()) => run(rt, alloc, server, at, service, listener),
+    match begin_serving(rt, alloc, &server, options, listener, output, errors) {
+        Ok(at) => run(rt, alloc, server, at, service, listener),
         Err(ending) => Err(ending),
-    }
-}
-
-// Listens for commands, or warns that none is answered.
-fn open_listener<E: ByteOut>(
-    rt: &HostRuntime,
-    alloc: Global,
-    server: &Server,
-    path: &str,
-    listener: &mut CommandListener,
-    errors: &mut E,
-) {
-    if let Err(error) = listener.open(rt, alloc, server.registry(), path) {
-        warn(&error, errors);
-    }
-}
-
-// A log, if one is to be kept, isn't to be written into the registry's own files.
-fn require_log(rt: &HostRuntime, alloc: Global, options: ServeOptions<'_>) -> Result<(), Ending> {
-    let Some(log) = options.log else {
-        return Ok(());
-    };
-    if is_allowed(rt, alloc, log, options.path)? {
-        Ok(())
-    } else {
-        Err(Ending::Wrong(NO_LOG))
     }
 }
 
@@ -405,66 +298,11 @@ fn run<D: Told>(
     listener: &mut CommandListener,
 ) -> Result<Ended, Ending> {
     service.tell("begun");
-    let ended = server.run_beside(rt, alloc, at, service, listener);
+    let ended = run_server(rt, alloc, server, at, service, listener);
     let said = match &ended {
         Ok(ended) => end_text(*ended),
         Err(_) => "ended: a fault",
     };
     service.tell(said);
     Ok(ended?)
-}
-
-// What the log says of why a server ended.
-fn end_text(ended: Ended) -> &'static str {
-    match ended {
-        Ended::Enough => "ended: as many connections came as --connections says",
-        Ended::Stopped => "ended: a command told it to stop",
-        Ended::ServiceOver => "ended: the disk failed",
-    }
-}
-
-// Says that commands beside the server aren't answered, and why.
-fn warn<E: ByteOut>(error: &io::Error, errors: &mut E) {
-    let why = match error.kind() {
-        ErrorKind::PermissionDenied =>
-            "its folder isn't one that the file's owner alone may enter\n",
-        ErrorKind::AddrInUse =>
-            "a server of another file that was at the path still listens there\n",
-        ErrorKind::InvalidInput => "the path is too long for a socket\n",
-        _ => "its socket can't be made\n",
-    };
-    for text in [NO_COMMANDS, why] {
-        let _ = write_whole(errors, text.as_bytes());
-    }
-}
-
-// What a server that ended so leaves: the exit status, or the fault of its disk.
-fn end<E: ByteOut>(ended: Ended, errors: &mut E) -> Result<u8, Ending> {
-    match ended {
-        Ended::Enough => {
-            let _ = write_whole(errors, ENOUGH.as_bytes());
-            Ok(0)
-        }
-        Ended::Stopped => {
-            let _ = write_whole(errors, STOPPED.as_bytes());
-            Ok(0)
-        }
-        Ended::ServiceOver => Err(Ending::Fault(Failure::Shut)),
-    }
-}
-
-// Prints where the server listens: at a port, at a socket, or at both.
-fn announce<O: ByteOut>(
-    alloc: Global,
-    server: &Server,
-    socket: Option<&str>,
-    output: &mut O,
-) -> Result<(), Ending> {
-    let said = match (server.port(), socket) {
-        (Ok(port), None) => format!(in alloc; "listening 127.0.0.1:{port}\n")?,
-        (Ok(port), Some(path)) => format!(in alloc; "listening 127.0.0.1:{port} unix:{path}\n")?,
-        (Err(_), Some(path)) => format!(in alloc; "listening unix:{path}\n")?,
-        (Err(error), None) => return Err(Ending::from(error)),
-    };
-    Ok(write_whole(output, said.as_bytes())?)
 }

@@ -2,8 +2,8 @@
 
 use crate::failure::{Stop, failed_with};
 use registry_desk::Registry;
-use registry_files::{Ending, Registries};
 use registry_http::RegistryService;
+use registry_machine::{Ending, Registries};
 use registry_names::Fault;
 use registry_program::{InFiles, reply_of};
 use registry_rules::{Reply, Request};

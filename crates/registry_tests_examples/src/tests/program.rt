@@ -9,7 +9,7 @@ mod serving;
 mod tokens;
 
 use crate::outcome::same;
-use registry_files::{Ending, Failure, report};
+use registry_machine::{Ending, Failure, report};
 use registry_names::{FromRead, Text, ToWrite};
 use registry_program::program;
 use std::alloc::Global;

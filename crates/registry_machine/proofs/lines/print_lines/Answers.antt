@@ -3,9 +3,9 @@ use Rattle.std.specs.Prelude.{string_bytes}
 use Rattle.std.specs.List.{flat_map}
 use Rattle.registry_names.specs.ByteStreams.{Writes}
 use Rattle.registry_names.proofs.ByteStreamFacts.{Writes-nothing}
-use Rattle.registry_files.specs.Lines.{wrong_line}
-use Rattle.registry_files.proofs.LineFacts.{Rises-none, Rises-two, both_written, more_text}
-use Rattle.registry_files.proofs.lines.print_lines.Goals as goal
+use Rattle.registry_machine.specs.Lines.{wrong_line}
+use Rattle.registry_machine.proofs.LineFacts.{Rises-none, Rises-two, both_written, more_text}
+use Rattle.registry_machine.proofs.lines.print_lines.Goals as goal
 
 pub loop-line-init : goal.loop-line-init
 loop-line-init g c = record { rises = Rises-none _; all = λ none. Writes-nothing _ _ }

@@ -6,7 +6,7 @@ use Rattle.std.proofs.lemmas.Grind.{flat_map-append}
 use Rattle.std.proofs.lemmas.List.{take_more}
 use Rattle.registry_names.specs.ByteStreams.{Writes, failures_after, full_count}
 use Rattle.registry_names.proofs.ByteStreamFacts.{Writes-append}
-use Rattle.registry_files.specs.Lines.{NoneFailed, Rises}
+use Rattle.registry_machine.specs.Lines.{NoneFailed, Rises}
 
 -- ---- lists
 

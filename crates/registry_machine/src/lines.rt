@@ -6,8 +6,9 @@ ghost use Rattle.std.specs.List.{flat_map};
 ghost use Rattle.hex.specs.Hex.{encode_lower};
 ghost use Rattle.registry_names.specs.ByteStreams.{Writes, WritesPrefix};
 ghost use Rattle.registry_check.specs.Readable.{table_of};
-ghost use Rattle.registry_files.specs.Lines.{NoneFailed, Rises, printed_lines, wrong_line};
-ghost use Rattle.registry_files.specs.Lines as spec;
+ghost use Rattle.registry_cli.specs.Prints as prints;
+ghost use Rattle.registry_machine.specs.Lines.{NoneFailed, Rises, printed_lines, wrong_line};
+ghost use Rattle.registry_machine.specs.Lines as spec;
 
 use crate::ending::Ending;
 use registry_check::{Problem, TextTable, Thing};
@@ -30,6 +31,28 @@ pub fn problem_lines(alloc: Global, problems: &[Problem]) -> Result<Vec<String>,
         lines.push(problem_text(alloc, problem)?)?;
     }
     Ok(lines)
+}
+
+/// Says that all is done where there is no problem, and otherwise prints a line for each. Gives the exit
+/// status.
+pub fn print_problems<O: ByteOut, E: ByteOut>(
+    alloc: Global,
+    problems: &[Problem],
+    output: &mut O,
+    errors: &mut E,
+) -> Result<u8, Ending>
+    ensures status { IfOk result (λ status. status
+        ≡ (printed_lines (prints.done ++ prints.newline) (map spec.problem_line problems.now)).status) }
+    ensures output { OnOk result (Writes (O.bytes output.old) (O.bytes output.new)
+        (O.is_unknown output.new)
+        (printed_lines (prints.done ++ prints.newline) (map spec.problem_line problems.now)).out) }
+    ensures errors { OnOk result (NoneFailed (E.failures errors.old) (E.failures errors.new)
+        → Writes (E.bytes errors.old) (E.bytes errors.new) (E.is_unknown errors.new)
+        (printed_lines (prints.done ++ prints.newline) (map spec.problem_line problems.now)).err) }
+    ensures silent { OnErr result (errors.new ≡ errors.old) }
+{
+    let lines = problem_lines(alloc, problems)?;
+    print_wrong(&lines, DONE, output, errors)
 }
 
 /// Says on the output that all is done where nothing is wrong, and otherwise prints a line for each

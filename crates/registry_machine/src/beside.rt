@@ -33,6 +33,14 @@ pub fn is_busy<T>(done: &Result<T, Ending>) -> bool {
     matches!(done, Err(Ending::Fault(Failure::Opening(Obstacle::Busy))))
 }
 
+/// Checks that another process has the registry's file, where that is why nothing was done.
+pub fn require_busy(ending: Ending) -> Result<(), Ending> {
+    match ending {
+        Ending::Fault(Failure::Opening(Obstacle::Busy)) => Ok(()),
+        ending => Err(ending),
+    }
+}
+
 /// Checks that no server listens here that has another file open, one that was at the path before.
 /// So whatever answers is the file at the path or its server.
 pub fn require_no_other(rt: &HostRuntime, alloc: Global, path: &str) -> Result<(), Ending> {

@@ -2,8 +2,8 @@ use Rattle.std.proofs.Common.{map, take}
 use Rattle.std.specs.Prelude.{string_bytes}
 use Rattle.std.specs.List.{flat_map}
 use Rattle.registry_names.specs.ByteStreams.{Writes}
-use Rattle.registry_files.specs.Lines.{NoneFailed, Rises, wrong_line}
-use Rattle.registry_files.proofs.lines.print_lines.Given as goal
+use Rattle.registry_machine.specs.Lines.{NoneFailed, Rises, wrong_line}
+use Rattle.registry_machine.proofs.lines.print_lines.Given as goal
 
 -- where no call failed so far, the lines so far were written
 abbrev pub invariant-loop-line : goal.invariant-loop-line

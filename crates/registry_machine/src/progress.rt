@@ -144,7 +144,8 @@ fn length_at(rt: &HostRuntime, path: &str) -> u64 {
 /// A writer that shows on a line how much it has taken. It takes exactly what its inner writer takes.
 #[derive(Drop)]
 pub struct Shown<W> {
-    writer: W,
+    /// Where the bytes go.
+    pub writer: W,
     progress: Progress,
     done: u64,
 }

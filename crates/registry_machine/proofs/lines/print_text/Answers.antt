@@ -1,5 +1,5 @@
-use Rattle.registry_files.proofs.LineFacts.{rises_after, unless_failed}
-use Rattle.registry_files.proofs.lines.print_text.Goals as goal
+use Rattle.registry_machine.proofs.LineFacts.{rises_after, unless_failed}
+use Rattle.registry_machine.proofs.lines.print_text.Goals as goal
 
 pub returns-clause-rises : goal.returns-clause-rises
 returns-clause-rises g c = rises_after c.write_whole.result _ _ c.write_whole.ensures.counted

@@ -1,7 +1,7 @@
 //! Where a log may lie.
 
 ghost use Rattle.std.specs.Prelude.{◌≡◌, ◌++◌, IfOk};
-ghost use Rattle.registry_program.specs.LogPlaces as spec;
+ghost use Rattle.registry_machine.specs.LogPlaces as spec;
 
 use registry_names::Text;
 use std::alloc::{AllocError, Global};
@@ -10,9 +10,12 @@ use std::os::unix::fs::MetadataExt;
 use std::path::Path;
 use std::{fs, io};
 
+/// The path that stands for standard output.
+pub const OUTPUT: &str = "-";
+
 /// A file: its device, and its number there.
 #[derive(Clone, Copy, PartialEq, Eq)]
-pub(crate) struct Place {
+pub struct Place {
     device: u64,
     number: u64,
 }
@@ -28,7 +31,7 @@ impl Place {
 
 /// What a path names.
 #[derive(Clone, Copy, PartialEq, Eq)]
-pub(crate) enum Named {
+pub enum Named {
     /// Nothing that can be seen.
     Nothing,
     /// A file.
@@ -39,7 +42,7 @@ pub(crate) enum Named {
 
 impl Named {
     /// What has this metadata.
-    pub(crate) fn of(metadata: &Metadata) -> Named {
+    pub fn of(metadata: &Metadata) -> Named {
         if metadata.is_file() {
             Named::File(Place::of(metadata))
         } else {
@@ -58,16 +61,25 @@ struct SeenPath {
 }
 
 /// What the path names now, with links followed.
-pub(crate) fn found_at(rt: &HostRuntime, path: &str) -> Named {
+pub fn found_at(rt: &HostRuntime, path: &str) -> Named {
     match fs::metadata(rt, path) {
         Ok(found) => Named::of(&found),
         Err(_) => Named::Nothing,
     }
 }
 
+/// Whether a log may be kept at the path beside a registry's file, which is open: it is standard
+/// output, or a file that is none of the registry's own, or nothing is there.
+pub fn is_allowed(rt: &HostRuntime, alloc: Global, path: &str, db: &str) -> io::Result<bool> {
+    if path == OUTPUT {
+        return Ok(true);
+    }
+    may_log(rt, alloc, path, found_at(rt, path), db)
+}
+
 /// Whether a log may be kept at the path, which names this, while a registry's file is open:
 /// nothing is there, or a file, and neither it nor the path is one of the registry's own.
-pub(crate) fn may_log(
+pub fn may_log(
     rt: &HostRuntime,
     alloc: Global,
     path: &str,

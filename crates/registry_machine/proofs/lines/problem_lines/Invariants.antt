@@ -1,7 +1,7 @@
 use Rattle.std.proofs.Common.{◌≡◌, map, take}
 use Rattle.std.specs.Prelude.{string_bytes}
-use Rattle.registry_files.specs.Lines.{problem_line}
-use Rattle.registry_files.proofs.lines.problem_lines.Given as goal
+use Rattle.registry_machine.specs.Lines.{problem_line}
+use Rattle.registry_machine.proofs.lines.problem_lines.Given as goal
 
 -- the lines so far are those of the problems so far
 abbrev pub invariant-loop-problem : goal.invariant-loop-problem

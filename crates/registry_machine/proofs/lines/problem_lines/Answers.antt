@@ -1,8 +1,8 @@
 use Rattle.std.proofs.Common.{◌∙◌, ap, map, take_all}
 use Rattle.std.specs.Prelude.{string_bytes}
-use Rattle.registry_files.specs.Lines.{problem_line}
-use Rattle.registry_files.proofs.LineFacts.{more_lines}
-use Rattle.registry_files.proofs.lines.problem_lines.Goals as goal
+use Rattle.registry_machine.specs.Lines.{problem_line}
+use Rattle.registry_machine.proofs.LineFacts.{more_lines}
+use Rattle.registry_machine.proofs.lines.problem_lines.Goals as goal
 
 pub loop-problem-preserved : goal.loop-problem-preserved
 loop-problem-preserved c =

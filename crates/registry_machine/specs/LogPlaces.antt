@@ -2,10 +2,10 @@
 use Rattle.std.specs.Prelude.{◌==◌, ◌&&◌, ◌||◌, ◌++◌, ◌∷◌, [], Bool, true, false, List, Option, Some, None, bytes_eq, codes, not}
 use Rattle.std.specs.List.{list_any}
 use Rattle.registry_names.specs.Texts.{Text}
-use Rattle.registry_program.specs.declared.log_place.Named.{Named}
-use Rattle.registry_program.specs.declared.log_place.Named.TheVariants.{Nothing, File, Other}
-use Rattle.registry_program.specs.declared.log_place.Place.{Place}
-use Rattle.registry_program.specs.declared.log_place.SeenPath.{SeenPath}
+use Rattle.registry_machine.specs.declared.log_place.Named.{Named}
+use Rattle.registry_machine.specs.declared.log_place.Named.TheVariants.{Nothing, File, Other}
+use Rattle.registry_machine.specs.declared.log_place.Place.{Place}
+use Rattle.registry_machine.specs.declared.log_place.SeenPath.{SeenPath}
 
 -- The paths of a registry's own files, by that of its file: itself; the log, the index and the
 -- journal of SQLite; and the folder of a server

@@ -1,0 +1,138 @@
+//! What a command line asks with, and what it is answered.
+
+ghost use Rattle.std.specs.Prelude.{◌≡◌, false};
+ghost use Rattle.registry_cli.specs.Lines.{IsWhole, asks_to_serve};
+
+use crate::asking::{Answer, Question, answer_to};
+use crate::beside::print_sent;
+use crate::ending::{Ending, Failure};
+use crate::moment::read_moment;
+use crate::registries::Registries;
+use registry_cli::{Line, action_of, print_reply};
+use registry_names::{
+    BODY_LIMIT, ByteIn, ByteOut, Fault, FromRead, Moment, ReadStop, Text, read_whole,
+};
+use registry_rules::Request;
+use std::alloc::Global;
+use std::fs;
+use std::io::ErrorKind;
+
+/// One byte more than a body may have: enough to see that it is too large.
+pub const MOST_READ: usize = BODY_LIMIT + 1;
+
+/// One byte more than a token and its newline may have: enough to see that it is none.
+const MOST_OF_TOKEN: usize = 130;
+
+/// What a line asks with, besides its words.
+#[derive(Drop)]
+pub struct Given {
+    // The moment that it gives, or else that of the clock.
+    at: Moment,
+    // The bytes of the file that it names, or those of the input that it reads, or none.
+    body: Vec<u8>,
+}
+
+/// What a line asks with. The clock is read first, and then the file or the input.
+pub fn given_to<I: ByteIn>(
+    rt: &HostRuntime,
+    alloc: Global,
+    line: &Line,
+    input: &mut I,
+) -> Result<Given, Ending> {
+    let at = asked_at(rt, line)?;
+    let body = body_of(rt, alloc, line, input)?;
+    Ok(Given { at, body })
+}
+
+/// What a line asks with that reads neither a file nor the input.
+pub fn given_alone(rt: &HostRuntime, alloc: Global, line: &Line) -> Result<Given, Ending> {
+    let at = asked_at(rt, line)?;
+    let body = Vec::new(alloc);
+    Ok(Given { at, body })
+}
+
+/// Asks for what a line means, with what is given. A server is asked with the arguments.
+pub fn ask_line<R: Registries>(
+    rt: &HostRuntime,
+    alloc: Global,
+    registries: &mut R,
+    line: &Line,
+    arguments: &[Text],
+    given: &Given,
+) -> Result<Answer, Ending>
+    requires whole { IsWhole line.now.what }
+    requires asks { asks_to_serve line.now.what ≡ false }
+{
+    let request = request(alloc, line, given)?;
+    let question = Question {
+        path: line.db.as_str(),
+        request: &request,
+        arguments,
+        body: &given.body,
+    };
+    answer_to(rt, alloc, registries, question)
+}
+
+// What a line asks for, with what is given, and when.
+fn request(alloc: Global, line: &Line, given: &Given) -> Result<Request, Ending>
+    requires whole { IsWhole line.now.what }
+    requires asks { asks_to_serve line.now.what ≡ false }
+{
+    let (who, what) = action_of(alloc, line, &given.body)?;
+    let at = given.at;
+    Ok(Request { at, who, what })
+}
+
+// When a line asks: at the moment that it gives, or now.
+fn asked_at(rt: &HostRuntime, line: &Line) -> Result<Moment, Ending> {
+    match line.at {
+        Some(at) => Ok(at),
+        None => match read_moment(rt) {
+            Some(now) => Ok(now),
+            None => Err(Ending::Fault(Failure::Read)),
+        },
+    }
+}
+
+// The bytes of the file that a line names, or those of the input that it reads, or none.
+fn body_of<I: ByteIn>(
+    rt: &HostRuntime,
+    alloc: Global,
+    line: &Line,
+    input: &mut I,
+) -> Result<Vec<u8>, Ending> {
+    match line.file() {
+        Some(path) => file_bytes(rt, alloc, path),
+        None if line.reads_input() => Ok(read_whole(alloc, input, MOST_OF_TOKEN)?),
+        None => Ok(Vec::new(alloc)),
+    }
+}
+
+// The bytes of a file, but at most one more than a body may have.
+fn file_bytes(rt: &HostRuntime, alloc: Global, path: &str) -> Result<Vec<u8>, Ending> {
+    let file = match fs::open(rt, path) {
+        Ok(file) => file,
+        Err(error) if error.kind() == ErrorKind::OutOfMemory => {
+            return Err(Ending::from(Fault::Memory));
+        }
+        Err(_) => return Err(Ending::Fault(Failure::File)),
+    };
+    match read_whole(alloc, &mut FromRead::new(file), MOST_READ) {
+        Ok(bytes) => Ok(bytes),
+        Err(ReadStop::Read) => Err(Ending::Fault(Failure::File)),
+        Err(ReadStop::Memory) => Err(Ending::from(Fault::Memory)),
+    }
+}
+
+/// Prints the answer to what a line asked for, and gives the exit status. It takes no memory.
+pub fn print_given<O: ByteOut, E: ByteOut>(
+    alloc: Global,
+    answer: Answer,
+    output: &mut O,
+    errors: &mut E,
+) -> Result<u8, Ending> {
+    match answer {
+        Answer::Reply(reply) => Ok(print_reply(&reply, output, errors)?),
+        Answer::Sent(bytes) => print_sent(alloc, &bytes, output, errors),
+    }
+}
