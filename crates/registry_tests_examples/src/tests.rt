@@ -1,20 +1,12 @@
-//! Registries in memory, in files, and in the program.
+//! Registries in memory, and the program over streams and files.
 //!
-//! Only one function names a registry over a store of its own, as `Registry::open` gives it, and
-//! hands it to a function over any disk or any store: its check takes a quarter of a minute for each
-//! call that takes or gives such a registry.
+//! What a command line shows of the registry in a file is told as stories: a function that takes or gives
+//! a registry over files takes a quarter of a minute to check, and none here does.
 
-mod archives;
 mod asking;
-mod at_path;
 mod both_ways;
-mod files;
-mod in_files;
-mod lies;
 mod lists;
 mod log;
 mod program;
 mod revised;
 mod sent;
-mod served;
-mod together;

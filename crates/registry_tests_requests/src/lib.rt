@@ -6,6 +6,6 @@ mod outcomes;
 mod queries;
 mod requests;
 
-pub use crate::outcomes::{Outcome, answers_together, outcome_of, outcomes_of, outcomes_together};
+pub use crate::outcomes::{Outcome, answers_together, outcome_of, outcomes_of};
 pub use crate::queries::QUERIES;
-pub use crate::requests::{push_requests, request_of, requests_of};
+pub use crate::requests::{request_of, requests_of};

@@ -38,22 +38,8 @@ pub fn outcomes_of<S: Alter>(
     Ok(outcomes)
 }
 
-/// The outcomes of commands that are answered together. It fails where one of the requests is a query.
-/// This is the only caller of `run_together`, as [`outcome_of`] is of `apply`.
-pub fn outcomes_together<S: Alter>(
-    alloc: Global,
-    registry: &mut Registry<S>,
-    requests: &[Request],
-) -> Result<Vec<Outcome>, Fail> {
-    if !are_commands(requests) {
-        return Err(Fail::new(format_args!("a query is answered alone")));
-    }
-    let mut outcomes = unanswered(alloc, requests.len())?;
-    registry.run_together(alloc, requests, &mut outcomes);
-    Ok(outcomes)
-}
-
-/// The same of a service.
+/// The outcomes of commands that a service answers together. It fails where one of the requests is a
+/// query.
 pub fn answers_together<D: Service>(
     alloc: Global,
     service: &mut D,

@@ -13,18 +13,12 @@ use std::test::Fail;
 /// The requests that the lines of a text ask for. Empty lines ask for nothing.
 pub fn requests_of(alloc: Global, text: &str) -> Result<Vec<Request>, Fail> {
     let mut requests = Vec::new(alloc);
-    push_requests(alloc, &mut requests, text)?;
-    Ok(requests)
-}
-
-/// Adds the requests that the lines of a text ask for, as [`requests_of`] gives them.
-pub fn push_requests(alloc: Global, requests: &mut Vec<Request>, text: &str) -> Result<(), Fail> {
     for line in text.lines() {
         if !line.is_empty() {
             requests.push(request_of(alloc, line)?)?;
         }
     }
-    Ok(())
+    Ok(requests)
 }
 
 /// The request that a line asks for: the words after the program's name, with one space between

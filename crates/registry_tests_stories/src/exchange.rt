@@ -1,14 +1,16 @@
 //! A connection over HTTP to the registry of a story, without a socket: the server's own state of a
-//! connection is given what comes, and is asked what to send.
+//! connection is given what comes, and is asked what to send. A packument may also be sent as it is
+//! made.
 
 use crate::clock::StatedClock;
 use crate::failure::{Stop, failed_with};
 use crate::registry::{DB, StoryRegistry};
 use registry_desk::Registry;
 use registry_http::RegistryService;
-use registry_names::{Fault, Moment};
+use registry_names::{Fault, FromRead, Moment, ToWrite};
 use registry_server::{ConnectionState, Progress};
-use registry_service::{End, HttpService, REQUESTS_PER_CONNECTION};
+use registry_service::{End, HttpService, PackumentService, REQUESTS_PER_CONNECTION, serve};
+use registry_wire::Inbox;
 use sqlite::Alter;
 use std::alloc::{AllocError, Global};
 
@@ -25,6 +27,8 @@ pub enum Pace {
     AtOnce,
     /// One byte a read, or a few thousand where there are many.
     InPieces,
+    /// All at once, and a packument is sent as it is made.
+    AsMade,
 }
 
 /// What is answered on a connection, and how it ends.
@@ -44,6 +48,9 @@ pub fn answered(
     pace: Pace,
 ) -> Result<Answer, Stop> {
     match registry {
+        StoryRegistry::InMemory(service) if pace == Pace::AsMade => Ok(served(
+            alloc, service, at, asked,
+        )),
         StoryRegistry::InMemory(service) => {
             let exchange = Exchange::new(alloc, at);
             Ok(exchange.carry(alloc, service, asked, pace)?)
@@ -64,7 +71,23 @@ fn answered_in<S: Alter + Drop>(
     pace: Pace,
 ) -> Result<Answer, AllocError> {
     let mut service = RegistryService::new(registry);
+    if pace == Pace::AsMade {
+        return Ok(served(alloc, &mut service, at, asked));
+    }
     Exchange::new(alloc, at).carry(alloc, &mut service, asked, pace)
+}
+
+// What a service answers that sends packuments as it makes them.
+fn served<D: PackumentService>(alloc: Global, service: &mut D, at: Moment, asked: &[u8]) -> Answer {
+    let mut inbox = Inbox::new(alloc, FromRead::new(asked));
+    let mut bytes = Vec::new(alloc);
+    let mut writer = ToWrite::new(&mut bytes);
+    let mut clock = StatedClock { at };
+    let served = serve(alloc, service, &mut inbox, &mut writer, &mut clock);
+    Answer {
+        bytes,
+        end: Some(served.end),
+    }
 }
 
 /// A connection, its clock, what it has answered so far, and how it ended, if it has.
@@ -95,9 +118,10 @@ impl Exchange {
         pace: Pace,
     ) -> Result<Answer, AllocError> {
         let mut exchange = self;
-        match pace {
-            Pace::AtOnce => exchange.give(alloc, service, asked)?,
-            Pace::InPieces => exchange.give_pieces(alloc, service, asked)?,
+        if pace == Pace::InPieces {
+            exchange.give_pieces(alloc, service, asked)?;
+        } else {
+            exchange.give(alloc, service, asked)?;
         }
         if exchange.end.is_none() {
             exchange.end = exchange.take_turns(alloc, service, true)?;

@@ -41,7 +41,7 @@ pub fn run_file(rt: &HostRuntime, alloc: Global, path: &str) -> Result<bool, Sto
     Ok(failures == 0)
 }
 
-// Runs a story, and returns how many calls it has. A story with a connection runs at both paces.
+// Runs a story, and returns how many calls it has. A story with a connection runs at each pace.
 fn run_story<'a>(
     rt: &'a HostRuntime,
     alloc: Global,
@@ -51,6 +51,7 @@ fn run_story<'a>(
     let calls = run_at(rt, alloc, path, story, Pace::AtOnce)?;
     if story.has_connection() {
         run_at(rt, alloc, path, story, Pace::InPieces)?;
+        run_at(rt, alloc, path, story, Pace::AsMade)?;
     }
     Ok(calls)
 }
@@ -71,6 +72,7 @@ fn run_at<'a>(
             let how = match pace {
                 Pace::AtOnce => "",
                 Pace::InPieces => ", where the bytes come in pieces",
+                Pace::AsMade => ", where packuments are sent as they are made",
             };
             let said = format!(in alloc; "{path}:{number}: in the story \"{title}\"{how}\n{said}")?;
             Err(Stop::Failed(said))

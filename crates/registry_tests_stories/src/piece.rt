@@ -14,11 +14,14 @@ struct Marks {
     times: u64,
 }
 
-/// The bytes of `TEXT`, `! TEXT`, `*N TEXT`, `!*N TEXT` or `file NAME`. `end` follows the text. The
-/// text has escapes, or is repeated, where the marks before it say so.
+/// The bytes of `TEXT`, `! TEXT`, `*N TEXT`, `!*N TEXT`, `file NAME` or `part FROM TO NAME`. `end`
+/// follows the text. The text has escapes, or is repeated, where the marks before it say so.
 pub fn piece(rt: &HostRuntime, alloc: Global, spelled: &str, end: &str) -> Result<Vec<u8>, Stop> {
     if let Some(name) = spelled.strip_prefix("file ") {
         return file_bytes(rt, alloc, name);
+    }
+    if let Some(spelled) = spelled.strip_prefix("part ") {
+        return part_bytes(rt, alloc, spelled);
     }
     let (marks, text) = spelled.split_once(' ').unwrap_or((spelled, ""));
     let Some(marks) = marks_of(marks) else {
@@ -37,6 +40,20 @@ pub fn file_bytes(rt: &HostRuntime, alloc: Global, name: &str) -> Result<Vec<u8>
             let said = format!(in alloc; "the file {name} can't be read")?;
             Err(Stop::Failed(said))
         }
+    }
+}
+
+// The bytes of a file from a place up to another, or to its end.
+fn part_bytes(rt: &HostRuntime, alloc: Global, spelled: &str) -> Result<Vec<u8>, Stop> {
+    let (from, rest) = spelled.split_once(' ').unwrap_or(("", ""));
+    let (to, name) = rest.split_once(' ').unwrap_or(("", ""));
+    let (Ok(from), Ok(to)) = (from.parse::<usize>(), to.parse::<usize>()) else {
+        return Err(failed_with(alloc, "a part has two numbers and a name"));
+    };
+    let bytes = file_bytes(rt, alloc, name)?;
+    match bytes.get(from..to.min(bytes.len())) {
+        Some(part) => Ok(Vec::from_slice(alloc, part)?),
+        None => Err(failed_with(alloc, "the file ends before the part")),
     }
 }
 

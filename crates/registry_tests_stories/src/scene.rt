@@ -128,7 +128,22 @@ impl<'a> Scene<'a> {
             self.at = Some(seconds);
             return Ok(());
         }
+        if let Some(names) = line.strip_prefix("same ") {
+            return self.expect_same(names);
+        }
         Err(differing(self.alloc, line.as_bytes(), &[]))
+    }
+
+    // Two files have the same bytes.
+    fn expect_same(&self, names: &str) -> Result<(), Stop> {
+        let (first, second) = names.split_once(' ').unwrap_or((names, ""));
+        let first = file_bytes(self.rt, self.alloc, first)?;
+        let second = file_bytes(self.rt, self.alloc, second)?;
+        if first.as_slice() == second.as_slice() {
+            Ok(())
+        } else {
+            Err(differing(self.alloc, &second, &first))
+        }
     }
 
     // Calls the program.

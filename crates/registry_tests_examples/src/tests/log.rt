@@ -7,6 +7,7 @@ mod together;
 use crate::outcome::same;
 use crate::tests::asking::{does, request};
 use crate::tests::lists::LAB_KIT;
+use crate::tests::log::together::note_together;
 use registry_desk::Registry;
 use registry_http::RegistryService;
 use registry_log::{Entry, Kind, LineSink, Log, LogClock, LoggedService};
@@ -57,8 +58,8 @@ fn put(rt: &HostRuntime, path: &str, bytes: &[u8]) -> io::Result<()> {
 
 /// Clocks that stand still, except that each reading of the microseconds is 1,250 more.
 #[derive(Drop)]
-struct Still {
-    micros: u64,
+pub(crate) struct Still {
+    pub(crate) micros: u64,
 }
 
 impl LogClock for Still {
@@ -129,6 +130,14 @@ fn targets_are_put_without_tokens(rt: HostRuntime) {
         is_shown(&rt, rt.alloc(), target.as_bytes(), shown);
     }
     is_shown(&rt, rt.alloc(), b"/a b\n\x7f\xffc", "/a?b???c");
+    // Long targets are cut.
+    let shown = "a".repeat(rt.alloc(), 511).expect(&rt, "memory");
+    let shown = shown.as_str();
+    for (more, end) in [("", ""), ("a", "...")] {
+        let target = format!(in rt.alloc(); "/{shown}{more}").expect(&rt, "memory");
+        let shown = format!(in rt.alloc(); "/{shown}{end}").expect(&rt, "memory");
+        is_shown(&rt, rt.alloc(), target.as_bytes(), shown.as_str());
+    }
 }
 
 #[test]
@@ -155,17 +164,6 @@ fn a_line_has_what_is_known(rt: HostRuntime) {
     };
     let line = "1970-01-01T00:00:00.000Z - - - 400 22 -\n";
     is_line(&rt, rt.alloc(), &none, line);
-}
-
-#[test]
-fn long_targets_are_cut(rt: HostRuntime) {
-    let shown = "a".repeat(rt.alloc(), 511).expect(&rt, "memory");
-    let shown = shown.as_str();
-    for (more, end) in [("", ""), ("a", "...")] {
-        let target = format!(in rt.alloc(); "/{shown}{more}").expect(&rt, "memory");
-        let shown = format!(in rt.alloc(); "/{shown}{end}").expect(&rt, "memory");
-        is_shown(&rt, rt.alloc(), target.as_bytes(), shown.as_str());
-    }
 }
 
 /// A request with bob's token, one without a token, one that has no route, one with a token of
@@ -274,8 +272,9 @@ fn requests_out_of_form_name_their_user(rt: HostRuntime) {
 fn commands_have_lines(rt: HostRuntime) {
     let mut service = lab_kit_logged(&rt, &rt, "commands.log", &[]);
     note_commands(&rt, rt.alloc(), &mut service);
+    note_together(&rt, rt.alloc(), &mut service);
     let wanted =
-        "2026-11-26T10:00:00.000Z operator command /user-add/cat 0 12 1.2\n2026-11-26T10:00:00.000Z - command - 2 40 -\n";
+        "2026-11-26T10:00:00.000Z operator command /user-add/cat 0 12 1.2\n2026-11-26T10:00:00.000Z - command - 2 40 -\n1970-01-01T00:05:00.000Z bob PUT /-/package/@lab%2fkit/dist-tags/next 200 11 1.2\n1970-01-01T00:05:01.000Z bob PUT /-/package/@lab%2fkit/dist-tags/old 404 20 1.2\n1970-01-01T00:05:02.000Z - PUT /-/package/@lab%2fkit/dist-tags/beta 401 20 1.2\n";
     is_written(&rt, &rt, "commands.log", wanted);
 }
 

@@ -1,10 +1,8 @@
-//! The program over streams that fail. Its modules have a check that finds something, copies and what
-//! is made of them, tokens that are made, clients over loopback, and the moments of requests.
+//! The program over streams that fail. Its modules have what of files no story shows, tokens that are made,
+//! clients over loopback, and the moments of requests.
 
-mod checks;
-mod copies;
+mod files;
 mod moments;
-mod restores;
 mod serving;
 mod tokens;
 
@@ -23,10 +21,10 @@ const BODY: &str =
 const FAILED: &str = "fault: Database\nthe disk failed while the registry was served\n";
 
 /// What a call of the program leaves: its status, what it prints, and the errors.
-pub(crate) type Left<'a> = (u8, &'a str, &'a str);
+type Left<'a> = (u8, &'a str, &'a str);
 
 /// What a command leaves that is done.
-pub(crate) const DONE: Left<'static> = (0, "{\"ok\":true}\n", "");
+const DONE: Left<'static> = (0, "{\"ok\":true}\n", "");
 
 /// Which stream fails.
 #[derive(Clone, Copy, Debug)]
@@ -74,19 +72,19 @@ fn a_disk_that_failed_under_a_server_is_reported(rt: HostRuntime) {
     same(&rt, "shut", (status, text_of(&errors)), (3, FAILED));
 }
 
-/// Makes a new folder for the files of a test.
-pub(crate) fn begin(rt: &HostRuntime, ends: &impl Abort, folder: &str) {
+// Makes a new folder for the files of a test.
+fn begin(rt: &HostRuntime, ends: &impl Abort, folder: &str) {
     end(rt, folder);
     fs::create_dir(rt, folder).expect(ends, "a folder");
 }
 
-/// Removes that folder, if it is there.
-pub(crate) fn end(rt: &HostRuntime, folder: &str) {
+// Removes that folder, if it is there.
+fn end(rt: &HostRuntime, folder: &str) {
     let _ = fs::remove_dir_all(rt, folder);
 }
 
-/// Checks what the program leaves that is called with the words of a line.
-pub(crate) fn leaves(rt: &HostRuntime, ends: &impl Abort, line: &str, left: Left<'_>) {
+// Checks what the program leaves that is called with the words of a line.
+fn leaves(rt: &HostRuntime, ends: &impl Abort, line: &str, left: Left<'_>) {
     let called = call(rt, ends, line, Failing::None);
     same(ends, line, called.left(), left);
 }

@@ -57,7 +57,7 @@ fn are_revised<S: Alter + Drop>(ends: &impl Abort, alloc: Global, registry: Regi
     }
 }
 
-// Checks what a caller reads of a package.
+// Checks what a caller reads of a package: what npm reads, or the refusal.
 fn reads<S: Alter>(
     ends: &impl Abort,
     alloc: Global,
@@ -66,21 +66,17 @@ fn reads<S: Alter>(
     rest: &str,
 ) {
     let (package, read) = rest.split_once(" => ").expect(ends, rest);
-    let query = query_of(ends, alloc, caller, package);
-    match outcome_of(alloc, registry, &query) {
-        Ok(Reply::Doc(text)) => same(ends, rest, text.as_str(), text_of(read)),
-        Ok(Reply::Refused(refusal)) => same(ends, rest, refusal.text(), text_of(read)),
-        outcome => panic!(ends; "{rest} comes out as {outcome:?}"),
-    }
-}
-
-// What npm reads, or the refusal.
-fn text_of(read: &str) -> &str {
-    match read {
+    let wanted = match read {
         "bob's" => BOBS,
         "ann's, too" => ANNS_TOO,
         "lab's" => KIT,
         refusal => refusal,
+    };
+    let query = query_of(ends, alloc, caller, package);
+    match outcome_of(alloc, registry, &query) {
+        Ok(Reply::Doc(text)) => same(ends, rest, text.as_str(), wanted),
+        Ok(Reply::Refused(refusal)) => same(ends, rest, refusal.text(), wanted),
+        outcome => panic!(ends; "{rest} comes out as {outcome:?}"),
     }
 }
 

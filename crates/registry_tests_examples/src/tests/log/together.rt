@@ -1,6 +1,5 @@
 //! The lines of commands that are answered together.
 
-use super::{is_written, lab_kit_logged};
 use crate::outcome::same;
 use crate::tests::asking::requests;
 use registry_names::{Blob, Method};
@@ -10,30 +9,21 @@ use registry_wire::{FieldValue, Wanted};
 use std::alloc::Global;
 use std::process::Abort;
 
-/// Commands that are answered together: of bob, of nobody, and of bob for a version that isn't there.
+/// Commands that are answered together: of bob, of bob for a version that isn't there, and of nobody.
 const TOGETHER: &str = "
 token npm_bob_000000001 --at 300 tag-set @lab/kit next 1.0.0
---at 300 tag-set @lab/kit beta 1.0.0
-token npm_bob_000000001 --at 300 tag-set @lab/kit old 2.0.0
+token npm_bob_000000001 --at 301 tag-set @lab/kit old 2.0.0
+--at 302 tag-set @lab/kit beta 1.0.0
 ";
 
-#[test]
-fn commands_that_are_answered_together_have_a_line_each(rt: HostRuntime) {
-    let mut service = lab_kit_logged(&rt, &rt, "together.log", &[]);
-    note_together(&rt, rt.alloc(), &mut service);
-    let wanted =
-        "1970-01-01T00:05:00.000Z bob PUT /-/package/@lab%2fkit/dist-tags/next 200 11 1.2\n1970-01-01T00:05:00.000Z - PUT /-/package/@lab%2fkit/dist-tags/beta 401 20 1.2\n1970-01-01T00:05:00.000Z bob PUT /-/package/@lab%2fkit/dist-tags/old 404 20 1.2\n";
-    is_written(&rt, &rt, "together.log", wanted);
-}
-
-// Answers the commands, and notes the turn of each.
-fn note_together<D: HttpService>(ends: &impl Abort, alloc: Global, service: &mut D) {
+/// Answers the commands, and notes the turn of each.
+pub(super) fn note_together<D: HttpService>(ends: &impl Abort, alloc: Global, service: &mut D) {
     let commands = requests(ends, alloc, TOGETHER);
     let outcomes = match answers_together(alloc, service, &commands) {
         Ok(outcomes) => outcomes,
         Err(_) => panic!(ends; "they are not answered together"),
     };
-    for (tag, outcome) in ["next", "beta", "old"].iter().zip(outcomes) {
+    for (tag, outcome) in ["next", "old", "beta"].iter().zip(outcomes) {
         let wanted = put_of_tag(ends, alloc, tag);
         same(ends, "it asks one", service.asks_one(&wanted), true);
         service.note(Some(&wanted), &turn_with(outcome, false, false));

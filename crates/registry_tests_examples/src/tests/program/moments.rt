@@ -1,10 +1,9 @@
 //! The moments of requests over HTTP and of commands, beside those of the clock.
 
 use super::serving::answers_client;
-use super::{BODY, DONE, begin, end, leaves};
+use super::{BODY, DONE, Left, begin, end, leaves};
 use crate::outcome::same;
 use crate::tests::asking::does;
-use crate::tests::at_path::number_at;
 use crate::tests::lists::{LAB, LAB_KIT};
 use registry_desk::Registry;
 use registry_http::RegistryService;
@@ -22,48 +21,52 @@ use std::{fs, io};
 /// When the clock of the tests begins, in seconds.
 const BEGINS: u64 = 1_700_000_000;
 
-/// A request for the tags of `@lab/kit` by `bob`.
-const TAGS: &str =
-    "GET /-/package/@lab%2fkit/dist-tags HTTP/1.1\r\nauthorization: Bearer npm_bob_000000001\r\n\r\n";
+/// From this many seconds on, 72 hours, a version isn't withdrawn any more, and before that it is.
+const TOO_LATE: u64 = 259_200;
 
-/// The answer to it.
-const TAGS_OUT: &str =
-    "HTTP/1.1 200 OK\r\ncontent-type: application/json\r\ncontent-length: 18\r\n\r\n{\"latest\":\"1.0.0\"}";
+const IN_TIME: u64 = 259_199;
 
-/// A withdrawal of `kit` 1.0.0 by `bob`.
-const WITHDRAW: &str =
-    "DELETE /-/package/kit/versions/1.0.0 HTTP/1.1\r\nauthorization: Bearer npm_bob_000000001\r\n\r\n";
+const ADD_BOB: &str = "--db files_of_moments/registry.db --operator user-add bob";
 
-const CREATED: &str =
-    "HTTP/1.1 201 Created\r\ncontent-type: application/json\r\ncontent-length: 11\r\n\r\n{\"ok\":true}";
+const ADD_TOKEN: &str =
+    "--db files_of_moments/registry.db --operator token-add bob npm_bob_000000001";
 
-#[test]
-fn a_publish_over_http_has_the_systems_moment(rt: HostRuntime) {
-    begin(&rt, &rt, "files_of_http");
-    let adds = "--db files_of_http/registry.db --operator user-add bob";
-    leaves(&rt, &rt, adds, DONE);
-    let adds = "--db files_of_http/registry.db --operator token-add bob npm_bob_000000001";
-    leaves(&rt, &rt, adds, DONE);
-    let asks = publish_text(&rt, rt.alloc());
-    let before = now(&rt, &rt);
-    let db = "files_of_http/registry.db";
-    answers_client(&rt, &rt, db, asks.as_str(), CREATED);
-    is_published_since(&rt, &rt, db, before);
-    end(&rt, "files_of_http");
-}
+const PUBLISH_KIT: &str =
+    "--db files_of_moments/registry.db --as bob publish files_of_moments/kit.json";
+
+/// A request for a package that isn't there, and the answer to it.
+const ASKS_KID: &str = "GET /kid HTTP/1.1\r\nhost: localhost\r\n\r\n";
+
+const NO_KID: &str =
+    "HTTP/1.1 404 Not Found\r\ncontent-type: application/json\r\ncontent-length: 20\r\n\r\n{\"error\":\"NotFound\"}";
+
+/// The publish of `tool` 1.0.0 by `bob`, and that request.
+const ASKS: &str =
+    "PUT /tool HTTP/1.1\r\nauthorization: Bearer npm_bob_000000001\r\ncontent-length: 120\r\n\r\n{\"name\":\"tool\",\"versions\":{\"1.0.0\":{\"name\":\"tool\",\"version\":\"1.0.0\"}},\"_attachments\":{\"tool-1.0.0.tgz\":{\"data\":\"YWJj\"}}}GET /kid HTTP/1.1\r\nhost: localhost\r\n\r\n";
+
+/// The answers to them.
+const ANSWERS: &str =
+    "HTTP/1.1 201 Created\r\ncontent-type: application/json\r\ncontent-length: 11\r\n\r\n{\"ok\":true}HTTP/1.1 404 Not Found\r\ncontent-type: application/json\r\ncontent-length: 20\r\n\r\n{\"error\":\"NotFound\"}";
 
 #[test]
-fn a_command_has_the_systems_moment(rt: HostRuntime) {
-    begin(&rt, &rt, "files_of_commands");
-    let adds = "--db files_of_commands/registry.db --operator user-add bob";
-    leaves(&rt, &rt, adds, DONE);
-    fs::write(&rt, "files_of_commands/kit.json", BODY.as_bytes()).expect(&rt, "a body");
+fn publishes_have_the_systems_moment(rt: HostRuntime) {
+    begin(&rt, &rt, "files_of_moments");
+    // A server makes the file, where none is there.
+    answers_client(&rt, &rt, "files_of_moments/registry.db", ASKS_KID, NO_KID);
+    leaves(&rt, &rt, ADD_BOB, DONE);
+    leaves(&rt, &rt, ADD_TOKEN, DONE);
+    fs::write(&rt, "files_of_moments/kit.json", BODY.as_bytes()).expect(&rt, "a body");
     let before = now(&rt, &rt);
-    let publishes =
-        "--db files_of_commands/registry.db --as bob publish files_of_commands/kit.json";
-    leaves(&rt, &rt, publishes, DONE);
-    is_published_since(&rt, &rt, "files_of_commands/registry.db", before);
-    end(&rt, "files_of_commands");
+    leaves(&rt, &rt, PUBLISH_KIT, DONE);
+    answers_client(&rt, &rt, "files_of_moments/registry.db", ASKS, ANSWERS);
+    let after = now(&rt, &rt);
+    for package in ["kit", "tool"] {
+        let late = after.saturating_add(TOO_LATE);
+        withdraws(&rt, &rt, package, late, (1, "", "refused: TooLate\n"));
+        let last = before.saturating_add(IN_TIME);
+        withdraws(&rt, &rt, package, last, DONE);
+    }
+    end(&rt, "files_of_moments");
 }
 
 // The second of the system's clock.
@@ -71,22 +74,25 @@ fn now(rt: &HostRuntime, ends: &impl Abort) -> u64 {
     rt.since_1970().expect(ends, "a moment").as_secs()
 }
 
-// Checks that the one version in the file was published from that second on, and not later than now.
-fn is_published_since(rt: &HostRuntime, ends: &impl Abort, db: &str, before: u64) {
-    let published = number_at(rt, ends, db, "", "SELECT published FROM versions");
-    let after = now(rt, ends);
-    let is_since = before <= published && published <= after;
-    same(ends, (before, published, after), is_since, true);
+// Checks what the withdrawal of 1.0.0 leaves at this moment.
+fn withdraws(rt: &HostRuntime, ends: &impl Abort, package: &str, at: u64, left: Left<'_>) {
+    let line = format!(in rt.alloc();
+        "--db files_of_moments/registry.db --at {at} --as bob withdraw {package} 1.0.0"
+    );
+    leaves(rt, ends, line.expect(ends, "memory").as_str(), left);
 }
 
-// The publish of `kit` 1.0.0 by bob.
-fn publish_text(ends: &impl Abort, alloc: Global) -> String {
-    let length = BODY.len();
-    let text = format!(in alloc;
-        "PUT /kit HTTP/1.1\r\nauthorization: Bearer npm_bob_000000001\r\ncontent-length: {length}\r\n\r\n{BODY}"
-    );
-    text.expect(ends, "memory")
-}
+/// A request for the tags of `@lab/kit` by `bob`.
+const TAGS: &str =
+    "GET /-/package/@lab%2fkit/dist-tags HTTP/1.1\r\nauthorization: Bearer npm_bob_000000001\r\n\r\n";
+
+/// The answers to two such requests.
+const TWO_TAGS: &str =
+    "HTTP/1.1 200 OK\r\ncontent-type: application/json\r\ncontent-length: 18\r\n\r\n{\"latest\":\"1.0.0\"}HTTP/1.1 200 OK\r\ncontent-type: application/json\r\ncontent-length: 18\r\n\r\n{\"latest\":\"1.0.0\"}";
+
+/// The publish of `kit` 1.0.0 by `bob`, and its withdrawal.
+const WITHDRAWN: &str =
+    "PUT /kit HTTP/1.1\r\nauthorization: Bearer npm_bob_000000001\r\ncontent-length: 117\r\n\r\n{\"name\":\"kit\",\"versions\":{\"1.0.0\":{\"name\":\"kit\",\"version\":\"1.0.0\"}},\"_attachments\":{\"kit-1.0.0.tgz\":{\"data\":\"YWJj\"}}}DELETE /-/package/kit/versions/1.0.0 HTTP/1.1\r\nauthorization: Bearer npm_bob_000000001\r\n\r\n";
 
 /// A clock that jumps by this many seconds whenever the moment is read.
 #[derive(Drop)]
@@ -108,46 +114,41 @@ impl Clock for Jumping<'_> {
     }
 }
 
-/// How many seconds pass between a publish and the withdrawal, and the answer to that.
+/// How many seconds pass between a publish and the withdrawal, and the answers.
 static JUMPS: [(u64, &str); 2] = [
     (
         259_199,
-        "HTTP/1.1 200 OK\r\ncontent-type: application/json\r\ncontent-length: 11\r\n\r\n{\"ok\":true}",
+        "HTTP/1.1 201 Created\r\ncontent-type: application/json\r\ncontent-length: 11\r\n\r\n{\"ok\":true}HTTP/1.1 200 OK\r\ncontent-type: application/json\r\ncontent-length: 11\r\n\r\n{\"ok\":true}",
     ),
     (
         259_200,
-        "HTTP/1.1 409 Conflict\r\ncontent-type: application/json\r\ncontent-length: 19\r\n\r\n{\"error\":\"TooLate\"}",
+        "HTTP/1.1 201 Created\r\ncontent-type: application/json\r\ncontent-length: 11\r\n\r\n{\"ok\":true}HTTP/1.1 409 Conflict\r\ncontent-type: application/json\r\ncontent-length: 19\r\n\r\n{\"error\":\"TooLate\"}",
     ),
 ];
 
 #[test]
-fn a_withdrawal_over_http_is_refused_after_72_hours(rt: HostRuntime) {
-    let publish = publish_text(&rt, rt.alloc());
-    let asks = joined(&rt, rt.alloc(), publish.as_str(), WITHDRAW);
-    for (jump, answer) in &JUMPS {
-        let wanted = joined(&rt, rt.alloc(), CREATED, answer);
-        let answers = answers_to(&rt, &rt, *jump, LAB, &[asks.as_str()]);
-        same(&rt, *jump, answers.as_str(), wanted.as_str());
+fn a_server_reads_the_moment_of_each_request(rt: HostRuntime) {
+    for (jump, answers) in &JUMPS {
+        are_answered(&rt, &rt, *jump, LAB, &[WITHDRAWN], answers);
     }
+    // Two clients, one after the other.
+    are_answered(&rt, &rt, 0, LAB_KIT, &[TAGS, TAGS], TWO_TAGS);
 }
 
-#[test]
-fn a_server_answers_two_clients_at_a_registry(rt: HostRuntime) {
-    let wanted = joined(&rt, rt.alloc(), TAGS_OUT, TAGS_OUT);
-    let answers = answers_to(&rt, &rt, 0, LAB_KIT, &[TAGS, TAGS]);
-    same(&rt, "two clients", answers.as_str(), wanted.as_str());
-}
-
-fn joined(ends: &impl Abort, alloc: Global, first: &str, second: &str) -> String {
-    format!(in alloc; "{first}{second}").expect(ends, "memory")
-}
-
-// What a server answers to clients, one after the other, from a registry in memory that did the
+// Checks what a server answers to clients, one after the other, from a registry in memory that did the
 // requests of a text. Its clock jumps by this many seconds whenever it is read.
-fn answers_to(rt: &HostRuntime, ends: &impl Abort, jump: u64, text: &str, asks: &[&str]) -> String {
+fn are_answered(
+    rt: &HostRuntime,
+    ends: &impl Abort,
+    jump: u64,
+    text: &str,
+    asks: &[&str],
+    answers: &str,
+) {
     let mut registry = Registry::in_memory(rt.alloc()).expect(ends, "a registry");
     does(ends, rt.alloc(), &mut registry, text);
-    answers_of(rt, ends, jump, &mut RegistryService::new(registry), asks)
+    let heard = answers_of(rt, ends, jump, &mut RegistryService::new(registry), asks);
+    same(ends, jump, heard.as_str(), answers);
 }
 
 fn answers_of<S: HttpService>(

@@ -1,18 +1,15 @@
-//! `serve` over loopback: a client that connects where the program says that it listens.
+//! `serve` over loopback: a client that connects where the program says that it listens. The file is held
+//! meanwhile.
 
-use super::{begin, end, text_of, words};
+use super::{text_of, words};
 use crate::outcome::same;
 use registry_names::{FromRead, ToWrite};
 use registry_program::program;
+use sqlite::Unknown;
 use std::io;
 use std::io::{Read, Write};
 use std::net::{Ipv4Addr, Net, OpenListener, OpenStream, Shutdown, SocketAddr};
 use std::process::Abort;
-
-const ASKS: &str = "GET /kit HTTP/1.1\r\nhost: localhost\r\n\r\n";
-
-const ANSWER: &str =
-    "HTTP/1.1 404 Not Found\r\ncontent-type: application/json\r\ncontent-length: 20\r\n\r\n{\"error\":\"NotFound\"}";
 
 /// The message where as many connections came as were to be served.
 const ENOUGH: &str = "ended: as many connections came as --connections says\n";
@@ -21,9 +18,13 @@ const ENOUGH: &str = "ended: as many connections came as --connections says\n";
 /// client asks, and sends no more.
 #[derive(Drop)]
 struct Caller<'a, R: Net> {
-    rt: &'a R,
+    net: &'a R,
+    rt: &'a HostRuntime,
     port: u16,
+    db: &'a str,
     asks: &'a str,
+    /// Whether the file was held when the first bytes came.
+    is_held: bool,
     taken: Vec<u8>,
     client: Option<R::Stream>,
 }
@@ -31,7 +32,7 @@ struct Caller<'a, R: Net> {
 impl<R: Net> Caller<'_, R> {
     fn connect(&self) -> io::Result<R::Stream> {
         let place = SocketAddr::from((Ipv4Addr::LOCALHOST, self.port));
-        let mut client = self.rt.connect(place)?;
+        let mut client = self.net.connect(place)?;
         client.write_all(self.asks.as_bytes())?;
         client.shutdown(Shutdown::Write)?;
         Ok(client)
@@ -49,6 +50,7 @@ impl<R: Net> Caller<'_, R> {
 impl<R: Net> Write for Caller<'_, R> {
     fn write(&mut self, buf: &[u8]) -> io::Result<usize> {
         if self.client.is_none() {
+            self.is_held = is_held(self.rt, self.db);
             self.client = Some(self.connect()?);
         }
         self.taken.write(buf)
@@ -59,14 +61,16 @@ impl<R: Net> Write for Caller<'_, R> {
     }
 }
 
-#[test]
-fn a_registry_in_a_file_is_served(rt: HostRuntime) {
-    begin(&rt, &rt, "files_of_serving");
-    answers_client(&rt, &rt, "files_of_serving/registry.db", ASKS, ANSWER);
-    end(&rt, "files_of_serving");
+// Whether somebody has the file at the path.
+fn is_held(rt: &HostRuntime, path: &str) -> bool {
+    match sqlite_std_file::open(rt, path, Unknown) {
+        Ok(_files) => false,
+        Err(error) => matches!(error, sqlite_std_file::OpenError::Busy),
+    }
 }
 
-/// Checks that the program, while it serves the registry in this file, answers this to a client.
+/// Checks that the program, while it serves the registry in this file and holds it, answers this to a
+/// client.
 pub(super) fn answers_client(
     rt: &HostRuntime,
     ends: &impl Abort,
@@ -76,21 +80,25 @@ pub(super) fn answers_client(
 ) {
     let port = free_port(rt).expect(ends, "a port");
     let mut caller = Caller {
+        net: rt,
         rt,
         port,
+        db,
         asks,
+        is_held: false,
         taken: Vec::new(rt.alloc()),
         client: None,
     };
-    is_served(rt, ends, db, &mut caller);
+    is_served(rt, ends, &mut caller);
+    same(ends, "the file is held", caller.is_held, true);
     let wanted = format!(in rt.alloc(); "listening 127.0.0.1:{port}\n{answer}");
     let wanted = wanted.expect(ends, "memory");
     same(ends, asks, text_of(&caller.taken), wanted.as_str());
 }
 
 // The caller is served, and the program says why it ends.
-fn is_served<R: Net>(rt: &HostRuntime, ends: &impl Abort, db: &str, caller: &mut Caller<R>) {
-    let port = caller.port;
+fn is_served<R: Net>(rt: &HostRuntime, ends: &impl Abort, caller: &mut Caller<R>) {
+    let (db, port) = (caller.db, caller.port);
     let line = format!(in rt.alloc(); "--db {db} serve --port {port} --connections 1");
     let line = line.expect(ends, "memory");
     let mut errors = Vec::new(rt.alloc());

@@ -2,16 +2,14 @@
 
 use super::{DONE, Failing, begin, call, end, leaves};
 use crate::outcome::same;
-use crate::tests::at_path::number_at;
-use registry_publish::TokenDigest;
-use std::alloc::Global;
 use std::process::Abort;
-
-const PATH: &str = "files_of_tokens/registry.db";
 
 const ADD_ANN: &str = "--db files_of_tokens/registry.db --operator user-add ann";
 
 const NEW_TOKEN: &str = "--db files_of_tokens/registry.db --operator token-new ann";
+
+/// How many tokens each user has.
+const USERS: &str = "--db files_of_tokens/registry.db --operator users";
 
 #[test]
 fn made_tokens_are_kept_by_their_digests(rt: HostRuntime) {
@@ -21,10 +19,10 @@ fn made_tokens_are_kept_by_their_digests(rt: HostRuntime) {
     let second = made(&rt, &rt);
     let are_one = first.as_str() == second.as_str();
     same(&rt, "two tokens", are_one, false);
-    let count = number_at(&rt, &rt, PATH, "", "SELECT count(*) FROM tokens");
-    same(&rt, "tokens", count, 2);
-    is_kept(&rt, &rt, first.as_str());
-    is_kept(&rt, &rt, second.as_str());
+    leaves(&rt, &rt, USERS, (0, "{\"ann\":2}\n", ""));
+    is_removed(&rt, &rt, first.as_str());
+    is_removed(&rt, &rt, second.as_str());
+    leaves(&rt, &rt, USERS, (0, "{\"ann\":0}\n", ""));
     end(&rt, "files_of_tokens");
 }
 
@@ -37,22 +35,8 @@ fn made(rt: &HostRuntime, ends: &impl Abort) -> String {
     String::from_str(rt.alloc(), token).expect(ends, "memory")
 }
 
-// The registry has the token's digest, as one of ann.
-fn is_kept(rt: &HostRuntime, ends: &impl Abort, token: &str) {
-    let digest = TokenDigest::of(token).expect(ends, "a token");
-    let query = query_of(ends, rt.alloc(), digest.as_slice());
-    let count = number_at(rt, ends, PATH, "", query.as_str());
-    same(ends, token, count, 1);
-}
-
-// How many tokens ann has with this digest.
-fn query_of(ends: &impl Abort, alloc: Global, digest: &[u8]) -> String {
-    let query = "SELECT count(*) FROM tokens WHERE user = 'ann' AND digest = x'";
-    let mut query = String::from_str(alloc, query).expect(ends, "memory");
-    for byte in digest {
-        let digits = format!(in alloc; "{byte:02x}").expect(ends, "memory");
-        query.push_str(digits.as_str()).expect(ends, "memory");
-    }
-    query.push('\'').expect(ends, "memory");
-    query
+// The registry has the token's digest, and removes it.
+fn is_removed(rt: &HostRuntime, ends: &impl Abort, token: &str) {
+    let line = format!(in rt.alloc(); "--db files_of_tokens/registry.db --as ann token-rm {token}");
+    leaves(rt, ends, line.expect(ends, "memory").as_str(), DONE);
 }
