@@ -1,5 +1,8 @@
-"""What `starve` does with a server: its start, and each kind of request, with one call refused."""
+"""What `starve` does with a server: its start, each kind of request, and commands that come together,
+with one call refused."""
 
+import contextlib
+import itertools
 import re
 import signal
 import socket
@@ -7,7 +10,7 @@ import subprocess
 import time
 
 from starving import *
-from tries import Otherwise
+from tries import Otherwise, halted
 
 PATIENCE, TRIES = 30, 5
 
@@ -56,20 +59,40 @@ class StarvedServer:
 
 
 def ask(port, request):
-    """The response on a connection of its own: what came of it before the server ended the
-    connection, if it did. After a fault it has to."""
-    came = b''
+    """The response on a connection of its own, as `heard` gives it."""
     with socket.create_connection(('127.0.0.1', port), PATIENCE) as connection:
-        try:
+        with contextlib.suppress(ConnectionResetError, BrokenPipeError):
             connection.sendall(request)
-            while not is_whole(came) and (piece := connection.recv(1 << 16)):
-                came += piece
-            if is_fault(came):
-                want(connection.recv(1) == b'', 'something comes after a fault')
-        except (ConnectionResetError, BrokenPipeError):
-            pass
-        except TimeoutError:
-            raise Otherwise(f'the connection is still open after {PATIENCE} s; what came is {came[:200]}') from None
+        return heard(connection)
+
+
+def ask_together(server, requests, refused=0):
+    """The responses to requests that come in one round, each on a connection of its own, and how many
+    bytes each call asks for that the server makes for them. One of these calls may be refused."""
+    with contextlib.ExitStack() as stack:
+        connections = [stack.enter_context(socket.create_connection(('127.0.0.1', server.port), PATIENCE)) for _ in requests]
+        first = server.settle() + 1
+        server.place.shared.refuse_next(refused)
+        with halted(server):
+            for connection, request in zip(connections, requests):
+                connection.sendall(request)
+        came = [heard(connection) for connection in connections]
+        return came, server.place.shared.sizes(first, server.settle() + 1)
+
+
+def heard(connection):
+    """The response on a connection: what came of it before the server ended the connection, if it did.
+    After a fault it has to."""
+    came = b''
+    try:
+        while not is_whole(came) and (piece := connection.recv(1 << 16)):
+            came += piece
+        if is_fault(came):
+            want(connection.recv(1) == b'', 'something comes after a fault')
+    except (ConnectionResetError, BrokenPipeError):
+        pass
+    except TimeoutError:
+        raise Otherwise(f'the connection is still open after {PATIENCE} s; what came is {came[:200]}') from None
     return came
 
 
@@ -170,3 +193,61 @@ def starve_request(place, request, every, options=()):
         calls = len(starving.expected.sizes)
         numbers = range(1, calls + 1, every)
         return calls, len(numbers), sum(starving.refuse(number) for number in numbers)
+
+
+class StarvingTogether:
+    """Commands that come in one round, of which each call is refused in turn, each time of a server that
+    was just started."""
+
+    def __init__(self, place, requests, options):
+        self.place, self.requests, self.options = place, requests, options
+        self.all = tuple(range(len(requests)))
+        self.rows = {some: self.rows_after(some) for count in range(len(requests) + 1)
+                     for some in itertools.combinations(self.all, count)}
+        with StarvedServer(place, options=options) as server:
+            self.answers, self.sizes = ask_together(server, requests)
+            want(place.rows() == self.rows[self.all], f'together they leave the file {difference(self.rows[self.all], place.rows())}')
+            self.second, _ = ask_together(server, requests)
+
+    def rows_after(self, some):
+        """What the file holds once some of them were answered, one after the other."""
+        with StarvedServer(self.place, options=self.options) as server:
+            for number in some:
+                want(ask(server.port, self.requests[number]).startswith(b'HTTP/1.1 2'), f'{self.requests[number][:60]} is not done')
+            return self.place.rows()
+
+    def refuse(self, number):
+        """Refuses one call, of a server that takes memory as the first one did. Gives how many commands
+        met the fault."""
+        for _ in range(TRIES):
+            with StarvedServer(self.place, options=self.options) as server:
+                came, sizes = ask_together(server, self.requests, number)
+                if self.place.shared.has_refused() and sizes[:number] == self.sizes[:number]:
+                    return self.met(server, number, came)
+        raise Otherwise(f'commands that come together: {TRIES} servers take memory each in another way')
+
+    def met(self, server, number, came):
+        """Each command is answered rightly and done, or by the fault and not done, and then they come
+        again. Gives how many met the fault."""
+        where = f'commands that come together, with call {number} of {len(self.sizes)} refused'
+        done = tuple(one for one in self.all if came[one] == self.answers[one])
+        want(all(is_fault(came[one]) for one in self.all if one not in done), f'{where}: they are answered by {came}')
+        rows = self.place.rows()
+        want(rows == self.rows[done], f'{where}: {done} are done, which leaves the file {difference(self.rows[done], rows)}')
+        then, _ = ask_together(server, self.requests)
+        wanted = [self.second[one] if one in done else self.answers[one] for one in self.all]
+        want(then == wanted and self.place.rows() == self.rows[self.all], f'{where}: then they are answered by {then}')
+        want(server.lives(), f'{where} ends the server')
+        return len(self.all) - len(done)
+
+
+def starve_together(place, requests, every, options=()):
+    """Each call of commands that come together refused in turn. From the first one whose refusal all of
+    them meet to the last one, no refusal is met by some alone. Gives what `starve_request` gives."""
+    starving = StarvingTogether(place, requests, options)
+    numbers = range(1, len(starving.sizes) + 1, every)
+    met = [starving.refuse(number) for number in numbers]
+    whole = [place for place, count in enumerate(met) if count == len(requests)]
+    want(whole, 'no refused call is met by all commands that come together')
+    want(set(met[whole[0]:whole[-1]]) <= {0, len(requests)}, 'a refused call is met by some of the commands that share a commit')
+    return len(starving.sizes), len(numbers), sum(count > 0 for count in met)

@@ -243,12 +243,21 @@ fn small_commands_are_answered_together(rt: HostRuntime) {
     are_answered(&rt, rt.alloc(), &[COMMANDS[3], COMMANDS[5], QUERY], two);
 }
 
-// A large body, and many of 30,076 bytes: 34 of them have less than 1,048,576 bytes and 35 have more.
+/// So many clients send a command of so many bytes each at one moment, and one more client a last one.
+/// Of these so many are answered alone, and then so many together: of commands that are held alone and
+/// have at most 32,768 bytes those that have 1,048,576 together, as 33 times 30,840 and 30,856 have.
+const LIMITS: [(usize, usize, usize, usize, usize); 5] = [
+    (0, 32_768, 32_768, 0, 1),
+    (0, 32_769, 32_769, 1, 0),
+    (39, 30_076, 30_076, 6, 34),
+    (33, 30_840, 30_856, 0, 34),
+    (33, 30_840, 30_857, 1, 33),
+];
+
+// A large body comes in more rounds than small commands. Those of one row come in as many.
 #[test]
 fn a_group_is_limited(rt: HostRuntime) {
-    let alloc = rt.alloc();
-    let head = "PUT /-/package/kit/dist-tags/next HTTP/1.1\r\ncontent-length: 40007\r\n\r\n";
-    let large = around(&rt, alloc, head, " ", 40_000, "\"1.0.0\"");
+    let large = sized(&rt, rt.alloc(), 40_076);
     let wanted = Asked {
         alone: 1,
         groups: 1,
@@ -256,15 +265,40 @@ fn a_group_is_limited(rt: HostRuntime) {
         before: 0,
     };
     let cases = [(large.as_str(), 100), COMMANDS[3], COMMANDS[5]];
-    are_answered(&rt, alloc, &cases, wanted);
-    let head = "PUT /-/package/kit/dist-tags/next HTTP/1.1\r\ncontent-length: 30007\r\n\r\n";
-    let long = around(&rt, alloc, head, " ", 30_000, "\"1.0.0\"");
-    same(&rt, "its length", &long.len(), &30_076);
+    are_answered(&rt, rt.alloc(), &cases, wanted);
+    for limit in LIMITS {
+        is_limited(&rt, rt.alloc(), limit);
+    }
+}
+
+fn is_limited(rt: &impl Abort, alloc: Global, limit: (usize, usize, usize, usize, usize)) {
+    let (many, each, last, alone, together) = limit;
+    let each = sized(rt, alloc, each);
+    let last = sized(rt, alloc, last);
+    let mut cases = Vec::new(alloc);
+    for _ in 0..many {
+        cases.push((each.as_str(), 100)).expect(rt, "memory");
+    }
+    cases.push((last.as_str(), 100)).expect(rt, "memory");
+    let is_group = together > 0;
     let wanted = Asked {
-        alone: 6,
-        groups: 1,
-        together: 34,
-        before: 6,
+        alone,
+        groups: if is_group { 1 } else { 0 },
+        together,
+        before: if is_group { alone } else { 0 },
     };
-    are_answered(&rt, alloc, &[(long.as_str(), 100); 40], wanted);
+    are_answered(rt, alloc, &cases, wanted);
+}
+
+// A command of this many bytes, of which its head has 69.
+fn sized(rt: &impl Abort, alloc: Global, count: usize) -> String {
+    let length = count.saturating_sub(69);
+    let head = format!(in alloc;
+        "PUT /-/package/kit/dist-tags/next HTTP/1.1\r\ncontent-length: {length}\r\n\r\n"
+    );
+    let head = head.expect(rt, "memory");
+    let spaces = length.saturating_sub(7);
+    let command = around(rt, alloc, head.as_str(), " ", spaces, "\"1.0.0\"");
+    same(rt, "its length", &command.len(), &count);
+    command
 }

@@ -17,6 +17,8 @@ mod clock;
 #[cfg(test)]
 mod full;
 #[cfg(test)]
+mod groups;
+#[cfg(test)]
 mod guests;
 #[cfg(test)]
 mod late;

@@ -9,7 +9,7 @@ use registry_desk::Registry;
 use registry_http::RegistryService;
 use registry_rules::Request;
 use registry_service::Service;
-use registry_tests_requests::{Outcome, outcome_of, outcomes_together, requests_of};
+use registry_tests_requests::{Outcome, answers_together, requests_of};
 use sqlite::{Alter, Connection};
 use std::alloc::Global;
 use std::process::Abort;
@@ -29,8 +29,8 @@ pub(crate) enum First<'a> {
     Nothing,
     /// It is seen that no row breaks a rule, or the test ends.
     Checked,
-    /// A service over it is asked this command and, after a fault, this query.
-    Served(&'a Request, &'a Request),
+    /// It is asked this and, after a fault, this query.
+    Served(Asks<'a>, &'a Request),
 }
 
 /// Requests, and how they are asked.
@@ -42,8 +42,8 @@ pub(crate) enum Asks<'a> {
     Together(usize, &'a [Request]),
 }
 
-/// What a registry answers to lists of requests, one after another until one ends in a fault, and its
-/// connection.
+/// What the service of a registry answers to lists of requests, one after another until one ends in a
+/// fault, and its connection.
 pub(crate) fn asked<S: Alter + Drop>(
     ends: &impl Abort,
     alloc: Global,
@@ -54,65 +54,66 @@ pub(crate) fn asked<S: Alter + Drop>(
     ensures rises { CanBeAdopted (state S.Store result.1) }
 {
     let mut outcomes = Vec::new(alloc);
-    let mut registry = match first {
-        First::Nothing => registry,
+    let registry = match first {
         First::Checked => checked(ends, alloc, registry),
-        First::Served(command, query) => {
-            served(ends, alloc, registry, command, query, &mut outcomes)
-        }
+        First::Nothing | First::Served(_, _) => registry,
     };
-    for asks in lists {
-        push_outcomes(ends, alloc, &mut registry, *asks, &mut outcomes);
+    let mut service = RegistryService::new(registry);
+    if let First::Served(asks, query) = first {
+        push_served(ends, alloc, &mut service, asks, query, &mut outcomes);
     }
-    (outcomes, registry.release())
+    for asks in lists {
+        push_outcomes(ends, alloc, &mut service, *asks, &mut outcomes);
+    }
+    (outcomes, service.into_registry().release())
 }
 
-fn push_outcomes<S: Alter>(
+fn push_outcomes<D: Service>(
     ends: &impl Abort,
     alloc: Global,
-    registry: &mut Registry<S>,
+    service: &mut D,
     asks: Asks,
     outcomes: &mut Vec<Outcome>,
 ) {
     match asks {
-        Asks::InTurn(requests) => push_in_turn(ends, alloc, registry, requests, outcomes),
+        Asks::InTurn(requests) => push_in_turn(ends, alloc, service, requests, outcomes),
         Asks::Together(count, commands) => {
             for group in commands.chunks(count.max(1)) {
-                push_together(ends, alloc, registry, group, outcomes);
+                push_together(ends, alloc, service, group, outcomes);
             }
         }
     }
 }
 
-// Adds what a registry answers to requests, where none before them ended in a fault.
-fn push_in_turn<S: Alter>(
+// Adds what is answered to requests, where none before them ended in a fault.
+fn push_in_turn<D: Service>(
     ends: &impl Abort,
     alloc: Global,
-    registry: &mut Registry<S>,
+    service: &mut D,
     requests: &[Request],
     outcomes: &mut Vec<Outcome>,
 ) {
     for request in requests {
         if !matches!(outcomes.last(), Some(Err(_))) {
-            let outcome = outcome_of(alloc, registry, request);
+            let outcome = service.answer(alloc, request);
             outcomes.push(outcome).expect(ends, "memory");
         }
     }
 }
 
-// Adds what a registry answers to commands together, where none before them ended in a fault. All are
+// Adds what is answered to commands together, where none before them ended in a fault. All are
 // answered, or all end in the same fault.
-fn push_together<S: Alter>(
+fn push_together<D: Service>(
     ends: &impl Abort,
     alloc: Global,
-    registry: &mut Registry<S>,
+    service: &mut D,
     commands: &[Request],
     outcomes: &mut Vec<Outcome>,
 ) {
     if matches!(outcomes.last(), Some(Err(_))) {
         return;
     }
-    match outcomes_together(alloc, registry, commands) {
+    match answers_together(alloc, service, commands) {
         Ok(more) => {
             same(ends, "all or none", are_alike(&more), true);
             outcomes.extend(more).expect(ends, "memory");
@@ -134,49 +135,26 @@ fn are_alike(outcomes: &[Outcome]) -> bool {
     true
 }
 
-// A registry, after a service over it was asked a command and, after a fault, a query. Adds what it
-// answers.
-fn served<S: Alter + Drop>(
+// Adds what is answered and, after a fault, the answer to a query. The service is over exactly where its
+// registry answers nothing more, and still is after the query.
+fn push_served<D: Service>(
     ends: &impl Abort,
     alloc: Global,
-    registry: Registry<S>,
-    command: &Request,
-    query: &Request,
-    outcomes: &mut Vec<Outcome>,
-) -> Registry<S> {
-    let mut service = RegistryService::new(registry);
-    push_served(ends, alloc, &mut service, command, query, outcomes);
-    service.into_registry()
-}
-
-// The service is over exactly where its registry answers nothing more, and still is after the query.
-fn push_served<S: Service>(
-    ends: &impl Abort,
-    alloc: Global,
-    service: &mut S,
-    command: &Request,
+    service: &mut D,
+    asks: Asks,
     query: &Request,
     outcomes: &mut Vec<Outcome>,
 ) {
-    let meets_fault = push_answer(ends, alloc, service, command, outcomes);
+    push_outcomes(ends, alloc, service, asks, outcomes);
     let is_over = service.is_over();
-    let is_shut = meets_fault && push_answer(ends, alloc, service, query, outcomes);
+    let mut is_shut = false;
+    if matches!(outcomes.last(), Some(Err(_))) {
+        let outcome = service.answer(alloc, query);
+        is_shut = outcome.is_err();
+        outcomes.push(outcome).expect(ends, "memory");
+    }
     let are_over = (is_over, service.is_over());
     same(ends, "is over", are_over, (is_shut, is_shut));
-}
-
-// Adds what a service answers. Gives whether it is a fault.
-fn push_answer<S: Service>(
-    ends: &impl Abort,
-    alloc: Global,
-    service: &mut S,
-    request: &Request,
-    outcomes: &mut Vec<Outcome>,
-) -> bool {
-    let outcome = service.answer(alloc, request);
-    let is_fault = outcome.is_err();
-    outcomes.push(outcome).expect(ends, "memory");
-    is_fault
 }
 
 /// How many requests are answered before one meets a fault.

@@ -38,5 +38,12 @@ token npm_bob_000000001 --at 100 tag-set @lab/kit beta 2.0.0-rc.1
 /// A command on a registry that was asked nothing before.
 pub(crate) const ADD_ANN: &str = "--operator user-add ann";
 
+/// Commands on such a registry.
+pub(crate) const ADD_THREE: &str = "
+--operator user-add ann
+--operator user-add bob
+--operator user-add eve
+";
+
 /// A query that every registry without a package refuses.
 pub(crate) const TAGS_OF_NONE: &str = "tags none";
