@@ -77,11 +77,12 @@ def head_of(crate):
 
 class Call:
     """A function, a type or an implementation: where it stands, what is said of it, and the names of
-    its clauses, each empty where the clause has no name."""
+    its clauses, each empty where the clause has no name. The kind of promise is that of a call inside a
+    transaction, as `Finds`, or None."""
 
-    def __init__(self, name, owner, public, doc, clauses, place, kind):
+    def __init__(self, name, owner, public, doc, clauses, place, kind, promise=None):
         self.name, self.owner, self.public, self.doc = name, owner, public, doc
-        self.clauses, self.place, self.kind = clauses, place, kind
+        self.clauses, self.place, self.kind, self.promise = clauses, place, kind, promise
 
     def full_name(self):
         return f'{self.owner}::{self.name}' if self.owner else self.name
@@ -100,6 +101,15 @@ def clauses_below(lines, at, indent):
         if line.endswith(' {') and not begun and not found:
             break
     return found
+
+
+def promise_below(lines, at):
+    """The word of `specs/Inside` with which the only clause of a function begins that has no name."""
+    for line in lines[at:]:
+        begun = re.match(r' *ensures \{ (?:inside\.)?(Finds|Knows|Makes|MayMake) ', line)
+        if begun or re.match(r' *[{}]|.*;$', line):
+            return begun[1] if begun else None
+    return None
 
 
 def owner_of(line):
@@ -144,7 +154,8 @@ def calls_of(crate):
                 if form[1] not in ('', '    ') or trait:
                     continue
                 public = form[2] == 'pub ' or in_trait
-                found.append(Call(form[3], inside, public, doc_of(lines, at), clauses_below(lines, at, form[1]), place, 'fn'))
+                clauses = clauses_below(lines, at, form[1])
+                found.append(Call(form[3], inside, public, doc_of(lines, at), clauses, place, 'fn', promise_below(lines, at)))
     return found
 
 

@@ -1,14 +1,13 @@
 -- The archives that are kept stay those of the live versions.
-use Rattle.registry_desk.proofs.Words.{◌≡◌, inl, inr, ℕ, Bool, true, false, cond, ◌==◌, ◌&&◌, List, [], ◌∷◌, ◌++◌, Option, Some, None, option_map, unwrap_or, is_some, refl, sym, ap, ap₂, ◌∙◌, subst}
+use Rattle.registry_desk.proofs.Words.{◌≡◌, inl, inr, ℕ, Bool, true, false, cond, ◌==◌, ◌&&◌, List, [], ◌∷◌, ◌++◌, Option, Some, None, option_map, unwrap_or, refl, sym, ap, ap₂, ◌∙◌, subst}
 use Rattle.registry_desk.proofs.Words.{true≢false, list_all, list_any, Caller, pair_is, at, IsName, is_name_char, Text, is, VersionParts, text_of_version, Refusal, pair_key, at-erase_other}
 use Rattle.registry_desk.proofs.Words.{at-put_other, at-revise, Cache, kept, is_command, version_of, Change, AddUser, AddToken, DropToken, AddOrg, PutMember, DropMember, AddTeam, PutTeamMember}
 use Rattle.registry_desk.proofs.Words.{DropTeamMember, DropTeam, PutGrant, DropGrant, PutOwner, DropOwner, PutStatus, AddVersion, RetireVersion, PutDeprecation, PutTag, DropTag, all_made, made}
 use Rattle.registry_desk.proofs.Words.{release_of, Release, State, Reply, Bytes, Refused, Action, Archive, HeldAreStored, all_stored, Contents, registry_of, changes_make, archive_in, reply_to}
-use Rattle.registry_desk.proofs.Words.{AreArchives, KeepsArchive, KeepsNoMore, LeavesArchivesRight, archive_key, moves, without_moved}
+use Rattle.registry_desk.proofs.Words.{AreArchives, KeepsArchive, KeepsNoMore, LeavesArchivesRight, archive_key, moves, without_touched}
 use Rattle.registry_names.specs.Idents.{is_ident_char}
 use Rattle.registry_names.proofs.NameFacts.{and_left, and_right}
 use Rattle.registry_names.proofs.TextFacts.{is_same, is_true}
-use Rattle.registry_rules.specs.Operations.{moved, regranted, restated, with_grant, with_member, with_role, with_status, with_tag}
 use Rattle.registry_desk.proofs.CacheFacts.{more_kept, untouched_found}
 use Rattle.registry_desk.proofs.LivingFacts.{neither}
 
@@ -57,10 +56,6 @@ key_apart p v q w apart = by_parts (is p q) (is v w) refl refl
 
 -- ---- what changes make of an archive
 
-either_archive : (b : Bool) (S T U : State) (p v : Text) → archive_in T p v ≡ archive_in S p v → archive_in U p v ≡ archive_in S p v → archive_in (cond b T U) p v ≡ archive_in S p v
-either_archive true S T U p v one other = one
-either_archive false S T U p v one other = other
-
 abbrev archive_of : Option Release → List ℕ
 archive_of o = unwrap_or (option_map (λ (r : Release). r.archive) o) []
 
@@ -75,27 +70,23 @@ made_archive S (AddUser u) p v e = refl
 made_archive S (AddToken digest u) p v e = refl
 made_archive S (DropToken digest) p v e = refl
 made_archive S (AddOrg o) p v e = refl
-made_archive S (PutMember o u role stands) p v e =
-    either_archive stands S (with_role S o u role) (with_member S o u role) p v (either_archive (is_some (at S.access.roles (o, u))) S (with_member S o u role) S p v refl refl) refl
+made_archive S (PutMember o u role) p v e = refl
 made_archive S (DropMember o u) p v e = refl
 made_archive S (AddTeam o t) p v e = refl
 made_archive S (PutTeamMember o t u) p v e = refl
 made_archive S (DropTeamMember o t u) p v e = refl
 made_archive S (DropTeam o t) p v e = refl
-made_archive S (PutGrant o t q grant stands) p v e =
-    either_archive stands S (regranted S o t q grant) (with_grant S o t q grant) p v (either_archive (is_some (at S.access.grants (o, (t, q)))) S (with_grant S o t q grant) S p v refl refl) refl
+made_archive S (PutGrant o t q grant) p v e = refl
 made_archive S (DropGrant o t q) p v e = refl
 made_archive S (PutOwner q u) p v e = refl
 made_archive S (DropOwner q u) p v e = refl
-made_archive S (PutStatus q status stands) p v e =
-    either_archive stands S (restated S q status) (with_status S q status) p v (either_archive (is_some (at S.access.statuses q)) S (with_status S q status) S p v refl refl) refl
+made_archive S (PutStatus q status) p v e = refl
 made_archive S (AddVersion f now) p v e = ap archive_of (at-put_other pair_key S.live (f.name, version_of f) (release_of f now) (p, v) (key_apart f.name (version_of f) p v e))
 made_archive S (RetireVersion q w published withdrawn) p v e = ap archive_of (at-erase_other pair_key S.live (q, w) (p, v) (key_apart q w p v e))
 made_archive S (PutDeprecation q w message) p v e =
     ap archive_of (at-revise pair_key S.live (λ k (r : Release). cond (pair_is (q, w) k) (record r { message = message }) r) (p, v))
     ∙ marked (pair_is (q, w) (p, v)) message (at S.live (p, v))
-made_archive S (PutTag q t w stands) p v e =
-    either_archive stands S (moved S q t w) (with_tag S q t w) p v (either_archive (is_some (at S.tags (q, t))) S (with_tag S q t w) S p v refl refl) refl
+made_archive S (PutTag q t w) p v e = refl
 made_archive S (DropTag q t) p v e = refl
 
 all_made_archive : (S : State) (cs : List Change) (p v : Text) → list_any (λ change. moves change (archive_key p v)) cs ≡ false → archive_in (all_made S cs) p v ≡ archive_in S p v
@@ -113,7 +104,7 @@ shown_by S (Some who) p v bytes e = cc
 -- ---- what becomes of the archives that are kept
 
 pub archives_leave : (c d : Contents) (who : Option Caller) (what : Action) (cs : List Change) (old new : Cache) (given : Reply) → HeldAreStored c → d ≡ all_stored cs c
-    → (is_command what ≡ false → cs ≡ []) → new ≡ without_moved cs old
+    → (is_command what ≡ false → cs ≡ []) → new ≡ without_touched moves cs old
     → ((p : Text) (v : VersionParts) → what ≡ Archive p v → AreArchives c old → given ≡ reply_to (registry_of c) who what) → LeavesArchivesRight c d what old new given
 archives_leave c d who what cs old new given held is query left told = record {
   still = λ key bytes h p v at.

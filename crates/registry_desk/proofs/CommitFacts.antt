@@ -1,8 +1,8 @@
 -- The first tables, and what a commit leaves.
-use Rattle.registry_desk.proofs.Words.{◌≡◌, ◌⊎◌, ◌∙◌, ◌+◌, ◌-◌, ◌^◌, ◌≤◌, Bool, min, arith, inl, inr, IfErr, IsTrue, OnErr, OnOk, Result, Ok, Err, true, false, true≢false, refl, sym, ap, subst}
-use Rattle.registry_desk.proofs.Words.{AllByRecursion, Database, IsDatabase, Held, state, survives_begin, survives_then, Shown, HasCleanDisk, IsRolledBack, KeepsCommit, Shows, Survives, Error, Trees}
-use Rattle.registry_desk.proofs.Words.{Ghosts, Fault, IsSound, State, nothing_sound, CommitFails, IsCommitted, IsReady, Leaves, Ready, Contents, contents, no_tables, stored, fresh, schema}
-use Rattle.registry_desk.proofs.Words.{fresh_is_nothing, CanBeAdopted, IsHandedBack, IsSettled, IsUndone, LeavesCommitted, IsSure, GrantsInScope, IsAsWritten, IsRegistryOf, Rests}
+use Rattle.registry_desk.proofs.Words.{◌≡◌, ◌⊎◌, ◌∙◌, ◌+◌, ◌-◌, ◌^◌, ◌≤◌, Bool, min, arith, inl, inr, IsTrue, true, false, true≢false, refl, sym, ap, subst}
+use Rattle.registry_desk.proofs.Words.{AllByRecursion, Database, IsDatabase, Held, state, Shown, HasCleanDisk, IsRolledBack, KeepsCommit, Shows, Survives, Error, Trees}
+use Rattle.registry_desk.proofs.Words.{Ghosts, IsSound, State, nothing_sound, IsReady, Leaves, Ready, Contents, contents, stored, fresh, schema}
+use Rattle.registry_desk.proofs.Words.{fresh_is_nothing, CanBeAdopted, IsHandedBack, IsSettled, IsUndone, IsSure, GrantsInScope, IsAsWritten, IsRegistryOf, Rests}
 use Rattle.sqlite.specs.Steps.{FailsToCommit}
 use Rattle.sqlite_catalog.specs.Listing as listing
 use Rattle.sqlite_schema.specs.declared.schema.Schema.{Schema}
@@ -11,8 +11,8 @@ use Rattle.registry_tables.proofs.TeamFacts.{sound_teams}
 use Rattle.registry_tables.proofs.RangeFacts.{fresh_in_range}
 
 -- so it is once a transaction is begun
-pub begun_empty : {S : Type 0} (store : Ghosts S) (h : Held S) → Ready no_tables (state store h) → Ready no_tables (state store (record h { in_transaction = true }))
-begun_empty store h ready clean on = let it = ready clean on in record { schema_is = it.schema_is; sound = it.sound; rowids = tt }
+pub begun_ready : {S : Type 0} (store : Ghosts S) (h : Held S) (k : Schema) → Ready k (state store h) → Ready k (state store (record h { in_transaction = true }))
+begun_ready store h k ready clean on = let it = ready clean on in record { schema_is = it.schema_is; sound = it.sound; rowids = it.rowids }
 
 pub ready_again : (mid new : Shown) → new.now ≡ mid.now → IsReady schema mid → IsReady schema new
 ready_again mid new same ready = record {
@@ -52,13 +52,18 @@ commit_rests left mid new ended leaves scoped shows = record {
   settled = λ clean _. (shows clean).now_is ∙ sym (shows clean).committed_is;
 }
 
--- the same of what the commit answers
-pub commit_rests_on : {A E : Type 0} (result : Result A E) (left : Contents) (mid new : Shown) → new.in_transaction ≡ false
-    → (HasCleanDisk new → Leaves schema contents left mid) → (HasCleanDisk new → IsAsWritten left) → (HasCleanDisk new → OnOk result (IsCommitted mid new)) → OnOk result (Rests new)
-commit_rests_on (Ok done) left mid new ended leaves scoped commits = commit_rests left mid new ended leaves scoped (λ clean. (commits clean).1)
-commit_rests_on (Err e) left mid new ended leaves scoped commits = tt
-
 -- ---- what is left where nothing was committed
+
+-- nor tried
+pub survives_nothing : (s : Shown) (Commits : Trees → Type 0) → Survives s s Commits
+survives_nothing s Commits = record {
+  clean = omega arith;
+  shield = λ shielded. shielded;
+  counts = omega arith;
+  limit = refl;
+  closes = λ clean on. inl on;
+  crash = λ clean db may. inl may;
+}
 
 -- a commit that fails in a transaction rolls back
 pub failed_undone : (mid new : Shown) (e : Error) → mid.in_transaction ≡ true → FailsToCommit mid new e → IsRolledBack mid new
@@ -94,30 +99,6 @@ module _ (old mid new : Shown) where
     settled = λ clean on. let b = back clean in let left = undone b.1 b.2 on in left.1 ∙ sym left.2;
   }
 
--- what is so is so of a fault, too
-pub on_fault : {A E : Type 0} {P : Type 0} (result : Result A E) → P → OnErr result P
-on_fault (Ok done) is = tt
-on_fault (Err e) is = is
-
--- a commit that fails leaves what was committed
-pub commit_undone : {A : Type 0} (result : Result A Fault) (old mid new : Shown) → (HasCleanDisk new → KeepsCommit old mid × (mid.in_transaction ≡ true)) → (HasCleanDisk new → IfErr result (CommitFails mid new)) → OnErr result (IsUndone old new)
-commit_undone (Ok done) old mid new before fails = tt
-commit_undone (Err fault) old mid new before fails = λ clean on.
-    let were = before clean in
-    undone_is old mid new were.0 (λ again. failed_undone mid new (fails again).0 were.1 (fails again).1) clean on
-
--- ---- a transaction that is broken off
-
-module _ {S : Type 0} (store : Ghosts S) (old : Held S) (mid : Shown) (dropped left : Held S) where
-  pub drop_survives : (P : Trees → Type 0) → dropped ≡ left → Survives (state store (record old { in_transaction = true })) mid (λ _. ⊥) → Survives mid (state store dropped) (λ _. ⊥) → Survives (state store old) (state store left) P
-  drop_survives P same first last =
-      subst (λ h. Survives (state store old) (state store h) P) same
-      (survives_then (state store old) mid (state store dropped) _ _ P (λ _ _ none. absurd none) (λ _ _ none. absurd none) (survives_begin store old mid _ first) last)
-
-  pub drop_undone : dropped ≡ left → Survives mid (state store dropped) (λ _. ⊥) → (HasCleanDisk mid → KeepsCommit (state store old) mid) → (HasCleanDisk (state store dropped) → IsRolledBack mid (state store dropped))
-      → IsUndone (state store old) (state store left)
-  drop_undone same last keeps back = subst (λ h. IsUndone (state store old) (state store h)) same (λ clean on. undone_is (state store old) mid (state store dropped) (keeps (omega (arith, last.clean, clean))) back clean on)
-
 -- ---- a connection that is given away
 
 -- between requests the rowids rise
@@ -136,11 +117,6 @@ module _ (old new : Shown) where
   rises_again rises were back clean on =
       let it = back.1 clean on in
       subst (λ (d : Database). AllByRecursion (λ t. HasRowids (d.trees t.tree)) d.schema.tables) (sym it.1) (rises (were clean) it.0)
-
--- what was committed is all that a crash leaves
-pub committed_left : {S : Type 0} (store : Ghosts S) (old : Shown) (h : Held S) → ((db : Trees) → IsTrue (state store h).is_open → (state store h).may_leave db → db ≡ (state store h).committed.trees)
-    → (IsTrue (state store h).is_open → (state store h).committed ≡ old.committed) → LeavesCommitted old (state store h)
-committed_left store old h settled same clean on db left = settled db on left ∙ ap (λ (d : Database). d.trees) (same on)
 
 -- ---- a store without faults
 

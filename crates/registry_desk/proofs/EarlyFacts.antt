@@ -1,10 +1,11 @@
 -- What is refused early, and what was found otherwise.
 use Rattle.registry_desk.proofs.Words.{◌≡◌, ◌∙◌, ◌⊎◌, ◌&&◌, ◌||◌, ℕ, Bool, true, false, not, cond, if◌then◌else◌, List, [], ◌∷◌, filter, map, ap, inl, inr, refl, sym, subst, Option, Some, None}
-use Rattle.registry_desk.proofs.Words.{option_map, Result, Ok, Err, IfOk, IsOkAnd, MatchResult, unwrap_or, list_any, option_or, Pair, at, entries, keep, keys, of, Text, is, Refusal, NotFound, TooLate}
-use Rattle.registry_desk.proofs.Words.{Depended, DistTag, Fault, RowsTell, Caller, caller_of, AboutTells, since_of, refuse, refusal, refusal_for, state_refusal, withdraw_all_refusal, withdraw_refusal}
-use Rattle.registry_desk.proofs.Words.{State, Release, is_empty, all_tags, is_any_depended, is_depended, is_need_of, is_too_old, live_since, live_versions, needs_in, published_at, About, LiveVersion}
-use Rattle.registry_desk.proofs.Words.{Action, Request, VersionParts, pair_key, same_self, text_key, at-keep, same_part, Contents, registry_of, tag_entry, AreTeamsSound, EarlyRefusalsStand}
-use Rattle.registry_desk.proofs.Words.{FoundTells, IsFound, TellsSome, asked_organisation, early_refusal}
+use Rattle.registry_desk.proofs.Words.{option_map, Result, unwrap_or, list_any, option_or, Pair, at, entries, keep, keys, of, Text, is, Refusal, NotFound, TooLate}
+use Rattle.registry_desk.proofs.Words.{Depended, DistTag, Fault, RowsTell, Caller, caller_of, since_of, refuse, refusal, refusal_for, state_refusal, withdraw_all_refusal, withdraw_refusal}
+use Rattle.registry_desk.proofs.Words.{State, Release, is_empty, all_tags, is_any_depended, is_depended, is_need_of, is_too_old, live_since, live_versions, needs_in, published_at, LiveVersion}
+use Rattle.registry_desk.proofs.Words.{Action, Request, VersionParts, pair_key, same_self, text_key, at-keep, same_part, Contents, Ghosts, registry_of, tag_entry, AreTeamsSound, EarlyRefusalsStand}
+use Rattle.registry_desk.proofs.Words.{FoundTells, IsFound, NeedsFor, TellsSome, asked_organisation, early_refusal}
+use Rattle.sqlite.specs.declared.transaction.Transaction.{Transaction}
 use Rattle.registry_access.specs.Access.{Access}
 use Rattle.registry_access.specs.Agreement.{SameOrganisation}
 use Rattle.registry_access.specs.RowMaps.{state_of}
@@ -17,6 +18,8 @@ use Rattle.registry_names.proofs.EntryFacts.{entries-keep}
 use Rattle.registry_tables.specs.Withdrawals.{version_text}
 use Rattle.registry_desk.specs.declared.policy.Found.{Found}
 use Rattle.registry_desk.specs.declared.policy.Found.TheVariants as found
+use Rattle.registry_tables.specs.Inside.{Finds}
+use Rattle.registry_desk.proofs.InsideFacts.{finds_so}
 
 -- nothing is no reason
 abbrev IsNothing : {A : Type 0} → Option A → Type 0
@@ -53,59 +56,34 @@ neither first second one two = ap (λ o. option_or o second) one ∙ two
 pub or_second : (first second : Option Refusal) (why : Refusal) → first ≡ None → second ≡ Some why → option_or first second ≡ Some why
 or_second first second why one two = ap (λ o. option_or o second) one ∙ two
 
--- all that was said of an action of which nothing is refused early is said of the one that is asked
-module _ (reads : Type 0) (c : Contents) (now : ℕ) (who : Caller) (what : Action) where
-  abbrev pub IsTold : Found → Type 0
-  IsTold y = AreTeamsSound c → IsFound y c now who what
+-- what tells of the registry tells of some state
+tells_some : (y : Found) (c : Contents) (now : ℕ) (who : Caller) (what : Action) → FoundTells y (registry_of c) now who what → TellsSome y (registry_of c) who what
+tells_some (found.Refused why) c now who what told = tt
+tells_some (found.About about) c now who what told = (registry_of c, refl, told.1)
 
-  abbrev pub IsMade : Result About Fault → Result Found Fault → Type 0
-  IsMade about result = MatchResult about (λ x. IsOkAnd result (λ y. y ≡ found.About x)) (λ e. result ≡ Err e)
+-- what was found decides the action, where the needs for it are those of live versions
+pub found_told : (y : Found) (c : Contents) (now : ℕ) (who : Caller) (what : Action) → IsFound y c now who what → NeedsFor what c → FoundTells y (registry_of c) now who what
+found_told y c now who (asked.Withdraw p v) it needs = it.tells needs
+found_told y c now who (asked.WithdrawAll p) it needs = it.tells needs
+found_told y c now who _ it needs = it
 
-  -- what tells of the registry tells of some state
-  tells_some : (y : Found) → FoundTells y (registry_of c) now who what → TellsSome y (registry_of c) who what
-  tells_some (found.Refused why) told = tt
-  tells_some (found.About about) told = (registry_of c, refl, told.1)
+-- and in some state in any case
+pub found_some : (y : Found) (c : Contents) (now : ℕ) (who : Caller) (what : Action) → IsFound y c now who what → TellsSome y (registry_of c) who what
+found_some y c now who (asked.Withdraw p v) it = it.some
+found_some y c now who (asked.WithdrawAll p) it = it.some
+found_some y c now who what it = tells_some y c now who what it
 
-  found_of : (y : Found) → FoundTells y (registry_of c) now who what → IsFound y c now who what
-  found_of y told = record { tells = λ needs. told; some = tells_some y told }
+-- what was found of this action was found of the one that is asked
+module _ {S : Type 0} {store : Ghosts S} {old new : Transaction S} (r : Result Found Fault) {P : Found → Contents → Type 0} (now : ℕ) (who : Caller) {what : Action} where
+  pub asked_for : {this : Action} → what ≡ this → Finds store old new r P → ((y : Found) (c : Contents) → P y c → AreTeamsSound c → IsFound y c now who this)
+      → Finds store old new r (λ y c. AreTeamsSound c → IsFound y c now who what)
+  asked_for same one so = finds_so r one (λ y c told sound. subst (IsFound y c now who) (sym same) (so y c told sound))
 
-  pub found_about : (this : Action) {P : About → Type 0} (about : Result About Fault) (result : Result Found Fault) → what ≡ this
-      → early_refusal (registry_of c) now who this ≡ None → IsMade about result
-      → ((x : About) → P x → AreTeamsSound c → AboutTells x (registry_of c) who this)
-      → IfOk about (λ x. reads × P x) → IfOk result (λ y. reads × IsTold y)
-  found_about this (Ok x) (Ok y) is early made so told = (
-    told.0,
-    λ sound. found_of y (subst (λ (z : Found). FoundTells z (registry_of c) now who what) (sym made) (
-      subst (λ (action : Action). early_refusal (registry_of c) now who action ≡ None) (sym is) early,
-      subst (λ (action : Action). AboutTells x (registry_of c) who action) (sym is) (so x told.1 sound),
-    )),
-  )
-  found_about this (Ok x) (Err e) is early made so told = tt
-  found_about this (Err e) (Ok y) is early made so told = absurd (subst (λ (r : Result Found Fault). MatchResult r (λ _. Unit {0}) (λ _. ⊥)) made tt)
-  found_about this (Err e) (Err f) is early made so told = tt
-
-  -- the same of one of two
-  pub found_either : (one other : Action) {P Q : About → Type 0} (about : Result About Fault) (result : Result Found Fault) → (what ≡ one) ⊎ (what ≡ other)
-      → early_refusal (registry_of c) now who one ≡ None → early_refusal (registry_of c) now who other ≡ None → IsMade about result
-      → ((x : About) → P x → AreTeamsSound c → AboutTells x (registry_of c) who one)
-      → ((x : About) → Q x → AreTeamsSound c → AboutTells x (registry_of c) who other)
-      → IfOk about (λ x. reads × P x) → IfOk about (λ x. reads × Q x) → IfOk result (λ y. reads × IsTold y)
-  found_either one other about result (inl is) first second made so as_well told too = found_about one about result is first made so told
-  found_either one other about result (inr is) first second made so as_well told too = found_about other about result is second made as_well too
-
-  -- what was found of this action was found of the one that is asked
-  pub found_so : (this : Action) {P : Found → Type 0} (result : Result Found Fault) → what ≡ this
-      → ((y : Found) → P y → AreTeamsSound c → FoundTells y (registry_of c) now who this)
-      → IfOk result (λ y. reads × P y) → IfOk result (λ y. reads × IsTold y)
-  found_so this (Ok y) is so told =
-      (told.0, λ sound. found_of y (subst (λ (action : Action). FoundTells y (registry_of c) now who action) (sym is) (so y told.1 sound)))
-  found_so this (Err e) is so told = tt
-
-  -- the same where it may have been found of another state
-  pub found_some : (this : Action) (result : Result Found Fault) → what ≡ this
-      → IfOk result (λ y. reads × (AreTeamsSound c → IsFound y c now who this)) → IfOk result (λ y. reads × IsTold y)
-  found_some this (Ok y) is told = (told.0, λ sound. subst (IsFound y c now who) (sym is) (told.1 sound))
-  found_some this (Err e) is told = tt
+  -- or of one of two
+  pub asked_either : {this other : Action} → (what ≡ this) ⊎ (what ≡ other) → Finds store old new r P → ((y : Found) (c : Contents) → P y c → AreTeamsSound c → IsFound y c now who this)
+      → ((y : Found) (c : Contents) → P y c → AreTeamsSound c → IsFound y c now who other) → Finds store old new r (λ y c. AreTeamsSound c → IsFound y c now who what)
+  asked_either (inl same) one so as_well = asked_for same one so
+  asked_either (inr same) one so as_well = asked_for same one as_well
 
 -- ---- a withdrawal
 

@@ -21,7 +21,7 @@ use Rattle.registry_tables.specs.Numbers.{grant_number}
 
 -- it grants nothing outside of the organisation's scope
 abbrev IsInScope : Change → Type 0
-IsInScope (PutGrant o t p grant stands) = scope_of p ≡ Some o
+IsInScope (PutGrant o t p grant) = scope_of p ≡ Some o
 IsInScope _ = Unit {0}
 
 abbrev AreInScope : List Change → Type 0
@@ -37,12 +37,7 @@ put_keeps c o t p grant within scoped r s q there =
     some_before triple_key c.grants (o, (t, p)) grant (λ k. scope_of k.1.1 ≡ Some k.0) (λ k h. scoped k.0 k.1.0 k.1.1 h) within (r, (s, q)) there
 
 change_keeps : (change : Change) (c : Contents) → IsInScope change → GrantsInScope c → GrantsInScope (stored_by change c)
-change_keeps (PutGrant o t p grant true) c within scoped = amended_keeps (is_some (at c.grants (o, (t, p))))
-  where
-    amended_keeps : (b : Bool) → GrantsInScope (record c { grants = cond b (put c.grants (o, (t, p)) (grant_number grant)) c.grants })
-    amended_keeps true = put_keeps c o t p (grant_number grant) within scoped
-    amended_keeps false = scoped
-change_keeps (PutGrant o t p grant false) c within scoped = put_keeps c o t p (grant_number grant) within scoped
+change_keeps (PutGrant o t p grant) c within scoped = put_keeps c o t p (grant_number grant) within scoped
 change_keeps (DropGrant o t p) c within scoped = λ r s q there. scoped r s q (was_left _ _ (sym (ap is_some (at-erase triple_key c.grants (o, (t, p)) (r, (s, q)))) ∙ there))
 change_keeps (DropTeam o t) c within scoped = λ r s q there. scoped r s q (kept_there _ _ (sym (ap is_some (at-keep triple_key c.grants _ (r, (s, q)))) ∙ there))
 change_keeps _ c within scoped = scoped
@@ -57,9 +52,9 @@ both_in_scope : (cs ds : List Change) → AreInScope cs → AreInScope ds → Ar
 both_in_scope [] ds are more = more
 both_in_scope (c ∷ cs) ds are more = (are.0, both_in_scope cs ds are.1 more)
 
-status_in_scope : (p : Text) (status old : Option Status) → AreInScope (put_status p status old)
-status_in_scope p None old = tt
-status_in_scope p (Some status) old = (tt, tt)
+status_in_scope : (p : Text) (status : Option Status) → AreInScope (put_status p status)
+status_in_scope p None = tt
+status_in_scope p (Some status) = (tt, tt)
 
 right_in_scope : (who : Caller) (p : Text) (scope : Option Text) → scope_of p ≡ scope → AreInScope (option_to_list (right_to who p scope))
 right_in_scope who p (Some o) is = (is, tt)
@@ -71,17 +66,17 @@ first_in_scope : (who : Caller) (p : Text) (old : Option Status) → AreInScope 
 first_in_scope who p (Some old) = tt
 first_in_scope who p None = right_in_scope who p (scope_of p) refl
 
-tags_in_scope : (p t v : Text) (kept stood : Bool) → AreInScope (cond kept [] (PutTag p latest v false ∷ []) ++ PutTag p t v stood ∷ [])
-tags_in_scope p t v true stood = (tt, tt)
-tags_in_scope p t v false stood = (tt, (tt, tt))
+tags_in_scope : (p t v : Text) (kept : Bool) → AreInScope (cond kept [] (PutTag p latest v ∷ []) ++ PutTag p t v ∷ [])
+tags_in_scope p t v true = (tt, tt)
+tags_in_scope p t v false = (tt, (tt, tt))
 
-publication_in_scope : (who : Caller) (f : FormParts) (now : ℕ) (status old : Option Status) (kept stood : Bool)
-    → AreInScope (put_status f.name status old ++ option_to_list (first_right who f.name old) ++ AddVersion f now ∷ (cond kept [] (PutTag f.name latest (version_of f) false ∷ []) ++ PutTag f.name f.tag (version_of f) stood ∷ []))
-publication_in_scope who f now status old kept stood =
-    let status_put = put_status f.name status old in
+publication_in_scope : (who : Caller) (f : FormParts) (now : ℕ) (status old : Option Status) (kept : Bool)
+    → AreInScope (put_status f.name status ++ option_to_list (first_right who f.name old) ++ AddVersion f now ∷ (cond kept [] (PutTag f.name latest (version_of f) ∷ []) ++ PutTag f.name f.tag (version_of f) ∷ []))
+publication_in_scope who f now status old kept =
+    let status_put = put_status f.name status in
     let right = option_to_list (first_right who f.name old) in
-    let tags = cond kept [] (PutTag f.name latest (version_of f) false ∷ []) ++ PutTag f.name f.tag (version_of f) stood ∷ [] in
-    both_in_scope (status_put ++ right) (AddVersion f now ∷ tags) (both_in_scope status_put right (status_in_scope f.name status old) (first_in_scope who f.name old)) (tt, tags_in_scope f.name f.tag (version_of f) kept stood)
+    let tags = cond kept [] (PutTag f.name latest (version_of f) ∷ []) ++ PutTag f.name f.tag (version_of f) ∷ [] in
+    both_in_scope (status_put ++ right) (AddVersion f now ∷ tags) (both_in_scope status_put right (status_in_scope f.name status) (first_in_scope who f.name old)) (tt, tags_in_scope f.name f.tag (version_of f) kept)
 
 membership_in_scope : (o u : Text) (role : Role) (old : Option Role) → AreInScope (membership o u role old)
 membership_in_scope o u role (Some was) = (tt, tt)
@@ -99,7 +94,7 @@ freed_in_scope : (p : Text) (other : Option Text) (t : Text) → IsInScope (free
 freed_in_scope p None t = tt
 freed_in_scope p (Some other) t = by_name (is t latest)
   where
-    by_name : (b : Bool) → IsInScope (cond b (PutTag p t other true) (DropTag p t))
+    by_name : (b : Bool) → IsInScope (cond b (PutTag p t other) (DropTag p t))
     by_name true = tt
     by_name false = tt
 
@@ -128,7 +123,7 @@ ending_in_scope (digest ∷ digests) = (tt, ending_in_scope digests)
 
 effects_in_scope : (S : State) (now : ℕ) (who : Caller) (what : Action) → refusal_by S now who what ≡ None → AreInScope (effects S now who what)
 effects_in_scope S now who (command.Grant o t p grant) may = ((may_grant (has_team S o t) (is_published S p) o p (state_passed S now who (command.Grant o t p grant) may)).2, tt)
-effects_in_scope S now who (Publish f) may = publication_in_scope who f now _ _ _ _
+effects_in_scope S now who (Publish f) may = publication_in_scope who f now _ _ _
 effects_in_scope S now who (OrgSet o u role) may = membership_in_scope o u role (at S.access.roles (o, u))
 effects_in_scope S now who (TeamAdd o t u) may = joining_in_scope o t u (is_in_team S o t u)
 effects_in_scope S now who (OwnerAdd p u) may = maintaining_in_scope p u (has_maintainer S p u)

@@ -1,22 +1,77 @@
 -- All that is kept stays right: the texts of packuments, and the archives.
-use Rattle.registry_desk.proofs.Words.{◌≡◌, ℕ, false, List, [], Option, Some, Ok, Err, OnOk, IfOk, IsTrue, refl, sym, ap, ◌∙◌, subst, Shown, HasCleanDisk, Caller, Text, VersionParts, text_of_version}
-use Rattle.registry_desk.proofs.Words.{Refusal, is_command, Change, Reply, Bytes, Doc, Refused, Action, Archive, Packument, AbbreviatedPackument, RevisedPackument, TeamPackages, OrgPackages}
-use Rattle.registry_desk.proofs.Words.{MyPackages, HeldAreStored, all_stored, Contents, registry_of, stored, AreTeamsSound, archive_in, reply_to, is_about, is_read_in, Outcome, AreAnswers, AreLeftBy}
-use Rattle.registry_desk.proofs.Words.{ArePackuments, HasAnswers, IsSoundFor, KeepNoMore, KeepsReply, LeavesCacheRight, live_packument, moves, texts_of, IsAnyPackument, asks_packument, Caches, View}
-use Rattle.registry_desk.proofs.Words.{Full, Abbreviated, Revised}
+use Rattle.registry_desk.proofs.Words.{◌≡◌, ◌+◌, ◌<◌, ℕ, false, List, [], ◌∷◌, Option, Some, IsTrue, refl, sym, ap, ◌∙◌, subst, get_or, length, map, take, Shown, HasCleanDisk, Caller}
+use Rattle.registry_desk.proofs.Words.{Text, VersionParts, text_of_version, Refusal, is_command, Change, change_of, Reply, Bytes, Doc, Refused, Action, Archive, Packument, AbbreviatedPackument}
+use Rattle.registry_desk.proofs.Words.{RevisedPackument, TeamPackages, OrgPackages, MyPackages, HeldAreStored, all_stored, Contents, registry_of, stored, AreTeamsSound, archive_in, reply_to, is_about}
+use Rattle.registry_desk.proofs.Words.{is_read_in, AreAnswers, AreEmpty, AreLeftBy, AreRight, Cache, Changes, ChangesNone, ChangesRead, HasAnswers, HasLimits, IsCached, IsSoundFor}
+use Rattle.registry_desk.proofs.Words.{KeepNoMore, KeepsReply, LeavesCacheRight, MovesNone, live_packument, moves, texts_of, without_packuments, without_touched, IsAnyPackument}
+use Rattle.registry_desk.proofs.Words.{asks_packument, changes_view, Caches, View, Full, Abbreviated, Revised, Rests}
+use Rattle.registry_cache.proofs.RightFacts.{new_right}
+use Rattle.registry_rules.specs.declared.change.Change as declared
 use Rattle.registry_desk.proofs.ArchiveFacts.{archive_limit_stays, archives_answered, archives_kept, archives_leave, archives_refused, archives_unchanged}
-use Rattle.registry_desk.proofs.CacheFacts.{more_kept, same_no_more, texts_answered, texts_kept, texts_leave, texts_refused, texts_unchanged, untouched_no_more}
+use Rattle.registry_desk.proofs.CacheFacts.{forgets_next, forgets_none, forgets_one, more_kept, same_no_more, texts_answered, texts_kept, texts_leave, texts_refused, texts_unchanged, untouched_no_more, untouched_none}
+
+-- of each view
+pub by_view : (P : View → Type 0) → P Full → P Abbreviated → P Revised → (view : View) → P view
+by_view P full short npms Full = full
+by_view P full short npms Abbreviated = short
+by_view P full short npms Revised = npms
 
 pub keep_same : (s : Caches) → KeepNoMore s s
-keep_same s = record { packuments = same_no_more s.packuments; abbreviated = same_no_more s.abbreviated; revised = same_no_more s.revised; archives = same_no_more s.archives }
+keep_same s = record { texts = λ view. same_no_more (texts_of view s); archives = same_no_more s.archives }
+
+-- ---- what is forgotten
 
 pub left_no_more : (cs : List Change) (old new : Caches) → AreLeftBy cs old new → KeepNoMore old new
 left_no_more cs old new left = record {
-  packuments = untouched_no_more is_about cs old.packuments new.packuments left.packuments;
-  abbreviated = untouched_no_more is_about cs old.abbreviated new.abbreviated left.abbreviated;
-  revised = untouched_no_more is_read_in cs old.revised new.revised left.revised;
+  texts = λ view. untouched_no_more (changes_view view) cs (texts_of view old) (texts_of view new) (left.texts view);
   archives = untouched_no_more moves cs old.archives new.archives left.archives;
 }
+
+pub left_none : (s : Caches) → AreLeftBy [] s s
+left_none s = record { texts = λ view. untouched_none (changes_view view) (texts_of view s); archives = untouched_none moves s.archives }
+
+-- by one more change
+pub left_next : (xs : List declared.Change) (i : ℕ) (x : declared.Change) → i < length xs → x ≡ get_or xs i x → (old mid new : Caches) → AreLeftBy (map change_of (take i xs)) old mid → AreLeftBy (change_of x ∷ []) mid new
+    → AreLeftBy (map change_of (take (i + 1) xs)) old new
+left_next xs i x below is old mid new so_far here = record {
+  texts = λ view. forgets_next (changes_view view) xs i x below is (texts_of view old) (texts_of view mid) (texts_of view new) (so_far.texts view) (here.texts view);
+  archives = forgets_next moves xs i x below is old.archives mid.archives new.archives so_far.archives here.archives;
+}
+
+module _ (change : Change) (old : Caches) where
+  -- a change of a packument
+  pub packument_left : (p : Text) → Changes change p → ChangesRead change p → (archives : Cache) → archives ≡ without_touched moves (change ∷ []) old.archives
+      → (new : Caches) → new ≡ without_packuments p (record old { archives = archives }) → AreLeftBy (change ∷ []) old new
+  packument_left p about read archives moved new is = record {
+    texts = by_view (λ view. texts_of view new ≡ without_touched (changes_view view) (change ∷ []) (texts_of view old))
+        (ap (λ (s : Caches). s.packuments) is ∙ forgets_one is_about old.packuments change p about)
+        (ap (λ (s : Caches). s.abbreviated) is ∙ forgets_one is_about old.abbreviated change p about)
+        (ap (λ (s : Caches). s.revised) is ∙ forgets_one is_read_in old.revised change p read);
+    archives = ap (λ (s : Caches). s.archives) is ∙ moved;
+  }
+
+  -- and of no packument
+  pub read_left : ChangesNone change → MovesNone change → (revised : Cache) → revised ≡ without_touched is_read_in (change ∷ []) old.revised → AreLeftBy (change ∷ []) old (record old { revised = revised })
+  read_left about moved revised read = record {
+    texts = by_view (λ view. texts_of view (record old { revised = revised }) ≡ without_touched (changes_view view) (change ∷ []) (texts_of view old))
+        (forgets_none is_about old.packuments change about) (forgets_none is_about old.abbreviated change about) read;
+    archives = forgets_none moves old.archives change moved;
+  }
+
+-- ---- limits
+
+pub new_cached : (s : Shown) (caches : Caches) → Rests s → AreEmpty caches → IsCached s caches
+new_cached s caches rests empty = record {
+  rests = rests;
+  right = λ clean on. record {
+    texts = λ view. subst (AreRight _) (sym (empty.texts view)) (new_right _ _);
+    archives = subst (AreRight _) (sym empty.archives) (new_right _ _);
+  };
+  limited = record { texts = λ view. ap (λ (t : Cache). t.limit) (empty.texts view); archives = ap (λ (t : Cache). t.limit) empty.archives };
+}
+
+pub limited_still : (old new : Caches) → HasLimits old → KeepNoMore old new → HasLimits new
+limited_still old new limits keeps = record { texts = λ view. (keeps.texts view).limit ∙ limits.texts view; archives = keeps.archives.limit ∙ limits.archives }
 
 pub sound_for : (what : Action) (c : Contents) (caches : Caches) → AreTeamsSound c → AreAnswers c caches → IsSoundFor what c caches
 sound_for (Archive p v) c caches sound are = are.archives
@@ -28,59 +83,36 @@ sound_for _ c caches sound are = tt
 -- ---- what is kept of an answer
 
 -- one cache alone is changed
-pub reply_limit : (what : Action) (given : Reply) (old new : Caches) → KeepsReply what given old new → new.packuments.limit ≡ old.packuments.limit
-reply_limit (Packument name) (Doc text) old new keeps = (more_kept name text old.packuments new.packuments keeps.0).same_limit
-reply_limit (AbbreviatedPackument name) (Doc text) old new keeps = ap (λ (s : Caches). s.packuments.limit) keeps.1
-reply_limit (RevisedPackument name) (Doc text) old new keeps = ap (λ (s : Caches). s.packuments.limit) keeps.1
-reply_limit (Archive p v) (Bytes bytes) old new keeps = ap (λ (s : Caches). s.packuments.limit) keeps.1
-reply_limit _ _ old new keeps = ap (λ (s : Caches). s.packuments.limit) keeps
-
-pub reply_abbreviated_limit : (what : Action) (given : Reply) (old new : Caches) → KeepsReply what given old new → new.abbreviated.limit ≡ old.abbreviated.limit
-reply_abbreviated_limit (Packument name) (Doc text) old new keeps = ap (λ (s : Caches). s.abbreviated.limit) keeps.1
-reply_abbreviated_limit (AbbreviatedPackument name) (Doc text) old new keeps = (more_kept name text old.abbreviated new.abbreviated keeps.0).same_limit
-reply_abbreviated_limit (RevisedPackument name) (Doc text) old new keeps = ap (λ (s : Caches). s.abbreviated.limit) keeps.1
-reply_abbreviated_limit (Archive p v) (Bytes bytes) old new keeps = ap (λ (s : Caches). s.abbreviated.limit) keeps.1
-reply_abbreviated_limit _ _ old new keeps = ap (λ (s : Caches). s.abbreviated.limit) keeps
-
-pub reply_revised_limit : (what : Action) (given : Reply) (old new : Caches) → KeepsReply what given old new → new.revised.limit ≡ old.revised.limit
-reply_revised_limit (Packument name) (Doc text) old new keeps = ap (λ (s : Caches). s.revised.limit) keeps.1
-reply_revised_limit (AbbreviatedPackument name) (Doc text) old new keeps = ap (λ (s : Caches). s.revised.limit) keeps.1
-reply_revised_limit (RevisedPackument name) (Doc text) old new keeps = (more_kept name text old.revised new.revised keeps.0).same_limit
-reply_revised_limit (Archive p v) (Bytes bytes) old new keeps = ap (λ (s : Caches). s.revised.limit) keeps.1
-reply_revised_limit _ _ old new keeps = ap (λ (s : Caches). s.revised.limit) keeps
-
-pub reply_archive_limit : (what : Action) (given : Reply) (old new : Caches) → KeepsReply what given old new → new.archives.limit ≡ old.archives.limit
-reply_archive_limit (Packument name) (Doc text) old new keeps = ap (λ (s : Caches). s.archives.limit) keeps.1
-reply_archive_limit (AbbreviatedPackument name) (Doc text) old new keeps = ap (λ (s : Caches). s.archives.limit) keeps.1
-reply_archive_limit (RevisedPackument name) (Doc text) old new keeps = ap (λ (s : Caches). s.archives.limit) keeps.1
-reply_archive_limit (Archive p v) (Bytes bytes) old new keeps = archive_limit_stays p (text_of_version v) bytes old.archives new.archives keeps.0
-reply_archive_limit _ _ old new keeps = ap (λ (s : Caches). s.archives.limit) keeps
+pub limited_reply : (what : Action) (given : Reply) (old new : Caches) → KeepsReply what given old new → HasLimits old → HasLimits new
+limited_reply (Packument name) (Doc text) old new keeps limits =
+    let same = (more_kept name text old.packuments new.packuments keeps.0).same_limit in
+    subst HasLimits (sym keeps.1) (record { texts = by_view _ (same ∙ limits.texts Full) (limits.texts Abbreviated) (limits.texts Revised); archives = limits.archives })
+limited_reply (AbbreviatedPackument name) (Doc text) old new keeps limits =
+    let same = (more_kept name text old.abbreviated new.abbreviated keeps.0).same_limit in
+    subst HasLimits (sym keeps.1) (record { texts = by_view _ (limits.texts Full) (same ∙ limits.texts Abbreviated) (limits.texts Revised); archives = limits.archives })
+limited_reply (RevisedPackument name) (Doc text) old new keeps limits =
+    let same = (more_kept name text old.revised new.revised keeps.0).same_limit in
+    subst HasLimits (sym keeps.1) (record { texts = by_view _ (limits.texts Full) (limits.texts Abbreviated) (same ∙ limits.texts Revised); archives = limits.archives })
+limited_reply (Archive p v) (Bytes bytes) old new keeps limits =
+    let same = archive_limit_stays p (text_of_version v) bytes old.archives new.archives keeps.0 in
+    subst HasLimits (sym keeps.1) (record { texts = by_view _ (limits.texts Full) (limits.texts Abbreviated) (limits.texts Revised); archives = same ∙ limits.archives })
+limited_reply _ _ old new keeps limits = subst HasLimits (sym keeps) limits
 
 -- ---- what becomes of what is kept
 
 module _ (c d : Contents) (who : Option Caller) (what : Action) (cs : List Change) (old new : Caches) where
-  leaves_by : (given : Reply) → HeldAreStored c → d ≡ all_stored cs c → (is_command what ≡ false → cs ≡ []) → AreLeftBy cs old new
+  pub leaves_accepted : (given : Reply) → HeldAreStored c → d ≡ all_stored cs c → (is_command what ≡ false → cs ≡ []) → AreLeftBy cs old new
       → (IsSoundFor what c old → given ≡ reply_to (registry_of c) who what) → LeavesCacheRight c d what old new given
-  leaves_by given held is query left told = record {
-    packuments = texts_leave Full c d cs old.packuments new.packuments held is left.packuments;
-    abbreviated = texts_leave Abbreviated c d cs old.abbreviated new.abbreviated held is left.abbreviated;
-    revised = texts_leave Revised c d cs old.revised new.revised held is left.revised;
+  leaves_accepted given held is query left told = record {
+    texts = λ view. texts_leave view c d cs (texts_of view old) (texts_of view new) held is (left.texts view);
     archives = archives_leave c d who what cs old.archives new.archives given held is query left.archives
         (λ p v asks are. told (subst (λ (w : Action). IsSoundFor w c old) (sym asks) are));
   }
 
-  -- the same of an outcome
-  pub leaves_accepted : (result : Outcome) (L : Type 0) → HeldAreStored c → (L → d ≡ all_stored cs c) → (is_command what ≡ false → cs ≡ [])
-      → OnOk result L → OnOk result (AreLeftBy cs old new) → (IsSoundFor what c old → IfOk result (λ given. given ≡ reply_to (registry_of c) who what)) → IfOk result (LeavesCacheRight c d what old new)
-  leaves_accepted (Ok given) L held is query done left told = leaves_by given held (is done) query left told
-  leaves_accepted (Err fault) L held is query done left told = tt
-
 -- what is refused changes nothing
 pub leaves_refused : (c d : Contents) (what : Action) (caches : Caches) (why : Refusal) → d ≡ c → LeavesCacheRight c d what caches caches (Refused why)
 leaves_refused c d what caches why same = record {
-  packuments = texts_refused Full c d caches.packuments same;
-  abbreviated = texts_refused Abbreviated c d caches.abbreviated same;
-  revised = texts_refused Revised c d caches.revised same;
+  texts = λ view. texts_refused view c d (texts_of view caches) same;
   archives = archives_refused c d what caches.archives why same;
 }
 
@@ -92,18 +124,14 @@ right_unchanged old new was is_now same keeps right clean on =
     let before = same clean on in
     let are = right before.0 before.1 in
     record {
-      packuments = texts_unchanged Full (stored old) (stored new) was.packuments is_now.packuments before.2 keeps.packuments are.packuments;
-      abbreviated = texts_unchanged Abbreviated (stored old) (stored new) was.abbreviated is_now.abbreviated before.2 keeps.abbreviated are.abbreviated;
-      revised = texts_unchanged Revised (stored old) (stored new) was.revised is_now.revised before.2 keeps.revised are.revised;
+      texts = λ view. texts_unchanged view (stored old) (stored new) (texts_of view was) (texts_of view is_now) before.2 (keeps.texts view) (are.texts view);
       archives = archives_unchanged (stored old) (stored new) was.archives is_now.archives before.2 keeps.archives are.archives;
     }
 
 -- the request was answered
 pub right_answered : (c d : Contents) (what : Action) (was is_now : Caches) (given : Reply) → LeavesCacheRight c d what was is_now given → KeepNoMore was is_now → AreAnswers c was → AreAnswers d is_now
 right_answered c d what was is_now given leaves keeps are = record {
-  packuments = texts_answered Full c d was.packuments is_now.packuments leaves.packuments keeps.packuments are.packuments;
-  abbreviated = texts_answered Abbreviated c d was.abbreviated is_now.abbreviated leaves.abbreviated keeps.abbreviated are.abbreviated;
-  revised = texts_answered Revised c d was.revised is_now.revised leaves.revised keeps.revised are.revised;
+  texts = λ view. texts_answered view c d (texts_of view was) (texts_of view is_now) (leaves.texts view) (keeps.texts view) (are.texts view);
   archives = archives_answered c d what was.archives is_now.archives given leaves.archives keeps.archives are.archives;
 }
 
@@ -135,21 +163,15 @@ shown_packument view d what given name asks_text shows = record {
 -- what is replied is kept
 pub right_kept : (d : Contents) (what : Action) (given : Reply) (was is_now : Caches) → AreAnswers d was → ShowsStored d what given → KeepsReply what given was is_now → AreAnswers d is_now
 right_kept d (Packument name) (Doc text) was is_now right shows keeps =
-    let kept = texts_kept Full d name text was.packuments is_now.packuments right.packuments (shows.packument Full name text refl refl) keeps.0 in
-    subst (AreAnswers d) (sym keeps.1) (record { packuments = kept; abbreviated = right.abbreviated; revised = right.revised; archives = right.archives })
+    let kept = texts_kept Full d name text was.packuments is_now.packuments (right.texts Full) (shows.packument Full name text refl refl) keeps.0 in
+    subst (AreAnswers d) (sym keeps.1) (record { texts = by_view _ kept (right.texts Abbreviated) (right.texts Revised); archives = right.archives })
 right_kept d (AbbreviatedPackument name) (Doc text) was is_now right shows keeps =
-    let kept = texts_kept Abbreviated d name text was.abbreviated is_now.abbreviated right.abbreviated (shows.packument Abbreviated name text refl refl) keeps.0 in
-    subst (AreAnswers d) (sym keeps.1) (record { packuments = right.packuments; abbreviated = kept; revised = right.revised; archives = right.archives })
+    let kept = texts_kept Abbreviated d name text was.abbreviated is_now.abbreviated (right.texts Abbreviated) (shows.packument Abbreviated name text refl refl) keeps.0 in
+    subst (AreAnswers d) (sym keeps.1) (record { texts = by_view _ (right.texts Full) kept (right.texts Revised); archives = right.archives })
 right_kept d (RevisedPackument name) (Doc text) was is_now right shows keeps =
-    let kept = texts_kept Revised d name text was.revised is_now.revised right.revised (shows.packument Revised name text refl refl) keeps.0 in
-    subst (AreAnswers d) (sym keeps.1) (record { packuments = right.packuments; abbreviated = right.abbreviated; revised = kept; archives = right.archives })
+    let kept = texts_kept Revised d name text was.revised is_now.revised (right.texts Revised) (shows.packument Revised name text refl refl) keeps.0 in
+    subst (AreAnswers d) (sym keeps.1) (record { texts = by_view _ (right.texts Full) (right.texts Abbreviated) kept; archives = right.archives })
 right_kept d (Archive p v) (Bytes bytes) was is_now right shows keeps =
     let kept = archives_kept d p (text_of_version v) bytes was.archives is_now.archives right.archives (shows.archive p v bytes refl refl) keeps.0 in
-    subst (AreAnswers d) (sym keeps.1) (record { packuments = right.packuments; abbreviated = right.abbreviated; revised = right.revised; archives = kept })
+    subst (AreAnswers d) (sym keeps.1) (record { texts = by_view _ (right.texts Full) (right.texts Abbreviated) (right.texts Revised); archives = kept })
 right_kept d _ _ was is_now right shows keeps = subst (AreAnswers d) (sym keeps) right
-
--- the texts in each view
-pub texts_right : (view : View) {d : Contents} {caches : Caches} → AreAnswers d caches → ArePackuments view d (texts_of view caches)
-texts_right Full are = are.packuments
-texts_right Abbreviated are = are.abbreviated
-texts_right Revised are = are.revised

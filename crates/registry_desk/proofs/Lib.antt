@@ -4,10 +4,10 @@ mod CountingFacts
 mod EarlyFacts
 mod GrantFacts
 mod HiddenFacts
+mod InsideFacts
 mod KeepingFacts
 mod LifeFacts
 mod LivingFacts
-mod LoadedFacts
 mod LookFacts
 mod MakingFacts
 mod OpenedFacts

@@ -1,6 +1,6 @@
 -- What lives of a registry come to.
 use Rattle.registry_desk.proofs.Words.{◌≡◌, ◌⊎◌, ◌∙◌, ◌++◌, ◌&&◌, cond, inl, inr, Bool, true, false, List, [], ◌∷◌, Ok, Err, IsTrue, refl, sym, ap, subst, append-nil, append_assoc, AllByRecursion}
-use Rattle.registry_desk.proofs.Words.{Ghosts, Held, state, Shown, HasCleanDisk, Trees, Fault, is_command, Change, effects_of, step, State, Reply, Request, HeldAreStored, HoldsArchives, all_stored, stored_by, Contents}
+use Rattle.registry_desk.proofs.Words.{Ghosts, state, Shown, HasCleanDisk, Trees, Fault, is_command, Change, effects_of, step, State, Reply, Request, HeldAreStored, HoldsArchives, all_stored, stored_by, Contents}
 use Rattle.registry_desk.proofs.Words.{registry_of, stored, fresh, HoldsNeeds, GrantsInScope, fresh_holds, fresh_archives, fresh_is_nothing, change_keeps, answer, Outcome, HaveOutcomes, IsAnswer, Ran}
 use Rattle.registry_desk.proofs.Words.{end_of, enters, next, headline_from, run_says, Applied, SurvivesOne, SurvivesRun, HoldsFirst, IsLost, IsSure, MadeAlone, MadeInRow, NeedsForEach, registry_in, IsRegistryOf, end_stored, left_by, next_stored, settled_by, stepped}
 use Rattle.std.proofs.lemmas.Bool.{cases_Bool}

@@ -1,11 +1,10 @@
 -- Whether a version of a package lives, and its packument where one does.
-use Rattle.registry_desk.proofs.Words.{◌≡◌, Bool, true, false, cond, if◌then◌else◌, ◌&&◌, ◌||◌, List, [], ◌∷◌, not, is_some, Option, Some, None, option_map, refl, ap, ap₂, ◌∙◌, true≢false, list_any}
+use Rattle.registry_desk.proofs.Words.{◌≡◌, Bool, true, false, cond, if◌then◌else◌, ◌&&◌, ◌||◌, List, [], ◌∷◌, not, Option, Some, None, option_map, refl, ap, ap₂, ◌∙◌, true≢false, list_any}
 use Rattle.registry_desk.proofs.Words.{pair_is, Text, is, at, of, text_key, pair_key, at-revise, part-put, part-erase, same_part, version_of, Change, AddUser, AddToken, DropToken, AddOrg, PutMember}
 use Rattle.registry_desk.proofs.Words.{DropMember, AddTeam, PutTeamMember, DropTeamMember, DropTeam, PutGrant, DropGrant, PutOwner, DropOwner, PutStatus, AddVersion, RetireVersion, PutDeprecation}
 use Rattle.registry_desk.proofs.Words.{PutTag, DropTag, made, all_made, release_of, State, Release, has_live, is_empty, are_about, is_about, live_packument, changes_view, viewed, View, Full}
 use Rattle.registry_desk.proofs.Words.{Abbreviated, Revised}
 use Rattle.registry_packument.specs.declared.form.PackForm.TheVariants as form
-use Rattle.registry_rules.specs.Operations.{with_member, with_role, with_grant, regranted, with_status, restated, with_tag, moved}
 use Rattle.registry_laws_history.proofs.ApartFacts.{changes_of_others, none_about, revised_after_others}
 
 -- ---- the packument of a package of which a version lives
@@ -22,10 +21,6 @@ live_shown view S p lives = ap (λ (b : Bool). if b then Some (viewed view S p) 
 
 -- ---- changes of no version and no tag of the package
 
-either : (b : Bool) (S T U : State) (p : Text) → of T.live p ≡ of S.live p → of U.live p ≡ of S.live p → of (cond b T U).live p ≡ of S.live p
-either true S T U p one other = one
-either false S T U p one other = other
-
 unmarked : (b : Bool) (mark : Release → Release) (o : Option Release) → b ≡ false → option_map (λ (r : Release). cond b (mark r) r) o ≡ o
 unmarked b mark None e = refl
 unmarked true mark (Some r) e = absurd (true≢false e)
@@ -36,24 +31,23 @@ same_live S (AddUser u) p e = refl
 same_live S (AddToken digest u) p e = refl
 same_live S (DropToken digest) p e = refl
 same_live S (AddOrg o) p e = refl
-same_live S (PutMember o u role stands) p e = either stands S (with_role S o u role) (with_member S o u role) p (either (is_some (at S.access.roles (o, u))) S (with_member S o u role) S p refl refl) refl
+same_live S (PutMember o u role) p e = refl
 same_live S (DropMember o u) p e = refl
 same_live S (AddTeam o t) p e = refl
 same_live S (PutTeamMember o t u) p e = refl
 same_live S (DropTeamMember o t u) p e = refl
 same_live S (DropTeam o t) p e = refl
-same_live S (PutGrant o t q grant stands) p e =
-    either stands S (regranted S o t q grant) (with_grant S o t q grant) p (either (is_some (at S.access.grants (o, (t, q)))) S (with_grant S o t q grant) S p refl refl) refl
+same_live S (PutGrant o t q grant) p e = refl
 same_live S (DropGrant o t q) p e = refl
 same_live S (PutOwner q u) p e = refl
 same_live S (DropOwner q u) p e = refl
-same_live S (PutStatus q status stands) p e = either stands S (restated S q status) (with_status S q status) p (either (is_some (at S.access.statuses q)) S (with_status S q status) S p refl refl) refl
+same_live S (PutStatus q status) p e = refl
 same_live S (AddVersion f now) p e = part-put text_key S.live f.name (version_of f) (release_of f now) p e
 same_live S (RetireVersion q v published withdrawn) p e = part-erase text_key S.live q v p e
 same_live S (PutDeprecation q v message) p e =
     same_part text_key _ S.live p (λ w. at-revise pair_key S.live (λ k (r : Release). cond (pair_is (q, v) k) (record r { message = message }) r) (p, w)
     ∙ unmarked (pair_is (q, v) (p, w)) (λ r. record r { message = message }) (at S.live (p, w)) (ap (λ b. b && is v w) e))
-same_live S (PutTag q t v stands) p e = either stands S (moved S q t v) (with_tag S q t v) p (either (is_some (at S.tags (q, t))) S (with_tag S q t v) S p refl refl) refl
+same_live S (PutTag q t v) p e = refl
 same_live S (DropTag q t) p e = refl
 
 pub neither : (a b : Bool) → (a || b) ≡ false → (a ≡ false) × (b ≡ false)

@@ -1,8 +1,8 @@
 -- What an open finds in files: rows whose rowids rise.
 use Rattle.registry_desk.proofs.Words.{◌≡◌, ◌⊎◌, ◌∙◌, ℕ, filter, true, List, [], inl, inr, ap, sym, subst, IsOk, IsTrue, OnOk, MatchResult, Result, Ok, Err, length, refl, arith, AllByRecursion, Trees}
-use Rattle.registry_desk.proofs.Words.{AreFoundIn, Finds, HoldsDatabase, file_state, image_of, Held, Database, IsDatabase, Shown, HasCleanDisk, IsLive, Opens, Survives, store_error, Error, Fault}
+use Rattle.registry_desk.proofs.Words.{AreFoundIn, Finds, HoldsDatabase, file_state, image_of, Held, Database, IsDatabase, Shown, HasCleanDisk, IsLive, Opens, store_error, Error, Fault}
 use Rattle.registry_desk.proofs.Words.{Ready, no_tables, Contents, stored, fresh, schema_of, CanBeAdopted, IsMade, LeavesCommitted, SurvivesAdoption, GivesFound, HoldsEach, HoldsFound, IsFreshIfEmpty}
-use Rattle.registry_desk.proofs.Words.{IsLeftOf, LeavesFound, LeavesMigrated}
+use Rattle.registry_desk.proofs.Words.{IsLeftOf, LeavesFound}
 use Rattle.std.proofs.Math.Logic.{∥∥₁_elim}
 use Rattle.sqlite_rules.specs.Lists.{Has}
 use Rattle.sqlite_rules.proofs.ListLemmas.{all_from}
@@ -61,34 +61,12 @@ found_rises image db schema (inr (nothing, empty)) sound = all_from (λ t. HasRo
 
 -- ---- what is seen at first
 
--- where the schema is ours, the tables are in form
-pub ours_ready : (s : Shown) → CanBeAdopted s → IsLive s → s.now.schema ≡ ours.schema → Ready ours.schema s
-ours_ready s rises live is clean on = record {
+-- where the schema is this one, the tables are in form
+pub as_ready : (k : Schema) (s : Shown) → CanBeAdopted s → IsLive s → s.now.schema ≡ k → Ready k s
+as_ready k s rises live is clean on = record {
   schema_is = is;
   sound = (live on).0;
   rowids = subst (λ (schema : Schema). AllByRecursion (λ t. HasRowids (s.now.trees t.tree)) schema.tables) is (rises clean on);
-}
-
--- and so they are where it is an older one
-pub older_ready : (older : Older) (s : Shown) → CanBeAdopted s → IsLive s → s.now.schema ≡ schema_of older → Ready (schema_of older) s
-older_ready older s rises live is clean on = record {
-  schema_is = is;
-  sound = (live on).0;
-  rowids = subst (λ (schema : Schema). AllByRecursion (λ t. HasRowids (s.now.trees t.tree)) schema.tables) is (rises clean on);
-}
-
--- what a migration may leave is left of the tables of an older schema
-pub migrated_left : (older : Older) (old new : Shown) → old.now.schema ≡ schema_of older → Survives old new (λ db. IsTrue old.is_open × LeavesMigrated older old.now.trees db) → SurvivesAdoption old new
-migrated_left older old new is survives = record {
-  clean = survives.clean;
-  shield = survives.shield;
-  counts = survives.counts;
-  limit = survives.limit;
-  closes = survives.closes;
-  crash = λ clean db left. elim (survives.crash clean db left) [
-    | inl earlier ↦ inl earlier
-    | inr made ↦ inr (made.0, inr (inr (older, is, made.1)))
-  ];
 }
 
 -- an answer is no error

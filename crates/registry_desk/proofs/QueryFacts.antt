@@ -1,14 +1,14 @@
 -- A query for a packument that is answered as one text: its reply is the machine's, and changes
 -- nothing that is stored.
-use Rattle.registry_desk.proofs.Words.{◌≡◌, ◌∙◌, ℕ, false, List, [], Option, Some, Ok, Err, Result, IfOk, OnOk, refl, sym, ap, subst, subst₂, survives_weaker, Shown, Text, Takes, is_command, State}
-use Rattle.registry_desk.proofs.Words.{Reply, Doc, Action, AbbreviatedPackument, Packument, RevisedPackument, Request, stored, answer, Outcome, live_packument, Stepped, SurvivesOne, Unchanged}
-use Rattle.registry_desk.proofs.Words.{IsAnyPackument, IsFrom, IsMadeOf, IsOrigin, IsShownBy, LeavesAll, ShowsAlone, front_names, asks_packument, text_behind, View, Full, Abbreviated, Revised}
+use Rattle.registry_desk.proofs.Words.{◌≡◌, ◌∙◌, ℕ, false, List, [], Option, Some, Ok, Err, Result, IfOk, IsTrue, OnOk, refl, sym, ap, subst, subst₂, Shown, HasCleanDisk, Text, Takes, Fault}
+use Rattle.registry_desk.proofs.Words.{is_command, State, Reply, Doc, Action, AbbreviatedPackument, Packument, RevisedPackument, Request, registry_in, answer, live_packument}
+use Rattle.registry_desk.proofs.Words.{AnswersOne, IsAnyPackument, IsFrom, IsMadeOf, IsOrigin, IsShownBy, LeavesAll, ShowsAlone, front_names, asks_packument, text_behind, View, Full, Abbreviated, Revised}
 use Rattle.registry_packument.specs.declared.opener.Sent.{Sent}
 use Rattle.registry_packument.specs.declared.opener.Sent.TheVariants.{Whole}
 use Rattle.registry_desk.specs.declared.sending.Origin.{Origin}
 use Rattle.registry_desk.specs.declared.sending.Origin.TheVariants as origin
 use Rattle.registry_desk.proofs.LivingFacts.{live_shown}
-use Rattle.registry_desk.proofs.SendingFacts.{query_leaves, query_stays, viewed_from}
+use Rattle.registry_desk.proofs.SendingFacts.{answers_by, no_command, viewed_from}
 
 -- ---- the text
 
@@ -48,15 +48,15 @@ made_shows view given (origin.Stored head before) S p made is text h =
 
 -- ---- nothing that is stored is changed
 
-module _ (old new : Shown) (r : Request) (query : is_command r.what ≡ false) (left : LeavesAll old new) where
-  pub query_unchanged : (o : Outcome) → Unchanged old new r o
-  query_unchanged o clean on none = left.same clean on
+module _ (view : View) (old new : Shown) (r : Request) (p : Text) (asks : r.what ≡ asks_packument view p) (left : LeavesAll old new) where
+  query : is_command r.what ≡ false
+  query = no_command view r.what p asks
 
-  pub query_steps : (o : Outcome) → Stepped old new r o
-  query_steps o needs clean on = left.same clean on ∙ sym (query_stays r query (stored old) o)
+  pub query_fails : (fault : Fault) → AnswersOne old new r (Err fault)
+  query_fails fault = answers_by old new r query left (Err fault) (λ clean. tt) (λ clean. tt)
 
-  pub query_survives : SurvivesOne old new r
-  query_survives = survives_weaker old new _ _ (λ clean db it. query_leaves r query old db it) left.survives
+  pub query_answers : (given : Reply) → (HasCleanDisk new → given ≡ answer (registry_in old) r) → (HasCleanDisk new → IsTrue new.is_open) → AnswersOne old new r (Ok given)
+  query_answers given told on = answers_by old new r query left (Ok given) told (λ clean. (left.opened clean (on clean), on clean))
 
 -- ---- what asks for a packument
 

@@ -1,11 +1,11 @@
 -- What a packument that is sent comes to: it is a query that is answered, and leaves all as it was.
 use Rattle.registry_desk.proofs.Words.{option_or, ◌≡◌, ◌⊎◌, ◌∙◌, ◌&&◌, arith, inl, inr, ℕ, Bool, true, false, if◌then◌else◌, List, [], map, Option, Some, None, Ok, Err, unwrap_or, IsTrue, refl, sym}
 use Rattle.registry_desk.proofs.Words.{ap, ap₂, subst, survives_begin, survives_then, survives_weaker, Database, Held, state, Shown, HasCleanDisk, IsRolledBack, KeepsCommit, Survives, Trees, Ghosts}
-use Rattle.registry_desk.proofs.Words.{of, seen, Text, Refusal, Fault, Cache, asked, Caller, IsUnbroken, Takes, pack_text, VersionRow, IsCommitted, Reads, is_command, caller_of, step, IsKept, refusal}
-use Rattle.registry_desk.proofs.Words.{refusal_by, refusal_for, state_refusal, unless_allowed, unless_there, State, has_live, Doc, Action, Packument, Request, HoldsArchives, Contents, contents}
-use Rattle.registry_desk.proofs.Words.{live_of, registry_of, registry_in, stored, HoldsNeeds, schema, document, row_entry, IsLeftAlone, answer, packument_in, reply_to, IsAnswer, Outcome, accepts}
-use Rattle.registry_desk.proofs.Words.{enters, entered, grown, next, history_says, state_without, HasAnswers, KeepNoMore, KeepsNoMore, Answered, Applied, HoldsReferences, LeavesOne, Served, SurvivesOne}
-use Rattle.registry_desk.proofs.Words.{IsAsWritten, IsRegistryOf, Rests, next_stored, settled_by, stepped, BrokenBeginTheAnswer, IsOrigin, IsShownBy, LeavesAll, MayAnswer, Sends, SentAreAsked}
+use Rattle.registry_desk.proofs.Words.{of, seen, Text, Refusal, Fault, Cache, asked, Caller, IsUnbroken, Takes, pack_text, VersionRow, IsCommitted, Reads, is_command, caller_of, refusal}
+use Rattle.registry_desk.proofs.Words.{refusal_by, refusal_for, state_refusal, unless_allowed, unless_there, State, has_live, Doc, Action, Packument, Request, Contents, contents}
+use Rattle.registry_desk.proofs.Words.{live_of, registry_of, registry_in, stored, schema, document, row_entry, IsLeftAlone, answer, packument_in, reply_to, IsAnswer, Outcome, accepts}
+use Rattle.registry_desk.proofs.Words.{enters, HasAnswers, IsCached, KeepNoMore, KeepsNoMore, LeavesOne, Served}
+use Rattle.registry_desk.proofs.Words.{IsAsWritten, IsRegistryOf, Rests, next_stored, settled_by, stepped, AnswersOne, BrokenBeginTheAnswer, IsOrigin, IsShownBy, LeavesAll, MayAnswer, RestsOpen, Sends, SentAreAsked, WalksOver}
 use Rattle.registry_desk.proofs.Words.{answers_as_apply, front_names, head_in, versions_in, asks_packument, form_of, names_in_front, text_behind, viewed, Caches, View, Full, Abbreviated, Revised}
 use Rattle.sqlite_trees.specs.View.{doubt}
 use Rattle.registry_names.proofs.ByteStreamFacts.{Writes-nothing}
@@ -16,21 +16,19 @@ use Rattle.registry_packument.specs.declared.opener.Sent.TheVariants.{Refused, W
 use Rattle.registry_packument.specs.declared.form.PackForm.{PackForm}
 use Rattle.registry_packument.specs.declared.form.PackForm.TheVariants as form
 use Rattle.registry_rules.specs.Permissions.{permission}
+use Rattle.registry_rules.specs.Requests.{IsInForm}
+use Rattle.registry_tables.specs.WalkLaws.{left_then}
 use Rattle.registry_rules.specs.declared.reply.Reply.TheVariants as reply
 use Rattle.registry_laws_history.specs.Answers as answers
-use Rattle.registry_laws_history.specs.History.{Entry, after}
-use Rattle.registry_laws_history.specs.Says.{Says}
-use Rattle.registry_laws_hidden.specs.Laws.{RepliesAreAlike}
 use Rattle.registry_desk.specs.declared.sending.Front.{Front}
 use Rattle.registry_desk.specs.declared.sending.Origin.{Origin}
 use Rattle.registry_desk.specs.declared.sending.Origin.TheVariants as origin
 use Rattle.registry_desk.proofs.AnswerFacts.{refused, unrefused, versions_are}
-use Rattle.registry_desk.proofs.KeptFacts.{right_unchanged}
-use Rattle.registry_desk.proofs.CommitFacts.{commit_rests, ready_again, registry_left, rests_sure, undone_open, undone_rests, undone_stored}
+use Rattle.registry_desk.proofs.KeptFacts.{limited_still, right_unchanged}
+use Rattle.registry_desk.proofs.CommitFacts.{commit_rests, ready_again, registry_left, survives_nothing, undone_open, undone_rests, undone_stored}
+use Rattle.registry_desk.proofs.KeepingFacts.{applied}
 use Rattle.registry_desk.proofs.LivingFacts.{live_so}
-use Rattle.registry_desk.proofs.HiddenFacts.{leaves_the_rest, same_answer}
 use Rattle.registry_desk.proofs.SettlingFacts.{settled_next}
-use Rattle.registry_desk.proofs.StoredFacts.{turns_of_apply}
 
 -- ---- what a packument comes from
 
@@ -98,12 +96,6 @@ module _ (r : Request) (query : is_command r.what ≡ false) where
   pub query_stays : (c : Contents) (o : Outcome) → next_stored r o c ≡ c
   query_stays c o = ap (λ b. if b then stepped r c else c) (never_enters o)
 
-  query_next : (S : State) (o : Outcome) → next S r o ≡ S
-  query_next S o = ap (λ b. if b then step S r else S) (never_enters o)
-
-  query_grown : (h : List Entry) (S : State) (o : Outcome) → grown h S r o ≡ h
-  query_grown h S o = ap (λ b. if b then entered (caller_of S r.who) r h else h) (never_enters o)
-
   query_settles : (c : Contents) → settled_by r c ≡ c
   query_settles c = settled_next c r (answer (registry_of c) r) refl ∙ query_stays c (Ok (answer (registry_of c) r))
 
@@ -116,58 +108,21 @@ module _ (r : Request) (query : is_command r.what ≡ false) where
     settled = λ needs. it.1.1 ∙ sym (query_settles (stored old));
   }
 
--- a query that leaves all that was stored is answered as `apply` answers it
-module _ {S : Type 0} (store : Ghosts S) (old : Shown) (h : Held S) (settled : (db : Trees) → IsTrue (state store h).is_open → (state store h).may_leave db → db ≡ (state store h).committed.trees)
-    (replies : RepliesAreAlike) (r : Request) (query : is_command r.what ≡ false) (left : LeavesAll old (state store h)) where
-  survives_alone : SurvivesOne old (state store h) r
-  survives_alone = survives_weaker old (state store h) _ _ (λ clean db it. query_leaves r query old db it) left.survives
-
-  applied_as : (o : Outcome) → Answered old (state store h) r o → Served old (state store h) o → Applied old (state store h) r o
-  applied_as o told served =
-      let new = state store h in
-      let state_stays = λ (clean : HasCleanDisk new) (on : IsTrue new.is_open). ap registry_of (left.same clean on) in
-      record {
-        answer = told;
-        served = served;
-        opened = left.opened;
-        unchanged = λ clean on none. left.same clean on;
-        step = λ needs clean on. left.same clean on ∙ sym (query_stays r query (stored old) o);
-        moves = λ needs clean on. state_stays clean on ∙ sym (query_next r query (registry_in old) o);
-        history = λ needs clean on g legal is.
-            subst (λ (k : List Entry). Says k (registry_in new)) (sym (query_grown r query g (registry_in old) o))
-            (subst (Says g) (sym is ∙ sym (state_stays clean on)) (history_says g legal));
-        hidden = λ needs clean g legal is p stranger quiet.
-            let answered = subst (λ (T : State). IsAnswer T r o) is (told needs clean) in (
-              same_answer _ _ r o (replies g p r legal stranger quiet) answered,
-              λ on. ap (λ (T : State). state_without T p) (state_stays clean on ∙ is ∙ sym (query_next r query (after g) o)) ∙ leaves_the_rest g p r o legal stranger quiet answered,
-            );
-        written = left.rests.written;
-        needs = λ needed clean on holds. subst HoldsNeeds (sym (left.same clean on)) holds;
-        refers = λ needed clean on holds. subst HoldsReferences (sym (left.same clean on)) holds;
-        archives = λ needed clean on holds. subst HoldsArchives (sym (left.same clean on)) holds;
-        form = λ needs clean on kept. subst IsKept (sym (state_stays clean on)) kept;
-        survives = turns_of_apply old new r survives_alone left.rests.idle;
-        durable = λ clean on. rests_sure store h (λ db. settled db on) left.rests clean on;
-      }
-
-  pub answered_as : (o : Outcome) → Answered old (state store h) r o → Served old (state store h) o → Applied old (state store h) r o × SurvivesOne old (state store h) r
-  answered_as o told served = (applied_as o told served, survives_alone)
+module _ (old new : Shown) (r : Request) (query : is_command r.what ≡ false) (left : LeavesAll old new) where
+  -- a query that leaves all that was stored is answered alone
+  pub answers_by : (o : Outcome) → (HasCleanDisk new → IsAnswer (registry_in old) r o) → Served old new o → AnswersOne old new r o
+  answers_by o told served = record {
+    answer = λ needs. told;
+    served = served;
+    opened = left.opened;
+    unchanged = λ clean on none. left.same clean on;
+    step = λ needs clean on. left.same clean on ∙ sym (query_stays r query (stored old) o);
+    survives = survives_weaker old new _ _ (λ clean db it. query_leaves r query old db it) left.survives;
+  }
 
 -- what is left alone is left as it is
 leaves_itself : (s : Shown) → Rests s → LeavesAll s s
-leaves_itself s rests = record {
-  rests = rests;
-  opened = λ clean on. on;
-  same = λ clean on. refl;
-  survives = record {
-    clean = omega arith;
-    shield = λ shielded. shielded;
-    counts = omega arith;
-    limit = refl;
-    closes = λ clean on. inl on;
-    crash = λ clean db may. inl may;
-  };
-}
+leaves_itself s rests = record { rests = rests; opened = λ clean on. on; same = λ clean on. refl; survives = survives_nothing s _ }
 
 -- ---- walks, after a query
 
@@ -189,6 +144,9 @@ module _ (mid new : Shown) (rests : Rests mid) (left : IsLeftAlone mid new) wher
     settled = λ clean on. seen_again clean on ∙ rests.settled (clean_before clean) (left.opened clean on) ∙ sym (left.committed clean on);
   }
 
+  pub walk_opens : (HasCleanDisk new → IsTrue new.is_open) → RestsOpen new
+  walk_opens unshut = record { rests = walk_rests; unshut = unshut }
+
   pub walk_leaves : (old : Shown) → LeavesAll old mid → LeavesAll old new
   walk_leaves old all = record {
     rests = walk_rests;
@@ -196,6 +154,10 @@ module _ (mid new : Shown) (rests : Rests mid) (left : IsLeftAlone mid new) wher
     same = λ clean on. walk_stored clean on ∙ all.same (clean_before clean) (left.opened clean on);
     survives = survives_then old mid new _ _ _ (λ _ _ it. it) (λ _ _ none. absurd none) all.survives left.survives;
   }
+
+-- a walk after a walk
+pub walks_then : (old mid new : Shown) (IfDone : Type 0 → Type 0) → IsLeftAlone old mid → WalksOver mid new IfDone → WalksOver old new IfDone
+walks_then old mid new IfDone left walks = record { left = left_then old mid new left walks.left; unshut = walks.unshut }
 
 -- ---- how it was sent
 
@@ -214,36 +176,39 @@ is_clean true = inl refl
 is_clean false = inr (λ e. absurd (omega (arith, e)))
 
 module _ {S : Type 0} (store : Ghosts S) (settled : (h : Held S) (db : Trees) → IsTrue (state store h).is_open → (state store h).may_leave db → db ≡ (state store h).committed.trees)
-    (replies : RepliesAreAlike) (opens : ℕ → List ℕ) (M mid : Held S) (r : Request) (p : Text) (asks : r.what ≡ Packument p) (all : LeavesAll (state store M) (state store mid)) where
-  query : is_command r.what ≡ false
-  query = ap is_command asks
+    (opens : ℕ → List ℕ) (M mid : Held S) (r : Request) (was : Rests (state store M)) (in_form : IsInForm r) (p : Text) (asks : r.what ≡ Packument p) (all : LeavesAll (state store M) (state store mid)) where
+  -- an outcome of what K held
+  answered : (K N : Held S) → Rests (state store K) → LeavesAll (state store K) (state store N) → (o : Outcome) → (HasCleanDisk (state store N) → IsAnswer (registry_in (state store K)) r o)
+      → Served (state store K) (state store N) o → answers_as_apply store K r o N
+  answered K N rests left o told served =
+      let one = answers_by (state store K) (state store N) r (ap is_command asks) left o told served in (applied store (state store K) N r o (settled N) rests in_form left.rests one, one.survives)
 
   -- a fault after what K leaves
-  fault_after : (K N : Held S) → LeavesAll (state store K) (state store N) → (fault : Fault) → answers_as_apply store K r (Err fault) N
-  fault_after K N left fault = answered_as store (state store K) N (settled N) replies r query left (Err fault) (λ _ _. tt) (λ _. tt)
+  fault_after : (K N : Held S) → Rests (state store K) → LeavesAll (state store K) (state store N) → (fault : Fault) → answers_as_apply store K r (Err fault) N
+  fault_after K N rests left fault = answered K N rests left (Err fault) (λ _. tt) (λ _. tt)
 
   on_both : (HasCleanDisk (state store mid) → IsTrue (state store mid).is_open) → HasCleanDisk (state store mid) → IsTrue (state store M).is_open × IsTrue (state store mid).is_open
   on_both open_still clean = (all.opened clean (open_still clean), open_still clean)
 
   pub fault_sends : (fault : Fault) (a : Option (List ℕ)) (s : Bool) → Sends (answers_as_apply store) opens M r (Broken fault false) mid a a s
-  fault_sends fault a s = (answered_as store (state store M) mid (settled mid) replies r query all (Err fault) (λ _ _. tt) (λ _. tt), Writes-nothing a s)
+  fault_sends fault a s = (fault_after M mid was all fault, Writes-nothing a s)
 
   module _ (open_still : HasCleanDisk (state store mid) → IsTrue (state store mid).is_open) where
     pub refused_sends : (why : Refusal) → (HasCleanDisk (state store mid) → answer (registry_in (state store M)) r ≡ reply.Refused why) → (a : Option (List ℕ)) (s : Bool)
         → Sends (answers_as_apply store) opens M r (Refused why) mid a a s
     refused_sends why told a s =
-        (answered_as store (state store M) mid (settled mid) replies r query all (Ok (reply.Refused why)) (λ needs clean. sym (told clean)) (λ clean. on_both open_still clean), Writes-nothing a s)
+        (answered M mid was all (Ok (reply.Refused why)) (λ clean. sym (told clean)) (on_both open_still), Writes-nothing a s)
 
     -- a document, which the registry answers
     as_document : (text : Text) → (HasCleanDisk (state store mid) → Doc text ≡ answer (registry_in (state store M)) r) → answers_as_apply store M r (Ok (Doc text)) mid
-    as_document text told = answered_as store (state store M) mid (settled mid) replies r query all (Ok (Doc text)) (λ needs. told) (λ clean. on_both open_still clean)
+    as_document text told = answered M mid was all (Ok (Doc text)) told (on_both open_still)
 
     pub kept_sends : (text : Text) → (HasCleanDisk (state store mid) → answer (registry_in (state store M)) r ≡ Doc text) → (a b : Option (List ℕ)) (s : Bool) (sent : Sent)
         → Takes opens (λ bytes. bytes ≡ text) a b s sent → Sends (answers_as_apply store) opens M r sent mid a b s
     kept_sends text told a b s sent takes =
         let whole = λ (bytes : Text) (is : bytes ≡ text). as_document bytes (λ clean. ap Doc is ∙ sym (told clean)) in
         sends_by (answers_as_apply store) opens M mid r a b s (λ bytes. bytes ≡ text) sent (λ _. whole)
-        (λ fault. answered_as store (state store M) mid (settled mid) replies r query all (Err fault) (λ _ _. tt) (λ _. tt)) (λ fault bytes is. (mid, whole bytes is, fault_after mid mid (leaves_itself (state store mid) all.rests) fault)) takes
+        (fault_after M mid was all) (λ fault bytes is. (mid, whole bytes is, fault_after mid mid all.rests (leaves_itself (state store mid) all.rests) fault)) takes
 
     module _ (head : HeadParts) (told : HasCleanDisk (state store mid) → (answer (registry_in (state store M)) r ≡ Doc (packument_in form.Full (registry_in (state store M)) p)) × (head ≡ head_in form.Full (registry_in (state store M)) p)) where
       -- the text that is made of what is stored is the answer
@@ -261,12 +226,12 @@ module _ {S : Type 0} (store : Ghosts S) (settled : (h : Held S) (db : Trees) �
           let whole = walk_leaves (state store mid) (state store N) all.rests left (state store M) all in
           let before = λ (clean : HasCleanDisk (state store N)). clean_before (state store mid) (state store N) all.rests left clean in
           sends_by (answers_as_apply store) opens M N r a b s (λ text. HasCleanDisk (state store N) → pack_text head (versions_in (registry_in (state store mid)) p) ≡ Some text) sent
-          (λ unbroken text written. answered_as store (state store M) N (settled N) replies r query whole (Ok (Doc text)) (λ needs clean. made text (written clean) (before clean))
+          (λ unbroken text written. answered M N was whole (Ok (Doc text)) (λ clean. made text (written clean) (before clean))
           (λ clean. (whole.opened clean (unshut clean unbroken), unshut clean unbroken)))
-          (λ fault. answered_as store (state store M) N (settled N) replies r query whole (Err fault) (λ _ _. tt) (λ _. tt))
+          (fault_after M N was whole)
           (λ fault text written. elim (is_clean (state store N).is_clean) [
-            | inl clean ↦ (mid, as_document text (λ were. made text (written clean) were), fault_after mid N (walk_leaves (state store mid) (state store N) all.rests left (state store mid) (leaves_itself (state store mid) all.rests)) fault)
-            | inr unclean ↦ (N, answered_as store (state store M) N (settled N) replies r query whole (Ok (Doc text)) (λ needs clean. absurd (unclean clean)) (λ clean. absurd (unclean clean)), fault_after N N (leaves_itself (state store N) whole.rests) fault)
+            | inl clean ↦ (mid, as_document text (λ were. made text (written clean) were), fault_after mid N all.rests (walk_leaves (state store mid) (state store N) all.rests left (state store mid) (leaves_itself (state store mid) all.rests)) fault)
+            | inr unclean ↦ (N, answered M N was whole (Ok (Doc text)) (λ clean. absurd (unclean clean)) (λ clean. absurd (unclean clean)), fault_after N N whole.rests (leaves_itself (state store N) whole.rests) fault)
           ])
           takes
 
@@ -334,6 +299,10 @@ dropped_all store old mid new rests ended first keeps last back =
 pub right_left : (old new : Shown) (was is_now : Caches) → LeavesAll old new → KeepNoMore was is_now → HasAnswers old was → HasAnswers new is_now
 right_left old new was is_now left keeps right =
     right_unchanged old new was is_now (λ clean on. (omega (arith, left.survives.clean, clean), left.opened clean on, left.same clean on)) keeps right
+
+-- and so are the limits
+pub cached_left : (old new : Shown) (was is_now : Caches) → LeavesAll old new → KeepNoMore was is_now → IsCached old was → IsCached new is_now
+cached_left old new was is_now left keeps cached = record { rests = left.rests; right = right_left old new was is_now left keeps cached.right; limited = limited_still was is_now cached.limited keeps }
 
 -- a text that is asked for is the latest asked, and nothing else is kept than was
 pub asked_no_more : (s : Cache) (name : Text) → KeepsNoMore s (asked s name)

@@ -1,6 +1,6 @@
 -- Runs, one request at a time, and what they leave of all that is stored.
 use Rattle.registry_desk.proofs.Words.{◌≡◌, ◌⊎◌, inl, inr, ◌∙◌, arith, Bool, true, false, List, [], ◌∷◌, ◌++◌, Ok, Err, OnOk, IsTrue, true≢false, length-append, refl, sym, ap, subst, Shown}
-use Rattle.registry_desk.proofs.Words.{HasCleanDisk, Survives, survives_then, survives_weaker, Trees, State, Action, Withdraw, WithdrawAll, Request, Contents, registry_in, stored, Fault, HoldsArchives, HoldsNeeds, HoldsReferences, on_answer, NeedsFor, Reply, Applied, IsLost, IsOpenOrLost, LeavesOne, LosesInTurn, MadeAlone, MadeInRow, SurvivesInTurn, SurvivesOne, SurvivesRun}
+use Rattle.registry_desk.proofs.Words.{HasCleanDisk, Survives, survives_then, survives_weaker, Trees, State, Action, Withdraw, WithdrawAll, Request, Contents, registry_in, stored, Fault, HoldsArchives, HoldsNeeds, HoldsReferences, on_answer, NeedsFor, Applied, IsLost, IsOpenOrLost, LeavesOne, LosesInTurn, MadeAlone, MadeInRow, SurvivesInTurn, SurvivesOne, SurvivesRun}
 use Rattle.registry_desk.proofs.Words.{HasHeadline, HasRun, HidesUnreadRun, HoldsFirst, Keeps, KeepsRun, NeedsForEach, RanTo, WritesHistory, IsRegistryOf, Serves, end_stored, left_by, next_stored, settled_by, Outcome}
 use Rattle.registry_desk.proofs.Words.{HaveOutcomes, IsAnswer, next, headline_from, ran_none, ran_push, run_says}
 use Rattle.std.proofs.lemmas.Bool.{cases_Bool}

@@ -2,7 +2,7 @@
 use Rattle.registry_desk.proofs.Words.{◌≡◌, ◌⊎◌, ◌∙◌, ◌<◌, ◌≤◌, ℕ, zero, suc, arith, inl, inr, Bool, true, false, true≢false, List, [], ◌∷◌, ◌++◌, length, Result, Ok, Err, OnOk, IfErr, IsTrue, refl, sym, ap, subst}
 use Rattle.registry_desk.proofs.Words.{AllByRecursion, Database, IsRolledBack, KeepsCommit, CommitFails, IsCommitted, HasAnswers, AreAnswers, schema, Held, state, Shown, HasCleanDisk, Survives, Trees, Ghosts, Stays, survives_begin, survives_then, survives_weaker, Fault, is_command, IsKept, State, Action, Reply, Request}
 use Rattle.registry_desk.proofs.Words.{HeldAreStored, HoldsArchives, Contents, contents, registry_of, registry_in, stored, HoldsNeeds, held_stored, IsReady, answer, IsAnswer, Outcome, next, apply_says, state_without}
-use Rattle.registry_desk.proofs.Words.{NeedsFor, NeedsForEach, Answered, Applied, Served, Stepped, Unchanged, IsAsWritten, IsRegistryOf, Rests, next_stored, settled_by, IsAnyPackument, KeepNoMore, KeepsNoMore, LeavesAll}
+use Rattle.registry_desk.proofs.Words.{NeedsFor, NeedsForEach, Answered, Applied, Served, Stepped, Unchanged, IsAsWritten, IsRegistryOf, Rests, next_stored, settled_by, IsAnyPackument, KeepNoMore, KeepsNoMore, texts_of, LeavesAll}
 use Rattle.std.proofs.Common.{get_or}
 use Rattle.std.proofs.lemmas.Bool.{cases_Bool}
 use Rattle.sqlite_trees.specs.View.{doubt}
@@ -43,9 +43,7 @@ no_more_then a b c one two = record { limit = two.limit ∙ one.limit; before = 
 
 pub keep_no_more_then : (a b c : Caches) → KeepNoMore a b → KeepNoMore b c → KeepNoMore a c
 keep_no_more_then a b c one two = record {
-  packuments = no_more_then a.packuments b.packuments c.packuments one.packuments two.packuments;
-  abbreviated = no_more_then a.abbreviated b.abbreviated c.abbreviated one.abbreviated two.abbreviated;
-  revised = no_more_then a.revised b.revised c.revised one.revised two.revised;
+  texts = λ view. no_more_then (texts_of view a) (texts_of view b) (texts_of view c) (one.texts view) (two.texts view);
   archives = no_more_then a.archives b.archives c.archives one.archives two.archives;
 }
 

@@ -3,16 +3,17 @@ pub use Rattle.registry_access.specs.Positions.{has_organisation, level_in, posi
 pub use Rattle.registry_access.specs.RowsFor.{RowsTell, StandingTells}
 pub use Rattle.registry_access.specs.declared.caller.Caller.{Caller}
 pub use Rattle.registry_cache.specs.Caches.{AreRight, Cache, asked, forgotten, kept, with_room, with_text}
-pub use Rattle.registry_desk.specs.Adopted.{CanBeAdopted, IsHandedBack, IsMade, IsSettled, IsUndone, LeavesCommitted, SurvivesAdoption}
-pub use Rattle.registry_desk.specs.Caches.{AreAnswers, AreArchives, AreLeftBy, ArePackuments, HasAnswers, IsPut, IsSoundFor, KeepNoMore, KeepsArchive, KeepsLatest, KeepsNoMore, KeepsReply, LeavesArchivesRight, LeavesCacheRight, LeavesTextsRight, archive_key, live_packument, moves, texts_of, without_changed, without_moved, without_read, without_touched}
+pub use Rattle.registry_desk.specs.Adopted.{CanBeAdopted, IsAdopted, IsGivenBack, IsHandedBack, IsMade, IsSettled, IsUndone, LeavesCommitted, MakesInside, Settles, SurvivesAdoption}
+pub use Rattle.registry_desk.specs.Caches.{AreAnswers, AreArchives, AreEmpty, AreLeftBy, ArePackuments, Changes, ChangesNone, ChangesRead, HasAnswers, HasLimits, IsCached, IsPut, IsSoundFor, KeepNoMore, KeepsArchive, KeepsLatest, KeepsNoMore, KeepsOutcome, KeepsReply, LeavesArchivesRight, LeavesCacheRight, LeavesTextsRight, Moves, MovesNone, ReadsNone, archive_key, limit_of, live_packument, moves, texts_of, without_packuments, without_touched}
 pub use Rattle.registry_desk.specs.Early.{EarlyRefusalsStand, FoundTells, IsFound, TellsSome, asked_organisation, denial, early_refusal}
-pub use Rattle.registry_desk.specs.Found.{AreRowsOf, AreTaken, AreTimesOf, IsCallerIn, IsCandidate, IsGrantable, IsLeaver, IsNewcomer, IsPlace, NeedsFor}
-pub use Rattle.registry_desk.specs.Opened.{GivesFound, HoldsEach, HoldsFound, IsFreshIfEmpty, IsLeftOf, IsMigrated, IsOurs, LeavesFound, LeavesMigrated}
+pub use Rattle.registry_desk.specs.Found.{AreRowsOf, AreTaken, AreTimesOf, NeedsFor}
+pub use Rattle.registry_desk.specs.Opened.{GivesAs, GivesFound, HoldsEach, HoldsFound, IsFreshIfEmpty, IsLeftOf, IsMigrated, IsOurs, LeavesAs, LeavesFound, LeavesMigrated, schema_as}
 pub use Rattle.registry_desk.specs.Promises.{Answered, Applied, HasHeadline, HasRun, HideAlong, HidesUnreadRun, HoldsReferences, IsLost, IsOpenOrLost, IsSure, Keeps, KeepsRun, LeavesOne, LeavesTheRest, LosesInTurn, NeedsForEach, RanTo, Served, Stepped, SurvivesInTurn, SurvivesOne, SurvivesRun, SurvivesTurns, Unchanged, WritesHistory}
 pub use Rattle.registry_desk.specs.Resting.{HasTables, HoldsFirst, IsAsWritten, IsRegistryOf, MadeAlone, MadeInRow, Rests, Serves, end_stored, left_by, next_stored, settled_by, stepped, unless}
-pub use Rattle.registry_desk.specs.Sending.{BrokenBeginTheAnswer, IsAnyPackument, IsFrom, IsMadeOf, IsOrigin, IsShownBy, LeavesAll, MayAnswer, Sends, SentAreAsked, ShowsAlone, answers_as_apply, front_names, head_in, versions_in}
+pub use Rattle.registry_desk.specs.Sending.{AnswersOne, BrokenBeginTheAnswer, IsAnyPackument, IsFrom, IsMadeOf, IsOrigin, IsShownBy, LeavesAll, MayAnswer, RestsOpen, Sends, SentAreAsked, ShowsAlone, WalksOver, answers_as_apply, front_names, head_in, versions_in}
 pub use Rattle.registry_desk.specs.Views.{asks_packument, changes_view, form_of, names_in_front, text_behind, viewed}
 pub use Rattle.registry_desk.specs.declared.cache.Caches.{Caches}
+pub use Rattle.registry_desk.specs.declared.open.Base.{Base}
 pub use Rattle.registry_desk.specs.declared.rows.Rows.{Rows}
 pub use Rattle.registry_desk.specs.declared.view.View.{View}
 pub use Rattle.registry_desk.specs.declared.view.View.TheVariants.{Abbreviated, Full, Revised}
@@ -59,11 +60,11 @@ pub use Rattle.registry_rules.specs.declared.reply.Reply.TheVariants.{Bytes, Cou
 pub use Rattle.registry_rules.specs.declared.request.Action.{Action}
 pub use Rattle.registry_rules.specs.declared.request.Action.TheVariants.{AbbreviatedPackument, Archive, Deprecate, MyPackages, OrgCreate, OrgPackages, OrgRemove, OrgSet, OwnerAdd, OwnerRemove, Packument, Publish, RevisedPackument, Revoke, SetAccess, TagRemove, TagSet, TeamAdd, TeamCreate, TeamDestroy, TeamPackages, TeamRemove, TokenAdd, TokenRemove, TokensRemove, UserAdd, Withdraw, WithdrawAll}
 pub use Rattle.registry_rules.specs.declared.request.Request.{Request}
-pub use Rattle.registry_tables.proofs.EffectFacts.{before_reads, on_any, reads_as_before}
+pub use Rattle.registry_tables.proofs.InsideFacts.{on_any}
 pub use Rattle.registry_tables.proofs.HeldNeedFacts.{fresh_holds, others_hold, version_holds}
 pub use Rattle.registry_tables.proofs.KeptArchiveFacts.{fresh_archives, others_keep_archives, version_keeps_archives}
 pub use Rattle.registry_tables.proofs.LiveFacts.{fresh_is_nothing, lives_as_row}
-pub use Rattle.registry_tables.proofs.ReferenceFacts.{held_stored, named_lives}
+pub use Rattle.registry_tables.proofs.ReferenceFacts.{held_stored}
 pub use Rattle.registry_tables.proofs.StepFacts.{change_counts, change_keeps, changes_make}
 pub use Rattle.registry_tables.specs.Archives.{HeldAreStored, HoldsArchives}
 pub use Rattle.registry_tables.specs.Changes.{all_stored, stored_by, version_put}

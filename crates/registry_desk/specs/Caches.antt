@@ -1,12 +1,12 @@
 -- What a registry keeps of its answers, and what that has to do with what is stored. `old` and
 -- `new` are what is kept at the entry and at the exit.
-use Rattle.std.specs.Prelude.{◌≡◌, ◌⊎◌, ◌^◌, ℕ, Bool, false, not, if◌then◌else◌, List, ◌∷◌, ◌++◌, IfNone, IfSome, IsTrue, Option, None, Some}
+use Rattle.std.specs.Prelude.{◌≡◌, ◌⊎◌, ◌^◌, ℕ, Bool, false, not, if◌then◌else◌, List, [], ◌∷◌, ◌++◌, IfNone, IfSome, IsTrue, Option, None, Some, Ok, Err}
 use Rattle.std.specs.List.{list_any}
 use Rattle.sqlite.specs.State.{State as Shown, HasCleanDisk}
 use Rattle.registry_names.specs.Names.{IsName}
 use Rattle.registry_names.specs.Texts.{Text, is}
 use Rattle.registry_names.specs.Versions.{VersionParts, text_of_version}
-use Rattle.registry_cache.specs.Caches.{Cache, AreRight, asked, kept, kept_where, with_room, with_text}
+use Rattle.registry_cache.specs.Caches.{Cache, AreRight, asked, cache, forgotten, kept, kept_where, with_room, with_text}
 use Rattle.registry_rules.specs.Actions.{version_of}
 use Rattle.registry_rules.specs.Changes.{Change, AddUser, AddToken, DropToken, AddOrg, PutMember, DropMember, AddTeam, PutTeamMember, DropTeamMember, DropTeam, PutGrant, DropGrant, PutOwner, DropOwner, PutStatus, AddVersion, RetireVersion, PutDeprecation, PutTag, DropTag}
 use Rattle.registry_rules.specs.State.{State, has_live}
@@ -19,8 +19,9 @@ use Rattle.registry_tables.specs.Effects.{stored}
 use Rattle.registry_tables.specs.Teams.{AreTeamsSound}
 use Rattle.registry_laws_history.specs.Answers.{archive_in}
 use Rattle.registry_laws_history.specs.Apart.{is_about, is_read_in}
+use Rattle.registry_laws_history.specs.Runs.{Outcome}
 use Rattle.registry_desk.specs.Resting.{Rests}
-use Rattle.registry_desk.specs.Views.{viewed}
+use Rattle.registry_desk.specs.Views.{changes_view, viewed}
 use Rattle.registry_desk.specs.declared.cache.Caches.{Caches}
 use Rattle.registry_desk.specs.declared.cache.Changed.{Changed}
 use Rattle.registry_desk.specs.declared.cache.Changed.TheVariants as changed
@@ -53,61 +54,58 @@ IsArchiveUnder c key bytes = (p v : Text) → IsName p → archive_key p v ≡ k
 abbrev pub AreArchives : Contents → Cache → Type 0
 AreArchives c cache = AreRight (IsArchiveUnder c) cache
 
--- all that is kept is right
-pub record AreAnswers (c : Contents) (caches : Caches) : Type 0 where
-  pub packuments : ArePackuments Full c caches.packuments
-  pub abbreviated : ArePackuments Abbreviated c caches.abbreviated
-  pub revised : ArePackuments Revised c caches.revised
-  pub archives : AreArchives c caches.archives
-
--- this holds of an open connection whose disk is clean
-abbrev pub HasAnswers : Shown → Caches → Type 0
-HasAnswers s caches = HasCleanDisk s → IsTrue s.is_open → AreAnswers (stored s) caches
-
--- the most bytes that the kept texts of full packuments have together, without the one text that
--- alone has more
-abbrev pub text_limit : ℕ
-text_limit = 2 ^ 26
-
--- the most that those of abbreviated ones have, those that npm reads, and the archives, likewise
-abbrev pub abbreviated_limit : ℕ
-abbreviated_limit = 2 ^ 24
-
-abbrev pub revised_limit : ℕ
-revised_limit = 2 ^ 26
-
-abbrev pub archive_limit : ℕ
-archive_limit = 2 ^ 26
-
--- between requests
-pub record IsCached (s : Shown) (caches : Caches) : Type 0 where
-  pub rests : Rests s
-  pub right : HasAnswers s caches
-  pub limited : caches.packuments.limit ≡ text_limit
-  pub abbreviated_limited : caches.abbreviated.limit ≡ abbreviated_limit
-  pub revised_limited : caches.revised.limit ≡ revised_limit
-  pub archives_limited : caches.archives.limit ≡ archive_limit
-
--- ---- what is forgotten
-
 -- the texts in this view that are kept
 abbrev pub texts_of : View → Caches → Cache
 texts_of Full caches = caches.packuments
 texts_of Abbreviated caches = caches.abbreviated
 texts_of Revised caches = caches.revised
 
+-- all that is kept is right
+pub record AreAnswers (c : Contents) (caches : Caches) : Type 0 where
+  pub texts : (view : View) → ArePackuments view c (texts_of view caches)
+  pub archives : AreArchives c caches.archives
+
+-- this holds of an open connection whose disk is clean
+abbrev pub HasAnswers : Shown → Caches → Type 0
+HasAnswers s caches = HasCleanDisk s → IsTrue s.is_open → AreAnswers (stored s) caches
+
+-- the most bytes that the kept texts in a view have together, without the one text that alone has
+-- more
+abbrev pub limit_of : View → ℕ
+limit_of Full = 2 ^ 26
+limit_of Abbreviated = 2 ^ 24
+limit_of Revised = 2 ^ 26
+
+-- the most that the archives have, likewise
+abbrev pub archive_limit : ℕ
+archive_limit = 2 ^ 26
+
+module _ (caches : Caches) where
+  -- these are the limits
+  pub record HasLimits : Type 0 where
+    pub texts : (view : View) → (texts_of view caches).limit ≡ limit_of view
+    pub archives : caches.archives.limit ≡ archive_limit
+
+  -- nothing is kept yet
+  pub record AreEmpty : Type 0 where
+    pub texts : (view : View) → texts_of view caches ≡ cache [] None (limit_of view)
+    pub archives : caches.archives ≡ cache [] None archive_limit
+
+-- between requests
+pub record IsCached (s : Shown) (caches : Caches) : Type 0 where
+  pub rests : Rests s
+  pub right : HasAnswers s caches
+  pub limited : HasLimits caches
+
+-- ---- what is forgotten
+
+-- no packument is kept of the package, and all else is as it was
+abbrev pub without_packuments : Text → Caches → Caches
+without_packuments p s = record s { packuments = forgotten s.packuments p; abbreviated = forgotten s.abbreviated p; revised = forgotten s.revised p }
+
 -- nothing is kept under the names that these changes touch, and all else is as it was
 abbrev pub without_touched : (Change → Text → Bool) → List Change → Cache → Cache
 without_touched touches changes s = kept_where s (λ q. not (list_any (λ change. touches change q) changes))
-
--- nothing is kept of the packages of which these change a version or a tag, and all else is as it
--- was
-abbrev pub without_changed : List Change → Cache → Cache
-without_changed = without_touched is_about
-
--- nor of those of which they add or remove a maintainer
-abbrev pub without_read : List Change → Cache → Cache
-without_read = without_touched is_read_in
 
 -- whether the version whose archive has this name comes or goes
 abbrev pub moves : Change → Text → Bool
@@ -115,26 +113,22 @@ moves (AddUser u) key = false
 moves (AddToken digest u) key = false
 moves (DropToken digest) key = false
 moves (AddOrg o) key = false
-moves (PutMember o u role stands) key = false
+moves (PutMember o u role) key = false
 moves (DropMember o u) key = false
 moves (AddTeam o t) key = false
 moves (PutTeamMember o t u) key = false
 moves (DropTeamMember o t u) key = false
 moves (DropTeam o t) key = false
-moves (PutGrant o t p grant stands) key = false
+moves (PutGrant o t p grant) key = false
 moves (DropGrant o t p) key = false
 moves (PutOwner p u) key = false
 moves (DropOwner p u) key = false
-moves (PutStatus p status stands) key = false
+moves (PutStatus p status) key = false
 moves (AddVersion f now) key = is (archive_key f.name (version_of f)) key
 moves (RetireVersion p v published withdrawn) key = is (archive_key p v) key
 moves (PutDeprecation p v message) key = false
-moves (PutTag p t v stands) key = false
+moves (PutTag p t v) key = false
 moves (DropTag p t) key = false
-
--- nothing is kept of the versions that come or go by these changes, and all else is as it was
-abbrev pub without_moved : List Change → Cache → Cache
-without_moved = without_touched moves
 
 -- nothing is kept but what was, with the same limit
 pub record KeepsNoMore (old new : Cache) : Type 0 where
@@ -143,32 +137,43 @@ pub record KeepsNoMore (old new : Cache) : Type 0 where
 
 -- of no kind
 pub record KeepNoMore (old new : Caches) : Type 0 where
-  pub packuments : KeepsNoMore old.packuments new.packuments
-  pub abbreviated : KeepsNoMore old.abbreviated new.abbreviated
-  pub revised : KeepsNoMore old.revised new.revised
+  pub texts : (view : View) → KeepsNoMore (texts_of view old) (texts_of view new)
   pub archives : KeepsNoMore old.archives new.archives
 
 -- nothing is kept of what these changes touch, and all else is as it was
 pub record AreLeftBy (changes : List Change) (old new : Caches) : Type 0 where
-  pub packuments : new.packuments ≡ without_changed changes old.packuments
-  pub abbreviated : new.abbreviated ≡ without_changed changes old.abbreviated
-  pub revised : new.revised ≡ without_read changes old.revised
-  pub archives : new.archives ≡ without_moved changes old.archives
-
--- What a change makes another of: the packument of this package alone, whether npm reads it or not;
--- only what npm reads of it; or nothing
-abbrev pub IsChanged : Changed → Change → Type 0
-IsChanged (changed.Packument name) change = ((p : Text) → is_about change p ≡ is name.now p) × ((p : Text) → is_read_in change p ≡ is name.now p)
-IsChanged (changed.Maintainers name) change = ((p : Text) → is_about change p ≡ false) × ((p : Text) → is_read_in change p ≡ is name.now p)
-IsChanged changed.Nothing change = ((p : Text) → is_about change p ≡ false) × ((p : Text) → is_read_in change p ≡ false)
+  pub texts : (view : View) → texts_of view new ≡ without_touched (changes_view view) changes (texts_of view old)
+  pub archives : new.archives ≡ without_touched moves changes old.archives
 
 module _ (change : Change) where
-  -- whether this version alone comes or goes by the change, or none does
+  -- it changes the packument of this package alone, or of none
+  abbrev pub Changes : Text → Type 0
+  Changes p = (q : Text) → is_about change q ≡ is p q
+
+  abbrev pub ChangesNone : Type 0
+  ChangesNone = (q : Text) → is_about change q ≡ false
+
+  -- the same of what npm reads
+  abbrev pub ChangesRead : Text → Type 0
+  ChangesRead p = (q : Text) → is_read_in change q ≡ is p q
+
+  abbrev pub ReadsNone : Type 0
+  ReadsNone = (q : Text) → is_read_in change q ≡ false
+
+  -- this version alone comes or goes by it, or none does
   abbrev pub Moves : Text → Text → Type 0
   Moves p v = (key : Text) → moves change key ≡ is (archive_key p v) key
 
   abbrev pub MovesNone : Type 0
   MovesNone = (key : Text) → moves change key ≡ false
+
+-- What a change makes different: a version that comes or goes, with the packument of its package;
+-- the packument alone; only what npm reads of it; or nothing
+abbrev pub IsChanged : Changed → Change → Type 0
+IsChanged (changed.Version name version) change = Changes change name.now × ChangesRead change name.now × Moves change name.now (text_of_version version.now)
+IsChanged (changed.Packument name) change = Changes change name.now × ChangesRead change name.now × MovesNone change
+IsChanged (changed.Maintainers name) change = ChangesNone change × ChangesRead change name.now × MovesNone change
+IsChanged changed.Nothing change = ChangesNone change × ReadsNone change × MovesNone change
 
 -- ---- what is kept of a reply
 
@@ -203,6 +208,11 @@ KeepsReply _ _ old new = new ≡ old
 -- after an answered request, nothing is kept but what was kept before, and then its reply
 abbrev pub KeepsAnswer : Action → Caches → Caches → Reply → Type 0
 KeepsAnswer what old new given = (still : Caches) × KeepNoMore old still × KeepsReply what given still new
+
+-- after a fault, nothing but what was
+abbrev pub KeepsOutcome : Action → Caches → Caches → Outcome → Type 0
+KeepsOutcome what old new (Ok given) = KeepsAnswer what old new given
+KeepsOutcome what old new (Err fault) = KeepNoMore old new
 
 -- ---- a request
 
@@ -245,7 +255,5 @@ pub record LeavesArchivesRight (c d : Contents) (what : Action) (old new : Cache
 -- all of them
 pub record LeavesCacheRight (c d : Contents) (what : Action) (old new : Caches) (given : Reply)
     : Type 0 where
-  pub packuments : LeavesTextsRight Full c d new.packuments
-  pub abbreviated : LeavesTextsRight Abbreviated c d new.abbreviated
-  pub revised : LeavesTextsRight Revised c d new.revised
+  pub texts : (view : View) → LeavesTextsRight view c d (texts_of view new)
   pub archives : LeavesArchivesRight c d what old.archives new.archives given

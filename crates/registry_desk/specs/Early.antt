@@ -15,6 +15,7 @@ use Rattle.registry_access.specs.Standings.{position_of}
 use Rattle.registry_access.specs.declared.ask.Ask.{Ask}
 use Rattle.registry_access.specs.declared.ask.Ask.TheVariants.{Operate, OrgMembers, OrgTeams, Publish as ToPublish, Write, Owners, Read, OrgRead}
 use Rattle.registry_access.specs.declared.caller.Caller.{Caller}
+use Rattle.registry_access.specs.declared.grant.Grant.{Grant}
 use Rattle.registry_access.specs.declared.role.Role.{Role}
 use Rattle.registry_access.specs.declared.rows.AccessRows.{AccessRows}
 use Rattle.registry_access.specs.declared.standing.Standing.{Standing}
@@ -24,9 +25,9 @@ use Rattle.registry_rules.specs.Refusals.{refusal_by, unless_allowed, withdraw_a
 use Rattle.registry_rules.specs.State.{State}
 use Rattle.registry_rules.specs.Withdrawals.{is_any_depended, is_depended, live_since, published_at}
 use Rattle.registry_rules.specs.declared.request.Action.{Action}
-use Rattle.registry_rules.specs.declared.request.Action.TheVariants.{TokensRemove, OrgSet, OrgRemove, OwnerRemove, Publish, Withdraw, WithdrawAll, Deprecate}
+use Rattle.registry_rules.specs.declared.request.Action.TheVariants.{TokensRemove, OrgSet, OrgRemove, TeamCreate, TeamDestroy, TeamAdd, TeamRemove, Grant as ToGrant, Revoke, OwnerRemove, Publish, Withdraw, WithdrawAll, Deprecate, Members, Teams, TeamMembers, TeamPackages, OrgPackages, WhoAmI, MyPackages, Users, Organisations, Packages}
 use Rattle.registry_tables.specs.Contents.{Contents, registry_of}
-use Rattle.registry_desk.specs.Found.{NeedsFor}
+use Rattle.registry_tables.specs.Needs.{HoldsNeeds}
 use Rattle.registry_desk.specs.declared.policy.Found.{Found}
 use Rattle.registry_desk.specs.declared.policy.Found.TheVariants as found
 
@@ -55,10 +56,9 @@ abbrev pub FoundTells : Found → State → ℕ → Caller → Action → Type 0
 FoundTells (found.Refused why) S now who what = early_refusal S now who what ≡ Some why
 FoundTells (found.About about) S now who what = (early_refusal S now who what ≡ None) × AboutTells about S who what
 
--- what was found of a user and an organisation says both what decides their role there and whether
--- they leave
-abbrev pub TellsOfMember : Found → State → ℕ → Caller → Text → Text → Type 0
-TellsOfMember found S now who o u = ((role : Role) → FoundTells found S now who (OrgSet o u role)) × FoundTells found S now who (OrgRemove o u)
+-- so it is whenever the action is asked
+abbrev pub Decides : Found → Contents → Caller → Action → Type 0
+Decides found c who what = (now : ℕ) → FoundTells found (registry_of c) now who what
 
 -- what was found of an action that isn't refused early decides it in some state in which everybody
 -- has the same rights
@@ -66,11 +66,39 @@ abbrev pub TellsSome : Found → State → Caller → Action → Type 0
 TellsSome (found.Refused why) S who what = Unit {0}
 TellsSome (found.About about) S who what = (T : State) × (T.access ≡ S.access) × AboutTells about T who what
 
--- What was found of an action, by what is stored: what decides it, where the needs for it are those
--- of live versions. Where they aren't, it decides the action in some other state
-pub record IsFound (found : Found) (c : Contents) (now : ℕ) (who : Caller) (what : Action) : Type 0 where
-  pub tells : NeedsFor what c → FoundTells found (registry_of c) now who what
+-- What was found of a withdrawal decides it where the stored needs are those of live versions.
+-- Where they aren't, it decides the action in some other state
+pub record IsFoundByNeeds (found : Found) (c : Contents) (now : ℕ) (who : Caller) (what : Action) : Type 0 where
+  pub tells : HoldsNeeds c → FoundTells found (registry_of c) now who what
   pub some : TellsSome found (registry_of c) who what
+
+-- what was found of an action decides it, by what is stored
+abbrev pub IsFound : Found → Contents → ℕ → Caller → Action → Type 0
+IsFound found c now who (Withdraw p v) = IsFoundByNeeds found c now who (Withdraw p v)
+IsFound found c now who (WithdrawAll p) = IsFoundByNeeds found c now who (WithdrawAll p)
+IsFound found c now who what = FoundTells found (registry_of c) now who what
+
+-- ---- what was found decides each action about one subject
+
+-- of the caller alone
+abbrev pub DecidesOfCaller : Found → Contents → Caller → Type 0
+DecidesOfCaller found c who = Decides found c who WhoAmI × (Decides found c who MyPackages × (Decides found c who Users × (Decides found c who Organisations × Decides found c who Packages)))
+
+abbrev pub DecidesOfMember : Found → Contents → Caller → Text → Text → Type 0
+DecidesOfMember found c who o u = ((role : Role) → Decides found c who (OrgSet o u role)) × Decides found c who (OrgRemove o u)
+
+abbrev pub DecidesOfOrganisation : Found → Contents → Caller → Text → Type 0
+DecidesOfOrganisation found c who o = Decides found c who (Members o) × (Decides found c who (Teams o) × Decides found c who (OrgPackages o))
+
+abbrev pub DecidesOfTeam : Found → Contents → Caller → Text → Text → Type 0
+DecidesOfTeam found c who o t =
+    Decides found c who (TeamCreate o t) × (Decides found c who (TeamDestroy o t) × (Decides found c who (TeamMembers o t) × Decides found c who (TeamPackages o t)))
+
+abbrev pub DecidesOfTeamMember : Found → Contents → Caller → Text → Text → Text → Type 0
+DecidesOfTeamMember found c who o t u = Decides found c who (TeamAdd o t u) × Decides found c who (TeamRemove o t u)
+
+abbrev pub DecidesOfGrant : Found → Contents → Caller → Text → Text → Text → Type 0
+DecidesOfGrant found c who o t p = ((grant : Grant) → Decides found c who (ToGrant o t p grant)) × Decides found c who (Revoke o t p)
 
 -- an early refusal is that of the machine
 abbrev pub EarlyRefusalsStand : Type 0

@@ -1,7 +1,7 @@
 -- When what was loaded for an action is what the registry holds of it.
-use Rattle.std.specs.Prelude.{◌≡◌, true, Some, map, filter, option_map}
+use Rattle.std.specs.Prelude.{◌≡◌, ◌||◌, true, Some, map, filter, option_map}
 use Rattle.registry_names.specs.Maps.{at, entries, keys, of, pairs_of, parts, seen}
-use Rattle.registry_names.specs.Texts.{Text}
+use Rattle.registry_names.specs.Texts.{Text, is}
 use Rattle.registry_names.specs.Versions.{text_of_version}
 use Rattle.registry_names.specs.Names.{scope_of}
 use Rattle.registry_names.specs.Tags.{latest}
@@ -13,26 +13,17 @@ use Rattle.registry_packument.specs.Heads.{time_entry}
 use Rattle.registry_packument.specs.declared.times.PackTimes.{PackTimes}
 use Rattle.registry_publish.specs.Form.{FormParts}
 use Rattle.registry_rules.specs.Actions.{is_command, version_of}
-use Rattle.registry_rules.specs.Callers.{caller_of}
-use Rattle.registry_rules.specs.Facts.{AboutTells}
 use Rattle.registry_rules.specs.Refusals.{is_scope}
-use Rattle.registry_rules.specs.State.{State, Release, has_grant, has_live, has_maintainer, has_other_maintainer, has_other_owner, has_team, has_user, is_in_team, is_live, is_member, is_own, is_published, is_spent, stands, tokens_of}
-use Rattle.registry_rules.specs.Withdrawals.{last_withdrawal, live_versions}
-use Rattle.registry_rules.specs.declared.facts.About.{About}
+use Rattle.registry_rules.specs.State.{State, Release, is_live, is_own, is_spent, stands, tokens_of}
+use Rattle.registry_rules.specs.Withdrawals.{gone_since, live_versions}
 use Rattle.registry_rules.specs.declared.request.Action.{Action}
-use Rattle.registry_rules.specs.declared.request.Action.TheVariants.{TeamCreate, TeamDestroy, TeamAdd, TeamRemove, Grant as ToGrant, Revoke, TokensRemove, Deprecate, VersionDoc, Archive, Tags, Members, Teams, TeamMembers, TeamPackages, Withdraw, WithdrawAll, WhoAmI, Maintainers, OrgPackages, MyPackages, Users, Organisations, Packages}
-use Rattle.registry_rules.specs.declared.request.Request.{Request}
-use Rattle.registry_tables.specs.Contents.{Contents, registry_of}
+use Rattle.registry_rules.specs.declared.request.Action.TheVariants.{TokensRemove, Deprecate, VersionDoc, Archive, Tags, Members, Teams, TeamMembers, TeamPackages, Withdraw, WithdrawAll, WhoAmI, Maintainers, OrgPackages, MyPackages, Users, Organisations, Packages}
+use Rattle.registry_tables.specs.Contents.{Contents}
 use Rattle.registry_tables.specs.Needs.{HoldsNeeds}
 use Rattle.registry_tables.specs.Spelled.{document, document_entry, member_entry, published, tag_entry}
 use Rattle.registry_tables.specs.Teams.{granted_entry}
 use Rattle.registry_laws_history.specs.Answers.{archive_in, asked_release, created_at, levels_in, modified_at, overview, own_name, token_count}
-use Rattle.registry_desk.specs.declared.grants.Grantable.{Grantable}
-use Rattle.registry_desk.specs.declared.maintainers.Leaver.{Leaver}
-use Rattle.registry_desk.specs.declared.maintainers.Newcomer.{Newcomer}
-use Rattle.registry_desk.specs.declared.organisations.Candidate.{Candidate}
 use Rattle.registry_desk.specs.declared.packages.Taken.{Taken}
-use Rattle.registry_desk.specs.declared.teams.Place.{Place}
 use Rattle.registry_desk.specs.declared.rows.Rows.{Rows}
 use Rattle.registry_desk.specs.declared.rows.Rows.TheVariants as rows
 
@@ -72,10 +63,6 @@ AreRowsOf rows.Nothing S who (WithdrawAll p) = ⊥
 AreRowsOf rows.Nothing S who what = is_command what ≡ true
 AreRowsOf _ S who _ = ⊥
 
--- this is the caller of the request, by what is stored
-abbrev pub IsCallerIn : Contents → Request → Caller → Type 0
-IsCallerIn c r who = Some who ≡ caller_of (registry_of c) r.who
-
 -- only a withdrawal is decided by the needs that are stored, so for it they are those of live
 -- versions
 abbrev pub NeedsFor : Action → Contents → Type 0
@@ -83,57 +70,12 @@ NeedsFor (Withdraw p v) c = HoldsNeeds c
 NeedsFor (WithdrawAll p) c = HoldsNeeds c
 NeedsFor _ c = Unit {0}
 
--- ---- parts of what decides
+-- ---- a part of what decides a publish
 
--- it says whether the user is there, what role they have, if any, and whether another member is an
--- owner
-pub record IsCandidate (candidate : Candidate) (S : State) (o u : Text) : Type 0 where
-  pub user_exists : candidate.user_exists ≡ has_user S u
-  pub role : candidate.role ≡ at S.access.roles (o, u)
-  pub other_owner : candidate.other_owner ≡ has_other_owner S o u
-
--- it says whether the team is there, whether the user is a member of the organisation, and whether
--- they are in the team
-pub record IsPlace (place : Place) (S : State) (o t u : Text) : Type 0 where
-  pub team_exists : place.team_exists ≡ has_team S o t
-  pub is_member : place.is_member ≡ is_member S o u
-  pub is_in_team : place.is_in_team ≡ is_in_team S o t u
-
--- it says whether the team is there, whether the package was ever published, and whether the team
--- is granted something on it
-pub record IsGrantable (grantable : Grantable) (S : State) (o t p : Text) : Type 0 where
-  pub team_exists : grantable.team_exists ≡ has_team S o t
-  pub is_published : grantable.is_published ≡ is_published S p
-  pub stands : grantable.stands ≡ has_grant S o t p
-
--- it says whether the version lives, whether it was withdrawn, whether its tag and `latest` are
--- there, whether a version of its package lives, and when one was withdrawn last, if one was
+-- it says whether the version lives, whether it was withdrawn, whether `latest` is there or is the
+-- form's tag, and since when no version of its package lives, if none does
 pub record AreTaken (taken : Taken) (S : State) (f : FormParts) : Type 0 where
   pub version_lives : taken.version_lives ≡ is_live S f.name (version_of f)
   pub version_spent : taken.version_spent ≡ is_spent S f.name (version_of f)
-  pub tag_stands : taken.tag_stands ≡ stands S f.name f.tag
-  pub latest_stands : taken.latest_stands ≡ stands S f.name latest
-  pub lives : taken.lives ≡ has_live S f.name
-  pub last_withdrawal : taken.last_withdrawal ≡ last_withdrawal S f.name
-
--- ---- facts that decide each action about one subject
-
-abbrev pub TellsOfTeam : About → State → Caller → Text → Text → Type 0
-TellsOfTeam about S who o t =
-    AboutTells about S who (TeamCreate o t) × (AboutTells about S who (TeamDestroy o t) × (AboutTells about S who (TeamMembers o t) × AboutTells about S who (TeamPackages o t)))
-
-abbrev pub TellsOfTeamMember : About → State → Caller → Text → Text → Text → Type 0
-TellsOfTeamMember about S who o t u = AboutTells about S who (TeamAdd o t u) × AboutTells about S who (TeamRemove o t u)
-
-abbrev pub TellsOfGrant : About → State → Caller → Text → Text → Text → Type 0
-TellsOfGrant about S who o t p = ((grant : Grant) → AboutTells about S who (ToGrant o t p grant)) × AboutTells about S who (Revoke o t p)
-
--- it says whether the user is there, and whether they are a maintainer already
-pub record IsNewcomer (newcomer : Newcomer) (S : State) (p u : Text) : Type 0 where
-  pub user_exists : newcomer.user_exists ≡ has_user S u
-  pub is_maintainer : newcomer.is_maintainer ≡ has_maintainer S p u
-
--- it says whether the user is a maintainer, and whether another user is one
-pub record IsLeaver (leaver : Leaver) (S : State) (p u : Text) : Type 0 where
-  pub is_maintainer : leaver.is_maintainer ≡ has_maintainer S p u
-  pub other_maintainer : leaver.other_maintainer ≡ has_other_maintainer S p u
+  pub latest_stands : taken.latest_stands ≡ (stands S f.name latest || is f.tag latest)
+  pub gone_since : taken.gone_since ≡ gone_since S f.name

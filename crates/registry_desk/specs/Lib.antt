@@ -1,4 +1,5 @@
 pub mod Adopted
+pub mod Answering
 pub mod Found
 pub mod Opened
 pub mod Promises

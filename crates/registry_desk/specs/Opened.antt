@@ -12,6 +12,7 @@ use Rattle.sqlite_disk.specs.declared.calls.Calls as calls
 use Rattle.sqlite_disk.specs.declared.modelled.Modelled.{Modelled}
 use Rattle.sqlite_disk.specs.declared.start.Start.{Ghosts}
 use Rattle.sqlite_std_file.specs.File.{IsFresh}
+use Rattle.sqlite_schema.specs.declared.schema.Schema.{Schema}
 use Rattle.sqlite_std_file.specs.declared.host.Host.{Host}
 use Rattle.sqlite_trees.specs.Tree.{Trees}
 use Rattle.sqlite_wal.specs.Recovery.{Image}
@@ -28,6 +29,8 @@ use Rattle.registry_migration.specs.Migration.{MayMigrate, Migrates}
 use Rattle.registry_migration.specs.Older.{contents_of, schema_of}
 use Rattle.registry_migration.specs.declared.older.Older.{Older}
 use Rattle.registry_desk.specs.Resting.{IsAsWritten, IsRegistryOf}
+use Rattle.registry_desk.specs.declared.open.Base.{Base}
+use Rattle.registry_desk.specs.declared.open.Base.TheVariants as base
 use Rattle.registry_desk.specs.declared.open.Unopened.{Unopened}
 use Rattle.registry_desk.specs.declared.open.Unopened.TheVariants as unopened
 
@@ -52,6 +55,28 @@ pub record LeavesMigrated (older : Older) (db left : Trees) : Type 0 where
   pub held : Contents
   pub migrated : IsMigrated older db held
   pub is : IsRegistryOf left held
+
+-- ---- by what tables a database has
+
+-- their schema
+abbrev pub schema_as : Base → Schema
+schema_as base.Empty = no_tables
+schema_as base.Ours = schema
+schema_as (base.Older older) = schema_of older
+
+-- what they give
+abbrev pub GivesAs : Base → Trees → Contents → Type 0
+GivesAs base.Empty db c = c ≡ fresh
+GivesAs base.Ours db c = IsOurs (contents db) × (c ≡ contents db)
+GivesAs (base.Older older) db c = IsMigrated older db c
+
+-- what a crash may leave, beside what was there
+abbrev pub LeavesAs : Base → Trees → Trees → Type 0
+LeavesAs base.Empty db left = IsRegistryOf left fresh
+LeavesAs base.Ours db left = left ≡ db
+LeavesAs (base.Older older) db left = LeavesMigrated older db left
+
+-- ---- what a database gives
 
 -- the tables of a registry give what they hold, a database without tables a fresh registry, and
 -- tables of an older schema what is made of them. Any other database gives nothing

@@ -69,7 +69,7 @@ use Rattle.registry_laws_hidden.specs.Concerns.{is_shown}
 use Rattle.registry_laws_hidden.specs.Levels.{IsStranger}
 use Rattle.registry_laws_hidden.specs.Without.{state_without}
 use Rattle.registry_desk.specs.Found.{NeedsFor}
-use Rattle.registry_desk.specs.Resting.{HasTables, HoldsAsWritten, HoldsFirst, IsRegistryOf, MadeAlone, MadeInRow, Serves, end_stored, left_by, next_stored, settled_by}
+use Rattle.registry_desk.specs.Resting.{HasTables, HoldsAsWritten, IsRegistryOf, MadeAlone, MadeInRow, Serves, end_stored, left_by, next_stored, settled_by}
 
 -- an open after a crash finds what is stored now, and nothing else
 abbrev pub IsSure : Shown → Type 0

@@ -1,14 +1,17 @@
 -- A packument that is sent as it is made, in place of being answered as one text.
-use Rattle.std.specs.Prelude.{◌≡◌, ℕ, Bool, false, true, List, [], map, Option, None, Some, Ok, Err, IsTrue, ⊤}
+use Rattle.std.specs.Prelude.{◌≡◌, ◌≢◌, ℕ, Bool, false, true, List, [], map, Option, None, Some, Ok, Err, IsTrue, ⊤}
 use Rattle.sqlite.specs.Held.{Held, state}
 use Rattle.sqlite.specs.State.{State as Shown, HasCleanDisk, Survives}
 use Rattle.sqlite_trees.specs.declared.store.Store.{Ghosts}
+use Rattle.registry_cache.specs.Caches.{Cache}
 use Rattle.registry_names.specs.ByteStreams.{Writes, WritesPrefix}
 use Rattle.registry_names.specs.Maps.{of}
 use Rattle.registry_names.specs.Texts.{Text}
 use Rattle.registry_names.specs.declared.refusal.Refusal.TheVariants.{NotFound}
 use Rattle.registry_names.specs.declared.stop.Fault.{Fault}
-use Rattle.registry_packument.specs.Sendings.{WritesSome, opened}
+use Rattle.registry_names.specs.declared.streams.byte_out.ByteOut as streams
+use Rattle.registry_packument.specs.Counted.{Takes}
+use Rattle.registry_packument.specs.Sendings.{WritesSome, failures_after, opened}
 use Rattle.registry_packument.specs.Heads.{HeadParts}
 use Rattle.registry_packument.specs.Packuments.{pack_text}
 use Rattle.registry_packument.specs.declared.form.PackForm.{PackForm}
@@ -22,12 +25,15 @@ use Rattle.registry_rules.specs.declared.reply.Reply.TheVariants.{Doc}
 use Rattle.registry_rules.specs.declared.request.Action.{Action}
 use Rattle.registry_rules.specs.declared.request.Action.TheVariants.{Packument}
 use Rattle.registry_rules.specs.declared.request.Request.{Request}
+use Rattle.registry_tables.specs.Contents.{Contents, registry_of}
 use Rattle.registry_tables.specs.Effects.{registry_in, stored}
+use Rattle.registry_tables.specs.Teams.{AreTeamsSound}
+use Rattle.registry_tables.specs.Walks.{IsLeftAlone}
 use Rattle.registry_laws_history.specs.Answers.{answer, head_of, version_row}
 use Rattle.registry_laws_history.specs.Runs.{Outcome}
-use Rattle.registry_desk.specs.Caches.{live_packument}
+use Rattle.registry_desk.specs.Caches.{ArePackuments, live_packument}
 use Rattle.registry_desk.specs.Found.{NeedsFor}
-use Rattle.registry_desk.specs.Promises.{Applied, KeepsStored, SurvivesOne, WasOpen}
+use Rattle.registry_desk.specs.Promises.{Answered, Applied, KeepsStored, Served, Stepped, SurvivesOne, Unchanged, WasOpen}
 use Rattle.registry_desk.specs.Resting.{IsRegistryOf, Rests}
 use Rattle.registry_desk.specs.Views.{asks_packument, form_of, names_in_front, text_behind, viewed}
 use Rattle.registry_desk.specs.declared.sending.Front.{Front}
@@ -43,6 +49,31 @@ IsPackument what = (name : Text) × (what ≡ Packument name)
 -- what asks for a packument in any view
 abbrev pub IsAnyPackument : Action → Type 0
 IsAnyPackument what = (view : View) × (name : Text) × (what ≡ asks_packument view name)
+
+-- ---- a request that is answered alone
+
+-- What is promised of it. With what holds between requests, the rest of what `apply` promises follows
+pub record AnswersOne (old new : Shown) (r : Request) (o : Outcome) : Type 0 where
+  pub answer : Answered old new r o
+  pub served : Served old new o
+  pub opened : WasOpen old new
+  pub unchanged : Unchanged old new r o
+  pub step : Stepped old new r o
+  pub survives : SurvivesOne old new r
+
+-- ---- a packument that is sent to a stream
+
+module _ {W : Type 0} (out : streams.Ghosts W) (old new : W) (sent : Sent) where
+  -- Only a failed write is counted, and only it makes the bytes unknown, for good
+  pub record CountsFailures : Type 0 where
+    pub counted : out.failures new ≡ failures_after sent (out.failures old)
+    pub told : sent ≢ WriteFault → out.is_unknown new ≡ out.is_unknown old
+    pub unknown : out.is_unknown old ≡ true → out.is_unknown new ≡ true
+
+  -- of some text for which `IsText` holds, it took what opens that and the text, or a prefix of these
+  pub record SendsText (opens : ℕ → List ℕ) (IsText : Text → Type 0) : Type 0 where
+    pub takes : Takes opens IsText (out.bytes old) (out.bytes new) (out.is_unknown new) sent
+    pub counts : CountsFailures
 
 -- ---- a packument that is sent is a request that is answered
 
@@ -126,6 +157,12 @@ IsOrigin view (origin.Refused why) S r p = answer S r ≡ reply.Refused why
 IsOrigin view (origin.Kept text) S r p = answer S r ≡ Doc text
 IsOrigin view (origin.Stored head before) S r p = (answer S r ≡ Doc (viewed view S p)) × IsMadeFrom view head before S p
 
+-- It is that by what is stored and kept, where the teams are sound; and what its packument comes from
+-- is so whatever the teams are
+pub record IsOriginIn (view : View) (cache : Cache) (r : Request) (p : Text) (from : Origin) (c : Contents) : Type 0 where
+  pub told : AreTeamsSound c → ArePackuments view c cache → IsOrigin view from (registry_of c) r p
+  pub shows : ArePackuments view c cache → IsFrom view from (registry_of c) p
+
 -- the reply is made of what the query comes to
 abbrev pub IsMadeOf : Reply → Origin → State → Text → Type 0
 IsMadeOf given (origin.Refused why) S p = given ≡ reply.Refused why
@@ -135,6 +172,18 @@ IsMadeOf given (origin.Stored head before) S p = (text : Text) × (given ≡ Doc
 -- a document that is replied is the packument of the package, and a version of that lives
 abbrev pub ShowsAlone : View → State → Text → Reply → Type 0
 ShowsAlone view S p given = (text : Text) → given ≡ Doc text → live_packument view S p ≡ Some text
+
+-- ---- a walk over the versions, outside a transaction
+
+-- the connection is between requests, and open as long as its disk is clean
+pub record RestsOpen (s : Shown) : Type 0 where
+  pub rests : Rests s
+  pub unshut : HasCleanDisk s → IsTrue s.is_open
+
+-- a walk leaves it alone, and open where it didn't fail
+pub record WalksOver (old new : Shown) (IfDone : Type 0 → Type 0) : Type 0 where
+  pub left : IsLeftAlone old new
+  pub unshut : HasCleanDisk new → IfDone (IsTrue new.is_open)
 
 -- ---- what a query leaves
 

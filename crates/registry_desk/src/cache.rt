@@ -1,14 +1,13 @@
 //! What a registry keeps of its answers: texts of packuments, and archives.
 
-ghost use Rattle.std.specs.Prelude.{◌≡◌, false, [], ◌∷◌, map, string_bytes, IfNone, IfOk, IfSome, None, OnErr, OnOk, Some};
+ghost use Rattle.std.specs.Prelude.{◌≡◌, false, [], ◌∷◌, map, string_bytes, IfOk, IfSome, None, OnErr, OnOk, Some};
 ghost use Rattle.registry_names.specs.Names.{IsName};
 ghost use Rattle.registry_names.specs.Versions.{text_of_version};
+ghost use Rattle.registry_rules.specs.Changes as spec;
 ghost use Rattle.registry_rules.specs.Changes.{change_of};
-ghost use Rattle.registry_cache.specs.Caches as spec;
 ghost use Rattle.registry_cache.specs.Caches.{asked, kept};
 ghost use Rattle.registry_desk.specs.Caches as promises;
-ghost use Rattle.registry_desk.specs.Caches.{IsChanged, IsPut, KeepsArchive, KeepsLatest, KeepsNoMore, KeepsReply, Moves, MovesNone, without_changed, without_moved, without_read};
-ghost use Rattle.registry_laws_history.specs.Apart.{is_about, is_read_in};
+ghost use Rattle.registry_desk.specs.Caches.{AreEmpty, AreLeftBy, IsChanged, IsPut, KeepNoMore, KeepsArchive, KeepsLatest, KeepsReply, without_packuments};
 
 use crate::view::View;
 use registry_cache::{BlobCache, Shared, SharedBlob, SharedCache, TextCache};
@@ -52,14 +51,7 @@ impl Caches {
     ///
     /// An error is returned where no memory is left.
     pub(crate) fn new(alloc: Global) -> Result<Caches, AllocError>
-        ensures packuments { IfOk result (λ c. c.packuments
-            ≡ spec.cache [] None promises.text_limit) }
-        ensures abbreviated { IfOk result (λ c. c.abbreviated
-            ≡ spec.cache [] None promises.abbreviated_limit) }
-        ensures revised { IfOk result (λ c. c.revised
-            ≡ spec.cache [] None promises.revised_limit) }
-        ensures archives { IfOk result (λ c. c.archives
-            ≡ spec.cache [] None promises.archive_limit) }
+        ensures { IfOk result AreEmpty }
     {
         let packuments = TextCache::new(alloc, TEXT_LIMIT)?;
         let abbreviated = TextCache::new(alloc, ABBREVIATED_LIMIT)?;
@@ -91,6 +83,55 @@ impl Caches {
             View::Full | View::Abbreviated => self.makes_digests,
             View::Revised => false,
         }
+    }
+
+    /// Forgets what these changes make different: the packuments of each package of which a version or
+    /// a tag is changed, or, as npm reads it, a maintainer; and the archive of each version that
+    /// comes or goes. A version that comes has none yet, so only a withdrawal lets one go.
+    ///
+    /// An error is returned where no memory is left to look for an archive.
+    pub(crate) fn forget(&mut self, alloc: Global, changes: &[Change<'_>]) -> Result<(), AllocError>
+        ensures ok { OnOk result (AreLeftBy (map change_of changes.now) self.old self.new) }
+        ensures no_more { KeepNoMore self.old self.new }
+    {
+        for change in changes {
+            self.forget_changed(alloc, changed_by(change))?;
+        }
+        Ok(())
+    }
+
+    // Forgets what a change makes different.
+    fn forget_changed(&mut self, alloc: Global, changed: Changed<'_>) -> Result<(), AllocError>
+        ensures ok { (change : spec.Change) → IsChanged changed.entry change
+            → OnOk result (AreLeftBy (change ∷ []) self.old self.new) }
+        ensures err { OnErr result (self.new ≡ self.old) }
+    {
+        match changed {
+            Changed::Version(name, version) => {
+                let key = archive_key(alloc, name.text(), version.text())?;
+                self.archives.forget(key.as_str());
+                self.forget_packuments(name);
+                Ok(())
+            }
+            Changed::Packument(name) => {
+                self.forget_packuments(name);
+                Ok(())
+            }
+            Changed::Maintainers(name) => {
+                self.revised.forget(name.text());
+                Ok(())
+            }
+            Changed::Nothing => Ok(()),
+        }
+    }
+
+    // Forgets the packuments of the package, in each view.
+    fn forget_packuments(&mut self, name: &Name)
+        ensures { self.new ≡ without_packuments name.now self.old }
+    {
+        self.packuments.forget(name.text());
+        self.abbreviated.forget(name.text());
+        self.revised.forget(name.text());
     }
 }
 
@@ -189,135 +230,32 @@ pub(crate) fn cached_archive(
     cache.peek(key.as_str())?.share().ok()
 }
 
-// ---- what is forgotten
+// ---- what is changed
 
-/// Forgets the archive of each version that comes or goes. A version that comes has none yet, so
-/// only a withdrawal lets one go.
-///
-/// An error is returned where no memory is left to look for one.
-pub(crate) fn forget_archives(
-    alloc: Global,
-    cache: &mut BlobCache,
-    changes: &[Change<'_>],
-) -> Result<(), AllocError>
-    ensures ok { OnOk result (cache.new ≡ without_moved (map change_of changes.now) cache.old) }
-    ensures no_more { KeepsNoMore cache.old cache.new }
-{
-    for change in changes {
-        forget_archive(alloc, cache, change)?;
-    }
-    Ok(())
+/// What a change makes different, of what is shown of a package.
+enum Changed<'a> {
+    /// The packument of this package, of which this version comes or goes.
+    Version(&'a Name, &'a Ver),
+    /// The packument alone: a deprecation or a tag of it is changed.
+    Packument(&'a Name),
+    /// The maintainers of this package.
+    Maintainers(&'a Name),
+    /// Nothing.
+    Nothing,
 }
 
-fn forget_archive(
-    alloc: Global,
-    cache: &mut BlobCache,
-    change: &Change<'_>,
-) -> Result<(), AllocError>
-    ensures ok { OnOk result (cache.new ≡ without_moved (change_of change.now ∷ []) cache.old) }
-    ensures err { OnErr result (cache.new ≡ cache.old) }
-{
-    match moved_version(change) {
-        Some((name, version)) => {
-            let key = archive_key(alloc, name.text(), version.text())?;
-            cache.forget(key.as_str());
-            Ok(())
-        }
-        None => Ok(()),
-    }
-}
-
-// The version that comes or goes by the change. `None` where none does.
-fn moved_version<'a>(change: &Change<'a>) -> Option<(&'a Name, &'a Ver)>
-    ensures some { IfSome result (λ moved. Moves (change_of change.now) moved.0.now
-        (text_of_version moved.1.now)) }
-    ensures none { IfNone result (MovesNone (change_of change.now)) }
+// What the change makes different.
+fn changed_by<'a>(change: &Change<'a>) -> Changed<'a>
+    ensures { IsChanged result (change_of change.now) }
 {
     match *change {
-        Change::AddVersion { form, .. } => Some((form.name(), form.version())),
+        Change::AddVersion { form, .. } => Changed::Version(form.name(), form.version()),
         Change::RetireVersion {
             package,
             version,
             ..
-        } => Some((package, version)),
-        Change::PutDeprecation { .. }
-        | Change::PutTag { .. }
-        | Change::DropTag { .. }
-        | Change::AddUser { .. }
-        | Change::AddToken { .. }
-        | Change::DropToken { .. }
-        | Change::AddOrg { .. }
-        | Change::PutMember { .. }
-        | Change::DropMember { .. }
-        | Change::AddTeam { .. }
-        | Change::PutTeamMember { .. }
-        | Change::DropTeamMember { .. }
-        | Change::DropTeam { .. }
-        | Change::PutGrant { .. }
-        | Change::DropGrant { .. }
-        | Change::PutOwner { .. }
-        | Change::DropOwner { .. }
-        | Change::PutStatus { .. } => None,
-    }
-}
-
-/// Forgets the packument of each package of which a version or a tag is changed.
-pub(crate) fn forget_packuments(cache: &mut TextCache, changes: &[Change<'_>])
-    ensures { cache.new ≡ without_changed (map change_of changes.now) cache.old }
-{
-    for change in changes {
-        forget_packument(cache, change);
-    }
-}
-
-fn forget_packument(cache: &mut TextCache, change: &Change<'_>)
-    ensures { cache.new ≡ without_changed (change_of change.now ∷ []) cache.old }
-{
-    match changed_package(change) {
-        Changed::Packument(name) => cache.forget(name.text()),
-        Changed::Maintainers(_) => {}
-        Changed::Nothing => {}
-    }
-}
-
-/// Forgets, of packuments as npm reads them, that of each package of which a version, a tag or a
-/// maintainer is changed.
-pub(crate) fn forget_revised(cache: &mut TextCache, changes: &[Change<'_>])
-    ensures { cache.new ≡ without_read (map change_of changes.now) cache.old }
-{
-    for change in changes {
-        forget_read(cache, change);
-    }
-}
-
-fn forget_read(cache: &mut TextCache, change: &Change<'_>)
-    ensures { cache.new ≡ without_read (change_of change.now ∷ []) cache.old }
-{
-    match changed_package(change) {
-        Changed::Packument(name) => cache.forget(name.text()),
-        Changed::Maintainers(name) => cache.forget(name.text()),
-        Changed::Nothing => {}
-    }
-}
-
-/// What a change makes another of, of what is shown of a package.
-enum Changed<'a> {
-    /// The packument of this package: a version or a tag of it is changed.
-    Packument(&'a Name),
-    /// The maintainers of this package.
-    Maintainers(&'a Name),
-    /// Neither.
-    Nothing,
-}
-
-// What is shown otherwise after the change.
-fn changed_package<'a>(change: &Change<'a>) -> Changed<'a>
-    ensures { IsChanged result (change_of change.now) }
-{
-    match *change {
-        Change::AddVersion { form, .. } => Changed::Packument(form.name()),
-        Change::RetireVersion { package, .. }
-        | Change::PutDeprecation { package, .. }
+        } => Changed::Version(package, version),
+        Change::PutDeprecation { package, .. }
         | Change::PutTag { package, .. }
         | Change::DropTag { package, .. } => Changed::Packument(package),
         Change::PutOwner { package, .. } | Change::DropOwner { package, .. } => {

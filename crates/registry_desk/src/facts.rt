@@ -1,7 +1,6 @@
 //! What decides an action, as the tables hold it. Nothing is changed.
 
-ghost use Rattle.registry_rows.specs.Frames.{Stays};
-ghost use Rattle.registry_tables.specs.Effects.{InForm, Loads};
+ghost use Rattle.registry_tables.specs.Inside.{Finds};
 ghost use Rattle.registry_tables.specs.Teams.{AreTeamsSound};
 ghost use Rattle.registry_desk.specs.Early.{IsFound};
 ghost use Rattle.registry_desk.specs.Sending.{IsAnyPackument};
@@ -34,27 +33,21 @@ pub(crate) fn load_facts<S: Alter>(
     caller: &Caller,
     request: &Request,
 ) -> Result<Found, Fault>
-    requires in_form { InForm S.Store tx.old }
     requires other { ¬ IsAnyPackument request.now.what }
-    ensures stays { Stays S.Store tx.old tx.new }
-    ensures loads { Loads S.Store tx.old tx.new result
+    ensures { Finds S.Store tx.old tx.new result
         (λ found c. AreTeamsSound c
         → IsFound found c request.now.at caller.now request.now.what) }
 {
     let what = &request.what;
     match what {
-        Action::UserAdd { user } => facts_for_user_add(tx, user).map(Found::About),
-        Action::TokenAdd { user, digest } => facts_for_token_add(alloc, tx, user, digest).map(
-            Found::About,
-        ),
-        Action::TokenRemove { digest } => {
-            facts_for_token_remove(alloc, tx, digest).map(Found::About)
-        }
+        Action::UserAdd { user } => facts_for_user_add(tx, user),
+        Action::TokenAdd { user, digest } => facts_for_token_add(alloc, tx, user, digest),
+        Action::TokenRemove { digest } => { facts_for_token_remove(alloc, tx, digest) }
         Action::TokensRemove { user } => facts_for_tokens_remove(alloc, tx, caller, user),
         Action::OrgCreate {
             organisation,
             owner,
-        } => facts_for_org_create(tx, organisation, owner).map(Found::About),
+        } => facts_for_org_create(tx, organisation, owner),
         Action::OrgSet {
             organisation,
             user,
@@ -64,37 +57,35 @@ pub(crate) fn load_facts<S: Alter>(
             facts_about_member(alloc, tx, caller, organisation, user)
         }
         Action::TeamCreate { organisation, team } => {
-            facts_about_team(alloc, tx, caller, organisation, team).map(Found::About)
+            facts_about_team(alloc, tx, caller, organisation, team)
         }
         Action::TeamDestroy { organisation, team } => {
-            facts_about_team(alloc, tx, caller, organisation, team).map(Found::About)
+            facts_about_team(alloc, tx, caller, organisation, team)
         }
         Action::TeamAdd {
             organisation,
             team,
             user,
-        } => facts_about_team_member(alloc, tx, caller, organisation, team, user).map(Found::About),
+        } => facts_about_team_member(alloc, tx, caller, organisation, team, user),
         Action::TeamRemove {
             organisation,
             team,
             user,
-        } => facts_about_team_member(alloc, tx, caller, organisation, team, user).map(Found::About),
+        } => facts_about_team_member(alloc, tx, caller, organisation, team, user),
         Action::Grant {
             organisation,
             team,
             package,
             ..
-        } => facts_about_grant(alloc, tx, caller, organisation, team, package).map(Found::About),
+        } => facts_about_grant(alloc, tx, caller, organisation, team, package),
         Action::Revoke {
             organisation,
             team,
             package,
-        } => facts_about_grant(alloc, tx, caller, organisation, team, package).map(Found::About),
-        Action::SetAccess { package, .. } => {
-            facts_for_set_access(alloc, tx, caller, package).map(Found::About)
-        }
+        } => facts_about_grant(alloc, tx, caller, organisation, team, package),
+        Action::SetAccess { package, .. } => { facts_for_set_access(alloc, tx, caller, package) }
         Action::OwnerAdd { package, user } => {
-            facts_for_owner_add(alloc, tx, caller, package, user).map(Found::About)
+            facts_for_owner_add(alloc, tx, caller, package, user)
         }
         Action::OwnerRemove { package, user } => facts_for_owner_remove(
             alloc, tx, caller, package, user,
@@ -102,11 +93,11 @@ pub(crate) fn load_facts<S: Alter>(
         Action::Publish { form } => facts_for_publish(alloc, tx, caller, form),
         Action::TagSet {
             package,
-            tag,
             version,
-        } => facts_for_tag_set(alloc, tx, caller, package, tag, version).map(Found::About),
+            ..
+        } => facts_for_tag_set(alloc, tx, caller, package, version),
         Action::TagRemove { package, tag } => {
-            facts_for_tag_remove(alloc, tx, caller, package, tag).map(Found::About)
+            facts_for_tag_remove(alloc, tx, caller, package, tag)
         }
         Action::Withdraw { package, version } => {
             facts_for_withdraw(alloc, tx, caller, package, version, &request.at)
@@ -119,28 +110,24 @@ pub(crate) fn load_facts<S: Alter>(
         Action::Packument { .. }
         | Action::AbbreviatedPackument { .. }
         | Action::RevisedPackument { .. } => unreachable!(),
-        Action::Tags { package } => {
-            facts_about_package(alloc, tx, caller, package).map(Found::About)
-        }
+        Action::Tags { package } => { facts_about_package(alloc, tx, caller, package) }
         Action::VersionDoc { package, version } => {
-            facts_about_document(alloc, tx, caller, package, version).map(Found::About)
+            facts_about_document(alloc, tx, caller, package, version)
         }
         Action::Archive { package, version } => {
-            facts_about_archive(alloc, tx, caller, package, version).map(Found::About)
+            facts_about_archive(alloc, tx, caller, package, version)
         }
         Action::Members { organisation } | Action::Teams { organisation } => {
-            facts_about_organisation(alloc, tx, caller, organisation).map(Found::About)
+            facts_about_organisation(alloc, tx, caller, organisation)
         }
         Action::TeamMembers { organisation, team } | Action::TeamPackages { organisation, team } =>
-            { facts_about_team(alloc, tx, caller, organisation, team).map(Found::About) }
-        Action::Maintainers { package } => {
-            facts_for_maintainers(alloc, tx, caller, package).map(Found::About)
-        }
+            { facts_about_team(alloc, tx, caller, organisation, team) }
+        Action::Maintainers { package } => { facts_for_maintainers(alloc, tx, caller, package) }
         Action::OrgPackages { organisation } => {
-            facts_about_organisation(alloc, tx, caller, organisation).map(Found::About)
+            facts_about_organisation(alloc, tx, caller, organisation)
         }
-        Action::WhoAmI | Action::Users => facts_of_caller(tx).map(Found::About),
-        Action::Organisations | Action::Packages => facts_of_caller(tx).map(Found::About),
-        Action::MyPackages => facts_of_caller(tx).map(Found::About),
+        Action::WhoAmI | Action::Users => facts_of_caller(tx),
+        Action::Organisations | Action::Packages => facts_of_caller(tx),
+        Action::MyPackages => facts_of_caller(tx),
     }
 }

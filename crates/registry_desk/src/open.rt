@@ -9,24 +9,26 @@ ghost use Rattle.sqlite_std_file.specs.File.{file_is_usable};
 ghost use Rattle.sqlite_store.specs.FileStore.{view};
 ghost use Rattle.sqlite_wal.specs.Files.{image_at};
 ghost use Rattle.registry_rows.specs.Frames.{Stays};
-ghost use Rattle.registry_rows.specs.Ready.{Leaves, Reads, Ready};
+ghost use Rattle.registry_rows.specs.Ready.{Reads, Ready};
 ghost use Rattle.registry_rows.specs.Tables.{no_tables};
-ghost use Rattle.registry_tables.specs.Contents.{contents};
-ghost use Rattle.registry_tables.specs.Effects.{GoesOn, InForm, OnlyWhere, shown, stored, stored_in};
+ghost use Rattle.registry_tables.specs.Effects.{GoesOn, InForm, OnlyWhere, shown, stored};
 ghost use Rattle.registry_tables.specs.Fresh.{CountsArchivesAlone};
+ghost use Rattle.registry_tables.specs.Inside as inside;
 ghost use Rattle.registry_tables.specs.Schema as tables;
 ghost use Rattle.registry_migration.specs.Older.{schema_of};
-ghost use Rattle.registry_desk.specs.Adopted.{AreFilesOf, CanBeAdopted, CanBeAdoptedAgain, IsHandedBack, IsMade, IsSettled, IsUndone, LeavesCommitted, SurvivesAdoption};
-ghost use Rattle.registry_desk.specs.Opened.{AreFresh, FailsToConnect, FailsToOpen, FailsToOpenSome, HoldsEach, HoldsFound, IsFreshIfEmpty, IsGuarded, IsMadeOf, IsMigrated, IsNumbered, IsUnlimited, IsUri, LeavesAtMost, LeavesAtMostOf, LeavesMigrated};
+ghost use Rattle.registry_desk.specs.Adopted.{AreFilesOf, CanBeAdopted, CanBeAdoptedAgain, IsAdopted, IsGivenBack, IsHandedBack, IsMade, IsSettled, LeavesCommitted, MakesInside, Settles, SurvivesAdoption};
+ghost use Rattle.registry_desk.specs.Opened.{AreFresh, FailsToConnect, FailsToOpen, FailsToOpenSome, GivesAs, HoldsEach, HoldsFound, IsFreshIfEmpty, IsGuarded, IsLeftOf, IsMadeOf, IsMigrated, IsOurs, IsUnlimited, IsUri, LeavesAs, LeavesAtMost, LeavesAtMostOf, LeavesMigrated, schema_as};
 ghost use Rattle.registry_desk.specs.Promises.{IsSure};
 ghost use Rattle.registry_desk.specs.Resting.{HoldsAsWritten, IsAsWritten, Rests};
 
 use crate::cache::Caches;
-use crate::registry::{Registry, create_tables};
+use crate::registry::Registry;
 use registry_migration::{Older, is_same_schema, migrate, older_schema};
 use registry_names::Fault;
 use registry_rows::{commit, fault_of};
-use registry_tables::{are_grants_in_scope, counts_archives_alone, numbers_are_in_range, opened};
+use registry_tables::{
+    are_grants_in_scope, counts_archives_alone, create, numbers_are_in_range, opened,
+};
 use sqlite::{
     Alter, Connection, File, FileFrom, FileStore, Files, Leftover, Options, Start, Transaction,
     Unknown,
@@ -264,18 +266,33 @@ impl<S: Alter> Registry<S> {
         ensures carried { IfOk result (λ r.
             SurvivesAdoption (state S.Store conn) (state S.Store r)) }
     {
-        if !conn.is_autocommit() {
-            return Err((Fault::Database, conn));
-        }
-        let caches = match Caches::new(alloc) {
-            Ok(caches) => caches,
-            Err(_) => return Err((Fault::Memory, conn)),
-        };
         let mut conn = conn;
-        match settle(alloc, &mut conn) {
-            Ok(()) => Ok(Registry { conn, caches }),
+        match taken_over(alloc, &mut conn) {
+            Ok(caches) => Ok(Registry { conn, caches }),
             Err(fault) => Err((fault, conn)),
         }
+    }
+}
+
+// Takes over a connection: the caches of the registry that it is then.
+fn taken_over<S: Alter>(alloc: Global, conn: &mut Connection<S>) -> Result<Caches, Fault>
+    requires rises { conn.old.in_transaction ≡ false → CanBeAdopted (state S.Store conn.old) }
+    ensures ok { IfOk result (IsAdopted (state S.Store conn.old) (state S.Store conn.new)) }
+    ensures err { OnErr result
+        (IsGivenBack (state S.Store conn.old) (state S.Store conn.new)) }
+    ensures inside { conn.old.in_transaction ≡ true
+        → (result ≡ Err Fault.Database) × (conn.new ≡ conn.old) }
+{
+    if !conn.is_autocommit() {
+        return Err(Fault::Database);
+    }
+    let caches = match Caches::new(alloc) {
+        Ok(caches) => caches,
+        Err(_) => return Err(Fault::Memory),
+    };
+    match settle(alloc, conn) {
+        Ok(()) => Ok(caches),
+        Err(fault) => Err(fault),
     }
 }
 
@@ -340,32 +357,47 @@ fn fault_of_open(error: OpenError) -> Fault
     }
 }
 
-// Makes the tables where the database has none, and ours of those of an older schema. Otherwise
-// tests that they are ours.
+// ---- what a registry is made of
+
+/// What tables a database has, of which a registry is made.
+#[derive(Clone, Copy)]
+pub(crate) enum Base {
+    /// None: it becomes a fresh registry.
+    Empty,
+    /// Those of a registry.
+    Ours,
+    /// Those of an older schema, which are migrated.
+    Older(Older),
+}
+
+// Makes a registry of what the database has, or tests that it is one.
 fn settle<S: Alter>(alloc: Global, conn: &mut Connection<S>) -> Result<(), Fault>
     requires idle { conn.old.in_transaction ≡ false }
-    requires settled { IsSettled (state S.Store conn.old) }
     requires rises { CanBeAdopted (state S.Store conn.old) }
-    ensures rests { OnOk result (Rests (state S.Store conn.new)) }
-    ensures made { HasCleanDisk (state S.Store conn.new)
-        → OnOk result (IsMadeOf (state S.Store conn.old).now (stored (state S.Store conn.new))) }
-    ensures served { HasCleanDisk (state S.Store conn.new)
-        → OnOk result (IsTrue (state S.Store conn.new).is_open) }
-    ensures idle { conn.new.in_transaction ≡ false }
-    ensures undone { OnErr result (IsUndone (state S.Store conn.old) (state S.Store conn.new)) }
-    ensures opened { HasCleanDisk (state S.Store conn.new)
-        → OnOk result (IsTrue (state S.Store conn.old).is_open) }
-    ensures survives { SurvivesAdoption (state S.Store conn.old) (state S.Store conn.new) }
+    requires settled { IsSettled (state S.Store conn.old) }
+    ensures { Settles (state S.Store conn.old) (state S.Store conn.new)
+        (IsMadeOf (state S.Store conn.old).now) (IsLeftOf (state S.Store conn.old).now) result }
 {
-    if has_nothing(conn.schema()) {
-        return create_tables(conn);
+    match base_of(alloc, conn.schema()) {
+        Ok(Some(base)) => settle_as(alloc, conn, base),
+        Ok(None) => Err(Fault::Database),
+        Err(fault) => Err(fault),
     }
-    if has_our_tables(alloc, conn.schema())? {
-        return check_contents(alloc, conn);
+}
+
+// What tables these are. `None` where no registry is made of them.
+fn base_of(alloc: Global, schema: &Schema) -> Result<Option<Base>, Fault>
+    ensures { IfOk result (λ base. IfSome base (λ is. schema.now ≡ schema_as is)) }
+{
+    if has_nothing(schema) {
+        return Ok(Some(Base::Empty));
     }
-    match older_schema(alloc, conn.schema())? {
-        Some(older) => migrate_tables(alloc, conn, older),
-        None => Err(Fault::Database),
+    if has_our_tables(alloc, schema)? {
+        return Ok(Some(Base::Ours));
+    }
+    match older_schema(alloc, schema)? {
+        Some(older) => Ok(Some(Base::Older(older))),
+        None => Ok(None),
     }
 }
 
@@ -394,37 +426,51 @@ fn has_our_tables(alloc: Global, schema: &Schema) -> Result<bool, Fault>
     let Ok(mut conn) = Connection::open_in_memory(alloc) else {
         return Err(Fault::Memory);
     };
-    create_tables(&mut conn)?;
+    settle_as(alloc, &mut conn, Base::Empty)?;
     Ok(is_same_schema(conn.schema(), schema))
 }
 
-// Makes a registry of the older schema one of ours, in one transaction.
-fn migrate_tables<S: Alter>(
+// Makes a registry of these tables, in one transaction.
+pub(crate) fn settle_as<S: Alter>(
     alloc: Global,
     conn: &mut Connection<S>,
-    older: Older,
+    base: Base,
 ) -> Result<(), Fault>
     requires idle { conn.old.in_transaction ≡ false }
-    requires ready { Ready (schema_of older) (state S.Store conn.old) }
-    ensures rests { OnOk result (Rests (state S.Store conn.new)) }
-    ensures made { HasCleanDisk (state S.Store conn.new) → OnOk result
-        (IsMigrated older (state S.Store conn.old).now.trees (stored (state S.Store conn.new))) }
-    ensures served { HasCleanDisk (state S.Store conn.new)
-        → OnOk result (IsTrue (state S.Store conn.new).is_open) }
-    ensures opened { HasCleanDisk (state S.Store conn.new)
-        → OnOk result (IsTrue (state S.Store conn.old).is_open) }
-    ensures idle { conn.new.in_transaction ≡ false }
-    ensures undone { OnErr result (IsUndone (state S.Store conn.old) (state S.Store conn.new)) }
-    ensures survives { Survives (state S.Store conn.old) (state S.Store conn.new)
-        (λ db. IsTrue (state S.Store conn.old).is_open
-        × LeavesMigrated older (state S.Store conn.old).now.trees db) }
+    requires ready { Ready (schema_as base) (state S.Store conn.old) }
+    ensures { Settles (state S.Store conn.old) (state S.Store conn.new)
+        (GivesAs base (state S.Store conn.old).now.trees)
+        (LeavesAs base (state S.Store conn.old).now.trees) result }
 {
     let mut tx = conn.transaction();
-    migrate_rows(alloc, &mut tx, older)?;
-    commit(tx)
+    match settle_inside(alloc, &mut tx, base) {
+        Ok(()) => commit(tx),
+        Err(fault) => Err(fault),
+    }
 }
 
-// The same inside a transaction. `Database` is also returned where the registry isn't sound.
+// The same inside the transaction.
+fn settle_inside<S: Alter>(
+    alloc: Global,
+    tx: &mut Transaction<'_, S>,
+    base: Base,
+) -> Result<(), Fault>
+    requires ready { Ready (schema_as base) (shown S.Store tx.old) }
+    requires going { GoesOn S.Store tx.old }
+    ensures stays { Stays S.Store tx.old tx.new }
+    ensures made { HasCleanDisk (shown S.Store tx.new) → OnOk result
+        (MakesInside (shown S.Store tx.old) (shown S.Store tx.new)
+        (GivesAs base (shown S.Store tx.old).now.trees)
+        (LeavesAs base (shown S.Store tx.old).now.trees)) }
+{
+    match base {
+        Base::Empty => create(tx),
+        Base::Ours => check_rows(tx),
+        Base::Older(older) => migrate_rows(alloc, tx, older),
+    }
+}
+
+// Makes rows of an older schema ours. `Database` is also returned where the registry isn't sound.
 fn migrate_rows<S: Alter>(
     alloc: Global,
     tx: &mut Transaction<'_, S>,
@@ -433,72 +479,44 @@ fn migrate_rows<S: Alter>(
     requires older { Ready (schema_of older) (shown S.Store tx.old) }
     ensures stays { Stays S.Store tx.old tx.new }
     ensures made { HasCleanDisk (shown S.Store tx.new) → OnOk result
-        (Leaves tables.schema contents (stored_in S.Store tx.new) (shown S.Store tx.new)) }
-    ensures migrated { HasCleanDisk (shown S.Store tx.new) → OnOk result
-        (IsMigrated older (shown S.Store tx.old).now.trees (stored_in S.Store tx.new)) }
-    ensures served { HasCleanDisk (shown S.Store tx.new)
-        → OnOk result (IsTrue (shown S.Store tx.old).is_open) }
+        (MakesInside (shown S.Store tx.old) (shown S.Store tx.new)
+        (IsMigrated older (shown S.Store tx.old).now.trees)
+        (LeavesMigrated older (shown S.Store tx.old).now.trees)) }
 {
     migrate(alloc, tx, older)?;
-    check_sound(alloc, tx)
+    check_sound(tx)
 }
 
 // `Database` is returned for another number of the schema, for a counter besides that of the
 // archives, and for a registry that isn't sound.
-fn check_contents<S: Alter>(alloc: Global, conn: &mut Connection<S>) -> Result<(), Fault>
-    requires idle { conn.old.in_transaction ≡ false }
-    requires ready { Ready tables.schema (state S.Store conn.old) }
-    ensures rests { OnOk result (Rests (state S.Store conn.new)) }
-    ensures numbered { HasCleanDisk (state S.Store conn.new)
-        → OnOk result (IsNumbered (stored (state S.Store conn.old))) }
-    ensures counted { HasCleanDisk (state S.Store conn.new)
-        → OnOk result (CountsArchivesAlone (stored (state S.Store conn.old))) }
-    ensures written { HasCleanDisk (state S.Store conn.new)
-        → OnOk result (IsAsWritten (stored (state S.Store conn.old))) }
-    ensures same { HasCleanDisk (state S.Store conn.new)
-        → OnOk result ((state S.Store conn.new).now ≡ (state S.Store conn.old).now) }
-    ensures served { HasCleanDisk (state S.Store conn.new)
-        → OnOk result (IsTrue (state S.Store conn.new).is_open) }
-    ensures idle { conn.new.in_transaction ≡ false }
-    ensures undone { OnErr result (IsUndone (state S.Store conn.old) (state S.Store conn.new)) }
-    ensures opened { HasCleanDisk (state S.Store conn.new)
-        → OnOk result (IsTrue (state S.Store conn.old).is_open) }
-    ensures survives { Survives (state S.Store conn.old) (state S.Store conn.new)
-        (λ db. IsTrue (state S.Store conn.old).is_open
-        × (db ≡ (state S.Store conn.old).now.trees)) }
-{
-    let mut tx = conn.transaction();
-    check_rows(alloc, &mut tx)?;
-    commit(tx)
-}
-
-// The same of the rows, inside a transaction.
-fn check_rows<S: Alter>(alloc: Global, tx: &mut Transaction<'_, S>) -> Result<(), Fault>
+fn check_rows<S: Alter>(tx: &mut Transaction<'_, S>) -> Result<(), Fault>
     requires in_form { InForm S.Store tx.old }
-    requires going { HasCleanDisk (shown S.Store tx.old) → GoesOn S.Store tx.old }
+    requires going { GoesOn S.Store tx.old }
     ensures stays { Stays S.Store tx.old tx.new }
     ensures reads { HasCleanDisk (shown S.Store tx.new)
         → OnOk result (Reads tables.schema (shown S.Store tx.old) (shown S.Store tx.new)) }
-    ensures numbered { OnlyWhere S.Store tx.old tx.new result IsNumbered }
-    ensures counted { OnlyWhere S.Store tx.old tx.new result CountsArchivesAlone }
-    ensures written { OnlyWhere S.Store tx.old tx.new result IsAsWritten }
+    ensures ours { OnlyWhere S.Store tx.old tx.new result IsOurs }
 {
     check_number(opened(tx)?)?;
+    check_held(tx)
+}
+
+// The same of what the tables hold, and of the counters.
+fn check_held<S: Alter>(tx: &mut Transaction<'_, S>) -> Result<(), Fault>
+    ensures { inside.Finds S.Store tx.old tx.new result
+        (λ _ c. CountsArchivesAlone c × IsAsWritten c) }
+{
     check_so(counts_archives_alone(tx)?)?;
-    check_sound(alloc, tx)
+    check_sound(tx)
 }
 
 // `Database` is returned where something is stored that no registry stores, and from which requests
 // would be decided.
-fn check_sound<S: Alter>(alloc: Global, tx: &mut Transaction<'_, S>) -> Result<(), Fault>
-    requires in_form { InForm S.Store tx.old }
-    ensures stays { Stays S.Store tx.old tx.new }
-    ensures reads { HasCleanDisk (shown S.Store tx.new)
-        → OnOk result (Reads tables.schema (shown S.Store tx.old) (shown S.Store tx.new)) }
-    ensures written { OnlyWhere S.Store tx.old tx.new result IsAsWritten }
+fn check_sound<S: Alter>(tx: &mut Transaction<'_, S>) -> Result<(), Fault>
+    ensures { inside.Finds S.Store tx.old tx.new result (λ _ c. IsAsWritten c) }
 {
-    check_so(are_grants_in_scope(alloc, tx)?)?;
-    check_so(numbers_are_in_range(alloc, tx)?)
+    check_so(are_grants_in_scope(tx)?)?;
+    check_so(numbers_are_in_range(tx)?)
 }
 
 // `Database` is returned for what isn't so.

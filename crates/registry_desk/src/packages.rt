@@ -1,16 +1,16 @@
 //! What decides an action about packages, their versions and their tags.
 
-ghost use Rattle.std.specs.Prelude.{◌≡◌, ◌||◌, ℕ, false, true};
+ghost use Rattle.std.specs.Prelude.{◌≡◌, ◌||◌, false};
 ghost use Rattle.registry_names.specs.Tags.{latest};
+ghost use Rattle.registry_names.specs.Texts.{Text, is};
 ghost use Rattle.registry_names.specs.declared.status.Status.{Status};
-ghost use Rattle.registry_rows.specs.Frames.{Stays};
 ghost use Rattle.registry_tables.specs.Contents.{registry_of};
-ghost use Rattle.registry_tables.specs.Effects.{InForm, Knows, Loads};
+ghost use Rattle.registry_tables.specs.Inside.{Finds, Knows};
 ghost use Rattle.registry_tables.specs.Teams.{AreTeamsSound};
 ghost use Rattle.registry_desk.specs.Found.{AreTaken};
-ghost use Rattle.registry_rules.specs.Facts.{AboutTells};
-ghost use Rattle.registry_desk.specs.Early.{FoundTells};
+ghost use Rattle.registry_desk.specs.Early.{Decides};
 ghost use Rattle.registry_rules.specs.State as state;
+ghost use Rattle.registry_rules.specs.Withdrawals as withdrawals;
 ghost use Rattle.registry_rules.specs.declared.request.Action.TheVariants as asked;
 ghost use Rattle.registry_rules.specs.declared.request.Asked.TheVariants as which;
 
@@ -31,16 +31,13 @@ pub(crate) fn facts_for_set_access<S: Alter>(
     tx: &mut Transaction<'_, S>,
     caller: &Caller,
     name: &Name,
-) -> Result<About, Fault>
-    requires in_form { InForm S.Store tx.old }
-    ensures stays { Stays S.Store tx.old tx.new }
-    ensures loads { Loads S.Store tx.old tx.new result (λ about c. (status : Status)
+) -> Result<Found, Fault>
+    ensures { Finds S.Store tx.old tx.new result (λ found c. (status : Status)
         → AreTeamsSound c
-        → AboutTells about (registry_of c) caller.now (asked.SetAccess name.now status)) }
+        → Decides found c caller.now (asked.SetAccess name.now status)) }
 {
-    Ok(About::Rights {
-        standing: load_standing(alloc, tx, caller, name, &Ask::Write(name))?,
-    })
+    let standing = load_standing(alloc, tx, caller, name, &Ask::Write(name))?;
+    Ok(Found::About(About::Rights { standing }))
 }
 
 /// Loads what decides a query for the maintainers of a package.
@@ -49,15 +46,12 @@ pub(crate) fn facts_for_maintainers<S: Alter>(
     tx: &mut Transaction<'_, S>,
     caller: &Caller,
     name: &Name,
-) -> Result<About, Fault>
-    requires in_form { InForm S.Store tx.old }
-    ensures stays { Stays S.Store tx.old tx.new }
-    ensures loads { Loads S.Store tx.old tx.new result (λ about c. AreTeamsSound c
-        → AboutTells about (registry_of c) caller.now (asked.Maintainers name.now)) }
+) -> Result<Found, Fault>
+    ensures { Finds S.Store tx.old tx.new result (λ found c. AreTeamsSound c
+        → Decides found c caller.now (asked.Maintainers name.now)) }
 {
-    Ok(About::Rights {
-        standing: load_standing(alloc, tx, caller, name, &Ask::Read(name))?,
-    })
+    let standing = load_standing(alloc, tx, caller, name, &Ask::Read(name))?;
+    Ok(Found::About(About::Rights { standing }))
 }
 
 /// Loads what decides a publish, if the policy allows it.
@@ -67,10 +61,8 @@ pub(crate) fn facts_for_publish<S: Alter>(
     caller: &Caller,
     form: &PublishForm,
 ) -> Result<Found, Fault>
-    requires in_form { InForm S.Store tx.old }
-    ensures stays { Stays S.Store tx.old tx.new }
-    ensures loads { Loads S.Store tx.old tx.new result (λ found c. (at : ℕ) → AreTeamsSound c
-        → FoundTells found (registry_of c) at caller.now (asked.Publish form.now)) }
+    ensures { Finds S.Store tx.old tx.new result (λ found c. AreTeamsSound c
+        → Decides found c caller.now (asked.Publish form.now)) }
 {
     let name = form.name();
     let standing = match standing_if_allowed(alloc, tx, caller, name, &Ask::Publish(name))? {
@@ -82,91 +74,55 @@ pub(crate) fn facts_for_publish<S: Alter>(
         standing,
         version_lives: taken.version_lives,
         version_spent: taken.version_spent,
-        tag_stands: taken.tag_stands,
         latest_stands: taken.latest_stands,
-        lives: taken.lives,
-        last_withdrawal: taken.last_withdrawal,
+        gone_since: taken.gone_since,
     })))
 }
 
-// What exists already of what is to be published, and of its package. Where the version lives, or
-// `latest` names one, some version lives.
+// What exists already of what is to be published, and of its package.
 #[derive(Drop)]
 struct Taken {
     version_lives: bool,
     version_spent: bool,
-    tag_stands: bool,
     latest_stands: bool,
-    lives: bool,
-    last_withdrawal: Option<Moment>,
+    gone_since: Option<Moment>,
 }
 
 fn find_taken<S: Alter>(tx: &mut Transaction<'_, S>, form: &PublishForm) -> Result<Taken, Fault>
-    requires in_form { InForm S.Store tx.old }
-    ensures stays { Stays S.Store tx.old tx.new }
-    ensures loads { Loads S.Store tx.old tx.new result
+    ensures { Finds S.Store tx.old tx.new result
         (λ taken c. AreTaken taken (registry_of c) form.now) }
 {
     let (name, version) = (form.name(), form.version().text());
     let version_lives = has_version(tx, name, version)?;
-    let tag_stands = has_tag(tx, name, form.tag().text())?;
-    let latest_stands = has_latest(tx, form, tag_stands)?;
-    let lives = has_some(tx, name, one_lives(version_lives, latest_stands))?;
+    let latest_stands = has_latest(tx, form)?;
     let last_withdrawal = load_last_withdrawal(tx, name)?;
     let version_spent = was_withdrawn(tx, name, version, last_withdrawal.is_some())?;
+    let gone_since = gone_since(tx, name, last_withdrawal)?;
     Ok(Taken {
         version_lives,
         version_spent,
-        tag_stands,
         latest_stands,
-        lives,
-        last_withdrawal,
+        gone_since,
     })
 }
 
-// Whether the package has the tag `latest`, which may be the tag of the form.
-fn has_latest<S: Alter>(
-    tx: &mut Transaction<'_, S>,
-    form: &PublishForm,
-    tag_stands: bool,
-) -> Result<bool, Fault>
-    requires in_form { InForm S.Store tx.old }
-    ensures stays { Stays S.Store tx.old tx.new }
-    ensures knows { Knows S.Store tx.old tx.new result (λ has c.
-        tag_stands ≡ state.stands (registry_of c) form.now.name form.now.tag
-        → has ≡ state.stands (registry_of c) form.now.name latest) }
+// Whether the package has the tag `latest`, or gets it as the tag of the form.
+fn has_latest<S: Alter>(tx: &mut Transaction<'_, S>, form: &PublishForm) -> Result<bool, Fault>
+    ensures { Knows S.Store tx.old tx.new result (λ has c.
+        has ≡ (state.stands (registry_of c) form.now.name latest || is form.now.tag latest)) }
 {
-    if form.tag().text() == LATEST {
-        Ok(tag_stands)
+    if is_latest(form.tag()) {
+        Ok(true)
     } else {
         has_tag(tx, form.name(), LATEST)
     }
 }
 
-// Whether a version is known to live: this one, or the one that `latest` names.
-fn one_lives(version_lives: bool, latest_stands: bool) -> bool
-    ensures { result ≡ (version_lives || latest_stands) }
+#[tactic(auto, unfolding(registry_names::specs::Texts::is))]
+fn is_latest(tag: &TagText) -> bool
+    ensures { result ≡ is tag.now latest }
 {
-    version_lives || latest_stands
-}
-
-// Whether a version of the package lives, as it does where one is known to live.
-fn has_some<S: Alter>(
-    tx: &mut Transaction<'_, S>,
-    name: &Name,
-    is_known: bool,
-) -> Result<bool, Fault>
-    requires in_form { InForm S.Store tx.old }
-    ensures stays { Stays S.Store tx.old tx.new }
-    ensures knows { Knows S.Store tx.old tx.new result (λ lives c.
-        (is_known ≡ true → state.has_live (registry_of c) name.now ≡ true)
-        → lives ≡ state.has_live (registry_of c) name.now) }
-{
-    if is_known {
-        Ok(true)
-    } else {
-        has_live(tx, name)
-    }
+    tag.text() == LATEST
 }
 
 // Whether the version was withdrawn, as none was where no version of the package ever was.
@@ -176,9 +132,7 @@ fn was_withdrawn<S: Alter>(
     version: &str,
     any_was: bool,
 ) -> Result<bool, Fault>
-    requires in_form { InForm S.Store tx.old }
-    ensures stays { Stays S.Store tx.old tx.new }
-    ensures knows { Knows S.Store tx.old tx.new result (λ was c.
+    ensures { Knows S.Store tx.old tx.new result (λ was c.
         (any_was ≡ false → state.is_spent (registry_of c) name.now version.now ≡ false)
         → was ≡ state.is_spent (registry_of c) name.now version.now) }
 {
@@ -189,26 +143,39 @@ fn was_withdrawn<S: Alter>(
     }
 }
 
+// When a version of the package was withdrawn last, if none lives.
+fn gone_since<S: Alter>(
+    tx: &mut Transaction<'_, S>,
+    name: &Name,
+    last_withdrawal: Option<Moment>,
+) -> Result<Option<Moment>, Fault>
+    ensures { Knows S.Store tx.old tx.new result (λ since c.
+        last_withdrawal ≡ withdrawals.last_withdrawal (registry_of c) name.now
+        → since ≡ withdrawals.gone_since (registry_of c) name.now) }
+{
+    if last_withdrawal.is_some() {
+        let lives = has_live(tx, name)?;
+        Ok(if lives { None } else { last_withdrawal })
+    } else {
+        Ok(None)
+    }
+}
+
 /// Loads what decides whether a tag is set.
 pub(crate) fn facts_for_tag_set<S: Alter>(
     alloc: Global,
     tx: &mut Transaction<'_, S>,
     caller: &Caller,
     name: &Name,
-    tag: &TagText,
     version: &Ver,
-) -> Result<About, Fault>
-    requires in_form { InForm S.Store tx.old }
-    ensures stays { Stays S.Store tx.old tx.new }
-    ensures loads { Loads S.Store tx.old tx.new result (λ about c. AreTeamsSound c
-        → AboutTells about (registry_of c) caller.now
-        (asked.TagSet name.now tag.now version.now)) }
+) -> Result<Found, Fault>
+    ensures { Finds S.Store tx.old tx.new result (λ found c. (tag : Text) → AreTeamsSound c
+        → Decides found c caller.now (asked.TagSet name.now tag version.now)) }
 {
-    Ok(About::TagSet {
+    Ok(Found::About(About::TagSet {
         standing: load_standing(alloc, tx, caller, name, &Ask::Write(name))?,
         version_lives: has_version(tx, name, version.text())?,
-        tag_stands: has_tag(tx, name, tag.text())?,
-    })
+    }))
 }
 
 /// Loads what decides whether a tag is removed.
@@ -218,16 +185,14 @@ pub(crate) fn facts_for_tag_remove<S: Alter>(
     caller: &Caller,
     name: &Name,
     tag: &TagText,
-) -> Result<About, Fault>
-    requires in_form { InForm S.Store tx.old }
-    ensures stays { Stays S.Store tx.old tx.new }
-    ensures loads { Loads S.Store tx.old tx.new result (λ about c. AreTeamsSound c
-        → AboutTells about (registry_of c) caller.now (asked.TagRemove name.now tag.now)) }
+) -> Result<Found, Fault>
+    ensures { Finds S.Store tx.old tx.new result (λ found c. AreTeamsSound c
+        → Decides found c caller.now (asked.TagRemove name.now tag.now)) }
 {
-    Ok(About::TagRemove {
+    Ok(Found::About(About::TagRemove {
         standing: load_standing(alloc, tx, caller, name, &Ask::Write(name))?,
         tag_stands: has_tag(tx, name, tag.text())?,
-    })
+    }))
 }
 
 /// Loads what decides a query for the tags of a package.
@@ -236,16 +201,14 @@ pub(crate) fn facts_about_package<S: Alter>(
     tx: &mut Transaction<'_, S>,
     caller: &Caller,
     name: &Name,
-) -> Result<About, Fault>
-    requires in_form { InForm S.Store tx.old }
-    ensures stays { Stays S.Store tx.old tx.new }
-    ensures loads { Loads S.Store tx.old tx.new result (λ about c. AreTeamsSound c
-        → AboutTells about (registry_of c) caller.now (asked.Tags name.now)) }
+) -> Result<Found, Fault>
+    ensures { Finds S.Store tx.old tx.new result (λ found c. AreTeamsSound c
+        → Decides found c caller.now (asked.Tags name.now)) }
 {
-    Ok(About::Package {
+    Ok(Found::About(About::Package {
         standing: load_standing(alloc, tx, caller, name, &Ask::Read(name))?,
         lives: has_live(tx, name)?,
-    })
+    }))
 }
 
 /// Loads what decides a query for the document of a version.
@@ -255,16 +218,14 @@ pub(crate) fn facts_about_document<S: Alter>(
     caller: &Caller,
     name: &Name,
     version: &Asked,
-) -> Result<About, Fault>
-    requires in_form { InForm S.Store tx.old }
-    ensures stays { Stays S.Store tx.old tx.new }
-    ensures loads { Loads S.Store tx.old tx.new result (λ about c. AreTeamsSound c
-        → AboutTells about (registry_of c) caller.now
-        (asked.VersionDoc name.now version.now)) }
+) -> Result<Found, Fault>
+    ensures { Finds S.Store tx.old tx.new result (λ found c. AreTeamsSound c
+        → Decides found c caller.now (asked.VersionDoc name.now version.now)) }
 {
-    let standing = load_standing(alloc, tx, caller, name, &Ask::Read(name))?;
-    let lives = asked_lives(tx, name, version)?;
-    Ok(About::Version { standing, lives })
+    Ok(Found::About(About::Version {
+        standing: load_standing(alloc, tx, caller, name, &Ask::Read(name))?,
+        lives: asked_lives(tx, name, version)?,
+    }))
 }
 
 // Whether the version that is asked for lives.
@@ -273,9 +234,7 @@ fn asked_lives<S: Alter>(
     name: &Name,
     version: &Asked,
 ) -> Result<bool, Fault>
-    requires in_form { InForm S.Store tx.old }
-    ensures stays { Stays S.Store tx.old tx.new }
-    ensures loads { Loads S.Store tx.old tx.new result (λ lives c. lives ≡ state.lives
+    ensures { Finds S.Store tx.old tx.new result (λ lives c. lives ≡ state.lives
         (registry_of c) name.now (state.asked_version (registry_of c) name.now version.now)) }
 {
     match version {
@@ -286,9 +245,7 @@ fn asked_lives<S: Alter>(
 
 // Whether the version that `latest` names lives. None does where the tag doesn't exist.
 fn latest_lives<S: Alter>(tx: &mut Transaction<'_, S>, name: &Name) -> Result<bool, Fault>
-    requires in_form { InForm S.Store tx.old }
-    ensures stays { Stays S.Store tx.old tx.new }
-    ensures loads { Loads S.Store tx.old tx.new result (λ lives c. lives ≡ state.lives
+    ensures { Finds S.Store tx.old tx.new result (λ lives c. lives ≡ state.lives
         (registry_of c) name.now (state.asked_version (registry_of c) name.now which.Latest)) }
 {
     match load_tag(tx, name, LATEST)? {
@@ -307,14 +264,12 @@ pub(crate) fn facts_about_archive<S: Alter>(
     caller: &Caller,
     name: &Name,
     version: &Ver,
-) -> Result<About, Fault>
-    requires in_form { InForm S.Store tx.old }
-    ensures stays { Stays S.Store tx.old tx.new }
-    ensures loads { Loads S.Store tx.old tx.new result (λ about c. AreTeamsSound c
-        → AboutTells about (registry_of c) caller.now (asked.Archive name.now version.now)) }
+) -> Result<Found, Fault>
+    ensures { Finds S.Store tx.old tx.new result (λ found c. AreTeamsSound c
+        → Decides found c caller.now (asked.Archive name.now version.now)) }
 {
-    Ok(About::Version {
+    Ok(Found::About(About::Version {
         standing: load_standing(alloc, tx, caller, name, &Ask::Read(name))?,
         lives: has_version(tx, name, version.text())?,
-    })
+    }))
 }

@@ -1,20 +1,16 @@
 //! What decides an action about users and their tokens.
 
-ghost use Rattle.std.specs.Prelude.{◌≡◌, ℕ};
 ghost use Rattle.registry_access.specs.declared.caller.Caller.{Caller as Asker};
-ghost use Rattle.registry_rows.specs.Frames.{Stays};
-ghost use Rattle.registry_tables.specs.Contents.{registry_of};
-ghost use Rattle.registry_tables.specs.Effects.{InForm, Loads};
-ghost use Rattle.registry_rules.specs.Facts.{AboutTells};
+ghost use Rattle.registry_tables.specs.Inside.{Finds};
 ghost use Rattle.registry_rules.specs.declared.request.Action.TheVariants as asked;
-ghost use Rattle.registry_desk.specs.Early.{FoundTells};
+ghost use Rattle.registry_desk.specs.Early.{Decides, DecidesOfCaller};
 
 use crate::policy::Found;
 use registry_access::{Caller, may_operate};
 use registry_names::{Fault, Ident};
 use registry_publish::TokenDigest;
 use registry_rules::About;
-use registry_tables::{has_user, load_token_user, load_user_tokens};
+use registry_tables::{has_nameless_user, has_user, load_token_user, load_user_tokens};
 use sqlite::{Alter, Transaction};
 use std::alloc::Global;
 
@@ -22,26 +18,22 @@ use std::alloc::Global;
 pub(crate) fn facts_for_user_add<S: Alter>(
     tx: &mut Transaction<'_, S>,
     user: &Ident,
-) -> Result<About, Fault>
-    requires in_form { InForm S.Store tx.old }
-    ensures stays { Stays S.Store tx.old tx.new }
-    ensures loads { Loads S.Store tx.old tx.new result (λ about c. (who : Asker)
-        → AboutTells about (registry_of c) who (asked.UserAdd user.now)) }
+) -> Result<Found, Fault>
+    ensures { Finds S.Store tx.old tx.new result
+        (λ found c. (who : Asker) → Decides found c who (asked.UserAdd user.now)) }
 {
-    Ok(About::UserAdd {
-        exists: has_user(tx, user.text())?,
-    })
+    let exists = has_user(tx, user)?;
+    Ok(Found::About(About::UserAdd { exists }))
 }
 
-/// Loads what decides an action that depends on its caller alone: nothing. The look-up of a user
-/// without a name fails where the registry is shut, so that such an action fails, too.
-pub(crate) fn facts_of_caller<S: Alter>(tx: &mut Transaction<'_, S>) -> Result<About, Fault>
-    requires in_form { InForm S.Store tx.old }
-    ensures stays { Stays S.Store tx.old tx.new }
-    ensures loads { Loads S.Store tx.old tx.new result (λ about c. about ≡ About.Nothing) }
+/// Loads what decides an action that depends on its caller alone: nothing. A statement fails where
+/// the registry is shut, so that such an action fails, too.
+pub(crate) fn facts_of_caller<S: Alter>(tx: &mut Transaction<'_, S>) -> Result<Found, Fault>
+    ensures { Finds S.Store tx.old tx.new result
+        (λ found c. (who : Asker) → DecidesOfCaller found c who) }
 {
-    has_user(tx, "")?;
-    Ok(About::Nothing)
+    has_nameless_user(tx)?;
+    Ok(Found::About(About::Nothing))
 }
 
 /// Loads what decides whether a token is added.
@@ -50,16 +42,14 @@ pub(crate) fn facts_for_token_add<S: Alter>(
     tx: &mut Transaction<'_, S>,
     user: &Ident,
     digest: &TokenDigest,
-) -> Result<About, Fault>
-    requires in_form { InForm S.Store tx.old }
-    ensures stays { Stays S.Store tx.old tx.new }
-    ensures loads { Loads S.Store tx.old tx.new result (λ about c. (who : Asker)
-        → AboutTells about (registry_of c) who (asked.TokenAdd user.now digest.now)) }
+) -> Result<Found, Fault>
+    ensures { Finds S.Store tx.old tx.new result
+        (λ found c. (who : Asker) → Decides found c who (asked.TokenAdd user.now digest.now)) }
 {
-    Ok(About::TokenAdd {
-        user_exists: has_user(tx, user.text())?,
+    Ok(Found::About(About::TokenAdd {
+        user_exists: has_user(tx, user)?,
         exists: load_token_user(alloc, tx, digest)?.is_some(),
-    })
+    }))
 }
 
 /// Loads what decides whether a token is ended.
@@ -67,15 +57,12 @@ pub(crate) fn facts_for_token_remove<S: Alter>(
     alloc: Global,
     tx: &mut Transaction<'_, S>,
     digest: &TokenDigest,
-) -> Result<About, Fault>
-    requires in_form { InForm S.Store tx.old }
-    ensures stays { Stays S.Store tx.old tx.new }
-    ensures loads { Loads S.Store tx.old tx.new result (λ about c. (who : Asker)
-        → AboutTells about (registry_of c) who (asked.TokenRemove digest.now)) }
+) -> Result<Found, Fault>
+    ensures { Finds S.Store tx.old tx.new result
+        (λ found c. (who : Asker) → Decides found c who (asked.TokenRemove digest.now)) }
 {
-    Ok(About::TokenRemove {
-        user: load_token_user(alloc, tx, digest)?,
-    })
+    let user = load_token_user(alloc, tx, digest)?;
+    Ok(Found::About(About::TokenRemove { user }))
 }
 
 /// Loads what decides whether all tokens of a user are ended, if the policy allows it.
@@ -85,12 +72,10 @@ pub(crate) fn facts_for_tokens_remove<S: Alter>(
     caller: &Caller,
     user: &Ident,
 ) -> Result<Found, Fault>
-    requires in_form { InForm S.Store tx.old }
-    ensures stays { Stays S.Store tx.old tx.new }
-    ensures loads { Loads S.Store tx.old tx.new result (λ found c. (at : ℕ)
-        → FoundTells found (registry_of c) at caller.now (asked.TokensRemove user.now)) }
+    ensures { Finds S.Store tx.old tx.new result
+        (λ found c. Decides found c caller.now (asked.TokensRemove user.now)) }
 {
-    let user_exists = has_user(tx, user.text())?;
+    let user_exists = has_user(tx, user)?;
     match may_operate(caller) {
         Ok(_) => {
             let digests = load_user_tokens(alloc, tx, user)?;

@@ -2,9 +2,8 @@
 
 ghost use Rattle.std.specs.Prelude.{◌≡◌, IfOk, Some};
 ghost use Rattle.registry_access.specs.RowsFor.{asked_package};
-ghost use Rattle.registry_rows.specs.Frames.{Stays};
 ghost use Rattle.registry_tables.specs.Contents.{access_of};
-ghost use Rattle.registry_tables.specs.Effects.{InForm, Loads};
+ghost use Rattle.registry_tables.specs.Inside.{Finds};
 ghost use Rattle.registry_tables.specs.Teams.{AreTeamsSound};
 ghost use Rattle.registry_desk.specs.Early.{IsAllowedBy, IsPlaced, IsPlacedIn, asked_organisation};
 
@@ -33,10 +32,8 @@ pub(crate) fn standing_if_allowed<S: Alter>(
     name: &Name,
     ask: &Ask<'_>,
 ) -> Result<Result<Standing, Refusal>, Fault>
-    requires in_form { InForm S.Store tx.old }
     requires asked { asked_package ask.now ≡ Some name.now }
-    ensures stays { Stays S.Store tx.old tx.new }
-    ensures loads { Loads S.Store tx.old tx.new result (λ placed c. AreTeamsSound c
+    ensures finds { Finds S.Store tx.old tx.new result (λ placed c. AreTeamsSound c
         → IsPlaced placed (access_of c) caller.now ask.now name.now) }
     ensures allowed { IfOk result (λ placed. IfOk placed (λ standing.
         IsAllowedBy standing caller.now ask.now)) }
@@ -57,13 +54,11 @@ pub(crate) fn rows_if_allowed<S: Alter>(
     organisation: &Ident,
     ask: &Ask<'_>,
 ) -> Result<Result<AccessRows, Refusal>, Fault>
-    requires in_form { InForm S.Store tx.old }
     requires asked { asked_organisation ask.now ≡ Some organisation.now }
-    ensures stays { Stays S.Store tx.old tx.new }
-    ensures loads { Loads S.Store tx.old tx.new result (λ placed c.
+    ensures { Finds S.Store tx.old tx.new result (λ placed c.
         IsPlacedIn placed (access_of c) caller.now ask.now organisation.now) }
 {
-    let rows = load_access(alloc, tx, caller, organisation.text())?;
+    let rows = load_access(alloc, tx, caller, organisation)?;
     match allowed(&rows, caller, ask) {
         Ok(_) => Ok(Ok(rows)),
         Err(refusal) => Ok(Err(refusal)),

@@ -8,8 +8,6 @@ ghost use Rattle.sqlite.specs.Steps.{over_memory};
 ghost use Rattle.registry_rules.specs.Actions.{is_command};
 ghost use Rattle.registry_rules.specs.Kept.{IsKept};
 ghost use Rattle.registry_rules.specs.State.{nothing};
-ghost use Rattle.registry_rows.specs.Ready.{Ready};
-ghost use Rattle.registry_rows.specs.Tables.{no_tables};
 ghost use Rattle.registry_tables.specs.Archives.{HoldsArchives};
 ghost use Rattle.registry_tables.specs.Effects.{registry_in, stored};
 ghost use Rattle.registry_tables.specs.Fresh.{fresh};
@@ -17,10 +15,10 @@ ghost use Rattle.registry_tables.specs.Needs.{HoldsNeeds};
 ghost use Rattle.registry_laws_history.specs.Headline.{Headline};
 ghost use Rattle.registry_desk.specs.Promises.{Answered, GrowsHistory, HasHeadline, HidesUnread, HidesUnreadRun, HoldsReferences, HoldsSound, Keeps, KeepsForm, KeepsFormRun, KeepsRun, KeepsStored, KeepsSure, LooksOpen, Moves, RanTo, Served, ServedRun, ShutByFaults, StaysSure, Stepped, Stored, StoppedByDisk, SurvivesOne, SurvivesRun, Unchanged, WasOpen, WritesHistory};
 ghost use Rattle.registry_desk.specs.Promises as promises;
-ghost use Rattle.registry_desk.specs.Resting.{HoldsAsWritten, IsRegistryOf, Rests, end_stored};
-ghost use Rattle.registry_desk.specs.Adopted.{CanBeAdopted, IsUndone};
-ghost use Rattle.registry_desk.specs.Caches.{HasAnswers, KeepNoMore, KeepsAnswer};
-ghost use Rattle.registry_desk.specs.Sending.{IsAnyPackument, IsPackument, Sends, answers_as_apply};
+ghost use Rattle.registry_desk.specs.Resting.{HoldsAsWritten, Rests, end_stored};
+ghost use Rattle.registry_desk.specs.Adopted.{CanBeAdopted};
+ghost use Rattle.registry_desk.specs.Caches.{IsCached, KeepsOutcome};
+ghost use Rattle.registry_desk.specs.Sending.{AnswersOne, IsAnyPackument, IsPackument, Sends, answers_as_apply};
 ghost use Rattle.registry_desk.specs.Together.{AnsweredTogether};
 ghost use Rattle.registry_desk.specs.Views.{asks_packument};
 ghost use Rattle.registry_packument.specs.Sendings.{failures_after};
@@ -28,6 +26,7 @@ ghost use Rattle.registry_packument.specs.declared.opener.Sent.TheVariants.{Writ
 
 use crate::answer::identify_and_answer;
 use crate::cache::{Caches, keep_reply};
+use crate::open::{Base, settle_as};
 use crate::sending::sent;
 use crate::texts::queried;
 use crate::together::answer_together;
@@ -37,7 +36,6 @@ use registry_packument::{Opener, Sent};
 use registry_rows::{commit, fault_of};
 use registry_rules::laws::requests_are_in_form;
 use registry_rules::{Action, Reply, Request};
-use registry_tables::create;
 use sqlite::{Alter, Connection, Error, ErrorCode, MemStore};
 use std::alloc::Global;
 use std::marker::Model;
@@ -93,7 +91,7 @@ impl Registry<MemStore> {
         let Ok(mut conn) = Connection::open_in_memory(alloc) else {
             return Err(Fault::Memory);
         };
-        create_tables(&mut conn)?;
+        settle_as(alloc, &mut conn, Base::Empty)?;
         let caches = Caches::new(alloc)?;
         Ok(Registry { conn, caches })
     }
@@ -343,27 +341,6 @@ impl<S: Alter> Registry<S> {
     }
 }
 
-// Makes the tables of an empty database, in one transaction.
-pub(crate) fn create_tables<S: Alter>(conn: &mut Connection<S>) -> Result<(), Fault>
-    requires idle { conn.old.in_transaction ≡ false }
-    requires empty { Ready no_tables (state S.Store conn.old) }
-    ensures rests { OnOk result (Rests (state S.Store conn.new)) }
-    ensures made { HasCleanDisk (state S.Store conn.new)
-        → OnOk result (stored (state S.Store conn.new) ≡ fresh) }
-    ensures served { HasCleanDisk (state S.Store conn.new)
-        → OnOk result (IsTrue (state S.Store conn.new).is_open) }
-    ensures idle { conn.new.in_transaction ≡ false }
-    ensures undone { OnErr result (IsUndone (state S.Store conn.old) (state S.Store conn.new)) }
-    ensures opened { HasCleanDisk (state S.Store conn.new)
-        → OnOk result (IsTrue (state S.Store conn.old).is_open) }
-    ensures survives { Survives (state S.Store conn.old) (state S.Store conn.new)
-        (λ db. IsTrue (state S.Store conn.old).is_open × IsRegistryOf db fresh) }
-{
-    let mut tx = conn.transaction();
-    create(&mut tx)?;
-    commit(tx)
-}
-
 // Whether a connection is open. One that isn't compiles no statement.
 fn looks_open<S: Alter>(conn: &mut Connection<S>) -> Result<bool, Fault>
     requires rests { Rests (state S.Store conn.old) }
@@ -398,24 +375,11 @@ fn answer_request<S: Alter>(
     caches: &mut Caches,
     request: &Request,
 ) -> Result<Reply, Fault>
-    requires rests { Rests (state S.Store conn.old) }
-    requires right { HasAnswers (state S.Store conn.old) caches.old }
-    ensures rests { Rests (state S.Store conn.new) }
-    ensures right { HasAnswers (state S.Store conn.new) caches.new }
-    ensures limit { caches.new.packuments.limit ≡ caches.old.packuments.limit }
-    ensures abbreviated_limit { caches.new.abbreviated.limit ≡ caches.old.abbreviated.limit }
-    ensures revised_limit { caches.new.revised.limit ≡ caches.old.revised.limit }
-    ensures archive_limit { caches.new.archives.limit ≡ caches.old.archives.limit }
-    ensures answer { Answered (state S.Store conn.old) (state S.Store conn.new)
+    requires cached { IsCached (state S.Store conn.old) caches.old }
+    ensures cached { IsCached (state S.Store conn.new) caches.new }
+    ensures answers { AnswersOne (state S.Store conn.old) (state S.Store conn.new)
         request.now result }
-    ensures served { Served (state S.Store conn.old) (state S.Store conn.new) result }
-    ensures opened { WasOpen (state S.Store conn.old) (state S.Store conn.new) }
-    ensures unchanged { Unchanged (state S.Store conn.old) (state S.Store conn.new)
-        request.now result }
-    ensures step { Stepped (state S.Store conn.old) (state S.Store conn.new) request.now result }
-    ensures survives { SurvivesOne (state S.Store conn.old) (state S.Store conn.new) request.now }
-    ensures no_more { OnErr result (KeepNoMore caches.old caches.new) }
-    ensures kept { IfOk result (KeepsAnswer request.now.what caches.old caches.new) }
+    ensures kept { KeepsOutcome request.now.what caches.old caches.new result }
 {
     match asked_packument(&request.what) {
         Some((view, package)) => queried(alloc, conn, caches, view, request, package),
@@ -444,25 +408,12 @@ fn answer_in_transaction<S: Alter>(
     caches: &mut Caches,
     request: &Request,
 ) -> Result<Reply, Fault>
-    requires rests { Rests (state S.Store conn.old) }
-    requires right { HasAnswers (state S.Store conn.old) caches.old }
+    requires cached { IsCached (state S.Store conn.old) caches.old }
     requires other { ¬ IsAnyPackument request.now.what }
-    ensures rests { Rests (state S.Store conn.new) }
-    ensures right { HasAnswers (state S.Store conn.new) caches.new }
-    ensures limit { caches.new.packuments.limit ≡ caches.old.packuments.limit }
-    ensures abbreviated_limit { caches.new.abbreviated.limit ≡ caches.old.abbreviated.limit }
-    ensures revised_limit { caches.new.revised.limit ≡ caches.old.revised.limit }
-    ensures archive_limit { caches.new.archives.limit ≡ caches.old.archives.limit }
-    ensures answer { Answered (state S.Store conn.old) (state S.Store conn.new)
+    ensures cached { IsCached (state S.Store conn.new) caches.new }
+    ensures answers { AnswersOne (state S.Store conn.old) (state S.Store conn.new)
         request.now result }
-    ensures served { Served (state S.Store conn.old) (state S.Store conn.new) result }
-    ensures opened { WasOpen (state S.Store conn.old) (state S.Store conn.new) }
-    ensures unchanged { Unchanged (state S.Store conn.old) (state S.Store conn.new)
-        request.now result }
-    ensures step { Stepped (state S.Store conn.old) (state S.Store conn.new) request.now result }
-    ensures survives { SurvivesOne (state S.Store conn.old) (state S.Store conn.new) request.now }
-    ensures no_more { OnErr result (KeepNoMore caches.old caches.new) }
-    ensures kept { IfOk result (KeepsAnswer request.now.what caches.old caches.new) }
+    ensures kept { KeepsOutcome request.now.what caches.old caches.new result }
 {
     let mut tx = conn.transaction();
     let reply = identify_and_answer(alloc, &mut tx, caches, request)?;

@@ -8,9 +8,8 @@ ghost use Rattle.registry_names.specs.Maps.{of, seen};
 ghost use Rattle.registry_names.specs.Texts.{Text as SpecText};
 ghost use Rattle.registry_packument.specs.Heads.{time_entry};
 ghost use Rattle.registry_ranges.specs.Selectors.{Condition};
-ghost use Rattle.registry_rows.specs.Frames.{Stays};
 ghost use Rattle.registry_tables.specs.Contents.{live_of, registry_of};
-ghost use Rattle.registry_tables.specs.Effects.{InForm, Knows, Loads};
+ghost use Rattle.registry_tables.specs.Inside.{Finds, Knows};
 ghost use Rattle.registry_tables.specs.Spelled.{document, document_entry, published};
 ghost use Rattle.registry_tables.specs.Teams.{AreTeamsSound};
 ghost use Rattle.registry_cache.specs.Caches.{kept};
@@ -81,10 +80,8 @@ pub(crate) fn rows_for<S: Alter>(
     caller: &Caller,
     what: &Action,
 ) -> Result<Rows, Fault>
-    requires in_form { InForm S.Store tx.old }
     requires other { ¬ IsAnyPackument what.now }
-    ensures stays { Stays S.Store tx.old tx.new }
-    ensures knows { Knows S.Store tx.old tx.new result (λ rows c. IsSoundFor what.now c caches.now
+    ensures { Knows S.Store tx.old tx.new result (λ rows c. IsSoundFor what.now c caches.now
         → AreRowsOf rows (registry_of c) caller.now what.now) }
 {
     match what {
@@ -107,33 +104,41 @@ pub(crate) fn rows_for<S: Alter>(
         | Action::TagSet { .. }
         | Action::TagRemove { .. }
         | Action::Withdraw { .. } => Ok(Rows::Nothing),
-        Action::TokensRemove { user } => token_rows(alloc, tx, user),
-        Action::Deprecate { package, .. } => live_rows(alloc, tx, package),
-        Action::WithdrawAll { package } => live_rows(alloc, tx, package),
+        Action::TokensRemove { user } => Ok(Rows::Digests(load_user_tokens(alloc, tx, user)?)),
+        Action::Deprecate { package, .. } => Ok(Rows::Live(load_live(alloc, tx, package)?)),
+        Action::WithdrawAll { package } => Ok(Rows::Live(load_live(alloc, tx, package)?)),
         // Such a query doesn't come here: `queried` and `sent` answer it.
         Action::Packument { .. }
         | Action::AbbreviatedPackument { .. }
         | Action::RevisedPackument { .. } => unreachable!(),
-        Action::VersionDoc { package, version } => document_row(tx, package, version),
+        Action::VersionDoc { package, version } => {
+            Ok(Rows::Document(load_asked(tx, package, version)?))
+        }
         Action::Archive { package, version } => {
             archive_row(alloc, tx, &caches.archives, package, version)
         }
-        Action::Tags { package } => tag_rows(alloc, tx, package),
-        Action::Members { organisation } => member_rows(alloc, tx, organisation),
-        Action::Teams { organisation } => team_rows(alloc, tx, organisation),
+        Action::Tags { package } => Ok(Rows::Tags(load_tags(alloc, tx, package)?)),
+        Action::Members { organisation } => {
+            Ok(Rows::Members(load_members(alloc, tx, organisation)?))
+        }
+        Action::Teams { organisation } => Ok(Rows::Names(load_teams(alloc, tx, organisation)?)),
         Action::TeamMembers { organisation, team } => {
-            team_member_rows(alloc, tx, organisation, team)
+            Ok(Rows::Names(load_team_users(alloc, tx, organisation, team)?))
         }
         Action::TeamPackages { organisation, team } => {
-            grant_rows(alloc, tx, caller, organisation, team)
+            Ok(Rows::Grants(load_team_packages(alloc, tx, caller, organisation, team)?))
         }
         Action::WhoAmI => Ok(Rows::OwnName(own_name(alloc, caller)?)),
-        Action::Maintainers { package } => maintainer_rows(alloc, tx, package),
-        Action::OrgPackages { organisation } => scope_rows(alloc, tx, caller, organisation),
-        Action::MyPackages => own_package_rows(alloc, tx, caller),
-        Action::Users => user_rows(alloc, tx),
-        Action::Organisations => organisation_rows(alloc, tx),
-        Action::Packages => package_rows(alloc, tx),
+        Action::Maintainers { package } => {
+            Ok(Rows::Names(load_maintainers(alloc, tx, package)?))
+        }
+        Action::OrgPackages { organisation } => {
+            Ok(Rows::Levels(load_scope_packages(alloc, tx, caller, organisation)?))
+        }
+        Action::MyPackages => Ok(Rows::Levels(load_own_packages(alloc, tx, caller)?)),
+        Action::Users => Ok(Rows::Users(load_users(alloc, tx)?)),
+        Action::Organisations => Ok(Rows::Names(load_organisations(alloc, tx)?)),
+        Action::Packages => Ok(Rows::Packages(load_packages(alloc, tx)?)),
     }
 }
 
@@ -145,105 +150,6 @@ fn own_name(alloc: Global, caller: &Caller) -> Result<Text, AllocError>
         Caller::User(name) => Text::from_str(alloc, name.text()),
         Caller::Operator | Caller::Anonymous => Text::from_str(alloc, ""),
     }
-}
-
-fn maintainer_rows<S: Alter>(
-    alloc: Global,
-    tx: &mut Transaction<'_, S>,
-    name: &Name,
-) -> Result<Rows, Fault>
-    requires in_form { InForm S.Store tx.old }
-    ensures stays { Stays S.Store tx.old tx.new }
-    ensures loads { Loads S.Store tx.old tx.new result (λ rows c. (who : Caller)
-        → AreRowsOf rows (registry_of c) who (asked.Maintainers name.now)) }
-{
-    Ok(Rows::Names(load_maintainers(alloc, tx, name)?))
-}
-
-fn scope_rows<S: Alter>(
-    alloc: Global,
-    tx: &mut Transaction<'_, S>,
-    caller: &Caller,
-    organisation: &Ident,
-) -> Result<Rows, Fault>
-    requires in_form { InForm S.Store tx.old }
-    ensures stays { Stays S.Store tx.old tx.new }
-    ensures loads { Loads S.Store tx.old tx.new result (λ rows c. AreTeamsSound c → AreRowsOf rows
-        (registry_of c) caller.now (asked.OrgPackages organisation.now)) }
-{
-    let packages = load_scope_packages(alloc, tx, caller, organisation)?;
-    Ok(Rows::Levels(packages))
-}
-
-fn own_package_rows<S: Alter>(
-    alloc: Global,
-    tx: &mut Transaction<'_, S>,
-    caller: &Caller,
-) -> Result<Rows, Fault>
-    requires in_form { InForm S.Store tx.old }
-    ensures stays { Stays S.Store tx.old tx.new }
-    ensures knows { Knows S.Store tx.old tx.new result (λ rows c. AreTeamsSound c
-        → AreRowsOf rows (registry_of c) caller.now asked.MyPackages) }
-{
-    let packages = load_own_packages(alloc, tx, caller)?;
-    Ok(Rows::Levels(packages))
-}
-
-fn user_rows<S: Alter>(alloc: Global, tx: &mut Transaction<'_, S>) -> Result<Rows, Fault>
-    requires in_form { InForm S.Store tx.old }
-    ensures stays { Stays S.Store tx.old tx.new }
-    ensures loads { Loads S.Store tx.old tx.new result
-        (λ rows c. (who : Caller) → AreRowsOf rows (registry_of c) who asked.Users) }
-{
-    Ok(Rows::Users(load_users(alloc, tx)?))
-}
-
-fn organisation_rows<S: Alter>(alloc: Global, tx: &mut Transaction<'_, S>) -> Result<Rows, Fault>
-    requires in_form { InForm S.Store tx.old }
-    ensures stays { Stays S.Store tx.old tx.new }
-    ensures loads { Loads S.Store tx.old tx.new result
-        (λ rows c. (who : Caller) → AreRowsOf rows (registry_of c) who asked.Organisations) }
-{
-    Ok(Rows::Names(load_organisations(alloc, tx)?))
-}
-
-fn package_rows<S: Alter>(alloc: Global, tx: &mut Transaction<'_, S>) -> Result<Rows, Fault>
-    requires in_form { InForm S.Store tx.old }
-    ensures stays { Stays S.Store tx.old tx.new }
-    ensures loads { Loads S.Store tx.old tx.new result
-        (λ rows c. (who : Caller) → AreRowsOf rows (registry_of c) who asked.Packages) }
-{
-    Ok(Rows::Packages(load_packages(alloc, tx)?))
-}
-
-fn token_rows<S: Alter>(
-    alloc: Global,
-    tx: &mut Transaction<'_, S>,
-    user: &Ident,
-) -> Result<Rows, Fault>
-    requires in_form { InForm S.Store tx.old }
-    ensures stays { Stays S.Store tx.old tx.new }
-    ensures loads { Loads S.Store tx.old tx.new result
-        (λ rows c. (who : Caller)
-        → AreRowsOf rows (registry_of c) who (asked.TokensRemove user.now)) }
-{
-    Ok(Rows::Digests(load_user_tokens(alloc, tx, user)?))
-}
-
-fn live_rows<S: Alter>(
-    alloc: Global,
-    tx: &mut Transaction<'_, S>,
-    name: &Name,
-) -> Result<Rows, Fault>
-    requires in_form { InForm S.Store tx.old }
-    ensures stays { Stays S.Store tx.old tx.new }
-    ensures loads { Loads S.Store tx.old tx.new result (λ rows c. (who : Caller)
-        (selector : List (List Condition)) (message : SpecText)
-        → AreRowsOf rows (registry_of c) who (asked.Deprecate name.now selector message)) }
-    ensures whole { Loads S.Store tx.old tx.new result (λ rows c. (who : Caller)
-        → AreRowsOf rows (registry_of c) who (asked.WithdrawAll name.now)) }
-{
-    Ok(Rows::Live(load_live(alloc, tx, name)?))
 }
 
 /// The text that is kept of a packument. `None` where it can't be shared.
@@ -260,9 +166,7 @@ pub(crate) fn pack_times<S: Alter>(
     name: &Name,
     live: Vec<VersionTime>,
 ) -> Result<PackTimes, Fault>
-    requires in_form { InForm S.Store tx.old }
-    ensures stays { Stays S.Store tx.old tx.new }
-    ensures loads { Loads S.Store tx.old tx.new result (λ times c.
+    ensures { Finds S.Store tx.old tx.new result (λ times c.
         map time_entry live.items ≡ map (seen published) (of (live_of c) name.now)
         → AreTimesOf times (registry_of c) name.now) }
 {
@@ -274,29 +178,13 @@ pub(crate) fn pack_times<S: Alter>(
     Ok(times)
 }
 
-fn document_row<S: Alter>(
-    tx: &mut Transaction<'_, S>,
-    name: &Name,
-    version: &Asked,
-) -> Result<Rows, Fault>
-    requires in_form { InForm S.Store tx.old }
-    ensures stays { Stays S.Store tx.old tx.new }
-    ensures loads { Loads S.Store tx.old tx.new result
-        (λ rows c. (who : Caller)
-        → AreRowsOf rows (registry_of c) who (asked.VersionDoc name.now version.now)) }
-{
-    Ok(Rows::Document(load_asked(tx, name, version)?))
-}
-
 // The manifest and the message of the version that is asked for, if it lives.
 fn load_asked<S: Alter>(
     tx: &mut Transaction<'_, S>,
     name: &Name,
     version: &Asked,
 ) -> Result<Option<DocumentRow>, Fault>
-    requires in_form { InForm S.Store tx.old }
-    ensures stays { Stays S.Store tx.old tx.new }
-    ensures loads { Loads S.Store tx.old tx.new result (λ found c. option_map document_entry found
+    ensures { Finds S.Store tx.old tx.new result (λ found c. option_map document_entry found
         ≡ option_map document (asked_release (registry_of c) name.now version.now)) }
 {
     match version {
@@ -310,9 +198,7 @@ fn load_latest<S: Alter>(
     tx: &mut Transaction<'_, S>,
     name: &Name,
 ) -> Result<Option<DocumentRow>, Fault>
-    requires in_form { InForm S.Store tx.old }
-    ensures stays { Stays S.Store tx.old tx.new }
-    ensures loads { Loads S.Store tx.old tx.new result (λ found c. option_map document_entry found
+    ensures { Finds S.Store tx.old tx.new result (λ found c. option_map document_entry found
         ≡ option_map document (asked_release (registry_of c) name.now which.Latest)) }
 {
     match load_tag(tx, name, LATEST)? {
@@ -331,102 +217,15 @@ fn archive_row<S: Alter>(
     name: &Name,
     version: &Ver,
 ) -> Result<Rows, Fault>
-    requires in_form { InForm S.Store tx.old }
-    ensures stays { Stays S.Store tx.old tx.new }
-    ensures knows { Knows S.Store tx.old tx.new result (λ rows c. (who : Caller)
+    ensures { Knows S.Store tx.old tx.new result (λ rows c. (who : Caller)
         → AreArchives c cache.now
         → AreRowsOf rows (registry_of c) who (asked.Archive name.now version.now)) }
 {
     match cached_archive(alloc, cache, name, version) {
         Some(archive) => Ok(Rows::KnownArchive(archive)),
-        None => stored_archive(tx, name, version),
+        None => {
+            let archive = load_archive(tx, name, version.text())?;
+            Ok(Rows::Archive(archive))
+        }
     }
-}
-
-fn stored_archive<S: Alter>(
-    tx: &mut Transaction<'_, S>,
-    name: &Name,
-    version: &Ver,
-) -> Result<Rows, Fault>
-    requires in_form { InForm S.Store tx.old }
-    ensures stays { Stays S.Store tx.old tx.new }
-    ensures loads { Loads S.Store tx.old tx.new result
-        (λ rows c. (who : Caller)
-        → AreRowsOf rows (registry_of c) who (asked.Archive name.now version.now)) }
-{
-    let archive = load_archive(tx, name, version.text())?;
-    Ok(Rows::Archive(archive))
-}
-
-fn tag_rows<S: Alter>(
-    alloc: Global,
-    tx: &mut Transaction<'_, S>,
-    name: &Name,
-) -> Result<Rows, Fault>
-    requires in_form { InForm S.Store tx.old }
-    ensures stays { Stays S.Store tx.old tx.new }
-    ensures loads { Loads S.Store tx.old tx.new result
-        (λ rows c. (who : Caller) → AreRowsOf rows (registry_of c) who (asked.Tags name.now)) }
-{
-    Ok(Rows::Tags(load_tags(alloc, tx, name)?))
-}
-
-fn member_rows<S: Alter>(
-    alloc: Global,
-    tx: &mut Transaction<'_, S>,
-    organisation: &Ident,
-) -> Result<Rows, Fault>
-    requires in_form { InForm S.Store tx.old }
-    ensures stays { Stays S.Store tx.old tx.new }
-    ensures loads { Loads S.Store tx.old tx.new result
-        (λ rows c. (who : Caller)
-        → AreRowsOf rows (registry_of c) who (asked.Members organisation.now)) }
-{
-    Ok(Rows::Members(load_members(alloc, tx, organisation.text())?))
-}
-
-fn team_rows<S: Alter>(
-    alloc: Global,
-    tx: &mut Transaction<'_, S>,
-    organisation: &Ident,
-) -> Result<Rows, Fault>
-    requires in_form { InForm S.Store tx.old }
-    ensures stays { Stays S.Store tx.old tx.new }
-    ensures loads { Loads S.Store tx.old tx.new result
-        (λ rows c. (who : Caller)
-        → AreRowsOf rows (registry_of c) who (asked.Teams organisation.now)) }
-{
-    Ok(Rows::Names(load_teams(alloc, tx, organisation.text())?))
-}
-
-fn team_member_rows<S: Alter>(
-    alloc: Global,
-    tx: &mut Transaction<'_, S>,
-    organisation: &Ident,
-    team: &Ident,
-) -> Result<Rows, Fault>
-    requires in_form { InForm S.Store tx.old }
-    ensures stays { Stays S.Store tx.old tx.new }
-    ensures loads { Loads S.Store tx.old tx.new result
-        (λ rows c. (who : Caller)
-        → AreRowsOf rows (registry_of c) who (asked.TeamMembers organisation.now team.now)) }
-{
-    let users = load_team_users(alloc, tx, organisation.text(), team.text())?;
-    Ok(Rows::Names(users))
-}
-
-fn grant_rows<S: Alter>(
-    alloc: Global,
-    tx: &mut Transaction<'_, S>,
-    caller: &Caller,
-    organisation: &Ident,
-    team: &Ident,
-) -> Result<Rows, Fault>
-    requires in_form { InForm S.Store tx.old }
-    ensures stays { Stays S.Store tx.old tx.new }
-    ensures loads { Loads S.Store tx.old tx.new result (λ rows c. AreTeamsSound c → AreRowsOf rows
-        (registry_of c) caller.now (asked.TeamPackages organisation.now team.now)) }
-{
-    let granted = load_team_packages(alloc, tx, caller, organisation.text(), team.text())?;
-    Ok(Rows::Grants(granted))
 }

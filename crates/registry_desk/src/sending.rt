@@ -1,30 +1,26 @@
 //! Packuments that are sent as they are made. No text of the whole is made, and of the versions'
 //! documents one is held at a time; their moments are in the head.
 
-ghost use Rattle.std.specs.Prelude.{◌≡◌, ◌≢◌, false, true, IfOk, OnOk, IsTrue, Some, None, map};
+ghost use Rattle.std.specs.Prelude.{◌≡◌, false, true, IfOk, OnOk, IsTrue, Some, map};
 ghost use Rattle.sqlite.specs.Held.{state};
 ghost use Rattle.sqlite.specs.State.{HasCleanDisk};
 ghost use Rattle.registry_names.specs.Maps.{of};
-ghost use Rattle.registry_packument.specs.Counted.{IsUnbroken, Takes};
+ghost use Rattle.registry_packument.specs.Counted.{IsUnbroken};
 ghost use Rattle.registry_packument.specs.Packuments.{pack_len, pack_text};
-ghost use Rattle.registry_packument.specs.Sendings.{failures_after};
 ghost use Rattle.registry_packument.specs.Within.{IsWithin};
 ghost use Rattle.registry_packument.specs.declared.form.PackForm.TheVariants.{Full};
-ghost use Rattle.registry_packument.specs.declared.opener.Sent.TheVariants.{WriteFault};
-ghost use Rattle.registry_rows.specs.Frames.{Stays};
-ghost use Rattle.registry_rules.specs.State.{State, has_live};
+ghost use Rattle.registry_rules.specs.State.{State};
 ghost use Rattle.registry_rules.specs.declared.request.Action.TheVariants as asked;
 ghost use Rattle.registry_tables.specs.Contents.{registry_of};
-ghost use Rattle.registry_tables.specs.Effects.{InForm, Knows, Loads, registry_in, shown, stored_in};
+ghost use Rattle.registry_tables.specs.Effects.{registry_in, shown, stored_in};
+ghost use Rattle.registry_tables.specs.Inside.{Finds, Knows};
 ghost use Rattle.registry_tables.specs.Spelled.{tag_entry};
-ghost use Rattle.registry_tables.specs.Teams.{AreTeamsSound};
-ghost use Rattle.registry_tables.specs.Walking.{lent, rows_left, seen_by, stopped_at};
-ghost use Rattle.registry_tables.specs.Walks.{Begins, HasGoneOn, IsLeftAlone, reference, shown_by};
-ghost use Rattle.registry_desk.specs.Caches.{ArePackuments, HasAnswers, HasPackuments};
+ghost use Rattle.registry_tables.specs.Walks.{Begins, reference, shown_by};
+ghost use Rattle.registry_desk.specs.Caches.{ArePackuments, HasPackuments, IsCached};
 ghost use Rattle.registry_desk.specs.Found.{AreTimesOf};
 ghost use Rattle.registry_desk.specs.Promises.{KeepsStored};
 ghost use Rattle.registry_desk.specs.Resting.{Rests};
-ghost use Rattle.registry_desk.specs.Sending.{IsFrom, IsOrigin, IsShownBy, LeavesAll, Sends, answers_as_apply, front_names, head_in, versions_in};
+ghost use Rattle.registry_desk.specs.Sending.{CountsFailures, IsFrom, IsOrigin, IsOriginIn, IsShownBy, LeavesAll, RestsOpen, Sends, SendsText, WalksOver, answers_as_apply, front_names, head_in, versions_in};
 ghost use Rattle.registry_desk.specs.Views.{asks_packument, names_in_front};
 
 use crate::cache::{Caches, ask};
@@ -33,7 +29,6 @@ use crate::rows::{cached_text, pack_times};
 use crate::view::View;
 use registry_access::Ask;
 use registry_cache::{SharedText, TextCache};
-use registry_laws_hidden::laws::unread_packages_are_unheard_of;
 use registry_names::{ByteOut, DistTag, Fault, Name, Refusal, Text};
 use registry_packument::{
     Opener, PackForm, PackHead, PackTimes, PackumentWithin, Sent, packument_within, send_counted,
@@ -41,6 +36,7 @@ use registry_packument::{
 };
 use registry_rows::{commit, fault_of};
 use registry_rules::Request;
+use registry_rules::laws::requests_are_in_form;
 use registry_tables::{
     LiveRows, VersionWalk, has_live, load_caller, load_maintainers, load_tags, load_times,
     walk_versions,
@@ -98,9 +94,7 @@ fn loaded_head<S: Alter>(
     form: PackForm,
     name: &Name,
 ) -> Result<PackHead, Fault>
-    requires in_form { InForm S.Store tx.old }
-    ensures stays { Stays S.Store tx.old tx.new }
-    ensures loads { Loads S.Store tx.old tx.new result
+    ensures { Finds S.Store tx.old tx.new result
         (λ head c. head ≡ head_in form (registry_of c) name.now) }
 {
     let tags = load_tags(alloc, tx, name)?;
@@ -117,32 +111,13 @@ fn loaded_front<S: Alter>(
     view: View,
     name: &Name,
 ) -> Result<Front, Fault>
-    requires in_form { InForm S.Store tx.old }
-    ensures stays { Stays S.Store tx.old tx.new }
-    ensures knows { Knows S.Store tx.old tx.new result
+    ensures { Knows S.Store tx.old tx.new result
         (λ front c. front_names front ≡ names_in_front view (registry_of c) name.now) }
 {
     match view {
         View::Full | View::Abbreviated => Ok(Front::Plain),
         View::Revised => Ok(Front::Revised(load_maintainers(alloc, tx, name)?)),
     }
-}
-
-// What the packument of a package is made of, if a version of it lives.
-fn loaded<S: Alter>(
-    alloc: Global,
-    tx: &mut Transaction<'_, S>,
-    view: View,
-    name: &Name,
-) -> Result<Origin, Fault>
-    requires in_form { InForm S.Store tx.old }
-    ensures stays { Stays S.Store tx.old tx.new }
-    ensures loads { Loads S.Store tx.old tx.new result (λ origin c.
-        has_live (registry_of c) name.now ≡ true → IsShownBy view origin (registry_of c) name.now) }
-{
-    let head = loaded_head(alloc, tx, view.form(), name)?;
-    let front = loaded_front(alloc, tx, view, name)?;
-    Ok(Origin::Stored(head, front))
 }
 
 // What a packument that isn't kept comes from, where the policy allows the query.
@@ -152,16 +127,15 @@ fn stored_from<S: Alter>(
     view: View,
     name: &Name,
 ) -> Result<Origin, Fault>
-    requires in_form { InForm S.Store tx.old }
-    ensures stays { Stays S.Store tx.old tx.new }
-    ensures loads { Loads S.Store tx.old tx.new result
+    ensures { Finds S.Store tx.old tx.new result
         (λ origin c. IsShownBy view origin (registry_of c) name.now) }
 {
-    if has_live(tx, name)? {
-        loaded(alloc, tx, view, name)
-    } else {
-        Ok(Origin::Refused(Refusal::NotFound))
+    if !has_live(tx, name)? {
+        return Ok(Origin::Refused(Refusal::NotFound));
     }
+    let head = loaded_head(alloc, tx, view.form(), name)?;
+    let front = loaded_front(alloc, tx, view, name)?;
+    Ok(Origin::Stored(head, front))
 }
 
 // What a packument comes from, where the policy allows the query. Of a package whose packument is
@@ -173,9 +147,7 @@ fn shown_from<S: Alter>(
     view: View,
     name: &Name,
 ) -> Result<Origin, Fault>
-    requires in_form { InForm S.Store tx.old }
-    ensures stays { Stays S.Store tx.old tx.new }
-    ensures knows { Knows S.Store tx.old tx.new result (λ origin c.
+    ensures { Knows S.Store tx.old tx.new result (λ origin c.
         ArePackuments view c cache.now → IsShownBy view origin (registry_of c) name.now) }
 {
     match cached_text(cache, name) {
@@ -194,15 +166,9 @@ fn find_origin<S: Alter>(
     request: &Request,
     name: &Name,
 ) -> Result<Origin, Fault>
-    requires in_form { InForm S.Store tx.old }
     requires asks { request.now.what ≡ asks_packument view name.now }
-    ensures stays { Stays S.Store tx.old tx.new }
-    ensures loads { Loads S.Store tx.old tx.new result (λ origin c. AreTeamsSound c
-        → ArePackuments view c cache.now
-        → IsOrigin view origin (registry_of c) request.now name.now) }
-    ensures shows { HasCleanDisk (shown S.Store tx.new) → IfOk result (λ origin.
-        ArePackuments view (stored_in S.Store tx.old) cache.now
-        → IsFrom view origin (registry_of (stored_in S.Store tx.old)) name.now) }
+    ensures { Finds S.Store tx.old tx.new result
+        (λ origin c. IsOriginIn view cache.now request.now name.now origin c) }
 {
     let Some(caller) = load_caller(alloc, tx, &request.who)? else {
         return Ok(Origin::Refused(Refusal::NoCaller));
@@ -246,24 +212,6 @@ pub(crate) fn origin_of<S: Alter>(
 
 // ---- in walks over the versions, outside a transaction
 
-// The packument with this head, and the versions that a walk has left, within a limit.
-fn walk_within<R: LiveRows>(
-    alloc: Global,
-    head: &PackHead,
-    walk: &mut VersionWalk<'_, R>,
-    limit: u64,
-) -> Result<PackumentWithin, Fault>
-    ensures same_rows { (lent R.LiveRows walk.new).ghost_name
-        ≡ (lent R.LiveRows walk.old).ghost_name }
-    ensures goes_on { HasGoneOn R.store (lent R.LiveRows walk.old) (lent R.LiveRows walk.new)
-        (stopped_at R.LiveRows walk.new) }
-    ensures unstopped { OnOk result (stopped_at R.LiveRows walk.new ≡ None) }
-    ensures within { HasCleanDisk (seen_by R.LiveRows walk.new) → IfOk result
-        (IsWithin limit head.now (rows_left R.LiveRows walk.old)) }
-{
-    packument_within(alloc, head, walk, limit)
-}
-
 // The packument with this head, and the versions that were asked for, within a limit.
 fn rows_within<R: LiveRows>(
     alloc: Global,
@@ -275,16 +223,14 @@ fn rows_within<R: LiveRows>(
     requires begun { Begins R.store name.now (R.rows rows.old) }
     ensures same_reference { reference R.store (R.rows rows.new)
         ≡ reference R.store (R.rows rows.old) }
-    ensures left { IsLeftAlone (shown_by R.store (R.rows rows.old))
-        (shown_by R.store (R.rows rows.new)) }
-    ensures unshut { HasCleanDisk (shown_by R.store (R.rows rows.new))
-        → OnOk result (IsTrue (shown_by R.store (R.rows rows.new)).is_open) }
+    ensures walks { WalksOver (shown_by R.store (R.rows rows.old))
+        (shown_by R.store (R.rows rows.new)) (OnOk result) }
     ensures within { HasCleanDisk (shown_by R.store (R.rows rows.new)) → IfOk result
         (IsWithin limit head.now
         (versions_in (registry_in (shown_by R.store (R.rows rows.old))) name.now)) }
 {
     let mut walk = VersionWalk::over(rows, name);
-    walk_within(alloc, head, &mut walk, limit)
+    packument_within(alloc, head, &mut walk, limit)
 }
 
 /// The packument with this head, within a limit.
@@ -295,12 +241,8 @@ pub(crate) fn stored_within<S: Alter>(
     head: &PackHead,
     limit: u64,
 ) -> Result<PackumentWithin, Fault>
-    requires rests { Rests (state S.Store conn.old) }
-    requires unshut { HasCleanDisk (state S.Store conn.old)
-        → IsTrue (state S.Store conn.old).is_open }
-    ensures left { IsLeftAlone (state S.Store conn.old) (state S.Store conn.new) }
-    ensures unshut { HasCleanDisk (state S.Store conn.new)
-        → OnOk result (IsTrue (state S.Store conn.new).is_open) }
+    requires rests { RestsOpen (state S.Store conn.old) }
+    ensures walks { WalksOver (state S.Store conn.old) (state S.Store conn.new) (OnOk result) }
     ensures within { HasCleanDisk (state S.Store conn.new) → IfOk result (IsWithin limit head.now
         (versions_in (registry_in (state S.Store conn.old)) name.now)) }
 {
@@ -308,35 +250,6 @@ pub(crate) fn stored_within<S: Alter>(
         Ok(mut rows) => rows_within(alloc, name, head, &mut rows, limit),
         Err(error) => Err(fault_of(error)),
     }
-}
-
-// Sends the packument with this head, and the versions that a walk has left, which was counted to
-// have this many bytes.
-fn send_walk<R: LiveRows, W: ByteOut, O: Opener>(
-    alloc: Global,
-    head: &PackHead,
-    walk: &mut VersionWalk<'_, R>,
-    len: u64,
-    writer: &mut W,
-    opener: &O,
-) -> Sent
-    requires counted { HasCleanDisk (seen_by R.LiveRows walk.old)
-        → pack_len head.now (rows_left R.LiveRows walk.old) ≡ Some len }
-    requires unstopped { stopped_at R.LiveRows walk.old ≡ None }
-    ensures same_rows { (lent R.LiveRows walk.new).ghost_name
-        ≡ (lent R.LiveRows walk.old).ghost_name }
-    ensures goes_on { HasGoneOn R.store (lent R.LiveRows walk.old) (lent R.LiveRows walk.new)
-        (stopped_at R.LiveRows walk.new) }
-    ensures unstopped { IsUnbroken result → stopped_at R.LiveRows walk.new ≡ None }
-    ensures takes { Takes (O.opens opener.now) (λ text. HasCleanDisk (seen_by R.LiveRows walk.new)
-        → pack_text head.now (rows_left R.LiveRows walk.old) ≡ Some text)
-        (W.bytes writer.old) (W.bytes writer.new) (W.is_unknown writer.new) result }
-
-    ensures counted { W.failures writer.new ≡ failures_after result (W.failures writer.old) }
-    ensures told { result ≢ WriteFault → W.is_unknown writer.new ≡ W.is_unknown writer.old }
-    ensures unknown { W.is_unknown writer.old ≡ true → W.is_unknown writer.new ≡ true }
-{
-    send_counted(alloc, head, walk, len, writer, opener)
 }
 
 // Sends the packument with this head, and the versions that were asked for, which was counted to
@@ -355,21 +268,14 @@ fn send_rows<R: LiveRows, W: ByteOut, O: Opener>(
         (versions_in (registry_in (shown_by R.store (R.rows rows.old))) name.now) ≡ Some len }
     ensures same_reference { reference R.store (R.rows rows.new)
         ≡ reference R.store (R.rows rows.old) }
-    ensures left { IsLeftAlone (shown_by R.store (R.rows rows.old))
-        (shown_by R.store (R.rows rows.new)) }
-    ensures unshut { HasCleanDisk (shown_by R.store (R.rows rows.new)) → IsUnbroken result
-        → IsTrue (shown_by R.store (R.rows rows.new)).is_open }
-    ensures takes { Takes (O.opens opener.now) (λ text.
-        HasCleanDisk (shown_by R.store (R.rows rows.new)) → pack_text head.now
-        (versions_in (registry_in (shown_by R.store (R.rows rows.old))) name.now) ≡ Some text)
-        (W.bytes writer.old) (W.bytes writer.new) (W.is_unknown writer.new) result }
-
-    ensures counted { W.failures writer.new ≡ failures_after result (W.failures writer.old) }
-    ensures told { result ≢ WriteFault → W.is_unknown writer.new ≡ W.is_unknown writer.old }
-    ensures unknown { W.is_unknown writer.old ≡ true → W.is_unknown writer.new ≡ true }
+    ensures walks { WalksOver (shown_by R.store (R.rows rows.old))
+        (shown_by R.store (R.rows rows.new)) (λ on. IsUnbroken result → on) }
+    ensures sends { SendsText W.ByteOut writer.old writer.new result (O.opens opener.now)
+        (λ text. HasCleanDisk (shown_by R.store (R.rows rows.new)) → pack_text head.now
+        (versions_in (registry_in (shown_by R.store (R.rows rows.old))) name.now) ≡ Some text) }
 {
     let mut walk = VersionWalk::over(rows, name);
-    send_walk(alloc, head, &mut walk, len, writer, opener)
+    send_counted(alloc, head, &mut walk, len, writer, opener)
 }
 
 /// Sends the packument with this head, which was counted to have this many bytes.
@@ -382,22 +288,14 @@ pub(crate) fn send_again<S: Alter, W: ByteOut, O: Opener>(
     writer: &mut W,
     opener: &O,
 ) -> Sent
-    requires rests { Rests (state S.Store conn.old) }
-    requires unshut { HasCleanDisk (state S.Store conn.old)
-        → IsTrue (state S.Store conn.old).is_open }
+    requires rests { RestsOpen (state S.Store conn.old) }
     requires counted { HasCleanDisk (state S.Store conn.old) → pack_len head.now
         (versions_in (registry_in (state S.Store conn.old)) name.now) ≡ Some len }
-    ensures left { IsLeftAlone (state S.Store conn.old) (state S.Store conn.new) }
-    ensures unshut { HasCleanDisk (state S.Store conn.new) → IsUnbroken result
-        → IsTrue (state S.Store conn.new).is_open }
-    ensures takes { Takes (O.opens opener.now) (λ text. HasCleanDisk (state S.Store conn.new)
-        → pack_text head.now (versions_in (registry_in (state S.Store conn.old)) name.now)
-        ≡ Some text)
-        (W.bytes writer.old) (W.bytes writer.new) (W.is_unknown writer.new) result }
-
-    ensures counted { W.failures writer.new ≡ failures_after result (W.failures writer.old) }
-    ensures told { result ≢ WriteFault → W.is_unknown writer.new ≡ W.is_unknown writer.old }
-    ensures unknown { W.is_unknown writer.old ≡ true → W.is_unknown writer.new ≡ true }
+    ensures walks { WalksOver (state S.Store conn.old) (state S.Store conn.new)
+        (λ on. IsUnbroken result → on) }
+    ensures sends { SendsText W.ByteOut writer.old writer.new result (O.opens opener.now)
+        (λ text. HasCleanDisk (state S.Store conn.new) → pack_text head.now
+        (versions_in (registry_in (state S.Store conn.old)) name.now) ≡ Some text) }
 {
     match walk_versions(conn, name) {
         Ok(mut rows) => send_rows(alloc, name, head, &mut rows, len, writer, opener),
@@ -417,20 +315,12 @@ fn send_stored<S: Alter, W: ByteOut, O: Opener>(
     writer: &mut W,
     opener: &O,
 ) -> Sent
-    requires rests { Rests (state S.Store conn.old) }
-    requires unshut { HasCleanDisk (state S.Store conn.old)
-        → IsTrue (state S.Store conn.old).is_open }
-    ensures left { IsLeftAlone (state S.Store conn.old) (state S.Store conn.new) }
-    ensures unshut { HasCleanDisk (state S.Store conn.new) → IsUnbroken result
-        → IsTrue (state S.Store conn.new).is_open }
-    ensures takes { Takes (O.opens opener.now) (λ text. HasCleanDisk (state S.Store conn.new)
-        → pack_text head.now (versions_in (registry_in (state S.Store conn.old)) name.now)
-        ≡ Some text)
-        (W.bytes writer.old) (W.bytes writer.new) (W.is_unknown writer.new) result }
-
-    ensures counted { W.failures writer.new ≡ failures_after result (W.failures writer.old) }
-    ensures told { result ≢ WriteFault → W.is_unknown writer.new ≡ W.is_unknown writer.old }
-    ensures unknown { W.is_unknown writer.old ≡ true → W.is_unknown writer.new ≡ true }
+    requires rests { RestsOpen (state S.Store conn.old) }
+    ensures walks { WalksOver (state S.Store conn.old) (state S.Store conn.new)
+        (λ on. IsUnbroken result → on) }
+    ensures sends { SendsText W.ByteOut writer.old writer.new result (O.opens opener.now)
+        (λ text. HasCleanDisk (state S.Store conn.new) → pack_text head.now
+        (versions_in (registry_in (state S.Store conn.old)) name.now) ≡ Some text) }
 {
     match stored_within(alloc, conn, name, head, SENT_AS_TEXT) {
         Ok(PackumentWithin::Text(text)) => send_text(alloc, text.as_str(), writer, opener),
@@ -456,24 +346,15 @@ pub(crate) fn sent<S: Alter, W: ByteOut, O: Opener>(
     writer: &mut W,
     opener: &O,
 ) -> Sent
-    requires rests { Rests (state S.Store conn.old) }
-    requires right { HasAnswers (state S.Store conn.old) caches.old }
+    requires cached { IsCached (state S.Store conn.old) caches.old }
     requires asks { request.now.what ≡ asked.Packument name.now }
-    ensures rests { Rests (state S.Store conn.new) }
-    ensures right { HasAnswers (state S.Store conn.new) caches.new }
-    ensures limit { caches.new.packuments.limit ≡ caches.old.packuments.limit }
-    ensures abbreviated_limit { caches.new.abbreviated.limit ≡ caches.old.abbreviated.limit }
-    ensures revised_limit { caches.new.revised.limit ≡ caches.old.revised.limit }
-    ensures archive_limit { caches.new.archives.limit ≡ caches.old.archives.limit }
+    ensures cached { IsCached (state S.Store conn.new) caches.new }
     ensures stored { KeepsStored (state S.Store conn.old) (state S.Store conn.new) }
     ensures sends { Sends (answers_as_apply S.Store) (O.opens opener.now) conn.old request.now
         result conn.new (W.bytes writer.old) (W.bytes writer.new) (W.is_unknown writer.new) }
-
-    ensures counted { W.failures writer.new ≡ failures_after result (W.failures writer.old) }
-    ensures told { result ≢ WriteFault → W.is_unknown writer.new ≡ W.is_unknown writer.old }
-    ensures unknown { W.is_unknown writer.old ≡ true → W.is_unknown writer.new ≡ true }
+    ensures counts { CountsFailures W.ByteOut writer.old writer.new result }
 {
-    unread_packages_are_unheard_of();
+    requests_are_in_form(request);
     match origin_of(alloc, conn, &caches.packuments, View::Full, request, name) {
         Ok(Origin::Refused(refusal)) => Sent::Refused(refusal),
         Ok(Origin::Kept(text)) => {

@@ -2,24 +2,20 @@
 //! versions where it is short. Where it is long, that walk only counts its bytes, and a second one
 //! writes them, once, into room for exactly these. No list of versions is held.
 
-ghost use Rattle.std.specs.Prelude.{◌≡◌, [], IfOk, IsTrue, OnErr, OnOk, Some, vec_capacity};
+ghost use Rattle.std.specs.Prelude.{◌≡◌, [], IfOk, OnOk, Some, vec_capacity};
 ghost use Rattle.sqlite.specs.Held.{state};
 ghost use Rattle.sqlite.specs.State.{HasCleanDisk};
 ghost use Rattle.registry_packument.specs.Packuments.{pack_len, pack_text};
 ghost use Rattle.registry_packument.specs.declared.opener.Sent.TheVariants.{Whole};
-ghost use Rattle.registry_laws_history.specs.Answers.{answer};
 ghost use Rattle.registry_tables.specs.Effects.{registry_in};
-ghost use Rattle.registry_tables.specs.Walks.{IsLeftAlone};
-ghost use Rattle.registry_desk.specs.Caches.{HasAnswers, HasPackuments, KeepNoMore, KeepsAnswer};
-ghost use Rattle.registry_desk.specs.Promises.{Answered, Served};
-ghost use Rattle.registry_desk.specs.Resting.{Rests};
-ghost use Rattle.registry_desk.specs.Sending.{IsMadeOf, LeavesAll, ShowsAlone, front_names, versions_in};
+ghost use Rattle.registry_desk.specs.Caches.{IsCached, KeepsOutcome};
+ghost use Rattle.registry_desk.specs.Sending.{AnswersOne, IsMadeOf, RestsOpen, WalksOver, front_names, versions_in};
 ghost use Rattle.registry_desk.specs.Views.{asks_packument, text_behind};
 
 use crate::cache::{Caches, keep_reply};
 use crate::sending::{Front, Origin, origin_of, send_again, stored_within};
 use crate::view::View;
-use registry_cache::{SharedText, TextCache};
+use registry_cache::SharedText;
 use registry_documents::shown;
 use registry_names::{ByteOut, Fault, Name, Text, WriteFailed};
 use registry_packument::{Opener, PackHead, PackumentWithin, Sent};
@@ -80,23 +76,16 @@ fn room_for(alloc: Global, len: u64) -> Result<Vec<u8>, AllocError>
     Vec::with_capacity(alloc, len as usize)
 }
 
-// The text of these bytes.
-fn text_in(bytes: Vec<u8>) -> Result<Text, Fault>
-    ensures { IfOk result (λ text. text ≡ bytes.items) }
-{
-    match String::from_utf8(bytes) {
-        Ok(string) => Ok(Text::from(string)),
-        Err(_) => Err(Fault::Database),
-    }
-}
-
 // The text that was sent into these bytes.
 fn text_sent(sent: Sent, bytes: Vec<u8>) -> Result<Text, Fault>
     ensures whole { OnOk result (sent ≡ Whole) }
     ensures text { IfOk result (λ text. text ≡ bytes.items) }
 {
     match sent {
-        Sent::Whole => text_in(bytes),
+        Sent::Whole => match String::from_utf8(bytes) {
+            Ok(string) => Ok(Text::from(string)),
+            Err(_) => Err(Fault::Database),
+        },
         Sent::Broken { fault, .. } => Err(fault),
         Sent::WriteFault | Sent::Refused(_) => Err(Fault::Memory),
     }
@@ -114,16 +103,12 @@ fn written_text<S: Alter>(
     len: u64,
     room: Vec<u8>,
 ) -> Result<Text, Fault>
-    requires rests { Rests (state S.Store conn.old) }
-    requires unshut { HasCleanDisk (state S.Store conn.old)
-        → IsTrue (state S.Store conn.old).is_open }
+    requires rests { RestsOpen (state S.Store conn.old) }
     requires counted { HasCleanDisk (state S.Store conn.old) → pack_len head.now
         (versions_in (registry_in (state S.Store conn.old)) name.now) ≡ Some len }
     requires empty { room.items ≡ [] }
     requires exact { vec_capacity room ≡ len }
-    ensures left { IsLeftAlone (state S.Store conn.old) (state S.Store conn.new) }
-    ensures unshut { HasCleanDisk (state S.Store conn.new)
-        → OnOk result (IsTrue (state S.Store conn.new).is_open) }
+    ensures walks { WalksOver (state S.Store conn.old) (state S.Store conn.new) (OnOk result) }
     ensures text { HasCleanDisk (state S.Store conn.new) → IfOk result (λ text.
         pack_text head.now (versions_in (registry_in (state S.Store conn.old)) name.now)
         ≡ Some text) }
@@ -151,12 +136,8 @@ fn made_text<S: Alter>(
     name: &Name,
     head: &PackHead,
 ) -> Result<Text, Fault>
-    requires rests { Rests (state S.Store conn.old) }
-    requires unshut { HasCleanDisk (state S.Store conn.old)
-        → IsTrue (state S.Store conn.old).is_open }
-    ensures left { IsLeftAlone (state S.Store conn.old) (state S.Store conn.new) }
-    ensures unshut { HasCleanDisk (state S.Store conn.new)
-        → OnOk result (IsTrue (state S.Store conn.new).is_open) }
+    requires rests { RestsOpen (state S.Store conn.old) }
+    ensures walks { WalksOver (state S.Store conn.old) (state S.Store conn.new) (OnOk result) }
     ensures text { HasCleanDisk (state S.Store conn.new) → IfOk result (λ text.
         pack_text head.now (versions_in (registry_in (state S.Store conn.old)) name.now)
         ≡ Some text) }
@@ -181,23 +162,16 @@ fn fronted(alloc: Global, text: Text, front: &Front) -> Result<Text, Fault>
     }
 }
 
-// The same text, which keeps its digest if it is to.
-fn digested(text: SharedText, keeps_digest: bool) -> SharedText
-    ensures { result ≡ text }
-{
-    if keeps_digest {
-        text.with_digest()
-    } else {
-        text
-    }
-}
-
-// The reply that is this text, which others may share.
+// The reply that is this text, which others may share, and which keeps its digest if it is to.
 fn shared(text: Text, keeps_digest: bool) -> Result<Reply, Fault>
     ensures { IfOk result (λ given. given ≡ Reply.Doc text) }
 {
     let text = SharedText::from_text(text)?;
-    Ok(Reply::Doc(digested(text, keeps_digest)))
+    if keeps_digest {
+        Ok(Reply::Doc(text.with_digest()))
+    } else {
+        Ok(Reply::Doc(text))
+    }
 }
 
 // ---- the reply
@@ -210,12 +184,8 @@ fn reply_of<S: Alter>(
     origin: Origin,
     keeps_digest: bool,
 ) -> Result<Reply, Fault>
-    requires rests { Rests (state S.Store conn.old) }
-    requires unshut { HasCleanDisk (state S.Store conn.old)
-        → IsTrue (state S.Store conn.old).is_open }
-    ensures left { IsLeftAlone (state S.Store conn.old) (state S.Store conn.new) }
-    ensures unshut { HasCleanDisk (state S.Store conn.new)
-        → OnOk result (IsTrue (state S.Store conn.new).is_open) }
+    requires rests { RestsOpen (state S.Store conn.old) }
+    ensures walks { WalksOver (state S.Store conn.old) (state S.Store conn.new) (OnOk result) }
     ensures made { HasCleanDisk (state S.Store conn.new) → IfOk result (λ given.
         IsMadeOf given origin (registry_in (state S.Store conn.old)) name.now) }
 {
@@ -229,31 +199,6 @@ fn reply_of<S: Alter>(
     }
 }
 
-// The reply to a query for the packument of the package in this view.
-fn query_reply<S: Alter>(
-    alloc: Global,
-    conn: &mut Connection<S>,
-    cache: &TextCache,
-    view: View,
-    request: &Request,
-    name: &Name,
-    keeps_digest: bool,
-) -> Result<Reply, Fault>
-    requires rests { Rests (state S.Store conn.old) }
-    requires right { HasPackuments view (state S.Store conn.old) cache.now }
-    requires asks { request.now.what ≡ asks_packument view name.now }
-    ensures left { LeavesAll (state S.Store conn.old) (state S.Store conn.new) }
-    ensures served { HasCleanDisk (state S.Store conn.new)
-        → OnOk result (IsTrue (state S.Store conn.new).is_open) }
-    ensures told { HasCleanDisk (state S.Store conn.new) → IfOk result
-        (λ given. given ≡ answer (registry_in (state S.Store conn.old)) request.now) }
-    ensures shows { HasCleanDisk (state S.Store conn.new) → IfOk result
-        (ShowsAlone view (registry_in (state S.Store conn.old)) name.now) }
-{
-    let origin = origin_of(alloc, conn, cache, view, request, name)?;
-    reply_of(alloc, conn, name, origin, keeps_digest)
-}
-
 /// Answers a query for the packument of the package in this view, and keeps its text as the latest
 /// asked.
 pub(crate) fn queried<S: Alter>(
@@ -264,31 +209,16 @@ pub(crate) fn queried<S: Alter>(
     request: &Request,
     name: &Name,
 ) -> Result<Reply, Fault>
-    requires rests { Rests (state S.Store conn.old) }
-    requires right { HasAnswers (state S.Store conn.old) caches.old }
+    requires cached { IsCached (state S.Store conn.old) caches.old }
     requires asks { request.now.what ≡ asks_packument view name.now }
-    ensures left { LeavesAll (state S.Store conn.old) (state S.Store conn.new) }
-    ensures right { HasAnswers (state S.Store conn.new) caches.new }
-    ensures limit { caches.new.packuments.limit ≡ caches.old.packuments.limit }
-    ensures abbreviated_limit { caches.new.abbreviated.limit ≡ caches.old.abbreviated.limit }
-    ensures revised_limit { caches.new.revised.limit ≡ caches.old.revised.limit }
-    ensures archive_limit { caches.new.archives.limit ≡ caches.old.archives.limit }
-    ensures answer { Answered (state S.Store conn.old) (state S.Store conn.new)
+    ensures cached { IsCached (state S.Store conn.new) caches.new }
+    ensures answers { AnswersOne (state S.Store conn.old) (state S.Store conn.new)
         request.now result }
-    ensures served { Served (state S.Store conn.old) (state S.Store conn.new) result }
-    ensures no_more { OnErr result (KeepNoMore caches.old caches.new) }
-    ensures kept { IfOk result (KeepsAnswer request.now.what caches.old caches.new) }
+    ensures kept { KeepsOutcome request.now.what caches.old caches.new result }
 {
     let keeps_digest = caches.keeps_digest(view);
-    let reply = query_reply(
-        alloc,
-        conn,
-        caches.texts(view),
-        view,
-        request,
-        name,
-        keeps_digest,
-    )?;
+    let origin = origin_of(alloc, conn, caches.texts(view), view, request, name)?;
+    let reply = reply_of(alloc, conn, name, origin, keeps_digest)?;
     keep_reply(alloc, caches, &request.what, &reply);
     Ok(reply)
 }

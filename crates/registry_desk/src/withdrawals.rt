@@ -1,22 +1,20 @@
 //! What decides a withdrawal and a deprecation.
 
-ghost use Rattle.std.specs.Prelude.{◌≡◌, ℕ, IfOk, List, None, false, map};
+ghost use Rattle.std.specs.Prelude.{◌≡◌, IfOk, List, None, false, map};
 ghost use Rattle.std.specs.List.{list_any};
 ghost use Rattle.registry_access.specs.declared.caller.Caller.{Caller as Asker};
 ghost use Rattle.registry_names.specs.Texts.{Text as SpecText};
-ghost use Rattle.registry_names.specs.Versions.{text_of_version};
 ghost use Rattle.registry_ranges.specs.Selectors.{Condition};
-ghost use Rattle.registry_rows.specs.Frames.{Stays};
 ghost use Rattle.registry_access.specs.RowsFor.{StandingTells};
 ghost use Rattle.registry_rules.specs.Facts.{since_of};
 ghost use Rattle.registry_rules.specs.Refusals.{withdraw_all_refusal, withdraw_refusal};
 ghost use Rattle.registry_rules.specs.Withdrawals as withdrawals;
-ghost use Rattle.registry_rules.specs.Withdrawals.{all_tags, live_since, published_at};
+ghost use Rattle.registry_rules.specs.Withdrawals.{all_tags};
 ghost use Rattle.registry_rules.specs.declared.request.Action.TheVariants as asked;
 ghost use Rattle.registry_tables.specs.Contents.{access_of, registry_of};
-ghost use Rattle.registry_tables.specs.Effects.{InForm, Loads};
+ghost use Rattle.registry_tables.specs.Inside.{Finds};
 ghost use Rattle.registry_tables.specs.Teams.{AreTeamsSound};
-ghost use Rattle.registry_desk.specs.Early.{FoundTells, IsFound, LetsWrite, denial};
+ghost use Rattle.registry_desk.specs.Early.{Decides, IsFound, LetsWrite, denial};
 
 use crate::policy::{Found, standing_if_allowed};
 use registry_access::{Ask, Caller, Standing};
@@ -42,20 +40,18 @@ pub(crate) fn facts_for_withdraw<S: Alter>(
     version: &Ver,
     now: &Moment,
 ) -> Result<Found, Fault>
-    requires in_form { InForm S.Store tx.old }
-    ensures stays { Stays S.Store tx.old tx.new }
-    ensures loads { Loads S.Store tx.old tx.new result (λ found c. AreTeamsSound c
+    ensures { Finds S.Store tx.old tx.new result (λ found c. AreTeamsSound c
         → IsFound found c now.now caller.now (asked.Withdraw name.now version.now)) }
 {
     match standing_if_allowed(alloc, tx, caller, name, &Ask::Write(name))? {
-        Ok(standing) => facts_if_young(alloc, tx, standing, name, version, now),
+        Ok(standing) => facts_if_allowed(alloc, tx, standing, name, version, now),
         Err(refusal) => Ok(Found::Refused(refusal)),
     }
 }
 
 // The same where the policy allows it. The needs aren't asked for if the version doesn't live, or
-// is too old.
-fn facts_if_young<S: Alter>(
+// is too old, nor the tags that name it if another package needs it.
+fn facts_if_allowed<S: Alter>(
     alloc: Global,
     tx: &mut Transaction<'_, S>,
     standing: Standing,
@@ -63,40 +59,16 @@ fn facts_if_young<S: Alter>(
     version: &Ver,
     now: &Moment,
 ) -> Result<Found, Fault>
-    requires in_form { InForm S.Store tx.old }
     requires allowed { LetsWrite standing }
-    ensures stays { Stays S.Store tx.old tx.new }
-    ensures loads { Loads S.Store tx.old tx.new result (λ found c. (who : Asker)
+    ensures { Finds S.Store tx.old tx.new result (λ found c. (who : Asker)
         → denial (access_of c) who (asked.Withdraw name.now version.now) ≡ None
         → StandingTells standing (access_of c) who name.now
         → IsFound found c now.now who (asked.Withdraw name.now version.now)) }
 {
     let published = load_published(tx, name, version.text())?;
-    match refusal_by_age(&published, now) {
-        Some(refusal) => Ok(Found::Refused(refusal)),
-        None => facts_if_unneeded(alloc, tx, standing, published, name, version),
+    if let Some(refusal) = refusal_by_age(&published, now) {
+        return Ok(Found::Refused(refusal));
     }
-}
-
-// The same where it is young enough. Which tags name it isn't asked for if another package needs it.
-fn facts_if_unneeded<S: Alter>(
-    alloc: Global,
-    tx: &mut Transaction<'_, S>,
-    standing: Standing,
-    published: Option<Moment>,
-    name: &Name,
-    version: &Ver,
-) -> Result<Found, Fault>
-    requires in_form { InForm S.Store tx.old }
-    requires allowed { LetsWrite standing }
-    ensures stays { Stays S.Store tx.old tx.new }
-    ensures loads { Loads S.Store tx.old tx.new result (λ found c. (who : Asker) (at : ℕ)
-        → denial (access_of c) who (asked.Withdraw name.now version.now) ≡ None
-        → withdraw_refusal at published false ≡ None
-        → published ≡ published_at (registry_of c) name.now (text_of_version version.now)
-        → StandingTells standing (access_of c) who name.now
-        → IsFound found c at who (asked.Withdraw name.now version.now)) }
-{
     if is_depended(alloc, tx, name, version)? {
         return Ok(Found::Refused(Refusal::Depended));
     }
@@ -137,59 +109,34 @@ pub(crate) fn facts_for_withdraw_all<S: Alter>(
     name: &Name,
     now: &Moment,
 ) -> Result<Found, Fault>
-    requires in_form { InForm S.Store tx.old }
-    ensures stays { Stays S.Store tx.old tx.new }
-    ensures loads { Loads S.Store tx.old tx.new result (λ found c. AreTeamsSound c
+    ensures { Finds S.Store tx.old tx.new result (λ found c. AreTeamsSound c
         → IsFound found c now.now caller.now (asked.WithdrawAll name.now)) }
 {
     match standing_if_allowed(alloc, tx, caller, name, &Ask::Write(name))? {
-        Ok(standing) => facts_if_all_young(alloc, tx, standing, name, now),
+        Ok(standing) => facts_if_all_allowed(alloc, tx, standing, name, now),
         Err(refusal) => Ok(Found::Refused(refusal)),
     }
 }
 
 // The same where the policy allows it. The needs aren't asked for if no version lives, or one is too
-// old.
-fn facts_if_all_young<S: Alter>(
+// old, nor the tags if another package needs one.
+fn facts_if_all_allowed<S: Alter>(
     alloc: Global,
     tx: &mut Transaction<'_, S>,
     standing: Standing,
     name: &Name,
     now: &Moment,
 ) -> Result<Found, Fault>
-    requires in_form { InForm S.Store tx.old }
     requires allowed { LetsWrite standing }
-    ensures stays { Stays S.Store tx.old tx.new }
-    ensures loads { Loads S.Store tx.old tx.new result (λ found c. (who : Asker)
+    ensures { Finds S.Store tx.old tx.new result (λ found c. (who : Asker)
         → denial (access_of c) who (asked.WithdrawAll name.now) ≡ None
         → StandingTells standing (access_of c) who name.now
         → IsFound found c now.now who (asked.WithdrawAll name.now)) }
 {
     let live = load_live_since(alloc, tx, name)?;
-    match refusal_by_ages(&live, now) {
-        Some(refusal) => Ok(Found::Refused(refusal)),
-        None => facts_if_all_unneeded(alloc, tx, standing, live, name),
+    if let Some(refusal) = refusal_by_ages(&live, now) {
+        return Ok(Found::Refused(refusal));
     }
-}
-
-// The same where all are young enough. The tags aren't asked for if another package needs one.
-fn facts_if_all_unneeded<S: Alter>(
-    alloc: Global,
-    tx: &mut Transaction<'_, S>,
-    standing: Standing,
-    live: Vec<LiveVersion>,
-    name: &Name,
-) -> Result<Found, Fault>
-    requires in_form { InForm S.Store tx.old }
-    requires allowed { LetsWrite standing }
-    ensures stays { Stays S.Store tx.old tx.new }
-    ensures loads { Loads S.Store tx.old tx.new result (λ found c. (who : Asker) (at : ℕ)
-        → denial (access_of c) who (asked.WithdrawAll name.now) ≡ None
-        → withdraw_all_refusal at (map since_of live.items) false ≡ None
-        → map since_of live.items ≡ live_since (registry_of c) name.now
-        → StandingTells standing (access_of c) who name.now
-        → IsFound found c at who (asked.WithdrawAll name.now)) }
-{
     if is_any_depended(alloc, tx, name, &live)? {
         return Ok(Found::Refused(Refusal::Depended));
     }
@@ -208,9 +155,7 @@ fn load_tag_names<S: Alter>(
     tx: &mut Transaction<'_, S>,
     name: &Name,
 ) -> Result<Vec<Text>, Fault>
-    requires in_form { InForm S.Store tx.old }
-    ensures stays { Stays S.Store tx.old tx.new }
-    ensures loads { Loads S.Store tx.old tx.new result
+    ensures { Finds S.Store tx.old tx.new result
         (λ tags c. tags.items ≡ all_tags (registry_of c) name.now) }
 {
     let tags = load_tags(alloc, tx, name)?;
@@ -255,12 +200,9 @@ pub(crate) fn facts_for_deprecate<S: Alter>(
     caller: &Caller,
     name: &Name,
 ) -> Result<Found, Fault>
-    requires in_form { InForm S.Store tx.old }
-    ensures stays { Stays S.Store tx.old tx.new }
-    ensures loads { Loads S.Store tx.old tx.new result (λ found c.
-        (selector : List (List Condition)) (message : SpecText) (at : ℕ) → AreTeamsSound c
-        → FoundTells found (registry_of c) at caller.now
-        (asked.Deprecate name.now selector message)) }
+    ensures { Finds S.Store tx.old tx.new result (λ found c.
+        (selector : List (List Condition)) (message : SpecText) → AreTeamsSound c
+        → Decides found c caller.now (asked.Deprecate name.now selector message)) }
 {
     match standing_if_allowed(alloc, tx, caller, name, &Ask::Write(name))? {
         Ok(standing) => {

@@ -17,7 +17,7 @@ use Rattle.registry_access.specs.Access.{Access}
 use Rattle.registry_access.specs.Agreement.{SamePackage}
 use Rattle.registry_access.specs.Callers.{role_of, is_maintainer, in_team, team_grant}
 use Rattle.registry_access.specs.Hiding as access
-use Rattle.registry_access.specs.Policy.{Verdict, may_manage_members, may_manage_teams, may_see_organisation, may_publish, may_write, may_manage_maintainers, may_read}
+use Rattle.registry_access.specs.Policy.{Verdict, may_manage_members, may_manage_teams, may_publish, may_write, may_manage_maintainers, may_read}
 use Rattle.registry_access.specs.Positions.{has_organisation, position_in}
 use Rattle.registry_access.specs.declared.caller.Caller.{Caller}
 use Rattle.registry_access.specs.declared.caller.Caller.TheVariants.{Operator, User, Anonymous}

@@ -23,8 +23,7 @@ use Rattle.registry_rules.specs.Withdrawals.{live_versions, others, selected, ta
 use Rattle.registry_rules.specs.declared.request.Action.{Action}
 use Rattle.registry_rules.specs.declared.request.Action.TheVariants as command
 use Rattle.registry_rules.specs.declared.request.Action.TheVariants.{Revoke, SetAccess, OwnerAdd, OwnerRemove, Publish, TagSet, TagRemove, Withdraw, WithdrawAll, Deprecate}
-use Rattle.registry_rules.proofs.MadeFacts.{latest_put}
-use Rattle.registry_rules.proofs.PublishedFacts.{statuses_after, granted_first, grants_after, maintained_first, maintainers_after, status_of}
+use Rattle.registry_rules.proofs.PublishedFacts.{latest_put, statuses_after, granted_first, grants_after, maintained_first, maintainers_after, status_of}
 use Rattle.registry_rules.proofs.WholeFacts.{moments_at, since_when, whole_left, whole_live, whole_spent, whole_tags}
 use Rattle.registry_rules.proofs.WithdrawnFacts.{at-freed, at-marked, freed_tags, freed_value, marked_all, marked_value}
 use Rattle.registry_laws_history.proofs.LeftFacts.{left_by, left_is, joined, taken}
@@ -90,7 +89,7 @@ module _ (p q : Text) (named : is q p ≡ true) where
 
   freed_gone : (m : PairMap Text) (next : Option Text) (ts : List Text) → of_others (freed_tags m q next ts) p ≡ of_others m p
   freed_gone m next ts = keep_alike pair_key (other_pair p) (freed_tags m q next ts) m (λ k passed.
-      at-freed m q next ts k.0 k.1 ∙ ap (λ b. cond (b && among is ts k.1) (freed_value next k.1 (at m k)) (at m k)) (unlike k.0 passed (is q k.0) refl))
+      at-freed m q next ts k.0 k.1 ∙ ap (λ b. cond (b && among is ts k.1) (freed_value next k.1) (at m k)) (unlike k.0 passed (is q k.0) refl))
 
   marked_gone : (m : PairMap Release) (message : Text) (vs : List Text) → of_others (marked_all m q message vs) p ≡ of_others m p
   marked_gone m message vs = keep_alike pair_key (other_pair p) (marked_all m q message vs) m (λ k passed.

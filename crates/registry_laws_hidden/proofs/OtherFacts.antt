@@ -2,6 +2,7 @@
 -- the registry.
 use Rattle.std.proofs.Common.{◌≡◌, ℕ, Bool, true, false, cond, not, ◌&&◌, ◌||◌, refl, sym, ap, ap₂, ◌∙◌, Some, None, Option, option_map, true≢false, List, is_some, filter}
 use Rattle.registry_names.specs.Greatest.{greatest}
+use Rattle.registry_names.specs.Keys.{Pair}
 use Rattle.registry_names.specs.Maps.{TextMap, PairMap, TripleMap, among, at, put, erase, keep, keys, of}
 use Rattle.registry_names.specs.Names.{scope_of}
 use Rattle.registry_names.specs.Tags.{latest}
@@ -27,8 +28,7 @@ use Rattle.registry_rules.specs.Withdrawals.{live_versions, others, selected, ta
 use Rattle.registry_rules.specs.declared.request.Action.{Action}
 use Rattle.registry_rules.specs.declared.request.Action.TheVariants as command
 use Rattle.registry_rules.specs.declared.request.Action.TheVariants.{TeamDestroy, Revoke, SetAccess, OwnerAdd, OwnerRemove, Publish, TagSet, TagRemove, Withdraw, WithdrawAll, Deprecate}
-use Rattle.registry_rules.proofs.MadeFacts.{latest_put}
-use Rattle.registry_rules.proofs.PublishedFacts.{access_after, statuses_after, granted_first, grants_after, maintained_first, maintainers_after}
+use Rattle.registry_rules.proofs.PublishedFacts.{access_after, latest_put, statuses_after, granted_first, grants_after, maintained_first, maintainers_after}
 use Rattle.registry_rules.proofs.WholeFacts.{moments_at, since_when, whole_left, whole_live, whole_spent, whole_tags}
 use Rattle.registry_rules.proofs.WithdrawnFacts.{at-freed, at-marked, freed_tags, freed_value, marked_all, marked_value}
 use Rattle.registry_laws_history.proofs.LeftFacts.{left_by, left_is, joined, taken}
@@ -37,6 +37,16 @@ use Rattle.registry_laws_hidden.proofs.KeepFacts.{at-kept, keep-put, keep-erase,
 use Rattle.registry_laws_hidden.proofs.NamedFacts.{other_pair, other_triple}
 
 -- ---- each map, without a package, after a change of another package
+
+-- what was put is of another package
+put_alike : {X : Type 0} (here stays : Bool) (new old : Option X) → (here ≡ true → stays ≡ true) → cond here new (cond stays old None) ≡ cond stays (cond here new old) None
+put_alike true true new old kept = refl
+put_alike true false new old kept = absurd (true≢false (sym (kept refl)))
+put_alike false stays new old kept = refl
+
+first_of : (a b : Bool) → (a && b) ≡ true → a ≡ true
+first_of true b e = refl
+first_of false b e = e
 
 module _ (p q : Text) (other : is q p ≡ false) where
   status_put : (m : TextMap Status) (status : Status) → put (erase m p) q status ≡ erase (put m q status) p
@@ -88,19 +98,15 @@ module _ (p q : Text) (other : is q p ≡ false) where
   changed_alike true false f old none = none
   changed_alike false stays f old none = refl
 
-  freed_none : (next : Option Text) (t : Text) → freed_value next t None ≡ None
-  freed_none None t = refl
-  freed_none (Some w) t = by_name (is t latest)
-    where
-      by_name : (b : Bool) → ◌≡◌ {A = Option Text} (cond b None None) None
-      by_name true = refl
-      by_name false = refl
+  -- an entry of the changed package is kept
+  stays_there : (k : Pair) (b : Bool) → (is q k.0 && b) ≡ true → other_pair p k ≡ true
+  stays_there k b here = ap not (ap (λ r. is r p) (sym (same_true text_key q k.0 (first_of (is q k.0) b here))) ∙ other)
 
   freed_alike : (m : PairMap Text) (next : Option Text) (ts : List Text) → freed_tags (of_others m p) q next ts ≡ of_others (freed_tags m q next ts) p
   freed_alike m next ts = same_map pair_key _ _ (λ k.
       at-freed (of_others m p) q next ts k.0 k.1
-      ∙ ap (λ o. cond (is q k.0 && among is ts k.1) (freed_value next k.1 o) o) (at-keep pair_key m (other_pair p) k)
-      ∙ changed_alike (is q k.0 && among is ts k.1) (other_pair p k) (freed_value next k.1) (at m k) (freed_none next k.1)
+      ∙ ap (cond (is q k.0 && among is ts k.1) (freed_value next k.1)) (at-keep pair_key m (other_pair p) k)
+      ∙ put_alike (is q k.0 && among is ts k.1) (other_pair p k) (freed_value next k.1) (at m k) (stays_there k (among is ts k.1))
       ∙ sym (at-keep pair_key (freed_tags m q next ts) (other_pair p) k ∙ ap (λ o. cond (other_pair p k) o None) (at-freed m q next ts k.0 k.1)))
 
   marked_alike : (m : PairMap Release) (message : Text) (vs : List Text) → marked_all (of_others m p) q message vs ≡ of_others (marked_all m q message vs) p
@@ -161,16 +167,6 @@ gone_alike true true old = refl
 gone_alike true false old = refl
 gone_alike false stays old = refl
 
--- what was put is of another package
-put_alike : {X : Type 0} (here stays : Bool) (new old : Option X) → (here ≡ true → stays ≡ true) → cond here new (cond stays old None) ≡ cond stays (cond here new old) None
-put_alike true true new old kept = refl
-put_alike true false new old kept = absurd (true≢false (sym (kept refl)))
-put_alike false stays new old kept = refl
-
-first_of : (a b : Bool) → (a && b) ≡ true → a ≡ true
-first_of true b e = refl
-first_of false b e = e
-
 whole_alike : (S : State) (now : ℕ) (p q : Text) → is q p ≡ false → whole_left (state_without S p) now q ≡ state_without (whole_left S now q) p
 whole_alike S now p q other =
     let R : State = state_without S p in
@@ -183,8 +179,7 @@ whole_alike S now p q other =
     let spent = same_map pair_key _ _ (λ k.
     whole_spent R now q k.0 k.1
     ∙ ap₂ (λ (o : Option Release) (old : Option Withdrawal). cond (is q k.0 && is_some o) (option_map (moments_at now) (option_map (λ (r : Release). r.at) o)) old) (lives k.1) (at-keep pair_key S.spent (other_pair p) k)
-    ∙ put_alike (is q k.0 && is_live S q k.1) (other_pair p k) (option_map (moments_at now) (since_when S now q k.1)) (at S.spent k)
-    (λ here. ap not (ap (λ r. is r p) (sym (same_true text_key q k.0 (first_of (is q k.0) (is_live S q k.1) here))) ∙ other))
+    ∙ put_alike (is q k.0 && is_live S q k.1) (other_pair p k) (option_map (moments_at now) (since_when S now q k.1)) (at S.spent k) (stays_there p q other k (is_live S q k.1))
     ∙ sym (at-keep pair_key T.spent (other_pair p) k ∙ ap (λ (o : Option Withdrawal). cond (other_pair p k) o None) (whole_spent S now q k.0 k.1))) in
     let tags = same_map pair_key _ _ (λ k.
     whole_tags R now q k.0 k.1 ∙ ap (λ (o : Option Text). cond (is q k.0) None o) (at-keep pair_key S.tags (other_pair p) k)

@@ -1,5 +1,5 @@
 -- A packument depends on its own package alone.
-use Rattle.std.proofs.Common.{◌≡◌, ℕ, Bool, true, false, cond, ◌&&◌, ◌||◌, List, [], ◌∷◌, is_some, Option, Some, None, option_map, refl, ap, ap₂, ◌∙◌, true≢false}
+use Rattle.std.proofs.Common.{◌≡◌, ℕ, Bool, true, false, cond, ◌&&◌, ◌||◌, List, [], ◌∷◌, Option, Some, None, option_map, refl, ap, ap₂, ◌∙◌, true≢false}
 use Rattle.std.specs.List.{list_any}
 use Rattle.registry_names.specs.Keys.{pair_is}
 use Rattle.registry_names.specs.Texts.{Text, is}
@@ -15,7 +15,6 @@ use Rattle.registry_rules.specs.Actions.{names_package, version_of}
 use Rattle.registry_rules.specs.Callers.{caller_of}
 use Rattle.registry_rules.specs.Changes.{Change, AddUser, AddToken, DropToken, AddOrg, PutMember, DropMember, AddTeam, PutTeamMember, DropTeamMember, DropTeam, PutGrant, DropGrant, PutOwner, DropOwner, PutStatus, AddVersion, RetireVersion, PutDeprecation, PutTag, DropTag, made, all_made, release_of}
 use Rattle.registry_rules.specs.Effects.{effects_for, step}
-use Rattle.registry_rules.specs.Operations.{with_member, with_role, with_grant, regranted, with_status, restated, with_tag, moved}
 use Rattle.registry_rules.specs.State.{State, Release}
 use Rattle.registry_rules.specs.declared.request.Action.{Action}
 use Rattle.registry_rules.proofs.LawFacts.{commands_leave_other_packages}
@@ -34,10 +33,6 @@ same_packument form S T p same = λ i. packument_of form p (same.tags i) (same.l
 unchanged : (S : State) (p : Text) → IsSame S S p
 unchanged S p = record { live = refl; spent = refl; tags = refl }
 
-either : (b : Bool) (S T U : State) (p : Text) → IsSame S T p → IsSame S U p → IsSame S (cond b T U) p
-either true S T U p one other = one
-either false S T U p one other = other
-
 unmarked : (b : Bool) (mark : Release → Release) (o : Option Release) → b ≡ false → option_map (λ (r : Release). cond b (mark r) r) o ≡ o
 unmarked b mark None e = refl
 unmarked true mark (Some r) e = absurd (true≢false e)
@@ -49,23 +44,17 @@ made_same S (AddUser u) p e = record { live = refl; spent = refl; tags = refl }
 made_same S (AddToken digest u) p e = record { live = refl; spent = refl; tags = refl }
 made_same S (DropToken digest) p e = record { live = refl; spent = refl; tags = refl }
 made_same S (AddOrg o) p e = record { live = refl; spent = refl; tags = refl }
-made_same S (PutMember o u role stands) p e =
-    let here : IsSame S (with_member S o u role) p = record { live = refl; spent = refl; tags = refl } in
-    either stands S (with_role S o u role) (with_member S o u role) p (either (is_some (at S.access.roles (o, u))) S (with_member S o u role) S p here (unchanged S p)) here
+made_same S (PutMember o u role) p e = record { live = refl; spent = refl; tags = refl }
 made_same S (DropMember o u) p e = record { live = refl; spent = refl; tags = refl }
 made_same S (AddTeam o t) p e = record { live = refl; spent = refl; tags = refl }
 made_same S (PutTeamMember o t u) p e = record { live = refl; spent = refl; tags = refl }
 made_same S (DropTeamMember o t u) p e = record { live = refl; spent = refl; tags = refl }
 made_same S (DropTeam o t) p e = record { live = refl; spent = refl; tags = refl }
-made_same S (PutGrant o t q grant stands) p e =
-    let here : IsSame S (with_grant S o t q grant) p = record { live = refl; spent = refl; tags = refl } in
-    either stands S (regranted S o t q grant) (with_grant S o t q grant) p (either (is_some (at S.access.grants (o, (t, q)))) S (with_grant S o t q grant) S p here (unchanged S p)) here
+made_same S (PutGrant o t q grant) p e = record { live = refl; spent = refl; tags = refl }
 made_same S (DropGrant o t q) p e = record { live = refl; spent = refl; tags = refl }
 made_same S (PutOwner q u) p e = record { live = refl; spent = refl; tags = refl }
 made_same S (DropOwner q u) p e = record { live = refl; spent = refl; tags = refl }
-made_same S (PutStatus q status stands) p e =
-    let here : IsSame S (with_status S q status) p = record { live = refl; spent = refl; tags = refl } in
-    either stands S (restated S q status) (with_status S q status) p (either (is_some (at S.access.statuses q)) S (with_status S q status) S p here (unchanged S p)) here
+made_same S (PutStatus q status) p e = record { live = refl; spent = refl; tags = refl }
 made_same S (AddVersion f now) p e = record { live = part-put text_key S.live f.name (version_of f) (release_of f now) p e; spent = refl; tags = refl }
 made_same S (RetireVersion q v published withdrawn) p e = record { live = part-erase text_key S.live q v p e; spent = part-put text_key S.spent q v _ p e; tags = refl }
 made_same S (PutDeprecation q v message) p e = record {
@@ -74,9 +63,7 @@ made_same S (PutDeprecation q v message) p e = record {
   spent = refl;
   tags = refl;
 }
-made_same S (PutTag q t v stands) p e =
-    let here : IsSame S (with_tag S q t v) p = record { live = refl; spent = refl; tags = part-put text_key S.tags q t v p e } in
-    either stands S (moved S q t v) (with_tag S q t v) p (either (is_some (at S.tags (q, t))) S (with_tag S q t v) S p here (unchanged S p)) here
+made_same S (PutTag q t v) p e = record { live = refl; spent = refl; tags = part-put text_key S.tags q t v p e }
 made_same S (DropTag q t) p e = record { live = refl; spent = refl; tags = part-erase text_key S.tags q t p e }
 
 neither : (a b : Bool) → (a || b) ≡ false → (a ≡ false) × (b ≡ false)
@@ -108,35 +95,27 @@ record IsReadSame (S T : State) (p : Text) : Type 0 where
 same_revised : (S T : State) (p : Text) → IsReadSame S T p → revised_packument T p ≡ revised_packument S p
 same_revised S T p read = ap₂ shown_text (same_packument Full S T p read.same) (ap keys read.maintainers)
 
-either_named : (b : Bool) (S T U : State) (p : Text) → of T.access.maintainers p ≡ of S.access.maintainers p → of U.access.maintainers p ≡ of S.access.maintainers p
-    → of (cond b T U).access.maintainers p ≡ of S.access.maintainers p
-either_named true S T U p one other = one
-either_named false S T U p one other = other
-
 -- a change of no maintainer of the package
 made_named : (S : State) (change : Change) (p : Text) → is_read_in change p ≡ false → of (made S change).access.maintainers p ≡ of S.access.maintainers p
 made_named S (AddUser u) p e = refl
 made_named S (AddToken digest u) p e = refl
 made_named S (DropToken digest) p e = refl
 made_named S (AddOrg o) p e = refl
-made_named S (PutMember o u role stands) p e =
-    either_named stands S (with_role S o u role) (with_member S o u role) p (either_named (is_some (at S.access.roles (o, u))) S (with_member S o u role) S p refl refl) refl
+made_named S (PutMember o u role) p e = refl
 made_named S (DropMember o u) p e = refl
 made_named S (AddTeam o t) p e = refl
 made_named S (PutTeamMember o t u) p e = refl
 made_named S (DropTeamMember o t u) p e = refl
 made_named S (DropTeam o t) p e = refl
-made_named S (PutGrant o t q grant stands) p e =
-    either_named stands S (regranted S o t q grant) (with_grant S o t q grant) p (either_named (is_some (at S.access.grants (o, (t, q)))) S (with_grant S o t q grant) S p refl refl) refl
+made_named S (PutGrant o t q grant) p e = refl
 made_named S (DropGrant o t q) p e = refl
 made_named S (PutOwner q u) p e = part-put text_key S.access.maintainers q u tt p e
 made_named S (DropOwner q u) p e = part-erase text_key S.access.maintainers q u p e
-made_named S (PutStatus q status stands) p e =
-    either_named stands S (restated S q status) (with_status S q status) p (either_named (is_some (at S.access.statuses q)) S (with_status S q status) S p refl refl) refl
+made_named S (PutStatus q status) p e = refl
 made_named S (AddVersion f now) p e = refl
 made_named S (RetireVersion q v published withdrawn) p e = refl
 made_named S (PutDeprecation q v message) p e = refl
-made_named S (PutTag q t v stands) p e = either_named stands S (moved S q t v) (with_tag S q t v) p (either_named (is_some (at S.tags (q, t))) S (with_tag S q t v) S p refl refl) refl
+made_named S (PutTag q t v) p e = refl
 made_named S (DropTag q t) p e = refl
 
 -- what changes no maintainer of it and nothing else that is read changes no version and no tag
@@ -147,19 +126,19 @@ not_about (AddUser u) p e = e
 not_about (AddToken digest u) p e = e
 not_about (DropToken digest) p e = e
 not_about (AddOrg o) p e = e
-not_about (PutMember o u role stands) p e = e
+not_about (PutMember o u role) p e = e
 not_about (DropMember o u) p e = e
 not_about (AddTeam o t) p e = e
 not_about (PutTeamMember o t u) p e = e
 not_about (DropTeamMember o t u) p e = e
 not_about (DropTeam o t) p e = e
-not_about (PutGrant o t q grant stands) p e = e
+not_about (PutGrant o t q grant) p e = e
 not_about (DropGrant o t q) p e = e
-not_about (PutStatus q status stands) p e = e
+not_about (PutStatus q status) p e = e
 not_about (AddVersion f now) p e = e
 not_about (RetireVersion q v published withdrawn) p e = e
 not_about (PutDeprecation q v message) p e = e
-not_about (PutTag q t v stands) p e = e
+not_about (PutTag q t v) p e = e
 not_about (DropTag q t) p e = e
 
 pub none_about : (changes : List Change) (p : Text) → list_any (λ change. is_read_in change p) changes ≡ false → are_about changes p ≡ false

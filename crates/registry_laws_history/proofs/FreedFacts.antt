@@ -87,6 +87,6 @@ module _ (S : State) (q v t : Text) where
 
   -- what a tag names after they were freed, which named this before
   pub at-freed_by : (next : Option Text) (p : Text) (old : Option Text) → at S.tags (p, t) ≡ old
-      → at (freed_tags S.tags q next (tags_of S q v)) (p, t) ≡ cond (is q p && is_named v old) (freed_value next t old) old
+      → at (freed_tags S.tags q next (tags_of S q v)) (p, t) ≡ cond (is q p && is_named v old) (freed_value next t) old
   at-freed_by next p old stood =
-      at-freed S.tags q next (tags_of S q v) p t ∙ ap₂ (λ (b : Bool) (o : Option Text). cond b (freed_value next t o) o) (named_here p old stood (is q p) refl) stood
+      at-freed S.tags q next (tags_of S q v) p t ∙ ap₂ (λ (b : Bool) (o : Option Text). cond b (freed_value next t) o) (named_here p old stood (is q p) refl) stood

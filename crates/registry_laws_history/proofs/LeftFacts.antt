@@ -1,5 +1,5 @@
 -- What an action leaves, each map by itself.
-use Rattle.std.proofs.Common.{◌≡◌, ℕ, Bool, true, false, cond, ◌||◌, Option, Some, None, refl, ap, is_some, Ordering}
+use Rattle.std.proofs.Common.{◌≡◌, ℕ, Bool, true, false, cond, ◌||◌, Option, Some, None, refl, is_some, Ordering}
 use Rattle.registry_names.specs.Maps.{MapBy, PairMap, at, put, erase}
 use Rattle.registry_names.specs.Greatest.{greatest}
 use Rattle.registry_names.specs.Keys.{Pair}
@@ -11,13 +11,10 @@ use Rattle.registry_access.specs.declared.role.Role.{Role}
 use Rattle.registry_rules.specs.Actions.{version_of}
 use Rattle.registry_rules.specs.Changes.{all_made, release_of}
 use Rattle.registry_rules.specs.Effects.{joining, maintaining, membership, step_by}
-use Rattle.registry_rules.specs.Operations.{with_grant, with_status, with_tag}
-use Rattle.registry_rules.specs.State.{State, Release, Withdrawal, developers, tokens_of, has_grant, has_maintainer, is_in_team, is_published, stands}
+use Rattle.registry_rules.specs.State.{State, Release, Withdrawal, developers, tokens_of, has_maintainer, is_in_team, stands}
 use Rattle.registry_rules.specs.Withdrawals.{live_versions, others, selected, tags_of}
 use Rattle.registry_rules.specs.declared.request.Action.{Action}
-use Rattle.registry_rules.specs.declared.request.Action.TheVariants as command
-use Rattle.registry_rules.specs.declared.request.Action.TheVariants.{TokensRemove, OrgSet, TeamAdd, SetAccess, OwnerAdd, Publish, TagSet, Withdraw, WithdrawAll, Deprecate}
-use Rattle.registry_rules.proofs.MadeFacts.{grant_put, role_put, status_put, tag_put}
+use Rattle.registry_rules.specs.declared.request.Action.TheVariants.{TokensRemove, OrgSet, TeamAdd, OwnerAdd, Publish, Withdraw, WithdrawAll, Deprecate}
 use Rattle.registry_rules.proofs.TokenFacts.{ended_all, ended_is}
 use Rattle.registry_rules.proofs.WholeFacts.{whole_is, whole_left}
 use Rattle.registry_rules.proofs.WithdrawnFacts.{deprecated_is, freed_tags, marked_all, withdrawal_of, withdrawn_is}
@@ -47,7 +44,7 @@ taken_is : (S : State) (now : ℕ) (p v : Text) (old : Option Release) → all_m
 taken_is S now p v None = refl
 taken_is S now p v (Some r) = withdrawn_is S now p v r.at (greatest (others (live_versions S p) v)) (tags_of S p v)
 
--- what an action leaves, whether what it puts was there before or not
+-- what an action leaves
 abbrev pub left_by : State → ℕ → Caller → Action → State
 left_by S now who (TokensRemove u) = record S { access = record S.access { tokens = ended_all S.access.tokens (tokens_of S u) } }
 left_by S now who (OrgSet o u role) = record S {
@@ -57,21 +54,18 @@ left_by S now who (OrgSet o u role) = record S {
   };
 }
 left_by S now who (TeamAdd o t u) = record S { access = record S.access { team_members = joined S.access.team_members (is_in_team S o t u) (o, (t, u)) } }
-left_by S now who (command.Grant o t p grant) = with_grant S o t p grant
-left_by S now who (SetAccess p status) = with_status S p status
 left_by S now who (OwnerAdd p u) = record S { access = record S.access { maintainers = joined S.access.maintainers (has_maintainer S p u) (p, u) } }
 left_by S now who (Publish f) = after_publish S who f.name (version_of f) f.tag (release_of f now) (status_of S f) (stands S f.name latest || is f.tag latest)
-left_by S now who (TagSet p t v) = with_tag S p t (text_of_version v)
 left_by S now who (Withdraw p v) = taken S now p (text_of_version v) (at S.live (p, text_of_version v))
 left_by S now who (WithdrawAll p) = whole_left S now p
 left_by S now who (Deprecate p conditions message) = record S { live = marked_all S.live p message (selected (live_versions S p) conditions) }
 left_by S now who what = step_by S now who what
 
-role_left : (S : State) (o u : Text) (role : Role) (old : Option Role) → at S.access.roles (o, u) ≡ old → all_made S (membership o u role old) ≡ record S {
+role_left : (S : State) (o u : Text) (role : Role) (old : Option Role) → all_made S (membership o u role old) ≡ record S {
   access = record S.access { roles = put S.access.roles (o, u) role; team_members = joined S.access.team_members (is_some old) (o, (developers, u)) };
 }
-role_left S o u role (Some r) e = role_put S o u role (ap is_some e)
-role_left S o u role None e = refl
+role_left S o u role (Some r) = refl
+role_left S o u role None = refl
 
 team_left : (S : State) (o t u : Text) (inside : Bool)
     → all_made S (joining o t u inside) ≡ record S { access = record S.access { team_members = joined S.access.team_members inside (o, (t, u)) } }
@@ -85,13 +79,10 @@ owner_left S p u false = refl
 
 pub left_is : (S : State) (now : ℕ) (who : Caller) (what : Action) → step_by S now who what ≡ left_by S now who what
 left_is S now who (TokensRemove u) = ended_is S (tokens_of S u)
-left_is S now who (OrgSet o u role) = role_left S o u role (at S.access.roles (o, u)) refl
+left_is S now who (OrgSet o u role) = role_left S o u role (at S.access.roles (o, u))
 left_is S now who (TeamAdd o t u) = team_left S o t u (is_in_team S o t u)
-left_is S now who (command.Grant o t p grant) = grant_put S o t p grant (has_grant S o t p) (λ there. there)
-left_is S now who (SetAccess p status) = status_put S p status (is_published S p) (λ there. there)
 left_is S now who (OwnerAdd p u) = owner_left S p u (has_maintainer S p u)
 left_is S now who (Publish f) = published_is S who f now
-left_is S now who (TagSet p t v) = tag_put S p t (text_of_version v) (stands S p t) (λ there. there)
 left_is S now who (Withdraw p v) = taken_is S now p (text_of_version v) (at S.live (p, text_of_version v))
 left_is S now who (WithdrawAll p) = whole_is S now p
 left_is S now who (Deprecate p conditions message) = deprecated_is S p message (selected (live_versions S p) conditions)

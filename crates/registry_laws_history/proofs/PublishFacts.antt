@@ -20,8 +20,7 @@ use Rattle.registry_rules.specs.State.{State, Release, is_live, is_spent, stands
 use Rattle.registry_rules.specs.Withdrawals.{published_at}
 use Rattle.registry_rules.specs.declared.request.Action.TheVariants.{Publish, Withdraw}
 use Rattle.registry_rules.proofs.AllowedFacts.{state_passed}
-use Rattle.registry_rules.proofs.MadeFacts.{latest_put}
-use Rattle.registry_rules.proofs.PublishedFacts.{statuses_after}
+use Rattle.registry_rules.proofs.PublishedFacts.{latest_put, statuses_after}
 use Rattle.registry_laws_history.specs.Readings.{or_before}
 use Rattle.registry_laws_history.proofs.LeftFacts.{left_by}
 

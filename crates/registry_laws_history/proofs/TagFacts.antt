@@ -83,31 +83,31 @@ stands_after false same false false newest v r lived old n there still lives = s
 
 -- `latest` names the greatest that remains, if it named the version
 latest_left : (here : Bool) (w : Text) (next rest said : Option Text) → (here ≡ true → next ≡ rest)
-    → cond (here && is_named w said) (freed_value next latest said) said ≡ cond (here && is_named w said) rest said
+    → cond (here && is_named w said) (freed_value next latest) said ≡ cond (here && is_named w said) rest said
 latest_left true w next rest None same = refl
-latest_left true w next rest (Some x) same = ap (λ o. cond (is w x) o (Some x)) (freed_latest next (Some x) x refl ∙ same refl)
+latest_left true w next rest (Some x) same = ap (λ o. cond (is w x) o (Some x)) (freed_latest next ∙ same refl)
 latest_left false w next rest said same = refl
 
 -- what a tag names is the next version, or what it named before, and that isn't the version that
 -- goes
 named_left : (here : Bool) (w t x : Text) (next old : Option Text) (lives : Bool) → (here ≡ true → next ≡ Some x → lives ≡ true) → (old ≡ Some x → (here && is w x) ≡ false → lives ≡ true)
-    → cond (here && is_named w old) (freed_value next t old) old ≡ Some x → lives ≡ true
+    → cond (here && is_named w old) (freed_value next t) old ≡ Some x → lives ≡ true
 named_left true w t x next None lives moved stays e = let none : None ≡ Some x = e in absurd (cc)
 named_left true w t x next (Some y) lives moved stays e = by_name (is w y) refl e
   where
-    by_name : (b : Bool) → is w y ≡ b → cond b (freed_value next t (Some y)) (Some y) ≡ Some x → lives ≡ true
-    by_name true f g = moved refl (freed_names next (Some y) t x g).1
+    by_name : (b : Bool) → is w y ≡ b → cond b (freed_value next t) (Some y) ≡ Some x → lives ≡ true
+    by_name true f g = moved refl (freed_names next t x g).1
     by_name false f g = stays g (ap (is w) (sym (same_text y x g)) ∙ f)
 named_left false w t x next old lives moved stays e = stays e refl
 
 -- `latest` exists where it existed, and there is a next version where it named the one that goes
 stands_left : (here : Bool) (w : Text) (next old : Option Text) → is_some old ≡ true → (here ≡ true → is_some next ≡ true)
-    → is_some (cond (here && is_named w old) (freed_value next latest old) old) ≡ true
+    → is_some (cond (here && is_named w old) (freed_value next latest) old) ≡ true
 stands_left here w next None stood more = absurd (true≢false (sym stood))
 stands_left true w next (Some x) stood more = by_name (is w x)
   where
-    by_name : (b : Bool) → is_some (cond b (freed_value next latest (Some x)) (Some x)) ≡ true
-    by_name true = ap is_some (freed_latest next (Some x) x refl) ∙ more refl
+    by_name : (b : Bool) → is_some (cond b (freed_value next latest) (Some x)) ≡ true
+    by_name true = ap is_some (freed_latest next) ∙ more refl
     by_name false = refl
 stands_left false w next (Some x) stood more = refl
 
@@ -149,7 +149,7 @@ tagged_taken now who q v h S (Some r) lived has versions =
       newest = λ p. at-freed_by S q w latest next p _ (has.newest p)
           ∙ latest_left (is q p) w next (greatest (remaining grown p)) _ (λ e. rest ∙ ap (λ r. greatest (remaining grown r)) (is_true q p e));
       other = λ p t apart. at-freed_by S q w t next p _ (has.other p t apart)
-          ∙ ap (λ o. cond (is q p && is_named w (other_tag h p t)) o (other_tag h p t)) (freed_gone next (other_tag h p t) t apart);
+          ∙ ap (λ o. cond (is q p && is_named w (other_tag h p t)) o (other_tag h p t)) (freed_gone next t apart);
       named = λ p t x e. named_left (is q p) w t x next (at S.tags (p, t)) (is_left p x)
           (λ here f. sym (same p x here) ∙ sym (among_others S.live q w x) ∙ (greatest_is (others (live_versions S q) w) x f).member)
           (λ f apart. ap is_some (at-erase_other pair_key S.live (q, w) (p, x) apart) ∙ has.named p t x f)

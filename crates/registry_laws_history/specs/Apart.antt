@@ -16,21 +16,21 @@ is_about (AddUser u) p = false
 is_about (AddToken digest u) p = false
 is_about (DropToken digest) p = false
 is_about (AddOrg o) p = false
-is_about (PutMember o u role stands) p = false
+is_about (PutMember o u role) p = false
 is_about (DropMember o u) p = false
 is_about (AddTeam o t) p = false
 is_about (PutTeamMember o t u) p = false
 is_about (DropTeamMember o t u) p = false
 is_about (DropTeam o t) p = false
-is_about (PutGrant o t q grant stands) p = false
+is_about (PutGrant o t q grant) p = false
 is_about (DropGrant o t q) p = false
 is_about (PutOwner q u) p = false
 is_about (DropOwner q u) p = false
-is_about (PutStatus q status stands) p = false
+is_about (PutStatus q status) p = false
 is_about (AddVersion f now) p = is f.name p
 is_about (RetireVersion q v published withdrawn) p = is q p
 is_about (PutDeprecation q v message) p = is q p
-is_about (PutTag q t v stands) p = is q p
+is_about (PutTag q t v) p = is q p
 is_about (DropTag q t) p = is q p
 
 -- whether it changes what npm reads of the package: besides, it adds or removes a maintainer of it

@@ -9,7 +9,7 @@ use Rattle.sqlite_sql.specs.Ops.{unary}
 use Rattle.std.proofs.lemmas.Iterator.Adapters.{option_map_id}
 use Rattle.registry_names.specs.Keys.{Pair, pair_is}
 use Rattle.registry_names.specs.Texts.{Text, is}
-use Rattle.registry_names.specs.Maps.{PairMap, among, at, entries, keys, put, revise}
+use Rattle.registry_names.specs.Maps.{PairMap, among, at, entries, keys, put}
 use Rattle.registry_names.proofs.KeyFacts.{pair_key, same_self, same_true, text_key}
 use Rattle.registry_names.proofs.MapFacts.{at-empty, at-put, at-put_other, at-put_same, at-revise, same_map}
 use Rattle.registry_publish.specs.Integrity.{integrity_text}
@@ -17,14 +17,14 @@ use Rattle.registry_rows.specs.Counting.{counted}
 use Rattle.registry_rows.specs.KeyKinds.{NumberMap}
 use Rattle.registry_rows.proofs.CountFacts.{next_is_after}
 use Rattle.registry_rows.proofs.KeyedFacts.{number_key}
-use Rattle.registry_tables.specs.Archives.{HeldAreStored, HoldsArchives, archive_number, is_archive, is_stored, next_archive, number_of, with_archive}
-use Rattle.registry_tables.specs.Contents.{Archive, Contents, LiveVersion, as_release, bytes_held, live_of, with_bytes}
+use Rattle.registry_tables.specs.Archives.{HeldAreStored, archive_number, is_archive, is_stored, next_archive, number_of, with_archive}
+use Rattle.registry_tables.specs.Contents.{Archive, Contents, LiveVersion, as_release, bytes_held, with_bytes}
 use Rattle.registry_tables.proofs.KeptArchiveFacts.{none_stands, stands_after, stood_before, stored_after}
 use Rattle.registry_tables.proofs.ReadFacts.{at-read}
 use Rattle.registry_migration.specs.Migration.{AreNumberedInARow, counted_to}
 use Rattle.registry_migration.specs.Moved.{archive_moved, archives_moved, bare, row_archive, without_bytes}
 use Rattle.registry_migration.specs.Steps.{HasMoved, HasNoArchives, MovesArchive, MovesArchives, StoresArchives, bare_among}
-use Rattle.registry_migration.proofs.KeyFacts.{among_all, among_more, none_at, some_at}
+use Rattle.registry_migration.proofs.KeyFacts.{among_all, among_more, some_at}
 
 -- ---- their numbers
 

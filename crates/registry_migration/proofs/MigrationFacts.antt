@@ -2,7 +2,6 @@
 use Rattle.std.proofs.Common.{◌≡◌, ◌∙◌, ℤ, pos, Option, Some, None, option_map, refl, sym, ap, subst}
 use Rattle.std.specs.Prelude.{IsSome}
 use Rattle.sqlite_trees.specs.Tree.{Trees}
-use Rattle.registry_names.specs.Keys.{Pair}
 use Rattle.registry_names.specs.Maps.{PairMap, TextMap, at, empty}
 use Rattle.registry_names.proofs.KeyFacts.{pair_key}
 use Rattle.registry_publish.specs.Needs.{needs_of}

@@ -1,6 +1,6 @@
 -- What the steps of a migration make of what is stored, one version after another. For private
 -- clauses.
-use Rattle.std.specs.Prelude.{◌≡◌, ℕ, ℤ, Bool, cond, ◌&&◌, List, [], ◌∷◌, Result, OnOk, Option, Some, None, IsSome, is_some, true, option_map, if◌then◌else◌}
+use Rattle.std.specs.Prelude.{◌≡◌, ℤ, cond, ◌&&◌, List, [], ◌∷◌, Result, OnOk, Some, None, IsSome, is_some, true, option_map, if◌then◌else◌}
 use Rattle.sqlite_value.specs.Order.{Row, column}
 use Rattle.sqlite.specs.State.{HasCleanDisk}
 use Rattle.sqlite.specs.declared.transaction.Transaction.{Transaction}

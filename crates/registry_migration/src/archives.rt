@@ -1,10 +1,11 @@
 //! Archives: each is stored once, and not in the row of a version.
 
-ghost use Rattle.std.specs.Prelude.{◌≡◌, ℕ, List, IfOk, Some, map, option_map, slice_get};
+ghost use Rattle.std.specs.Prelude.{◌≡◌, ℕ, List, IfOk, OnOk, Some, map, option_map, slice_get};
 ghost use Rattle.sqlite.specs.State.{HasCleanDisk};
 ghost use Rattle.registry_names.specs.Maps.{at, entries, keys};
 ghost use Rattle.registry_rows.specs.Frames.{Stays};
 ghost use Rattle.registry_tables.specs.Effects.{InForm, IsUnderWay, Loads, Makes, shown, stored_in};
+ghost use Rattle.registry_tables.specs.Inside.{IsOpen};
 ghost use Rattle.registry_tables.specs.Spelled.{blob_of_row};
 ghost use Rattle.registry_migration.specs.Moved.{without_bytes};
 ghost use Rattle.registry_migration.specs.Steps.{HasNoArchives, HasNoneMoved, Moves, MovesArchive, MovesArchives, Turns, version_key};
@@ -90,6 +91,7 @@ fn load_row_archive<S: Alter>(
     ensures stays { Stays S.Store tx.old tx.new }
     ensures loads { Loads S.Store tx.old tx.new result (λ archive c.
         option_map (λ r. r.archive) (at c.versions (version_key version.now)) ≡ Some archive) }
+    ensures ran { OnOk result (IsOpen S.Store tx.new) }
 {
     let rows = read(
         tx,

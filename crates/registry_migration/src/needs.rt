@@ -1,12 +1,13 @@
 //! What versions depend on: with the ranges, as their manifests have it.
 
-ghost use Rattle.std.specs.Prelude.{◌≡◌, ℕ, List, IfOk, Some, map, option_map, slice_get};
+ghost use Rattle.std.specs.Prelude.{◌≡◌, ℕ, List, IfOk, OnOk, Some, map, option_map, slice_get};
 ghost use Rattle.sqlite.specs.State.{HasCleanDisk};
 ghost use Rattle.registry_names.specs.Maps.{at, empty, entries, keys};
 ghost use Rattle.registry_publish.specs.Needs as spec;
 ghost use Rattle.registry_rows.specs.Frames.{Stays};
 ghost use Rattle.registry_rows.specs.TextKeys.{Texts};
 ghost use Rattle.registry_tables.specs.Effects.{InForm, IsUnderWay, Loads, Makes, shown, stored_in};
+ghost use Rattle.registry_tables.specs.Inside.{IsOpen};
 ghost use Rattle.registry_tables.specs.Teams.{text_spelled};
 ghost use Rattle.registry_migration.specs.Steps.{HasNoRanges, PutsNeeds, PutsNeedsOf, Turns, target_key, target_spelled, version_key, without_target, without_targets};
 
@@ -78,6 +79,7 @@ fn load_manifest<S: Alter>(tx: &mut Transaction<'_, S>, version: &VersionKey) ->
     ensures stays { Stays S.Store tx.old tx.new }
     ensures loads { Loads S.Store tx.old tx.new result (λ manifest c.
         option_map (λ r. r.manifest) (at c.versions (version_key version.now)) ≡ Some manifest) }
+    ensures ran { OnOk result (IsOpen S.Store tx.new) }
 {
     let rows = read(
         tx,

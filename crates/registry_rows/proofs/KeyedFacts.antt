@@ -1,7 +1,7 @@
 -- What each kind of key comes to in SQL, on tables that are ready.
 use Rattle.std.proofs.Common.{◌≡◌, ◌+◌, ◌==◌, arith, inl, inr, ℕ, zero, suc, ℤ, List, [], ◌∷◌, ◌++◌, map, drop, slice_get, true, false, Some, refl, sym, ap, ap₂, subst, subst₂, ◌∙◌, true≢false}
 use Rattle.std.specs.Ordering.{int_cmp, int_eq}
-use Rattle.std.proofs.lemmas.Bool.{cases_Bool, and_from, eqb-true}
+use Rattle.std.proofs.lemmas.Bool.{cases_Bool, and_from, eqb-true, false_from_ne_true}
 use Rattle.std.proofs.lemmas.Cmp.{int_cmp_total, tied_itself}
 use Rattle.std.proofs.lemmas.List.{get_or-drop, drop-drop}
 use Rattle.std.proofs.lemmas.Map.Lookups.{exact_signed}
@@ -30,7 +30,7 @@ use Rattle.sqlite.specs.State.{State}
 use Rattle.registry_names.specs.Texts.{is}
 use Rattle.registry_names.specs.Keys.{IsKey}
 use Rattle.registry_names.specs.Maps.{MapBy}
-use Rattle.registry_names.proofs.KeyFacts.{text_key}
+use Rattle.registry_names.proofs.KeyFacts.{text_key, same_true, same_self}
 use Rattle.registry_rows.specs.Columns.{id_column, id_name, blob_in, int_in, is_bytes, begin_with_bytes, equals, takes, IsOf, AreOf}
 use Rattle.registry_rows.specs.TextKeys.{TextsMap}
 use Rattle.registry_rows.specs.KeyKinds.{KeyKind, texts, bytes, numbers, map_by, OneEach, BytesMap, NumberMap}
@@ -190,6 +190,18 @@ module _ (table : List Row) (ids : HasRowids table) where
       → key_cmp 0 (map (λ o. o.1) numbers.order) (shown_by (map (λ o. o.0) numbers.order) params a) (shown_by (map (λ o. o.0) numbers.order) params b) ≡ int_cmp (numbers.of_row a) (numbers.of_row b)
   numbers_sorted params a b ha hb =
       then_equal _ ∙ subst₂ (λ v w. value_cmp v w ≡ int_cmp (numbers.of_row a) (numbers.of_row b)) (sym (number_of a ha)) (sym (number_of b hb)) (value_cmp-Int (numbers.of_row a) (numbers.of_row b))
+
+module _ (k : KeyKind) (key : IsKey k.cmp k.same) (table : List Row) (ids : HasRowids table) (once : OneEach k table) (r x : Row) (hr : Has table r) (hx : Has table x) where
+  -- the rowid distinguishes the rows that the key does
+  told_alike : int_eq (numbers.of_row r) (numbers.of_row x) ≡ k.same (k.of_row r) (k.of_row x)
+  told_alike = elim (cases_Bool (int_eq (numbers.of_row r) (numbers.of_row x))) [
+    | inl same ↦ same ∙ sym (subst (λ z. k.same (k.of_row r) (k.of_row z) ≡ true) (numbers_once table ids r x hr hx (same_true number_key _ _ same)) (same_self key (k.of_row r)))
+    | inr apart ↦ apart ∙ sym (false_from_ne_true _ (λ same. true≢false (sym (subst (λ z. int_eq (numbers.of_row r) (numbers.of_row z) ≡ true) (once r x hr hx (same_true key _ _ same)) (same_self number_key (numbers.of_row r))) ∙ apart)))
+  ]
+
+  -- WHERE the rowid is that of one row is the test of its key
+  pub tested_by_rowid : (given : ℕ) (params : Row) → column params given ≡ rowid r → is_wanted (by_texts 0 0 given) params x ≡ k.same (k.of_row r) (k.of_row x)
+  tested_by_rowid given params e = ap (λ v. is_wanted numbers.wanted (v ∷ []) x) (e ∙ number_of table ids r hr) ∙ numbers_tested table ids (numbers.of_row r) [] x hx ∙ told_alike
 
 -- the columns after the id, as the row has them after its first
 id_equal : (columns cs : List Column) (id : List ℕ) (r : Row) (at : ℕ) (q : Value) → columns ≡ id_column id ∷ cs → AreOf cs (drop 2 r) → takes columns at q ≡ true

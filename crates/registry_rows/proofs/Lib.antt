@@ -6,6 +6,7 @@ pub mod SelectFacts
 pub mod InsertFacts
 pub mod DeleteFacts
 pub mod UpdateFacts
+pub mod UpsertFacts
 pub mod CreateFacts
 pub mod TypeFacts
 pub mod TextKeyFacts

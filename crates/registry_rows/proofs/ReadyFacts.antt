@@ -1,12 +1,13 @@
 -- Statements that keep the tables ready.
-use Rattle.std.proofs.Common.{◌≡◌, ◌==◌, ◌/◌, ◌<◌, inl, inr, ℕ, ℤ, zero, List, [], ◌∷◌, length, drop, slice_get, true, false, Some, Ok, Err, Result, OnOk, refl, sym, ap, subst, ◌∙◌, arith}
+use Rattle.std.proofs.Common.{◌≡◌, ◌==◌, ◌/◌, ◌<◌, ◌⊎◌, inl, inr, ℕ, ℤ, zero, List, [], ◌∷◌, ◌++◌, length, drop, slice_get, true, false, Some, Ok, Err, Result, OnOk, refl, sym, ap, subst, ◌∙◌, arith}
+use Rattle.std.specs.Prelude.{bytes_eq, Option}
 use Rattle.std.specs.List.{AllByRecursion}
 use Rattle.std.proofs.lemmas.Bool.{cases_Bool, eqb-true}
 use Rattle.std.proofs.Math.Nat.{div_self}
 use Rattle.std.proofs.Math.Seq.{take-length}
 use Rattle.sqlite.specs.declared.types.Value.TheVariants.{Null, Int}
 use Rattle.sqlite_value.specs.Order.{Row}
-use Rattle.sqlite_trees.specs.Tree.{Trees}
+use Rattle.sqlite_trees.specs.Tree.{Trees, rowid}
 use Rattle.sqlite_sql.specs.Term.{Term, lit, col, eval_all}
 use Rattle.sqlite.specs.Source.TheVariants.{Values}
 use Rattle.sqlite.specs.Command.TheVariants.{Insert, Delete, Update}
@@ -15,18 +16,21 @@ use Rattle.sqlite_schema.specs.declared.schema.Table.{Table}
 use Rattle.sqlite_rules.specs.Cast.{cast_row}
 use Rattle.sqlite_rules.specs.Lists.{Has}
 use Rattle.sqlite_rules.proofs.ListLemmas.{all_has, all_from, has_got}
-use Rattle.sqlite.specs.Effect.{value_rows}
+use Rattle.sqlite.specs.Effect.{Database, value_rows}
 use Rattle.sqlite.specs.declared.error.Error.{Error}
 use Rattle.sqlite.specs.State.{State, HasCleanDisk, Executes}
-use Rattle.registry_rows.specs.Columns.{are_exact}
+use Rattle.registry_rows.specs.Columns.{are_exact, AreOf}
 use Rattle.registry_rows.specs.Tables.{keyed_table}
 use Rattle.registry_rows.specs.Rows.{HasRowids}
-use Rattle.registry_rows.specs.Statements.{Means, IsUncascaded, ignores_updates, KeepsOthers, Adds, Deletes, Updates, scan, is_wanted, shown_by}
+use Rattle.registry_rows.specs.Statements.{Means, IsUncascaded, ignores_updates, KeepsOthers, row_after, Adds, Deletes, Updates, scan, is_wanted, shown_by}
+use Rattle.registry_rows.specs.KeyKinds.{KeyKind}
 use Rattle.registry_rows.specs.Ready.{IsReady, Ready, Executed}
-use Rattle.registry_rows.proofs.WriteFacts.{written_sound}
+use Rattle.registry_rows.specs.WriteLaws.{PutsColumns}
+use Rattle.registry_rows.proofs.WriteFacts.{written_as, written_sound}
 use Rattle.registry_rows.proofs.InsertFacts.{inserts}
 use Rattle.registry_rows.proofs.DeleteFacts.{deletes}
 use Rattle.registry_rows.proofs.UpdateFacts.{updates}
+use Rattle.registry_rows.proofs.UpsertFacts.{Takes, either_kept, upserted}
 
 -- an answered call ran the statement on tables that were ready, and the transaction goes on
 pub inside : (Q : Type 0) (schema : Schema) (sql : List ℕ) (params : Row) (old new : State) (r : Result ℕ Error) → Ready schema old → Executed sql params old new r → HasCleanDisk new
@@ -97,3 +101,32 @@ module _ (schema : Schema) (place : ℕ) (table : Table) (found : slice_get sche
         },
         it.1,
       )
+
+  module _ {X : Type 0} {k : KeyKind} {value : Row → X} {cells : List Term} {sets : Option (List (Option ℕ))} (it : PutsColumns k schema place table value sql cells sets params) where
+    abbrev values : Row
+    values = eval_all cells (params ∷ [])
+
+    abbrev Upserted : List ℕ → ℤ → Trees → Type 0
+    Upserted primary id next = Adds schema table.tree (Int id ∷ values) old.now.trees next ⊎ Takes schema table.tree primary (Int id ∷ values) params (λ r. rowid r ∷ row_after sets params (drop 1 r)) old.now.trees next
+
+    -- where the key is of these columns, and not the rowid
+    upserts : (primary : List ℕ) → table ≡ keyed_table table.name table.tree table.columns primary table.references → bytes_eq primary (0 ∷ []) ≡ false → ((r : Row) → Has (old.now.trees table.tree) r → AreOf table.columns (drop 1 r))
+        → (new.now.schema ≡ schema) × ((id : ℤ) × Upserted primary id new.now.trees)
+    upserts primary shape apart typed =
+        let w = written_as schema place (keyed_table table.name table.tree table.columns primary table.references) (found ∙ ap (λ (t : Table). Some t) shape) sql params old new ready.schema_is _ it.means.0 it.means.1 count ran refl in
+        let made = upserted schema table.name table.tree table.columns primary table.references old.step_limit params sets it.quiet it.updates it.plain apart values it.inserts old.now.trees own_rowids typed
+        table.primary (ap (λ (t : Table). t.primary) shape) (lit Null ∷ cells) (length (lit Null ∷ cells)) w.0 (one_row params (lit Null) cells) w.1 in
+        (ap (λ (d : Database). d.schema) w.2, (made.0, subst (Upserted primary made.0) (sym (ap (λ (d : Database). d.trees) w.2)) made.1))
+
+    pub upsert_ready : (primary : List ℕ) → table ≡ keyed_table table.name table.tree table.columns primary table.references → bytes_eq primary (0 ∷ []) ≡ false → ((r : Row) → Has (old.now.trees table.tree) r → AreOf table.columns (drop 1 r))
+        → IsReady schema new × ((id : ℤ) × Upserted primary id new.now.trees)
+    upsert_ready primary shape apart typed =
+        let made = upserts primary shape apart typed in
+        let kept = either_kept made.1.1 in (
+          record {
+            schema_is = made.0;
+            sound = written_sound schema place sql params old new ready.schema_is _ it.means.0 it.means.1 count ran refl;
+            rowids = rowids_after schema table.tree old.now.trees new.now.trees kept.0 kept.1 ready.rowids;
+          },
+          made.1,
+        )

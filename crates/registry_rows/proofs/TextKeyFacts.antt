@@ -23,7 +23,7 @@ use Rattle.sqlite_schema.specs.declared.schema.Column.{Column}
 use Rattle.sqlite_schema.specs.Rules.{agree}
 use Rattle.registry_names.specs.Texts.{Text as Name, text_cmp, is}
 use Rattle.registry_names.specs.Keys.{IsKey, by_first}
-use Rattle.registry_names.proofs.KeyFacts.{text_key, first_key as with_first}
+use Rattle.registry_names.proofs.KeyFacts.{text_key, same_true, first_key as with_first}
 use Rattle.registry_rows.specs.Columns.{text_in, AreOf, IsOf}
 use Rattle.registry_rows.specs.TextKeys.{Texts, texts_cmp, texts_are, texts_from, texts_row, places_from, is_text, begin_with_texts}
 use Rattle.registry_rows.specs.Statements.{by_texts, in_order, is_wanted}
@@ -103,6 +103,17 @@ keys_agree zero at x y a b ha hb e =
 keys_agree (suc more) at x y a b ha hb e =
     and_from _ _ (subst₂ (λ u v. is_true (binary (Compare Eq Binary) u v) ≡ true) (sym (ha.0 ∙ ap (λ (q : Texts (suc more)). Text q.0) e)) (sym hb.0) (text_same (text_in (column b at))))
     (keys_agree more (suc at) x y a b ha.1 hb.1 (ap (λ (q : Texts (suc more)). q.1) e))
+
+told : (v w : Value) (a t : Name) → v ≡ Text a → w ≡ Text t → is_true (binary (Compare Eq Binary) v w) ≡ true → a ≡ t
+told v w a t e f h = sym (same_true text_key t a (sym (one_test v w a t e f) ∙ h))
+
+-- rows that agree in it have the same key
+pub agreed_keys : (more at : ℕ) (x y : Value) (a b : Row) → HasTexts more at a → HasTexts more at b → agree plain (places_from more (suc at)) (x ∷ a) (places_from more (suc at)) (y ∷ b) ≡ true
+    → texts_from more at a ≡ texts_from more at b
+unfolding first_key
+agreed_keys zero at x y a b ha hb h = told (column a at) (column b at) _ _ ha hb (and_parts _ _ h).0
+agreed_keys (suc more) at x y a b ha hb h =
+    let both = and_parts _ _ h in ap₂ (λ (t : Name) (q : Texts more). (t, q)) (told (column a at) (column b at) _ _ ha.0 hb.0 both.0) (agreed_keys more (suc at) x y a b ha.1 hb.1 both.1)
 
 -- ---- ORDER BY
 

@@ -25,7 +25,7 @@ use Rattle.sqlite_rules.proofs.ListLemmas.{all_has}
 use Rattle.sqlite.specs.Effect.{Database, IsDatabase}
 use Rattle.registry_names.specs.Texts.{is}
 use Rattle.registry_names.proofs.TextFacts.{is_tie, is_sym, is_self}
-use Rattle.registry_rows.specs.Columns.{is_plain_kind, are_plain, is_exact, equals, takes, IsOf, AreOf}
+use Rattle.registry_rows.specs.Columns.{is_plain_kind, are_plain, is_exact, are_exact, equals, takes, IsOf, AreOf}
 
 -- ---- SQL's =
 
@@ -78,6 +78,19 @@ of_kind kind.Integer (Int n) p t f = (n, refl)
 of_kind kind.Text (Text s) p t f = (s, refl)
 of_kind kind.Blob (Blob b) p t f = (b, refl)
 of_kind _ _ p t f = absurd cc
+
+exact_type : (k : Kind) (v : Value) → is_exact k v ≡ true → IsOf k v
+exact_type kind.Integer (Int n) h = (n, refl)
+exact_type kind.Text (Text t) h = (t, refl)
+exact_type kind.Blob (Blob b) h = (b, refl)
+exact_type _ _ h = absurd cc
+
+-- a row that the columns store as it is has their types
+pub exact_types : (cs : List Column) (vs : Row) → are_exact cs vs ≡ true → AreOf cs vs
+exact_types [] [] h = tt
+exact_types [] (v ∷ vs) h = absurd (true≢false (sym h))
+exact_types (c ∷ cs) [] h = absurd (true≢false (sym h))
+exact_types (c ∷ cs) (v ∷ vs) h = let both = and_parts _ _ h in (exact_type c.kind v both.0, exact_types cs vs both.1)
 
 there_is : (c : Column) (v : Value) → c.not_null ≡ true → not c.not_null || not (is_null v) ≡ true → is_null v ≡ false
 there_is c v must h = not-true _ (rw must at h)

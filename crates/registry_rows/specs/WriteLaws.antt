@@ -1,5 +1,5 @@
--- What the rows of a table say, and laws of INSERT, DELETE and UPDATE by key.
-use Rattle.std.specs.Prelude.{◌≡◌, ◌↔◌, ℕ, true, List, [], ◌∷◌, ◌++◌, drop, Option, None, Some, if◌then◌else◌}
+-- What the rows of a table say, and laws of INSERT, DELETE, UPDATE and upserts by key.
+use Rattle.std.specs.Prelude.{◌≡◌, ◌↔◌, ℕ, true, List, [], ◌∷◌, ◌++◌, drop, length, Option, None, Some, if◌then◌else◌}
 use Rattle.sqlite.specs.declared.types.Value.TheVariants.{Null}
 use Rattle.sqlite_value.specs.Order.{Row}
 use Rattle.sqlite_trees.specs.Tree.{Trees, rowid}
@@ -11,7 +11,7 @@ use Rattle.sqlite_rules.specs.Lists.{Has}
 use Rattle.registry_names.specs.Maps.{MapBy, at, put, erase, revise}
 use Rattle.registry_rows.specs.Columns.{are_exact}
 use Rattle.registry_rows.specs.KeyKinds.{KeyKind, map_by, OneEach}
-use Rattle.registry_rows.specs.Statements.{Means, IsUncascaded, ignores_updates, insert_values, delete_where, update_where, set_row, are_set}
+use Rattle.registry_rows.specs.Statements.{Means, IsUncascaded, ignores_updates, has_plain_keys, insert_values, delete_where, update_where, upsert_values, set_row, are_set, row_after, are_set_after}
 use Rattle.registry_rows.specs.Ready.{IsReady, Leaves}
 use Rattle.registry_rows.specs.Laws.{OfEachState, EachAnswer, EachLeaves}
 
@@ -23,6 +23,18 @@ pub record SetsColumns {X : Type 0} (k : KeyKind) (schema : Schema) (place : ℕ
   pub exact : are_set table.columns sets params ≡ true
   pub value_is : (vs : Row) → value (set_row 0 sets params vs) ≡ set (value vs)
   pub keeps_key : (r : Row) → k.of_row (rowid r ∷ set_row 0 sets params (drop 1 r)) ≡ k.of_row r
+
+-- The text is INSERT INTO t VALUES (..) ON CONFLICT (the primary key) DO UPDATE SET .., with these
+-- parameters: a row that is there keeps its key, and takes the value of the new one. Or it is the
+-- same with DO NOTHING: a row that is there has the value of the new one.
+pub record PutsColumns {X : Type 0} (k : KeyKind) (schema : Schema) (place : ℕ) (table : Table) (value : Row → X) (sql : List ℕ) (cells : List Term) (sets : Option (List (Option ℕ))) (params : Row) : Type 0 where
+  pub means : Means schema sql (upsert_values place table cells sets (length params))
+  pub quiet : ignores_updates schema ≡ true
+  pub plain : has_plain_keys schema table ≡ true
+  pub inserts : are_exact table.columns (eval_all cells (params ∷ [])) ≡ true
+  pub updates : are_set_after table.columns sets params ≡ true
+  pub value_is : (vs : Row) → value (row_after sets params vs) ≡ value (eval_all cells (params ∷ []))
+  pub keeps_key : (r : Row) → k.of_row (rowid r ∷ row_after sets params (drop 1 r)) ≡ k.of_row r
 
 module _ {S : Type 0} (store : Ghosts S) {C X : Type 0} (k : KeyKind) (schema : Schema) (contents : Trees → C) (place : ℕ) (table : Table) (value : Row → X) (change : C → MapBy k.cmp X → C) where
   -- the map that the table's rows give
@@ -68,3 +80,10 @@ module _ {S : Type 0} (store : Ghosts S) {C X : Type 0} (k : KeyKind) (schema : 
   abbrev pub UpdatePuts : Type 0
   UpdatePuts = (sql : List ℕ) (sets : List (Option ℕ)) (q : k.Key) (rest : Row) (set : X → X) → SetsColumns k schema place table value sql sets (k.params q ++ rest) set → (x : X)
       → EachAnswer store schema sql (k.params q ++ rest) (λ old new. at (map_in old.now.trees) q ≡ Some x → Leaves schema contents (change (contents old.now.trees) (put (map_in old.now.trees) q (set x))) new)
+
+  -- ---- INSERT INTO t VALUES (..) ON CONFLICT (the primary key) DO UPDATE SET .., or DO NOTHING
+
+  -- it puts the value at its key, whatever is there
+  abbrev pub UpsertPuts : Type 0
+  UpsertPuts = (sql : List ℕ) (cells : List Term) (sets : Option (List (Option ℕ))) (params : Row) → PutsColumns k schema place table value sql cells sets params
+      → EachLeaves store schema contents sql params (λ db. change (contents db) (put (map_in db) (k.of_row (Null ∷ eval_all cells (params ∷ []))) (value (eval_all cells (params ∷ [])))))

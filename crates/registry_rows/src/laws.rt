@@ -3,7 +3,7 @@
 
 ghost use Rattle.registry_rows.specs.Laws.{OfEachTable, OfEachBytesTable, OfEachNumberedTable, OfEachPairTable, OfEachTripleTable};
 ghost use Rattle.registry_rows.specs.CreateLaws.{CreateAddsEmpty, CreateAddsCounter, CreateKeepsRows, CreateCounterKeepsRows, IndexKeepsEmpty, IndexKeepsRows};
-ghost use Rattle.registry_rows.specs.WriteLaws.{OneRowEach, RowsTellMap, InsertPuts, InsertMeetsNone, DeleteErases, UpdateRevises, UpdatePuts};
+ghost use Rattle.registry_rows.specs.WriteLaws.{OneRowEach, RowsTellMap, InsertPuts, InsertMeetsNone, DeleteErases, UpdateRevises, UpdatePuts, UpsertPuts};
 ghost use Rattle.registry_rows.specs.QueryLaws.{SelectFinds, SelectHas, SelectListsAll, SelectLists, SelectListsFirst, SelectListsTwo};
 ghost use Rattle.registry_rows.specs.Counting.{InsertNumbers, NextIsNew, NextIsAfter};
 
@@ -35,6 +35,7 @@ pub fn writes_change_maps<S: Alter, C, X>()
     ensures delete { OfEachTable C X (DeleteErases S.Store) }
     ensures update { OfEachTable C X (UpdateRevises S.Store) }
     ensures update_known { OfEachTable C X (UpdatePuts S.Store) }
+    ensures upsert { OfEachTable C X (UpsertPuts S.Store) }
 {}
 
 /// A query by key, by a column or in the order of the key shows exactly what its table's map has,

@@ -14,31 +14,28 @@ use Rattle.registry_names.specs.declared.status.Status.{Status}
 use Rattle.registry_names.proofs.KeyFacts.{text_key, pair_key, same_true}
 use Rattle.registry_names.proofs.MapFacts.{at-empty, at-put, at-erase, at-erase_other}
 use Rattle.registry_access.specs.Access.{Access}
-use Rattle.registry_access.specs.declared.grant.Grant as granted
 use Rattle.registry_access.specs.declared.role.Role.{Role}
 use Rattle.registry_access.specs.declared.caller.Caller.{Caller}
 use Rattle.registry_publish.specs.Form.{FormParts}
 use Rattle.registry_rules.specs.Actions.{version_of}
 use Rattle.registry_rules.specs.Callers.{caller_of, is_known}
-use Rattle.registry_rules.specs.Changes.{PutGrant, PutStatus, made, all_made, release_of}
+use Rattle.registry_rules.specs.Changes.{all_made, release_of}
 use Rattle.registry_rules.specs.Effects.{effects_for, ending, joining, maintaining, membership, publication, step, step_by}
 use Rattle.registry_rules.specs.Kept.{IsReleaseOf, IsWithdrawalOf, IsTagOf, IsSpelled, IsSound, IsKept}
-use Rattle.registry_rules.specs.Operations.{with_tag, without_tag}
+use Rattle.registry_rules.specs.Operations.{with_status, with_tag, without_tag}
 use Rattle.registry_rules.specs.Refusals.{publish_refusal, refusal, refusal_by, refusal_for}
 use Rattle.registry_rules.specs.Requests.{ArePartsInForm, IsInForm, IsActionInForm}
-use Rattle.registry_rules.specs.State.{State, Release, Withdrawal, nothing, developers, tokens_of, is_in_team, has_grant, is_published, has_maintainer, is_live, stands}
+use Rattle.registry_rules.specs.State.{State, Release, Withdrawal, nothing, developers, tokens_of, is_in_team, has_maintainer, is_live, stands}
 use Rattle.registry_rules.specs.Withdrawals.{live_versions, selected}
 use Rattle.registry_rules.specs.declared.request.Action.{Action}
 use Rattle.registry_rules.specs.declared.request.Action.TheVariants as asked
 use Rattle.registry_rules.specs.declared.request.Action.TheVariants.{UserAdd, TokenAdd, TokenRemove, TokensRemove, OrgCreate, OrgSet, OrgRemove, TeamCreate, TeamDestroy, TeamAdd, TeamRemove, Revoke, SetAccess, OwnerAdd, OwnerRemove, Publish, TagSet, TagRemove, Withdraw, WithdrawAll, Deprecate}
 use Rattle.registry_rules.specs.declared.request.Request.{Request}
 use Rattle.registry_rules.proofs.AllowedFacts.{IsAllowed, allowed_publish, is_there, isnt_kept, state_passed}
-use Rattle.registry_rules.proofs.MadeFacts.{latest_put, role_put, tag_put}
-use Rattle.registry_rules.proofs.MadeFacts as made
 use Rattle.registry_rules.proofs.CallerFacts.{caller_known}
 use Rattle.registry_rules.proofs.SoundFacts.{created, destroyed, was_left}
 use Rattle.registry_rules.proofs.SoundSteps.{none_there, nothing_sound, step_sound}
-use Rattle.registry_rules.proofs.PublishedFacts.{statuses_after, status_of, after_publish, published_is}
+use Rattle.registry_rules.proofs.PublishedFacts.{latest_put, statuses_after, status_of, after_publish, published_is}
 use Rattle.registry_rules.proofs.TokenFacts.{ended_all, ended_is, ended_was}
 use Rattle.registry_rules.proofs.WholeFacts.{whole_is, whole_kept}
 use Rattle.registry_rules.proofs.WithdrawnFacts.{deprecated_is}
@@ -287,13 +284,12 @@ joined_kept S o t u false sound kept =
     let spelled = kept.spelled in
     access_kept S _ (λ p h. h) (record { users = spelled.users; tokens = spelled.tokens; organisations = spelled.organisations; teams = spelled.teams; statuses = spelled.statuses }) sound kept
 
-role_kept : (S : State) (o u : Text) (role : Role) (old : Option Role) → at S.access.roles (o, u) ≡ old → IsSound (all_made S (membership o u role old)).access
+role_kept : (S : State) (o u : Text) (role : Role) (old : Option Role) → IsSound (all_made S (membership o u role old)).access
     → IsKept S → IsKept (all_made S (membership o u role old))
-role_kept S o u role (Some r) e sound kept =
+role_kept S o u role (Some r) sound kept =
     let spelled = kept.spelled in
-    subst (λ (T : State). IsSound T.access → IsKept T) (sym (role_put S o u role (ap is_some e)))
-    (λ still. access_kept S _ (λ p h. h) (record { users = spelled.users; tokens = spelled.tokens; organisations = spelled.organisations; teams = spelled.teams; statuses = spelled.statuses }) still kept) sound
-role_kept S o u role None e sound kept =
+    access_kept S _ (λ p h. h) (record { users = spelled.users; tokens = spelled.tokens; organisations = spelled.organisations; teams = spelled.teams; statuses = spelled.statuses }) sound kept
+role_kept S o u role None sound kept =
     let spelled = kept.spelled in
     access_kept S _ (λ p h. h) (record { users = spelled.users; tokens = spelled.tokens; organisations = spelled.organisations; teams = spelled.teams; statuses = spelled.statuses }) sound kept
 
@@ -311,22 +307,16 @@ unspelled_kept S A users tokens organisations teams statuses sound kept =
       statuses = λ p h. kept.spelled.statuses p (ap (λ m. is_some (at m p)) (sym statuses) ∙ h);
     }) sound kept
 
-grant_kept : (S : State) (o t p : Text) (grant : granted.Grant) → IsSound (made S (PutGrant o t p grant (has_grant S o t p))).access → IsKept S → IsKept (made S (PutGrant o t p grant (has_grant S o t p)))
-grant_kept S o t p grant sound kept =
-    subst (λ (T : State). IsSound T.access → IsKept T) (sym (made.grant_put S o t p grant (has_grant S o t p) (λ there. there)))
-    (λ still. unspelled_kept S _ refl refl refl refl refl still kept) sound
-
-status_kept : (S : State) (p : Text) (status : Status) → IsName p → IsSound (made S (PutStatus p status (is_published S p))).access → IsKept S → IsKept (made S (PutStatus p status (is_published S p)))
+status_kept : (S : State) (p : Text) (status : Status) → IsName p → IsSound (with_status S p status).access → IsKept S → IsKept (with_status S p status)
 status_kept S p status name sound kept =
     let spelled = kept.spelled in
-    subst (λ (T : State). IsSound T.access → IsKept T) (sym (made.status_put S p status (is_published S p) (λ there. there)))
-    (λ still. access_kept S _ (λ q h. still_there text_key S.access.statuses p status q h) (record {
+    access_kept S _ (λ q h. still_there text_key S.access.statuses p status q h) (record {
       users = spelled.users;
       tokens = spelled.tokens;
       organisations = spelled.organisations;
       teams = spelled.teams;
       statuses = some_before text_key S.access.statuses p status IsName spelled.statuses name;
-    }) still kept) sound
+    }) sound kept
 
 owning_kept : (S : State) (p u : Text) (already : Bool) → IsSound (all_made S (maintaining p u already)).access → IsKept S → IsKept (all_made S (maintaining p u already))
 owning_kept S p u true sound kept = kept
@@ -347,7 +337,7 @@ action_kept S now who (TokensRemove u) moment form known may kept = ended_kept S
 action_kept S now who (OrgCreate o u) moment form known may kept =
     access_kept S _ (λ p h. h) (organisation_spelled S.access o u form.0 kept.spelled) (step_sound S now who (OrgCreate o u) known may kept.sound) kept
 action_kept S now who (OrgSet o u role) moment form known may kept =
-    role_kept S o u role (at S.access.roles (o, u)) refl (step_sound S now who (OrgSet o u role) known may kept.sound) kept
+    role_kept S o u role (at S.access.roles (o, u)) (step_sound S now who (OrgSet o u role) known may kept.sound) kept
 action_kept S now who (OrgRemove o u) moment form known may kept =
     let spelled = kept.spelled in
     access_kept S _ (λ p h. h) (record { users = spelled.users; tokens = spelled.tokens; organisations = spelled.organisations; teams = spelled.teams; statuses = spelled.statuses })
@@ -362,7 +352,7 @@ action_kept S now who (TeamRemove o t u) moment form known may kept =
     let spelled = kept.spelled in
     access_kept S _ (λ p h. h) (record { users = spelled.users; tokens = spelled.tokens; organisations = spelled.organisations; teams = spelled.teams; statuses = spelled.statuses })
     (step_sound S now who (TeamRemove o t u) known may kept.sound) kept
-action_kept S now who (asked.Grant o t p grant) moment form known may kept = grant_kept S o t p grant (step_sound S now who (asked.Grant o t p grant) known may kept.sound) kept
+action_kept S now who (asked.Grant o t p grant) moment form known may kept = unspelled_kept S _ refl refl refl refl refl (step_sound S now who (asked.Grant o t p grant) known may kept.sound) kept
 action_kept S now who (Revoke o t p) moment form known may kept = unspelled_kept S _ refl refl refl refl refl (step_sound S now who (Revoke o t p) known may kept.sound) kept
 action_kept S now who (SetAccess p status) moment form known may kept = status_kept S p status form (step_sound S now who (SetAccess p status) known may kept.sound) kept
 action_kept S now who (OwnerAdd p u) moment form known may kept = owning_kept S p u (has_maintainer S p u) (step_sound S now who (OwnerAdd p u) known may kept.sound) kept
@@ -370,8 +360,7 @@ action_kept S now who (OwnerRemove p u) moment form known may kept = unspelled_k
 action_kept S now who (Publish f) moment form known may kept =
     publish_kept S who f now form moment (state_passed S now who (Publish f) may) (step_sound S now who (Publish f) known may kept.sound) kept
 action_kept S now who (TagSet p t v) moment form known may kept =
-    subst IsKept (sym (tag_put S p t (text_of_version v) (stands S p t) (λ there. there)))
-    (tag_set_kept S p t (text_of_version v) form.0 form.1 (is_there _ (state_passed S now who (TagSet p t v) may)) kept)
+    tag_set_kept S p t (text_of_version v) form.0 form.1 (is_there _ (state_passed S now who (TagSet p t v) may)) kept
 action_kept S now who (TagRemove p t) moment form known may kept =
     tag_removed_kept S p t (isnt_kept (stands S p t) (is t latest) (state_passed S now who (TagRemove p t) may)) kept
 action_kept S now who (Withdraw p v) moment form known may kept = withdrawal_kept S now p v (at S.live (p, text_of_version v)) refl moment form.0 form.1 kept

@@ -30,19 +30,18 @@ use Rattle.registry_publish.specs.Form.{FormParts}
 use Rattle.registry_rules.specs.Actions.{version_of, ends_team}
 use Rattle.registry_rules.specs.Changes.{all_made, release_of}
 use Rattle.registry_rules.specs.Effects.{deprecation, ending, first_status, joining, membership, maintaining, new_status, withdrawal_of_all}
-use Rattle.registry_rules.specs.Laws.{SpendsVersion, FreesTags, WithdrawalsSpend, WithdrawalsFreeTags, Deprecates, DeprecationsMark, GivesFirstRight, IsGrantChange, IsOwnerChange, SetsAccess, GrantsAreGiven, GrantsAreRevoked, StatusesAreSet, MaintainersAreAdded, MaintainersAreRemoved, PublishesGiveFirstRights, SetsRole, OrganisationsAreCreated, RolesAreSet, MembersAreRemoved, UsersAreAdded, TokensAreAdded, EndsTokens, TokensAreEnded, AllTokensAreEnded, OthersTokensAreHidden, AddsVersion, SetsTags, SetsStatus, IsTagChange, IsApart, DestroysTeam, IsTeamMemberChange, TeamsAreCreated, NewTeamsAreEmpty, TeamsAreDestroyed, TeamMembersAreAdded, TeamMembersAreRemoved, PublishesAddVersions, PublishesSetTags, PublishesSetStatuses, SetTagsName, RemovedTagsAreGone, QueriesChangeNothing, PackagesStandApart}
+use Rattle.registry_rules.specs.Laws.{SpendsVersion, FreesTags, WithdrawalsSpend, WithdrawalsFreeTags, Deprecates, DeprecationsMark, GivesFirstRight, IsOwnerChange, GrantsAreGiven, GrantsAreRevoked, StatusesAreSet, MaintainersAreAdded, MaintainersAreRemoved, PublishesGiveFirstRights, SetsRole, OrganisationsAreCreated, RolesAreSet, MembersAreRemoved, UsersAreAdded, TokensAreAdded, EndsTokens, TokensAreEnded, AllTokensAreEnded, OthersTokensAreHidden, AddsVersion, SetsTags, SetsStatus, IsApart, DestroysTeam, IsTeamMemberChange, TeamsAreCreated, NewTeamsAreEmpty, TeamsAreDestroyed, TeamMembersAreAdded, TeamMembersAreRemoved, PublishesAddVersions, PublishesSetTags, PublishesSetStatuses, SetTagsName, RemovedTagsAreGone, QueriesChangeNothing, PackagesStandApart}
 use Rattle.registry_rules.specs.Refusals.{state_refusal, unless_allowed}
-use Rattle.registry_rules.specs.Operations.{without_team, with_grant, with_status, with_tag, without_tag}
-use Rattle.registry_rules.specs.State.{State, Release, developers, tokens_of, is_in_team, has_grant, is_live, is_published, has_maintainer, stands}
+use Rattle.registry_rules.specs.Operations.{without_team, with_tag, without_tag}
+use Rattle.registry_rules.specs.State.{State, Release, developers, tokens_of, is_in_team, is_live, has_maintainer, stands}
 use Rattle.registry_rules.specs.declared.request.Action.{Action}
 use Rattle.registry_rules.specs.declared.request.Action.TheVariants as asked
 use Rattle.registry_rules.specs.declared.request.Action.TheVariants.{UserAdd, TokenAdd, TokenRemove, TokensRemove, OrgCreate, OrgSet, OrgRemove, TeamCreate, TeamDestroy, TeamAdd, TeamRemove, Revoke, SetAccess, OwnerAdd, OwnerRemove, Publish, TagSet, TagRemove, Withdraw, WithdrawAll, Deprecate}
-use Rattle.registry_rules.proofs.MadeFacts.{grant_put, latest_put, role_put, status_put, tag_put}
 use Rattle.registry_rules.specs.Withdrawals.{all_tags, live_since, live_versions, others, selected, selects, tags_of}
 use Rattle.registry_rules.proofs.WholeFacts.{whole_is, whole_live, whole_spent, whole_tags}
 use Rattle.registry_rules.proofs.WithdrawnFacts.{among_passing, among_where_names, apart_where_others, at-freed, at-marked, deprecated_is, freed_gone, freed_latest, marked_value, withdrawal_of, withdrawn_is}
 use Rattle.registry_rules.proofs.TokenFacts.{among_theirs, at-all_ended, ended_is, others_apart}
-use Rattle.registry_rules.proofs.PublishedFacts.{statuses_after, granted_first, grants_after, maintained_first, maintainers_after, status_of, after_publish, published_is}
+use Rattle.registry_rules.proofs.PublishedFacts.{latest_put, statuses_after, granted_first, grants_after, maintained_first, maintainers_after, status_of, after_publish, published_is}
 
 -- keys that differ fail the test
 unlike : {K : Type 0} {cmp : K → K → Ordering} {same : K → K → Bool} → IsKey cmp same → (q k : K) → k ≢ q → same q k ≡ false
@@ -119,14 +118,14 @@ organisations_are_created S now who o u = let A = S.access in record {
 }
 
 role_set : (S : State) (o u : Text) (role : Role) (old : Option Role) → at S.access.roles (o, u) ≡ old → SetsRole S (all_made S (membership o u role old)) o u role
-role_set S o u role (Some r) e = subst (λ T. SetsRole S T o u role) (sym (role_put S o u role (ap is_some e))) (record {
+role_set S o u role (Some r) e = record {
   role = at-put_same pair_key S.access.roles (o, u) role;
   roles = λ k differ. at-put_other pair_key S.access.roles (o, u) role k (unlike pair_key _ k differ);
   joins = λ none. absurd (true≢false (sym (ap is_some e) ∙ ap is_some none));
   stays = λ had. refl;
   team_members = λ k differ. refl;
   rest = refl;
-})
+}
 role_set S o u role None e = record {
   role = at-put_same pair_key S.access.roles (o, u) role;
   roles = λ k differ. at-put_other pair_key S.access.roles (o, u) role k (unlike pair_key _ k differ);
@@ -211,15 +210,11 @@ team_members_are_removed S now who o t u =
 
 -- ---- rights to a package
 
-grant_given : (S : State) (o t p : Text) (grant : Grant) → let T = with_grant S o t p grant in (at T.access.grants (o, (t, p)) ≡ Some grant) × IsGrantChange S T o t p
-grant_given S o t p grant = (
+pub grants_are_given : GrantsAreGiven
+grants_are_given S now who o t p grant = (
   at-put_same triple_key S.access.grants (o, (t, p)) grant,
   record { grants = λ k differ. at-put_other triple_key S.access.grants (o, (t, p)) grant k (unlike triple_key _ k differ); rest = refl },
 )
-
-pub grants_are_given : GrantsAreGiven
-grants_are_given S now who o t p grant =
-    subst (λ T. (at T.access.grants (o, (t, p)) ≡ Some grant) × IsGrantChange S T o t p) (sym (grant_put S o t p grant (has_grant S o t p) (λ there. there))) (grant_given S o t p grant)
 
 pub grants_are_revoked : GrantsAreRevoked
 grants_are_revoked S now who o t p = (
@@ -227,15 +222,12 @@ grants_are_revoked S now who o t p = (
   record { grants = λ k differ. at-erase_other triple_key S.access.grants (o, (t, p)) k (unlike triple_key _ k differ); rest = refl },
 )
 
-access_set : (S : State) (p : Text) (status : Status) → SetsAccess S (with_status S p status) p status
-access_set S p status = record {
+pub statuses_are_set : StatusesAreSet
+statuses_are_set S now who p status = record {
   set = at-put_same text_key S.access.statuses p status;
   statuses = λ q differ. at-put_other text_key S.access.statuses p status q (unlike text_key p q differ);
   rest = refl;
 }
-
-pub statuses_are_set : StatusesAreSet
-statuses_are_set S now who p status = subst (λ T. SetsAccess S T p status) (sym (status_put S p status (is_published S p) (λ there. there))) (access_set S p status)
 
 maintainer_added : (S : State) (p u : Text) (already : Bool) → has_maintainer S p u ≡ already → let T = all_made S (maintaining p u already) in IsSome (at T.access.maintainers (p, u)) × IsOwnerChange S T p u
 maintainer_added S p u true e = (e, record { maintainers = λ k differ. refl; rest = refl })
@@ -394,7 +386,6 @@ publishes_give_first_rights S now who f = subst (λ T. GivesFirstRight S T who f
 
 pub set_tags_name : SetTagsName
 set_tags_name S now who p t v =
-    subst (λ T. (at T.tags (p, t) ≡ Some w) × IsTagChange S T p t) (sym (tag_put S p t w (stands S p t) (λ there. there)))
     (at-put_same pair_key S.tags (p, t) w, record { tags = λ k differ. at-put_other pair_key S.tags (p, t) w k (unlike pair_key _ k differ); live = refl; spent = refl; access = refl })
   where
     w : Text
@@ -434,8 +425,8 @@ tags_free S now p w release =
     let ts = tags_of S p w in
     let self = same_self text_key p in
     subst (λ T. FreesTags S T p w) (sym (withdrawn_is S now p w release.at next ts)) (record {
-      moved = λ e. at-freed S.tags p next ts p latest ∙ is_here (is p p) (among is ts latest) _ _ self (among_where_names S p w latest e) ∙ freed_latest next _ w e;
-      gone = λ t differ e. at-freed S.tags p next ts p t ∙ is_here (is p p) (among is ts t) _ _ self (among_where_names S p w t e) ∙ freed_gone next _ t (unlike text_key t latest (λ same. differ (sym same)));
+      moved = λ e. at-freed S.tags p next ts p latest ∙ is_here (is p p) (among is ts latest) _ _ self (among_where_names S p w latest e) ∙ freed_latest next;
+      gone = λ t differ e. at-freed S.tags p next ts p t ∙ is_here (is p p) (among is ts t) _ _ self (among_where_names S p w t e) ∙ freed_gone next t (unlike text_key t latest (λ same. differ (sym same)));
       stays = λ t differ. at-freed S.tags p next ts p t ∙ among_others (is p p) (among is ts t) _ _ (apart_where_others S p w t differ);
       tags = λ q t differ. at-freed S.tags p next ts q t ∙ none_of (is p q) (among is ts t) _ _ (unlike text_key p q differ);
     })
@@ -556,10 +547,9 @@ apart_from_owning : (S : State) (q u : Text) (already : Bool) (p : Text) → is 
 apart_from_owning S q u true p other = same_of_itself S (OwnerAdd q u) p (λ o t. refl)
 apart_from_owning S q u false p other = apart_in_access S _ (OwnerAdd q u) p refl (λ w. at-put_other pair_key S.access.maintainers (q, u) tt (p, w) (elsewhere q p u w other)) (λ o t. refl)
 
-apart_from_role : (S : State) (o u : Text) (role : Role) (old : Option Role) → at S.access.roles (o, u) ≡ old → (p : Text) → IsApart S (all_made S (membership o u role old)) (OrgSet o u role) p
-apart_from_role S o u role (Some r) e p =
-    subst (λ T. IsApart S T (OrgSet o u role) p) (sym (role_put S o u role (ap is_some e))) (apart_in_access S _ (OrgSet o u role) p refl (λ w. refl) (λ o t. refl))
-apart_from_role S o u role None e p = apart_in_access S _ (OrgSet o u role) p refl (λ w. refl) (λ o t. refl)
+apart_from_role : (S : State) (o u : Text) (role : Role) (old : Option Role) (p : Text) → IsApart S (all_made S (membership o u role old)) (OrgSet o u role) p
+apart_from_role S o u role (Some r) p = apart_in_access S _ (OrgSet o u role) p refl (λ w. refl) (λ o t. refl)
+apart_from_role S o u role None p = apart_in_access S _ (OrgSet o u role) p refl (λ w. refl) (λ o t. refl)
 
 apart_from_joining : (S : State) (o t u : Text) (inside : Bool) (p : Text) → IsApart S (all_made S (joining o t u inside)) (TeamAdd o t u) p
 apart_from_joining S o t u true p = same_of_itself S (TeamAdd o t u) p (λ o t. refl)
@@ -631,28 +621,25 @@ commands_leave_other_packages S now who (TokenAdd u digest) p other = apart_in_a
 commands_leave_other_packages S now who (TokenRemove digest) p other = apart_in_access S _ (TokenRemove digest) p refl (λ w. refl) (λ o t. refl)
 commands_leave_other_packages S now who (TokensRemove u) p other = apart_from_ending S u (tokens_of S u) p
 commands_leave_other_packages S now who (OrgCreate o u) p other = apart_in_access S _ (OrgCreate o u) p refl (λ w. refl) (λ o t. refl)
-commands_leave_other_packages S now who (OrgSet o u role) p other = apart_from_role S o u role (at S.access.roles (o, u)) refl p
+commands_leave_other_packages S now who (OrgSet o u role) p other = apart_from_role S o u role (at S.access.roles (o, u)) p
 commands_leave_other_packages S now who (OrgRemove o u) p other = apart_in_access S _ (OrgRemove o u) p refl (λ w. refl) (λ o t. refl)
 commands_leave_other_packages S now who (TeamCreate o t) p other = apart_in_access S _ (TeamCreate o t) p refl (λ w. refl) (λ o t. refl)
 commands_leave_other_packages S now who (TeamDestroy o t) p other = apart_from_destroying S o t p
 commands_leave_other_packages S now who (TeamAdd o t u) p other = apart_from_joining S o t u (is_in_team S o t u) p
 commands_leave_other_packages S now who (TeamRemove o t u) p other = apart_in_access S _ (TeamRemove o t u) p refl (λ w. refl) (λ o t. refl)
 commands_leave_other_packages S now who (asked.Grant o t q grant) p other =
-    subst (λ T. IsApart S T (asked.Grant o t q grant) p) (sym (grant_put S o t q grant (has_grant S o t q) (λ there. there)))
-    (apart_in_access S _ (asked.Grant o t q grant) p refl (λ w. refl) (λ r s. at-put_other triple_key S.access.grants (o, (t, q)) grant (r, (s, p)) (granted_elsewhere o t q r s p other)))
+    apart_in_access S _ (asked.Grant o t q grant) p refl (λ w. refl) (λ r s. at-put_other triple_key S.access.grants (o, (t, q)) grant (r, (s, p)) (granted_elsewhere o t q r s p other))
 commands_leave_other_packages S now who (Revoke o t q) p other =
     apart_in_access S _ (Revoke o t q) p refl (λ w. refl) (λ r s. at-erase_other triple_key S.access.grants (o, (t, q)) (r, (s, p)) (granted_elsewhere o t q r s p other))
 commands_leave_other_packages S now who (SetAccess q status) p other =
-    subst (λ T. IsApart S T (SetAccess q status) p) (sym (status_put S q status (is_published S q) (λ there. there)))
-    (apart_in_access S _ (SetAccess q status) p (at-put_other text_key S.access.statuses q status p other) (λ w. refl) (λ o t. refl))
+    apart_in_access S _ (SetAccess q status) p (at-put_other text_key S.access.statuses q status p other) (λ w. refl) (λ o t. refl)
 commands_leave_other_packages S now who (OwnerAdd q u) p other = apart_from_owning S q u (has_maintainer S q u) p other
 commands_leave_other_packages S now who (OwnerRemove q u) p other =
     apart_in_access S _ (OwnerRemove q u) p refl (λ w. at-erase_other pair_key S.access.maintainers (q, u) (p, w) (elsewhere q p u w other)) (λ o t. refl)
 commands_leave_other_packages S now who (Publish f) p other = subst (λ T. IsApart S T (Publish f) p) (sym (published_is S who f now)) (apart_from_publish S now who f p other)
 commands_leave_other_packages S now who (TagSet q t v) p other =
-    subst (λ T. IsApart S T (TagSet q t v) p) (sym (tag_put S q t (text_of_version v) (stands S q t) (λ there. there)))
-    (apart_from_tag S (with_tag S q t (text_of_version v)) (TagSet q t v) p refl refl refl
-    (λ u. at-put_other pair_key S.tags (q, t) (text_of_version v) (p, u) (elsewhere q p t u other)) (λ o s. refl))
+    apart_from_tag S (with_tag S q t (text_of_version v)) (TagSet q t v) p refl refl refl
+    (λ u. at-put_other pair_key S.tags (q, t) (text_of_version v) (p, u) (elsewhere q p t u other)) (λ o s. refl)
 commands_leave_other_packages S now who (TagRemove q t) p other =
     apart_from_tag S (without_tag S q t) (TagRemove q t) p refl refl refl (λ u. at-erase_other pair_key S.tags (q, t) (p, u) (elsewhere q p t u other)) (λ o s. refl)
 commands_leave_other_packages S now who (Withdraw q v) p other = apart_from_withdrawal S now q v (at S.live (q, text_of_version v)) p other

@@ -4,7 +4,6 @@ pub mod DependentFacts
 pub mod KeptFacts
 pub mod ListedFacts
 pub mod LawFacts
-pub mod MadeFacts
 pub mod OtherFacts
 pub mod PublishedFacts
 pub mod SoundFacts

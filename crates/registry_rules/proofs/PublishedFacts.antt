@@ -1,5 +1,5 @@
 -- What a publish leaves, each map apart.
-use Rattle.std.proofs.Common.{◌≡◌, ℕ, Bool, ◌∷◌, ◌++◌, ◌||◌, Option, Some, None, ap, ◌∙◌}
+use Rattle.std.proofs.Common.{◌≡◌, ℕ, Bool, true, false, [], ◌∷◌, ◌++◌, ◌||◌, Option, Some, None, refl, if◌then◌else◌}
 use Rattle.registry_names.specs.Maps.{TextMap, PairMap, TripleMap, at, put}
 use Rattle.registry_names.specs.Tags.{latest}
 use Rattle.registry_names.specs.Texts.{Text, is}
@@ -13,11 +13,21 @@ use Rattle.registry_access.specs.declared.grant.Grant.{Grant}
 use Rattle.registry_access.specs.declared.grant.Grant.TheVariants.{ReadWrite}
 use Rattle.registry_publish.specs.Form.{FormParts}
 use Rattle.registry_rules.specs.Actions.{version_of}
-use Rattle.registry_rules.specs.Changes.{AddVersion, all_made, release_of}
+use Rattle.registry_rules.specs.Changes.{AddVersion, PutTag, all_made, release_of}
 use Rattle.registry_rules.specs.Effects.{new_status, put_status, put_tags, publication, right_to, first_right}
 use Rattle.registry_rules.specs.Operations.{with_version}
 use Rattle.registry_rules.specs.State.{State, Release, developers, stands}
-use Rattle.registry_rules.proofs.MadeFacts.{status_put, latest_put, tags_put}
+
+-- the tags of a package after `latest` is put, where it is put
+abbrev pub latest_put : PairMap Text → Text → Text → Bool → PairMap Text
+latest_put m p v kept = if kept then m else put m (p, latest) v
+
+tags_put : (S : State) (p t v : Text) → all_made S (put_tags S p t v) ≡ record S { tags = put (latest_put S.tags p v (stands S p latest || is t latest)) (p, t) v }
+tags_put S p t v = by_case (stands S p latest || is t latest)
+  where
+    by_case : (kept : Bool) → all_made S ((if kept then [] else PutTag p latest v ∷ []) ++ PutTag p t v ∷ []) ≡ record S { tags = put (latest_put S.tags p v kept) (p, t) v }
+    by_case true = refl
+    by_case false = refl
 
 abbrev pub statuses_after : TextMap Status → Text → Option Status → TextMap Status
 statuses_after m p None = m
@@ -93,9 +103,7 @@ published_is S who f now = by_status (status_of S f)
     by_old A None = by_scope A who (scope_of f.name)
 
     by_status : (status : Option Status)
-        → all_made S (put_status f.name status (at S.access.statuses f.name) ++ option_to_list (first_right who f.name (at S.access.statuses f.name)) ++ AddVersion f now ∷ put_tags S f.name f.tag (version_of f))
+        → all_made S (put_status f.name status ++ option_to_list (first_right who f.name (at S.access.statuses f.name)) ++ AddVersion f now ∷ put_tags S f.name f.tag (version_of f))
         ≡ after_publish S who f.name (version_of f) f.tag (release_of f now) status (stands S f.name latest || is f.tag latest)
     by_status None = by_old S.access (at S.access.statuses f.name)
-    by_status (Some status) =
-        ap (λ T. all_made T (option_to_list (first_right who f.name (at S.access.statuses f.name)) ++ AddVersion f now ∷ put_tags S f.name f.tag (version_of f))) (status_put S f.name status _ (λ there. there))
-        ∙ by_old (record S.access { statuses = put S.access.statuses f.name status }) (at S.access.statuses f.name)
+    by_status (Some status) = by_old (record S.access { statuses = put S.access.statuses f.name status }) (at S.access.statuses f.name)

@@ -1,6 +1,6 @@
 -- References hold, from nothing on, through each action that nothing refuses.
 -- Nothing is asked of how names are spelled.
-use Rattle.std.proofs.Common.{◌≡◌, ℕ, Bool, true, false, not, ◌&&◌, List, is_none, is_some, Option, Some, None, refl, sym, ap, ◌∙◌, subst, true≢false}
+use Rattle.std.proofs.Common.{◌≡◌, ℕ, Bool, true, false, not, ◌&&◌, List, is_none, is_some, Option, Some, None, sym, ap, ◌∙◌, subst, true≢false}
 use Rattle.std.proofs.lemmas.Bool.{and_parts, and_right}
 use Rattle.std.specs.Prelude.{IsSome}
 use Rattle.registry_names.specs.Maps.{at, put, erase}
@@ -22,19 +22,17 @@ use Rattle.registry_access.specs.declared.role.Role.{Role}
 use Rattle.registry_access.specs.declared.role.Role.TheVariants.{Owner, Admin, Developer}
 use Rattle.registry_publish.specs.Form.{FormParts}
 use Rattle.registry_rules.specs.Callers.{is_known}
-use Rattle.registry_rules.specs.Changes.{PutGrant, PutStatus, made, all_made}
+use Rattle.registry_rules.specs.Changes.{all_made}
 use Rattle.registry_rules.specs.Effects.{ending, joining, maintaining, membership, publication, step_by}
-use Rattle.registry_rules.specs.Operations.{without_maintainer, without_member, without_team}
+use Rattle.registry_rules.specs.Operations.{with_grant, with_status, without_maintainer, without_member, without_team}
 use Rattle.registry_rules.specs.Kept.{IsSound}
 use Rattle.registry_rules.specs.Permissions.{permission}
 use Rattle.registry_rules.specs.Refusals.{grant_refusal, is_restricted, publish_refusal, refusal_by, refuse, state_refusal, unless_allowed}
-use Rattle.registry_rules.specs.State.{State, nothing, developers, tokens_of, has_grant, has_other_maintainer, has_team, has_user, is_in_team, is_last_owner, is_member, has_maintainer, is_published, stands}
+use Rattle.registry_rules.specs.State.{State, nothing, developers, tokens_of, has_other_maintainer, has_team, has_user, is_in_team, is_last_owner, is_member, has_maintainer, is_published}
 use Rattle.registry_rules.specs.declared.request.Action.{Action}
 use Rattle.registry_rules.specs.declared.request.Action.TheVariants as asked
-use Rattle.registry_rules.specs.declared.request.Action.TheVariants.{UserAdd, TokenAdd, TokenRemove, TokensRemove, OrgCreate, OrgSet, OrgRemove, TeamCreate, TeamDestroy, TeamAdd, TeamRemove, Revoke, SetAccess, OwnerAdd, OwnerRemove, Publish, TagSet, Withdraw, WithdrawAll, Deprecate}
+use Rattle.registry_rules.specs.declared.request.Action.TheVariants.{UserAdd, TokenAdd, TokenRemove, TokensRemove, OrgCreate, OrgSet, OrgRemove, TeamCreate, TeamDestroy, TeamAdd, TeamRemove, Revoke, SetAccess, OwnerAdd, OwnerRemove, Publish, Withdraw, WithdrawAll, Deprecate}
 use Rattle.registry_rules.proofs.AllowedFacts.{found_there, is_there, may_be_public, may_grant, not_false, passed, policy_passed, publisher_is_user, published_has_status, published_where_read, scope_there, state_passed, status_allowed, user_there}
-use Rattle.registry_rules.proofs.MadeFacts as made
-use Rattle.registry_rules.proofs.MadeFacts.{role_put, tag_put}
 use Rattle.registry_rules.proofs.OtherFacts.{not_the_last, other_maintainer}
 use Rattle.registry_rules.proofs.PublishedFacts.{status_of, published_is}
 use Rattle.registry_rules.specs.Withdrawals.{live_versions, selected}
@@ -83,18 +81,17 @@ owner_stays : (S : State) (o u : Text) → is_last_owner S o u ≡ false → at 
 owner_stays S o u may e = let other = not_the_last S o u may e in
     (other.0, at-erase_other pair_key S.access.roles (o, u) (o, other.0) (and_right (is o o) (is u other.0) other.1) ∙ other.2)
 
-role_sound : (S : State) (o u : Text) (role : Role) (old : Option Role) → at S.access.roles (o, u) ≡ old → IsSome (at S.access.organisations o) → IsSome (at S.access.users u)
+role_sound : (S : State) (o u : Text) (role : Role) (old : Option Role) → IsSome (at S.access.organisations o) → IsSome (at S.access.users u)
     → (at S.access.roles (o, u) ≡ Some Owner → HasOwner (put S.access.roles (o, u) role) o) → IsSound S.access → IsSound (all_made S (membership o u role old)).access
-role_sound S o u role (Some r) e organisation user left sound =
-    subst (λ (T : State). IsSound T.access) (sym (role_put S o u role (ap is_some e))) (role_given S.access o u role organisation user left sound)
-role_sound S o u role None e organisation user left sound = member_joined S.access o u role organisation user left sound
+role_sound S o u role (Some r) organisation user left sound = role_given S.access o u role organisation user left sound
+role_sound S o u role None organisation user left sound = member_joined S.access o u role organisation user left sound
 
 set_sound : (S : State) (now : ℕ) (who : Caller) (o u : Text) (role : Role) → unless_allowed (permission S.access who (OrgSet o u role)) ≡ None → state_refusal S now (OrgSet o u role) ≡ None
     → IsSound S.access → IsSound (all_made S (membership o u role (at S.access.roles (o, u)))).access
 set_sound S now who o u role policy may sound =
     let user = passed (not (has_user S u)) NotFound _ may in
     let owner = passed (not (is_owner (Some role)) && is_last_owner S o u) LastOwner None user.1 in
-    role_sound S o u role (at S.access.roles (o, u)) refl (found_there who (has_organisation S.access o) (by_rule A2 (is_owner (role_of S.access who o))) policy) (not_false _ user.0)
+    role_sound S o u role (at S.access.roles (o, u)) (found_there who (has_organisation S.access o) (by_rule A2 (is_owner (role_of S.access who o))) policy) (not_false _ user.0)
     (owner_given S o u role owner.0) sound
 
 removed_sound : (S : State) (now : ℕ) (o u : Text) → state_refusal S now (OrgRemove o u) ≡ None → IsSound S.access → IsSound (without_member S o u).access
@@ -121,19 +118,17 @@ destroyed_sound S now o t may sound =
 
 -- ---- rights to a package
 
-grant_sound : (S : State) (o t p : Text) (grant : granted.Grant) → grant_refusal (has_team S o t) (is_published S p) o p ≡ None → IsSound S.access → IsSound (made S (PutGrant o t p grant (has_grant S o t p))).access
+grant_sound : (S : State) (o t p : Text) (grant : granted.Grant) → grant_refusal (has_team S o t) (is_published S p) o p ≡ None → IsSound S.access → IsSound (with_grant S o t p grant).access
 grant_sound S o t p grant may sound =
     let is = may_grant (has_team S o t) (is_published S p) o p may in
-    subst (λ (T : State). IsSound T.access) (sym (made.grant_put S o t p grant (has_grant S o t p) (λ there. there)))
-    (change.grant_put S.access o t p grant (record { team = is.0; status = is.1; scope = is.2 }) sound)
+    change.grant_put S.access o t p grant (record { team = is.0; status = is.1; scope = is.2 }) sound
 
 status_sound : (S : State) (who : Caller) (p : Text) (status : Status) → unless_allowed (may_write who (position_in S.access who p)) ≡ None
-    → refuse (is_restricted (Some status) && is_none (scope_of p)) AlwaysPublic None ≡ None → IsSound S.access → IsSound (made S (PutStatus p status (is_published S p))).access
+    → refuse (is_restricted (Some status) && is_none (scope_of p)) AlwaysPublic None ≡ None → IsSound S.access → IsSound (with_status S p status).access
 status_sound S who p status policy may sound =
     let shut = passed (is_restricted (Some status) && is_none (scope_of p)) AlwaysPublic None may in
     let read = found_there who (reads (level_at (position_in S.access who p))) (by_rule A6 (writes (level_at (position_in S.access who p)))) policy in
-    subst (λ (T : State). IsSound T.access) (sym (made.status_put S p status (is_published S p) (λ there. there)))
-    (change.status_put S.access p status (published_where_read S.access who p read) (status_allowed p status shut.0) sound)
+    change.status_put S.access p status (published_where_read S.access who p read) (status_allowed p status shut.0) sound
 
 owning_sound : (S : State) (p u : Text) (already : Bool) → IsSome (at S.access.statuses p) → IsSome (at S.access.users u) → IsSound S.access → IsSound (all_made S (maintaining p u already)).access
 owning_sound S p u true was there sound = sound
@@ -186,7 +181,6 @@ step_sound S now who (OwnerAdd p u) known may sound =
 step_sound S now who (OwnerRemove p u) known may sound = disowned_sound S p u (state_passed S now who (OwnerRemove p u) may) sound
 step_sound S now who (Publish f) known may sound =
     publish_sound S who f now known (policy_passed S now who (Publish f) may) (state_passed S now who (Publish f) may) sound
-step_sound S now who (TagSet p t v) known may sound = subst (λ (T : State). IsSound T.access) (sym (tag_put S p t (text_of_version v) (stands S p t) (λ there. there))) sound
 step_sound S now who (Withdraw p v) known may sound = subst IsSound (sym (withdrawn_access S now p (text_of_version v) (at S.live (p, text_of_version v)))) sound
 step_sound S now who (WithdrawAll p) known may sound = subst (λ (T : State). IsSound T.access) (sym (whole_is S now p)) sound
 step_sound S now who (Deprecate p selector message) known may sound =

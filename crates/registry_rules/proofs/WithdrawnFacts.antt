@@ -1,5 +1,5 @@
 -- What a withdrawal and a deprecation leave, each map by itself.
-use Rattle.std.proofs.Common.{◌≡◌, ◌≢◌, ℕ, Bool, true, false, cond, ◌&&◌, ◌||◌, List, [], ◌∷◌, ◌++◌, map, filter, is_some, Option, Some, None, option_map, refl, sym, ap, ◌∙◌, subst, true≢false, if◌then◌else◌}
+use Rattle.std.proofs.Common.{◌≡◌, ◌≢◌, ℕ, Bool, true, false, cond, ◌&&◌, ◌||◌, List, [], ◌∷◌, ◌++◌, map, filter, Option, Some, None, option_map, refl, sym, ap, ◌∙◌, subst, true≢false, if◌then◌else◌}
 use Rattle.std.proofs.lemmas.Bool.{and_parts, and_from}
 use Rattle.std.specs.List.{list_any}
 use Rattle.registry_names.specs.Keys.{Pair, pair_is}
@@ -11,21 +11,17 @@ use Rattle.registry_names.proofs.KeyFacts.{text_key, pair_key, same_true, same_s
 use Rattle.registry_names.proofs.MapFacts.{at-put_same, at-put_other, at-erase_same, at-erase_other, at-revise}
 use Rattle.registry_rules.specs.Changes.{Change, RetireVersion, PutTag, DropTag, made, all_made}
 use Rattle.registry_rules.specs.Effects.{deprecation, freed, withdrawal}
-use Rattle.registry_rules.specs.Operations.{retired, with_message, with_tag}
+use Rattle.registry_rules.specs.Operations.{retired, with_message}
 use Rattle.registry_rules.specs.State.{State, Release}
 use Rattle.registry_rules.specs.Withdrawals.{live_versions, others, tags_of}
 use Rattle.registry_rules.proofs.OtherFacts.{any_of, of_any}
 
 -- ---- the tags
 
--- a tag that exists names the version
-abbrev moved_to : PairMap Text → Text → Text → Text → PairMap Text
-moved_to m p t w = cond (is_some (at m (p, t))) (put m (p, t) w) m
-
 -- the tags of a package after one of them was freed for another version, if there is one
 abbrev pub freed_tag : PairMap Text → Text → Option Text → Text → PairMap Text
 freed_tag m p None t = erase m (p, t)
-freed_tag m p (Some w) t = cond (is t latest) (moved_to m p t w) (erase m (p, t))
+freed_tag m p (Some w) t = cond (is t latest) (put m (p, t) w) (erase m (p, t))
 
 abbrev pub freed_tags : PairMap Text → Text → Option Text → List Text → PairMap Text
 freed_tags m p other [] = m
@@ -35,12 +31,8 @@ tag_freed : (S : State) (p : Text) (other : Option Text) (t : Text) → made S (
 tag_freed S p None t = refl
 tag_freed S p (Some w) t = by_name (is t latest)
   where
-    by_standing : (b : Bool) → (if b then with_tag S p t w else S) ≡ record S { tags = cond b (put S.tags (p, t) w) S.tags }
-    by_standing true = refl
-    by_standing false = refl
-
-    by_name : (b : Bool) → made S (if b then PutTag p t w true else DropTag p t) ≡ record S { tags = cond b (moved_to S.tags p t w) (erase S.tags (p, t)) }
-    by_name true = by_standing (is_some (at S.tags (p, t)))
+    by_name : (b : Bool) → made S (if b then PutTag p t w else DropTag p t) ≡ record S { tags = cond b (put S.tags (p, t) w) (erase S.tags (p, t)) }
+    by_name true = refl
     by_name false = refl
 
 tags_freed : (S : State) (p : Text) (other : Option Text) (ts : List Text) → all_made S (map (freed p other) ts) ≡ record S { tags = freed_tags S.tags p other ts }
@@ -66,81 +58,62 @@ pub withdrawn_access : (S : State) (now : ℕ) (p v : Text) (old : Option Releas
 withdrawn_access S now p v None = refl
 withdrawn_access S now p v (Some r) = ap (λ (T : State). T.access) (withdrawn_is S now p v r.at (greatest (others (live_versions S p) v)) (tags_of S p v))
 
--- what a tag of this name names then, which named something before or nothing
-abbrev pub freed_value : Option Text → Text → Option Text → Option Text
-freed_value None u old = None
-freed_value (Some w) u old = cond (is u latest) (option_map (λ x. w) old) None
+-- what a tag of this name names then
+abbrev pub freed_value : Option Text → Text → Option Text
+freed_value None u = None
+freed_value (Some w) u = cond (is u latest) (Some w) None
 
-freed_twice : (other : Option Text) (u : Text) (old : Option Text) → freed_value other u (freed_value other u old) ≡ freed_value other u old
-freed_twice None u old = refl
-freed_twice (Some w) u old = by_name (is u latest) old
-  where
-    by_name : (b : Bool) (old : Option Text) → cond b (option_map (λ (x : Text). w) (cond b (option_map (λ (x : Text). w) old) None)) None ≡ cond b (option_map (λ (x : Text). w) old) None
-    by_name true (Some x) = refl
-    by_name true None = refl
-    by_name false old = refl
-
-freed_own : (m : PairMap Text) (p : Text) (other : Option Text) (t : Text) → at (freed_tag m p other t) (p, t) ≡ freed_value other t (at m (p, t))
+freed_own : (m : PairMap Text) (p : Text) (other : Option Text) (t : Text) → at (freed_tag m p other t) (p, t) ≡ freed_value other t
 freed_own m p None t = at-erase_same pair_key m (p, t)
 freed_own m p (Some w) t = by_name (is t latest)
   where
-    by_standing : (old : Option Text) → at m (p, t) ≡ old → at (cond (is_some old) (put m (p, t) w) m) (p, t) ≡ option_map (λ (x : Text). w) old
-    by_standing (Some x) e = at-put_same pair_key m (p, t) w
-    by_standing None e = e
-
-    by_name : (b : Bool) → at (cond b (moved_to m p t w) (erase m (p, t))) (p, t) ≡ cond b (option_map (λ (x : Text). w) (at m (p, t))) None
-    by_name true = by_standing (at m (p, t)) refl
+    by_name : (b : Bool) → at (cond b (put m (p, t) w) (erase m (p, t))) (p, t) ≡ cond b (Some w) None
+    by_name true = at-put_same pair_key m (p, t) w
     by_name false = at-erase_same pair_key m (p, t)
 
 freed_other : (m : PairMap Text) (p : Text) (other : Option Text) (t : Text) (k : Pair) → pair_is (p, t) k ≡ false → at (freed_tag m p other t) k ≡ at m k
 freed_other m p None t k e = at-erase_other pair_key m (p, t) k e
 freed_other m p (Some w) t k e = by_name (is t latest)
   where
-    by_standing : (b : Bool) → at (cond b (put m (p, t) w) m) k ≡ at m k
-    by_standing true = at-put_other pair_key m (p, t) w k e
-    by_standing false = refl
-
-    by_name : (b : Bool) → at (cond b (moved_to m p t w) (erase m (p, t))) k ≡ at m k
-    by_name true = by_standing (is_some (at m (p, t)))
+    by_name : (b : Bool) → at (cond b (put m (p, t) w) (erase m (p, t))) k ≡ at m k
+    by_name true = at-put_other pair_key m (p, t) w k e
     by_name false = at-erase_other pair_key m (p, t) k e
 
 at-freed_tag : (m : PairMap Text) (p : Text) (other : Option Text) (t q u : Text)
-    → at (freed_tag m p other t) (q, u) ≡ cond (is p q && is t u) (freed_value other u (at m (q, u))) (at m (q, u))
+    → at (freed_tag m p other t) (q, u) ≡ cond (is p q && is t u) (freed_value other u) (at m (q, u))
 at-freed_tag m p other t q u = by_key (pair_is (p, t) (q, u)) refl
   where
-    by_key : (b : Bool) → pair_is (p, t) (q, u) ≡ b → at (freed_tag m p other t) (q, u) ≡ cond b (freed_value other u (at m (q, u))) (at m (q, u))
-    by_key true e = subst (λ (k : Pair). at (freed_tag m p other t) k ≡ freed_value other k.1 (at m k)) (same_true pair_key (p, t) (q, u) e) (freed_own m p other t)
+    by_key : (b : Bool) → pair_is (p, t) (q, u) ≡ b → at (freed_tag m p other t) (q, u) ≡ cond b (freed_value other u) (at m (q, u))
+    by_key true e = subst (λ (k : Pair). at (freed_tag m p other t) k ≡ freed_value other k.1) (same_true pair_key (p, t) (q, u) e) (freed_own m p other t)
     by_key false e = freed_other m p other t (q, u) e
 
--- `latest`, which named a version, names the other one, if there is one, and another tag nothing
-pub freed_latest : (other old : Option Text) (v : Text) → old ≡ Some v → freed_value other latest old ≡ other
-freed_latest None old v e = refl
-freed_latest (Some w) old v e = ap (λ b. cond b (option_map (λ (x : Text). w) old) None) (same_self text_key latest) ∙ ap (option_map (λ (x : Text). w)) e
+-- `latest` names the other version, if there is one, and another tag nothing
+pub freed_latest : (other : Option Text) → freed_value other latest ≡ other
+freed_latest None = refl
+freed_latest (Some w) = ap (λ b. cond b (Some w) None) (same_self text_key latest)
 
-pub freed_gone : (other old : Option Text) (u : Text) → is u latest ≡ false → freed_value other u old ≡ None
-freed_gone None old u e = refl
-freed_gone (Some w) old u e = ap (λ b. cond b (option_map (λ (x : Text). w) old) None) e
+pub freed_gone : (other : Option Text) (u : Text) → is u latest ≡ false → freed_value other u ≡ None
+freed_gone None u e = refl
+freed_gone (Some w) u e = ap (λ b. cond b (Some w) None) e
 
 -- what a freed tag names is the other version, and it is `latest`
-pub freed_names : (other old : Option Text) (u w : Text) → freed_value other u old ≡ Some w → (is u latest ≡ true) × (other ≡ Some w)
-freed_names None old u w e = cc
-freed_names (Some x) old u w e = by_name (is u latest) old refl e
+pub freed_names : (other : Option Text) (u w : Text) → freed_value other u ≡ Some w → (is u latest ≡ true) × (other ≡ Some w)
+freed_names None u w e = cc
+freed_names (Some x) u w e = by_name (is u latest) refl e
   where
-    by_name : (b : Bool) (old : Option Text) → is u latest ≡ b → cond b (option_map (λ (y : Text). x) old) None ≡ Some w → (is u latest ≡ true) × (◌≡◌ {A = Option Text} (Some x) (Some w))
-    by_name true (Some y) f e = (f, e)
-    by_name true None f e = cc
-    by_name false old f e = cc
+    by_name : (b : Bool) → is u latest ≡ b → cond b (Some x) None ≡ Some w → (is u latest ≡ true) × (◌≡◌ {A = Option Text} (Some x) (Some w))
+    by_name true f e = (f, e)
+    by_name false f e = cc
 
 -- one of the tags was freed first, and then the others
-freed_joined : (here first later : Bool) (f : Option Text → Option Text) (old : Option Text) → f (f old) ≡ f old
-    → cond (here && later) (f (cond (here && first) (f old) old)) (cond (here && first) (f old) old) ≡ cond (here && (first || later)) (f old) old
-freed_joined true true true f old twice = twice
-freed_joined true true false f old twice = refl
-freed_joined true false later f old twice = refl
-freed_joined false first later f old twice = refl
+freed_joined : (here first later : Bool) (new old : Option Text) → cond (here && later) new (cond (here && first) new old) ≡ cond (here && (first || later)) new old
+freed_joined true true true new old = refl
+freed_joined true true false new old = refl
+freed_joined true false later new old = refl
+freed_joined false first later new old = refl
 
 pub at-freed : (m : PairMap Text) (p : Text) (other : Option Text) (ts : List Text) (q u : Text)
-    → at (freed_tags m p other ts) (q, u) ≡ cond (is p q && among is ts u) (freed_value other u (at m (q, u))) (at m (q, u))
+    → at (freed_tags m p other ts) (q, u) ≡ cond (is p q && among is ts u) (freed_value other u) (at m (q, u))
 at-freed m p other [] q u = none_here (is p q) _ _
   where
     none_here : {X : Type 0} (b : Bool) (x y : X) → y ≡ cond (b && false) x y
@@ -148,8 +121,8 @@ at-freed m p other [] q u = none_here (is p q) _ _
     none_here false x y = refl
 at-freed m p other (t ∷ ts) q u =
     at-freed (freed_tag m p other t) p other ts q u
-    ∙ ap (λ o. cond (is p q && among is ts u) (freed_value other u o) o) (at-freed_tag m p other t q u)
-    ∙ freed_joined (is p q) (is t u) (among is ts u) (freed_value other u) (at m (q, u)) (freed_twice other u (at m (q, u)))
+    ∙ ap (cond (is p q && among is ts u) (freed_value other u)) (at-freed_tag m p other t q u)
+    ∙ freed_joined (is p q) (is t u) (among is ts u) (freed_value other u) (at m (q, u))
 
 -- ---- which tags name a version
 

@@ -76,10 +76,10 @@ module _ (S : State) (now : ℕ) (p v : Text) (release : Release) (stood : at S.
   abbrev was_named : Text → Text → Bool
   was_named q u = is p q && among is (tags_of S p v) u
 
-  tag_left : (q u w : Text) (b : Bool) → was_named q u ≡ b → cond b (freed_value next u (at S.tags (q, u))) (at S.tags (q, u)) ≡ Some w → IsTagOf left q u w
+  tag_left : (q u w : Text) (b : Bool) → was_named q u ≡ b → cond b (freed_value next u) (at S.tags (q, u)) ≡ Some w → IsTagOf left q u w
   tag_left q u w true named e =
       let parts = and_parts (is p q) (among is (tags_of S p v) u) named in
-      let moved = freed_names next (at S.tags (q, u)) u w e in
+      let moved = freed_names next u w e in
       let tag = kept.tags p u v (names_where_among S p v u parts.1) in
       subst (λ r. IsTagOf left r u w) (same_true text_key p q parts.0) (record { name = tag.name; tag = tag.tag; live = next_lives w moved.1 })
   tag_left q u w false named e =
@@ -94,12 +94,10 @@ module _ (S : State) (now : ℕ) (p v : Text) (release : Release) (stood : at S.
           let names = ap (λ r. at S.tags (r, u)) here ∙ e ∙ ap (λ x. Some x) (sym (same_true text_key v w g)) in
           sym (and_from (is p q) (among is (tags_of S p v) u) f (among_where_names S p v u names)) ∙ named
 
-  latest_left : (q w : Text) → IsSome (at left.live (q, w)) → (b : Bool) → was_named q latest ≡ b → IsSome (cond b (freed_value next latest (at S.tags (q, latest))) (at S.tags (q, latest)))
+  latest_left : (q w : Text) → IsSome (at left.live (q, w)) → (b : Bool) → was_named q latest ≡ b → IsSome (cond b (freed_value next latest) (at S.tags (q, latest)))
   latest_left q w h true named =
       let parts = and_parts (is p q) (among is (tags_of S p v) latest) named in
-      let here = same_true text_key p q parts.0 in
-      let names = ap (λ r. at S.tags (r, latest)) (sym here) ∙ names_where_among S p v latest parts.1 in
-      ap is_some (freed_latest next (at S.tags (q, latest)) v names) ∙ next_stands w (ap (λ r. is_some (at left.live (r, w))) here ∙ h)
+      ap is_some (freed_latest next) ∙ next_stands w (ap (λ r. is_some (at left.live (r, w))) (same_true text_key p q parts.0) ∙ h)
   latest_left q w h false named = kept.latest q w (lived_before (q, w) h)
 
   old_spent : (k : Pair) (w : Withdrawal) → at S.spent k ≡ Some w → IsWithdrawalOf left k.0 k.1 w

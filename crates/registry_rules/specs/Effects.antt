@@ -1,6 +1,6 @@
 -- What each command changes where nothing refuses it: one equation a command. A query changes
 -- nothing.
-use Rattle.std.specs.Prelude.{ℕ, Bool, List, [], ◌∷◌, ◌++◌, map, ◌||◌, true, false, is_some, Option, Some, None, if◌then◌else◌}
+use Rattle.std.specs.Prelude.{ℕ, Bool, List, [], ◌∷◌, ◌++◌, map, ◌||◌, is_some, Option, Some, None, if◌then◌else◌}
 use Rattle.std.specs.Option.{option_to_list}
 use Rattle.registry_names.specs.Greatest.{greatest}
 use Rattle.registry_names.specs.Tags.{latest}
@@ -19,7 +19,7 @@ use Rattle.registry_publish.specs.Form.{FormParts}
 use Rattle.registry_rules.specs.Actions.{version_of}
 use Rattle.registry_rules.specs.Callers.{caller_of}
 use Rattle.registry_rules.specs.Changes.{Change, AddUser, AddToken, DropToken, AddOrg, PutMember, DropMember, AddTeam, PutTeamMember, DropTeamMember, DropTeam, PutGrant, DropGrant, PutOwner, DropOwner, PutStatus, AddVersion, RetireVersion, PutDeprecation, PutTag, DropTag, all_made}
-use Rattle.registry_rules.specs.State.{State, developers, tokens_of, is_in_team, has_grant, is_published, has_maintainer, stands}
+use Rattle.registry_rules.specs.State.{State, developers, tokens_of, is_in_team, has_maintainer, stands}
 use Rattle.registry_rules.specs.Withdrawals.{all_tags, live_since, live_versions, others, published_at, selected, tags_of}
 use Rattle.registry_rules.specs.declared.request.Action.{Action}
 use Rattle.registry_rules.specs.declared.request.Action.TheVariants.{UserAdd, TokenAdd, TokenRemove, TokensRemove, OrgCreate, OrgSet, OrgRemove, TeamCreate, TeamDestroy, TeamAdd, TeamRemove, Grant, Revoke, SetAccess, OwnerAdd, OwnerRemove, Publish, TagSet, TagRemove, Withdraw, WithdrawAll, Deprecate}
@@ -35,12 +35,12 @@ ending digests = map DropToken digests
 
 -- it has an owner, and its first team with the owner in it
 abbrev pub creation : Text → Text → List Change
-creation o u = AddOrg o ∷ PutMember o u Owner false ∷ AddTeam o developers ∷ PutTeamMember o developers u ∷ []
+creation o u = AddOrg o ∷ PutMember o u Owner ∷ AddTeam o developers ∷ PutTeamMember o developers u ∷ []
 
 -- a member gets another role; a new member joins the first team
 abbrev pub membership : Text → Text → Role → Option Role → List Change
-membership o u role (Some old) = PutMember o u role true ∷ []
-membership o u role None = PutMember o u role false ∷ PutTeamMember o developers u ∷ []
+membership o u role (Some old) = PutMember o u role ∷ []
+membership o u role None = PutMember o u role ∷ PutTeamMember o developers u ∷ []
 
 -- ---- teams
 
@@ -62,14 +62,14 @@ new_status None (Some old) p = None
 new_status None None p = Some (first_status p)
 
 -- a status is put where there is one to put
-abbrev pub put_status : Text → Option Status → Option Status → List Change
-put_status p None old = []
-put_status p (Some status) old = PutStatus p status (is_some old) ∷ []
+abbrev pub put_status : Text → Option Status → List Change
+put_status p None = []
+put_status p (Some status) = PutStatus p status ∷ []
 
 -- The right to a new package: the first team of its scope reads and writes it; without a scope its
 -- publisher maintains it
 abbrev pub right_to : Caller → Text → Option Text → Option Change
-right_to who p (Some o) = Some (PutGrant o developers p ReadWrite false)
+right_to who p (Some o) = Some (PutGrant o developers p ReadWrite)
 right_to (User u) p None = Some (PutOwner p u)
 right_to Operator p None = None
 right_to Anonymous p None = None
@@ -81,10 +81,10 @@ first_right who p None = right_to who p (scope_of p)
 
 -- The form's tag names the version, and so does `latest` where there is none
 abbrev pub put_tags : State → Text → Text → Text → List Change
-put_tags S p t v = (if stands S p latest || is t latest then [] else PutTag p latest v false ∷ []) ++ PutTag p t v (stands S p t) ∷ []
+put_tags S p t v = (if stands S p latest || is t latest then [] else PutTag p latest v ∷ []) ++ PutTag p t v ∷ []
 
 abbrev pub publication : State → ℕ → Caller → FormParts → List Change
-publication S now who f = put_status f.name (new_status f.access (at S.access.statuses f.name) f.name) (at S.access.statuses f.name)
+publication S now who f = put_status f.name (new_status f.access (at S.access.statuses f.name) f.name)
     ++ option_to_list (first_right who f.name (at S.access.statuses f.name)) ++ AddVersion f now ∷ put_tags S f.name f.tag (version_of f)
 
 -- ---- a withdrawal
@@ -93,7 +93,7 @@ publication S now who f = put_status f.name (new_status f.access (at S.access.st
 -- each other tag goes
 abbrev pub freed : Text → Option Text → Text → Change
 freed p None t = DropTag p t
-freed p (Some other) t = if is t latest then PutTag p t other true else DropTag p t
+freed p (Some other) t = if is t latest then PutTag p t other else DropTag p t
 
 -- The withdrawal of a version that was published at a moment, if it lives. First the tags that name
 -- it change: `latest` is to name the greatest of the other live versions. Then the version goes
@@ -132,13 +132,13 @@ effects S now who (TeamCreate o t) = AddTeam o t ∷ []
 effects S now who (TeamDestroy o t) = DropTeam o t ∷ []
 effects S now who (TeamAdd o t u) = joining o t u (is_in_team S o t u)
 effects S now who (TeamRemove o t u) = DropTeamMember o t u ∷ []
-effects S now who (Grant o t p grant) = PutGrant o t p grant (has_grant S o t p) ∷ []
+effects S now who (Grant o t p grant) = PutGrant o t p grant ∷ []
 effects S now who (Revoke o t p) = DropGrant o t p ∷ []
-effects S now who (SetAccess p status) = PutStatus p status (is_published S p) ∷ []
+effects S now who (SetAccess p status) = PutStatus p status ∷ []
 effects S now who (OwnerAdd p u) = maintaining p u (has_maintainer S p u)
 effects S now who (OwnerRemove p u) = DropOwner p u ∷ []
 effects S now who (Publish f) = publication S now who f
-effects S now who (TagSet p t v) = PutTag p t (text_of_version v) (stands S p t) ∷ []
+effects S now who (TagSet p t v) = PutTag p t (text_of_version v) ∷ []
 effects S now who (TagRemove p t) = DropTag p t ∷ []
 effects S now who (Withdraw p v) = withdrawal now p (text_of_version v) (published_at S p (text_of_version v)) (live_versions S p) (tags_of S p (text_of_version v))
 effects S now who (WithdrawAll p) = withdrawal_of_all now p (live_since S p) (all_tags S p)

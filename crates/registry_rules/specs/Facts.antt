@@ -1,9 +1,9 @@
 -- When what a decision rests on is what the registry holds of a request.
-use Rattle.std.specs.Prelude.{◌≡◌, ℕ, Bool, List, map, Option, Some}
+use Rattle.std.specs.Prelude.{◌≡◌, ◌||◌, ℕ, Bool, List, map, Option, Some}
 use Rattle.registry_names.specs.Maps.{at}
 use Rattle.registry_names.specs.Tags.{latest}
 use Rattle.registry_names.specs.Versions.{VersionParts, text_of_version}
-use Rattle.registry_names.specs.Texts.{Text}
+use Rattle.registry_names.specs.Texts.{Text, is}
 use Rattle.registry_access.specs.Agreement.{SameOrganisation}
 use Rattle.registry_access.specs.Positions.{has_organisation}
 use Rattle.registry_access.specs.RowMaps.{state_of}
@@ -16,7 +16,7 @@ use Rattle.registry_publish.specs.Form.{FormParts}
 use Rattle.registry_rules.specs.Actions.{version_of}
 use Rattle.registry_rules.specs.Callers.{caller_of}
 use Rattle.registry_rules.specs.State.{State, has_user, has_team, is_member, is_in_team, has_grant, is_published, has_maintainer, has_other_maintainer, has_other_owner, has_token, tokens_of, is_live, is_spent, has_live, stands, asked_version, lives}
-use Rattle.registry_rules.specs.Withdrawals.{all_tags, is_any_depended, is_depended, last_withdrawal, live_since, live_versions, published_at, tags_of}
+use Rattle.registry_rules.specs.Withdrawals.{all_tags, is_any_depended, is_depended, gone_since, live_since, live_versions, published_at, tags_of}
 use Rattle.registry_rules.specs.declared.facts.About.{About}
 use Rattle.registry_rules.specs.declared.facts.About.TheVariants as about
 use Rattle.registry_rules.specs.declared.facts.Facts.{Facts}
@@ -30,10 +30,8 @@ pub record ArePublishFacts (facts : PublishFacts) (S : State) (who : Caller) (f 
   pub standing : StandingTells facts.standing S.access who f.name
   pub version_lives : facts.version_lives ≡ is_live S f.name (version_of f)
   pub version_spent : facts.version_spent ≡ is_spent S f.name (version_of f)
-  pub tag_stands : facts.tag_stands ≡ stands S f.name f.tag
-  pub latest_stands : facts.latest_stands ≡ stands S f.name latest
-  pub lives : facts.lives ≡ has_live S f.name
-  pub last_withdrawal : facts.last_withdrawal ≡ last_withdrawal S f.name
+  pub latest_stands : facts.latest_stands ≡ (stands S f.name latest || is f.tag latest)
+  pub gone_since : facts.gone_since ≡ gone_since S f.name
 
 -- the rows say of the organisation, and of the caller's role in it, what the registry holds
 abbrev pub SayOf : AccessRows → State → Caller → Text → Type 0
@@ -68,11 +66,6 @@ pub record AreOwnerRemoveFacts (standing : Standing) (maintainer other : Bool) (
   pub standing_tells : TellsMaintainer standing S.access who p
   pub is_maintainer : maintainer ≡ has_maintainer S p u
   pub other_maintainer : other ≡ has_other_maintainer S p u
-
-pub record AreTagSetFacts (standing : Standing) (lives stood : Bool) (S : State) (who : Caller) (p t v : Text) : Type 0 where
-  pub standing_tells : StandingTells standing S.access who p
-  pub version_lives : lives ≡ is_live S p v
-  pub tag_stands : stood ≡ stands S p t
 
 pub record AreWithdrawFacts (standing : Standing) (since : Option ℕ) (needed : Bool) (named : List Text) (living : List VersionParts) (S : State) (who : Caller) (p : Text) (v : VersionParts) : Type 0 where
   pub standing_tells : StandingTells standing S.access who p
@@ -110,7 +103,7 @@ AboutTells (about.Rights standing) S who (SetAccess p status) = StandingTells st
 AboutTells (about.OwnerAdd standing user_exists already) S who (OwnerAdd p u) = AreOwnerAddFacts standing user_exists already S who p u
 AboutTells (about.OwnerRemove standing maintainer other) S who (OwnerRemove p u) = AreOwnerRemoveFacts standing maintainer other S who p u
 AboutTells (about.Publish facts) S who (Publish f) = ArePublishFacts facts S who f
-AboutTells (about.TagSet standing version_lives tag_stands) S who (TagSet p t v) = AreTagSetFacts standing version_lives tag_stands S who p t (text_of_version v)
+AboutTells (about.TagSet standing version_lives) S who (TagSet p t v) = StandingTells standing S.access who p × (version_lives ≡ is_live S p (text_of_version v))
 AboutTells (about.TagRemove standing tag_stands) S who (TagRemove p t) = StandingTells standing S.access who p × (tag_stands ≡ stands S p t)
 AboutTells (about.Withdraw standing published depended tags live) S who (Withdraw p v) = AreWithdrawFacts standing published depended tags.items live.items S who p v
 AboutTells (about.WithdrawAll standing depended tags live) S who (WithdrawAll p) = AreWithdrawAllFacts standing depended tags.items live.items S who p

@@ -1,8 +1,8 @@
 -- The operations on what the registry holds. Each change is one of them.
-use Rattle.std.specs.Prelude.{ℕ, not, ◌&&◌, is_some, if◌then◌else◌}
+use Rattle.std.specs.Prelude.{ℕ, not, ◌&&◌, if◌then◌else◌}
 use Rattle.registry_names.specs.Keys.{pair_is}
 use Rattle.registry_names.specs.Texts.{Text, is}
-use Rattle.registry_names.specs.Maps.{at, put, erase, keep, revise}
+use Rattle.registry_names.specs.Maps.{put, erase, keep, revise}
 use Rattle.registry_names.specs.declared.status.Status.{Status}
 use Rattle.registry_access.specs.declared.grant.Grant.{Grant}
 use Rattle.registry_access.specs.declared.role.Role.{Role}
@@ -24,13 +24,9 @@ without_token S digest = record S { access = record S.access { tokens = erase S.
 abbrev pub with_organisation : State → Text → State
 with_organisation S o = record S { access = record S.access { organisations = put S.access.organisations o tt } }
 
--- the user is a member of the organisation in this role
-abbrev pub with_member : State → Text → Text → Role → State
-with_member S o u role = record S { access = record S.access { roles = put S.access.roles (o, u) role } }
-
--- a member has this role
+-- the user is a member of the organisation, and has this role in it
 abbrev pub with_role : State → Text → Text → Role → State
-with_role S o u role = if is_some (at S.access.roles (o, u)) then with_member S o u role else S
+with_role S o u role = record S { access = record S.access { roles = put S.access.roles (o, u) role } }
 
 -- the user isn't a member, and is in no team of the organisation
 abbrev pub without_member : State → Text → Text → State
@@ -63,13 +59,9 @@ without_team S o t = record S {
   };
 }
 
--- the team is granted this on the package
+-- the team is granted this on the package, and nothing else on it
 abbrev pub with_grant : State → Text → Text → Text → Grant → State
 with_grant S o t p grant = record S { access = record S.access { grants = put S.access.grants (o, (t, p)) grant } }
-
--- a team that is granted something on the package is granted this
-abbrev pub regranted : State → Text → Text → Text → Grant → State
-regranted S o t p grant = if is_some (at S.access.grants (o, (t, p))) then with_grant S o t p grant else S
 
 -- the team is granted nothing on the package
 abbrev pub without_grant : State → Text → Text → Text → State
@@ -86,10 +78,6 @@ without_maintainer S p u = record S { access = record S.access { maintainers = e
 -- the package has this status
 abbrev pub with_status : State → Text → Status → State
 with_status S p status = record S { access = record S.access { statuses = put S.access.statuses p status } }
-
--- a package that has a status has this one
-abbrev pub restated : State → Text → Status → State
-restated S p status = if is_some (at S.access.statuses p) then with_status S p status else S
 
 -- the version lives
 abbrev pub with_version : State → Text → Text → Release → State
@@ -109,10 +97,6 @@ with_message S p v message = record S { live = revise S.live (λ k (r : Release)
 -- the tag names the version
 abbrev pub with_tag : State → Text → Text → Text → State
 with_tag S p t v = record S { tags = put S.tags (p, t) v }
-
--- a tag that exists names the version
-abbrev pub moved : State → Text → Text → Text → State
-moved S p t v = if is_some (at S.tags (p, t)) then with_tag S p t v else S
 
 -- the tag is gone
 abbrev pub without_tag : State → Text → Text → State

@@ -39,6 +39,10 @@ last_of (e ∷ es) = Some (max e.1.withdrawn (unwrap_or (last_of es) 0))
 abbrev pub last_withdrawal : State → Text → Option ℕ
 last_withdrawal S p = last_of (of S.spent p)
 
+-- since when no version of the package lives: its last withdrawal, if none lives
+abbrev pub gone_since : State → Text → Option ℕ
+gone_since S p = if has_live S p then None else last_withdrawal S p
+
 -- It was less than a day ago. This also holds of a moment that is still to come
 abbrev pub is_less_than_a_day_ago : ℕ → Option ℕ → Bool
 is_less_than_a_day_ago now None = false

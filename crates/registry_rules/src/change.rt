@@ -41,8 +41,6 @@ pub enum Change<'a> {
         user: &'a Ident,
         /// What they are in it.
         role: Role,
-        /// Whether they are a member already, in another role or in this one.
-        stands: bool,
     },
     /// The user isn't a member of the organisation, and is in none of its teams.
     DropMember {
@@ -93,8 +91,6 @@ pub enum Change<'a> {
         package: &'a Name,
         /// What the team is granted.
         grant: Grant,
-        /// Whether it is granted something on it already.
-        stands: bool,
     },
     /// The team is granted nothing on the package.
     DropGrant {
@@ -125,8 +121,6 @@ pub enum Change<'a> {
         package: &'a Name,
         /// Who may read it.
         status: Status,
-        /// Whether it has a status already.
-        stands: bool,
     },
     /// The version of a form lives, with its manifest and its archive, and isn't deprecated.
     AddVersion {
@@ -163,8 +157,6 @@ pub enum Change<'a> {
         tag: &'a str,
         /// The version that it is to name.
         version: &'a Ver,
-        /// Whether the tag exists already, and names another version or this one.
-        stands: bool,
     },
     /// The tag is gone.
     DropTag {

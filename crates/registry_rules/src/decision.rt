@@ -331,7 +331,7 @@ fn changes<'a>(
             )
         }
         (
-            About::Grant { stands, .. },
+            About::Grant { .. },
             Action::Grant {
                 organisation,
                 team,
@@ -344,7 +344,6 @@ fn changes<'a>(
                 team: team.text(),
                 package,
                 grant: *grant,
-                stands: *stands,
             };
             only(alloc, change)
         }
@@ -366,13 +365,9 @@ fn changes<'a>(
                 },
             )
         }
-        (About::Rights { standing }, Action::SetAccess { package, status }) => {
-            let change = Change::PutStatus {
-                package,
-                status: *status,
-                stands: standing.status.is_some(),
-            };
-            only(alloc, change)
+        (About::Rights { .. }, Action::SetAccess { package, status }) => {
+            let status = *status;
+            only(alloc, Change::PutStatus { package, status })
         }
         (About::OwnerAdd { is_maintainer, .. }, Action::OwnerAdd { package, user }) => {
             maintaining(alloc, package, user, *is_maintainer)
@@ -385,7 +380,7 @@ fn changes<'a>(
             publish_changes(alloc, caller, facts, form, &request.at)
         }
         (
-            About::TagSet { tag_stands, .. },
+            About::TagSet { .. },
             Action::TagSet {
                 package,
                 tag,
@@ -396,7 +391,6 @@ fn changes<'a>(
                 package,
                 tag: tag.text(),
                 version,
-                stands: *tag_stands,
             };
             only(alloc, change)
         }

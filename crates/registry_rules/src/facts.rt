@@ -137,8 +137,6 @@ pub enum About {
         standing: Standing,
         /// Whether the version lives.
         version_lives: bool,
-        /// Whether the tag exists.
-        tag_stands: bool,
     },
     /// Of a tag that is to be removed.
     TagRemove {
@@ -212,12 +210,8 @@ pub struct PublishFacts {
     pub version_lives: bool,
     /// Whether the version was withdrawn.
     pub version_spent: bool,
-    /// Whether the tag under which it is published exists.
-    pub tag_stands: bool,
-    /// Whether the tag `latest` exists.
+    /// Whether the tag `latest` exists, or is the tag under which the version is published.
     pub latest_stands: bool,
-    /// Whether a version of the package lives.
-    pub lives: bool,
-    /// When a version of it was withdrawn last, if one ever was.
-    pub last_withdrawal: Option<Moment>,
+    /// When a version of the package was withdrawn last, if none lives and one ever was.
+    pub gone_since: Option<Moment>,
 }

@@ -122,7 +122,6 @@ pub(crate) fn first_right<'a>(
             team: DEVELOPERS,
             package: name,
             grant: Grant::ReadWrite,
-            stands: false,
         }),
         (None, Caller::User(user)) => Some(Change::PutOwner {
             package: name,

@@ -72,8 +72,7 @@ pub(crate) fn creation<'a>(
         Change::PutMember {
             organisation,
             user: owner,
-            role: Role::Owner,
-            stands: false
+            role: Role::Owner
         },
         Change::AddTeam {
             organisation,
@@ -104,16 +103,14 @@ pub(crate) fn membership<'a>(
             Change::PutMember {
                 organisation,
                 user,
-                role,
-                stands: true
+                role
             },
         ]?),
         None => Ok(vec![in alloc;
             Change::PutMember {
                 organisation,
                 user,
-                role,
-                stands: false
+                role
             },
             Change::PutTeamMember {
                 organisation,

@@ -15,7 +15,6 @@ ghost use Rattle.registry_access.specs.declared.caller.Caller.{Caller};
 use crate::change::{Change, Changes};
 use crate::facts::PublishFacts;
 use crate::grants::{first_right, is_closed};
-use crate::tags::is_latest;
 use crate::withdrawals::is_less_than_a_day_ago;
 use registry_access::Caller;
 use registry_names::{LATEST, Moment, Name, Refusal, Status};
@@ -53,7 +52,7 @@ fn is_waiting(facts: &PublishFacts, now: &Moment) -> bool
     ensures { (S : State) (who : Caller) (form : FormParts) → ArePublishFacts facts.now S who form
         → result ≡ definitions.is_waiting S now.now form.name }
 {
-    !facts.lives && is_less_than_a_day_ago(now, facts.last_withdrawal)
+    is_less_than_a_day_ago(now, facts.gone_since)
 }
 
 /// What a publish that isn't refused changes. Its tag names the version, and so does `latest`
@@ -72,29 +71,23 @@ pub(crate) fn publish_changes<'a>(
     let old = facts.standing.status;
     let mut changes = Vec::with_capacity(alloc, 5)?;
     if let Some(status) = new_status(old, form) {
-        changes.push(Change::PutStatus {
-            package,
-            status,
-            stands: old.is_some(),
-        })?;
+        changes.push(Change::PutStatus { package, status })?;
     }
     if let Some(right) = first_right(caller, package, old) {
         changes.push(right)?;
     }
     changes.push(Change::AddVersion { form, at: now })?;
-    if !facts.latest_stands && !is_latest(form.tag()) {
+    if !facts.latest_stands {
         changes.push(Change::PutTag {
             package,
             tag: LATEST,
             version,
-            stands: false,
         })?;
     }
     changes.push(Change::PutTag {
         package,
         tag: form.tag().text(),
         version,
-        stands: facts.tag_stands,
     })?;
     Ok(changes)
 }

@@ -228,7 +228,6 @@ fn freed<'a>(name: &'a Name, other: Option<&'a Ver>, tag: &'a Text) -> Change<'a
             package: name,
             tag: text,
             version,
-            stands: true,
         },
         _ => Change::DropTag {
             package: name,

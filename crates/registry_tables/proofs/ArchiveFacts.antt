@@ -1,9 +1,12 @@
 -- What the statements on archives make and show.
-use Rattle.registry_tables.proofs.Words.{◌≡◌, ℕ, ℤ, ◌+◌, ◌<◌, List, [], ◌∷◌, length, drop, get_or, map, filter, Bool, true, false, cond, ◌&&◌, Some, None, option_map, Ok, refl, sym, ap, ◌∙◌, codes}
-use Rattle.registry_tables.proofs.Words.{find, drop_more, option_map_id, Null, Int, Blob, Stored, Shown, HasCleanDisk, Row, column, lit, col, Text, is, at, put, entries, seen, blob_in, TakesNext}
-use Rattle.registry_tables.proofs.Words.{Wrote, numbers, Ready, Leaves, Reads, Queried, Means, MeansQuery, insert_values, select_where, by_column, by_texts, by_number_given, first_listed}
-use Rattle.registry_tables.proofs.Words.{select_finds, select_finds_by, select_has_by, insert_puts, insert_meets_none, is_archive, number_of, Archive, contents, archive_in, stored, schema}
-use Rattle.registry_tables.proofs.Words.{archive_spelled, blob_of_row, held_spelled, number_among, ShowsFirst}
+use Rattle.registry_tables.proofs.Words.{◌≡◌, ℕ, ℤ, ◌+◌, ◌<◌, List, [], ◌∷◌, length, drop, get_or, map, filter, Bool, true, false, cond, ◌&&◌, Some, None, option_map, Ok, refl, sym, ap, ◌∙◌}
+use Rattle.registry_tables.proofs.Words.{codes, find, drop_more, option_map_id, Null, Int, Blob, Stored, Shown, HasCleanDisk, Row, column, lit, col, Text, is, at, put, entries, seen, blob_in}
+use Rattle.registry_tables.proofs.Words.{TakesNext, Wrote, numbers, Ready, Leaves, Reads, Queried, Means, MeansQuery, insert_values, select_where, by_column, by_texts, by_number_given}
+use Rattle.registry_tables.proofs.Words.{first_listed, select_finds, select_finds_by, select_has_by, insert_puts, insert_meets_none, is_archive, number_of, Archive, contents, archive_in, stored}
+use Rattle.registry_tables.proofs.Words.{schema, archive_spelled, blob_of_row, held_spelled, number_among, ShowsFirst, with_archive, next_archive, archive_number, unwrap_or, is_some}
+use Rattle.registry_tables.proofs.Words.{if◌then◌else◌, Contents}
+use Rattle.std.proofs.Common.{Option}
+use Rattle.registry_tables.specs.Archives.{with_next_archive}
 use Rattle.sqlite.specs.Listing.{understood}
 use Rattle.sqlite_tied.specs.Compute.{everything}
 use Rattle.registry_rows.proofs.CountFacts.{insert_numbers}
@@ -74,7 +77,7 @@ pub bytes_means : MeansQuery schema bytes_text (select_where table.archives (col
 unfolding understood everything
 bytes_means = ((refl, (refl, refl)), refl)
 
-pub bytes_found : (n : ℤ) (old new : Shown) → ShowsFirst bytes_text (Int n ∷ []) old new blob_of_row (option_map bytes_of (at (stored old).archives n))
+pub bytes_found : (n : ℤ) (old new : Shown) → ShowsFirst bytes_text (Int n ∷ []) old new blob_of_row (λ c. option_map bytes_of (at c.archives n))
 bytes_found n old new rows form call clean =
     let it = select_finds_by (by_number_given archives_numbered) bytes_text (col 1 3 ∷ []) _ bytes_means n blob_of_row bytes_of (λ id vs. refl) old new rows form call clean in
     (it.0, first_listed blob_of_row rows _ it.1)
@@ -103,9 +106,23 @@ pub held_means : MeansQuery schema held_text (select_where table.held (col 1 3 �
 unfolding understood everything
 held_means = ((refl, (refl, refl)), refl)
 
-pub held_found : (p v : Text) (old new : Shown) → ShowsFirst held_text (Stored p ∷ Stored v ∷ []) old new held_spelled (at (stored old).held (p, v))
+pub held_found : (p v : Text) (old new : Shown) → ShowsFirst held_text (Stored p ∷ Stored v ∷ []) old new held_spelled (λ c. at c.held (p, v))
 held_found p v old new rows form call clean =
     let it = select_finds held_mapped held_text (col 1 3 ∷ []) _ held_means (p, v) held_spelled (λ (n : ℤ). n) (λ id vs. refl) old new rows form call clean in
     (it.0, first_listed held_spelled rows _ it.1 ∙ option_map_id (at (stored old).held (p, v)))
 
 -- ---- an archive that is there, or is added
+
+module _ (integrity : Text) (bytes : List ℕ) (c : Contents) where
+  -- storing it, by the number that is found
+  abbrev stored_by : Option ℤ → Contents
+  stored_by o = record c {
+    archives = if is_some o then c.archives else put c.archives (next_archive c) (record { integrity = integrity; bytes = bytes });
+    last_archive = if is_some o then c.last_archive else Some (Int (next_archive c));
+  }
+
+  pub is_there : (n : ℤ) → number_of integrity bytes c.archives ≡ Some n → (c ≡ with_archive integrity bytes c) × (n ≡ archive_number integrity bytes c)
+  is_there n e = (ap stored_by (sym e), ap (λ o. unwrap_or o (next_archive c)) (sym e))
+
+  pub is_added : number_of integrity bytes c.archives ≡ None → (with_next_archive integrity bytes c ≡ with_archive integrity bytes c) × (next_archive c ≡ archive_number integrity bytes c)
+  is_added e = (ap stored_by (sym e), ap (λ o. unwrap_or o (next_archive c)) (sym e))

@@ -1,12 +1,12 @@
 -- What the statement on the needs of a package shows, and who needs its versions.
 use Rattle.registry_tables.proofs.Words.{◌≡◌, ◌<◌, ◌+◌, ℕ, Bool, true, false, not, ◌&&◌, ◌||◌, true≢false, List, [], ◌∷◌, ◌++◌, append_assoc, length, take, drop, map, filter, Option, Some, None}
 use Rattle.registry_tables.proofs.Words.{is_some, option_map, Ordering, Less, Equal, Greater, refl, sym, ap, ap₂, subst, ◌∙◌, codes, list_any, is_ne, option_and_then, slice_index_or, unwrap_or}
-use Rattle.registry_tables.proofs.Words.{map-append, take-append-drop, take_more, list_any-append, and_from, and_parts, map-map, Value, Stored, Shown, Row, column, value_cmp, Binary, value_cmp-Text}
-use Rattle.registry_tables.proofs.Words.{Compare, Eq, Ne, is_true, from_truth, Term, col, op2, Has, all_has, has_filtered, has_kept, Pair, Text, is, at, entries, IsVersionOf, VersionParts}
-use Rattle.registry_tables.proofs.Words.{entries_rise, pair_key, at-entries, is_self, is_sym, is_tie, text_is, needs_of, Need, binds, Release, is_depended, is_need_of, needs_in, versions_in, text_in}
-use Rattle.registry_tables.proofs.Words.{IsReady, key_of, MeansQuery, select_where, in_order, is_wanted, Texts, by_texts_given, texts_of, has_mapped, map_has, first_risen, select_passes_by}
-use Rattle.registry_tables.proofs.Words.{seen_as_is, found_has, and_true, row_parts, texts_key, Contents, LiveVersion, live_of, registry_of, with_bytes, stored, HoldsNeeds, is_needed, names_if_any}
-use Rattle.registry_tables.proofs.Words.{schema, text_spelled, is_foreign_need, ranges_on, version_text, ShowsAll}
+use Rattle.registry_tables.proofs.Words.{map-append, take-append-drop, take_more, list_any-append, and_from, and_parts, map-map, Value, Stored, Shown, Row, column, value_cmp, Binary}
+use Rattle.registry_tables.proofs.Words.{value_cmp-Text, Compare, Eq, Ne, is_true, from_truth, Term, col, op2, Has, all_has, has_filtered, has_kept, Pair, Text, is, at, entries, IsVersionOf}
+use Rattle.registry_tables.proofs.Words.{VersionParts, pair_key, is_self, is_sym, is_tie, text_is, needs_of, Need, binds, Release, is_depended, is_need_of, needs_in, versions_in, text_in, IsReady}
+use Rattle.registry_tables.proofs.Words.{key_of, MeansQuery, select_where, in_order, is_wanted, Texts, by_texts_given, texts_of, has_mapped, map_has, select_passes_by, seen_as_is, and_true}
+use Rattle.registry_tables.proofs.Words.{row_parts, texts_key, Contents, LiveVersion, live_of, registry_of, with_bytes, HoldsNeeds, is_needed, names_if_any, schema, text_spelled}
+use Rattle.registry_tables.proofs.Words.{is_foreign_need, ranges_on, version_text, ShowsAll, some_has, some_from}
 use Rattle.std.proofs.Common.{is_eq}
 use Rattle.std.specs.Option.{option_to_list}
 use Rattle.sqlite.specs.Listing.{understood}
@@ -18,8 +18,7 @@ use Rattle.registry_rules.specs.declared.facts.LiveVersion.{LiveVersion as Liste
 use Rattle.registry_tables.specs.Schema as table
 use Rattle.registry_tables.proofs.MappedFacts.{need_ranges_mapped}
 use Rattle.registry_tables.proofs.ReadFacts.{at-read}
-use Rattle.registry_tables.proofs.SomeFacts.{any_where, where_any}
-use Rattle.registry_tables.proofs.FoundFacts.{some_at}
+use Rattle.registry_tables.proofs.FoundFacts.{at_entry, entry_at, some_at}
 
 -- ---- SELECT by target, except a package's own needs
 
@@ -69,7 +68,7 @@ need_of p r = ((text_in (column r 1), (text_in (column r 2), (p, text_spelled r)
 abbrev range_of : Texts 3 × Unit {0} → Text
 range_of e = e.0.1.1.1
 
-pub dependents_listed : (p : Text) (old new : Shown) → ShowsAll list_text (Stored p ∷ []) old new text_spelled (ranges_on (stored old) p)
+pub dependents_listed : (p : Text) (old new : Shown) → ShowsAll list_text (Stored p ∷ []) old new text_spelled (λ c. ranges_on c p)
 dependents_listed p old new rows form call clean =
     let it = select_passes_by (by_texts_given need_ranges_mapped) list_text list_wanted (col 1 4 ∷ col 1 1 ∷ col 1 2 ∷ []) _ list_means (Stored p ∷ []) (foreign p) (need_of p) (λ (u : Unit {0}). u) whole old new (passes p old) rows form call clean in
     (it.0, sym (map-map range_of (need_of p) rows) ∙ ap (map range_of) (it.1 ∙ seen_as_is _))
@@ -85,44 +84,25 @@ one_truth true b to from = sym (to refl)
 one_truth false true to from = from refl
 one_truth false false to from = refl
 
--- a live version whose manifest has these needs, of which one passes
-record IsNeeding (c : Contents) (k : Pair) (test : Need → Bool) : Type 0 where
-  release : LiveVersion
-  needs : List Need
-  row : at c.versions k ≡ Some release
-  says : needs_of release.manifest ≡ Some needs
-  any : list_any test needs ≡ true
+-- what a version needs, by its row. One without a row needs nothing
+abbrev needs_if : Option LiveVersion → List Need
+needs_if o = unwrap_or (option_and_then (λ (r : LiveVersion). needs_of r.manifest) o) []
 
--- the manifest of a live version names a target and a range
-named_by : (c : Contents) (q w target range : Text) → is_needed c.versions q w target range ≡ true → IsNeeding c (q, w) (λ need. is need.target target && is need.range range)
-named_by c q w target range h = by_row (at c.versions (q, w)) refl h
-  where
-    by_needs : (r : LiveVersion) → at c.versions (q, w) ≡ Some r → (o : Option (List Need)) → needs_of r.manifest ≡ o → names_if_any target range o ≡ true → IsNeeding c (q, w) (λ need. is need.target target && is need.range range)
-    by_needs r e None s h = absurd (true≢false (sym h))
-    by_needs r e (Some needs) s h = record { release = r; needs = needs; row = e; says = s; any = h }
+as_list : (target range : Text) (o : Option (List Need)) → names_if_any target range o ≡ list_any (λ need. is need.target target && is need.range range) (unwrap_or o [])
+as_list target range None = refl
+as_list target range (Some needs) = refl
 
-    by_row : (o : Option LiveVersion) → at c.versions (q, w) ≡ o → names_if_any target range (option_and_then (λ (r : LiveVersion). needs_of r.manifest) o) ≡ true → IsNeeding c (q, w) (λ need. is need.target target && is need.range range)
-    by_row None e h = absurd (true≢false (sym h))
-    by_row (Some r) e h = by_needs r e (needs_of r.manifest) refl h
-
--- and the other way round
-names_it : (c : Contents) (q w target range : Text) → IsNeeding c (q, w) (λ need. is need.target target && is need.range range) → is_needed c.versions q w target range ≡ true
-names_it c q w target range it =
-    ap (λ (o : Option LiveVersion). names_if_any target range (option_and_then (λ (r : LiveVersion). needs_of r.manifest) o)) it.row ∙ ap (names_if_any target range) it.says ∙ it.any
+has_row : (test : Need → Bool) (o : Option LiveVersion) → list_any test (needs_if o) ≡ true → (r : LiveVersion) × (o ≡ Some r)
+has_row test None h = absurd (true≢false (sym h))
+has_row test (Some r) h = (r, refl)
 
 -- a live version needs what its row says
-needs_as_row : (c : Contents) (k : Pair) (test : Need → Bool) (live : Release) → at (live_of c) k ≡ Some live → list_any test (needs_in live) ≡ true → IsNeeding c k test
-needs_as_row c k test live e h = by_row (at c.versions k) refl (sym (at-read pair_key c.versions (with_bytes c) k) ∙ e)
+needs_as_row : (c : Contents) (k : Pair) (live : Release) → at (live_of c) k ≡ Some live → needs_in live ≡ needs_if (at c.versions k)
+needs_as_row c k live e = each (at c.versions k) (sym (at-read pair_key c.versions (with_bytes c) k) ∙ e)
   where
-    by_needs : (r : LiveVersion) → at c.versions k ≡ Some r → (o : Option (List Need)) → needs_of r.manifest ≡ o → list_any test (unwrap_or o []) ≡ true → IsNeeding c k test
-    by_needs r row None s any = absurd (true≢false (sym any))
-    by_needs r row (Some needs) s any = record { release = r; needs = needs; row = row; says = s; any = any }
-
-    by_row : (o : Option LiveVersion) → at c.versions k ≡ o → option_map (with_bytes c k) o ≡ Some live → IsNeeding c k test
-    by_row None row same = absurd cc
-    by_row (Some r) row same =
-        let is : with_bytes c k r ≡ live = cc in
-        by_needs r row (needs_of r.manifest) refl (subst (λ (x : Release). list_any test (needs_in x) ≡ true) (sym is) h)
+    each : (o : Option LiveVersion) → option_map (with_bytes c k) o ≡ Some live → needs_in live ≡ needs_if o
+    each None same = absurd cc
+    each (Some r) same = let is : with_bytes c k r ≡ live = cc in ap needs_in (sym is)
 
 module _ (c : Contents) (h : HoldsNeeds c) (p : Text) (v : VersionParts) where
   abbrev binding : Text → Bool
@@ -134,46 +114,40 @@ module _ (c : Contents) (h : HoldsNeeds c) (p : Text) (v : VersionParts) where
   -- a range that binds is that of a version that needs it
   range_needs : list_any binding (ranges_on c p) ≡ true → list_any depends (entries (live_of c)) ≡ true
   range_needs binds_one =
-      let text = where_any binding (ranges_on c p) binds_one in
+      let text = some_has binding (ranges_on c p) binds_one in
       let mapped = has_mapped range_of (filter (foreign p) (entries c.need_ranges)) text.0 text.1 in
       let e = mapped.0 in
       let kept = has_filtered (foreign p) (entries c.need_ranges) e mapped.1 in
       let both = and_parts (is p e.0.1.1.0) (not (is p e.0.0)) kept.1 in
-      let there = at-entries (texts_key 3) c.need_ranges e.0 ∙ first_risen (texts_key 3) e.0 e.1 (entries c.need_ranges) (entries_rise c.need_ranges) kept.0 in
       let k : Pair = (e.0.0, e.0.1.0) in
-      let needing = named_by c e.0.0 e.0.1.0 e.0.1.1.0 e.0.1.1.1 (sym (h.stored e.0.0 e.0.1.0 e.0.1.1.0 e.0.1.1.1) ∙ ap is_some there) in
-      let need = where_any (λ need. is need.target e.0.1.1.0 && is need.range e.0.1.1.1) needing.needs needing.any in
+      let test : Need → Bool = λ need. is need.target e.0.1.1.0 && is need.range e.0.1.1.1 in
+      let named : list_any test (needs_if (at c.versions k)) ≡ true =
+      sym (as_list e.0.1.1.0 e.0.1.1.1 _) ∙ sym (h.stored e.0.0 e.0.1.0 e.0.1.1.0 e.0.1.1.1) ∙ ap is_some (entry_at (texts_key 3) c.need_ranges e.0 e.1 kept.0) in
+      let need = some_has test (needs_if (at c.versions k)) named in
       let names = and_parts (is need.0.target e.0.1.1.0) (is need.0.range e.0.1.1.1) need.2 in
       let target : is need.0.target p ≡ true = ap (is need.0.target) (text_is p e.0.1.1.0 both.0) ∙ names.0 in
       let range : binds need.0.range v ≡ true = ap binding (text_is need.0.range e.0.1.1.1 names.1 ∙ sym mapped.2) ∙ text.2 in
-      let live = at-read pair_key c.versions (with_bytes c) k ∙ ap (option_map (with_bytes c k)) needing.row in
-      let any : list_any (is_need_of p v) (unwrap_or (needs_of needing.release.manifest) []) ≡ true =
-      ap (λ (o : Option (List Need)). list_any (is_need_of p v) (unwrap_or o [])) needing.says ∙ any_where (is_need_of p v) needing.needs need.0 need.1 (and_from _ _ target range) in
-      any_where depends (entries (live_of c)) (k, with_bytes c k needing.release) (found_has pair_key k (with_bytes c k needing.release) (entries (live_of c)) (sym (at-entries pair_key (live_of c) k) ∙ live))
-      (and_from _ _ (ap not (is_sym e.0.0 p) ∙ both.1) any)
+      let row = has_row test (at c.versions k) named in
+      let live = at-read pair_key c.versions (with_bytes c) k ∙ ap (option_map (with_bytes c k)) row.1 in
+      let needed = subst (λ (needs : List Need). Has needs need.0) (ap needs_if row.1) need.1 in
+      some_from depends (entries (live_of c)) (k, with_bytes c k row.0) (at_entry pair_key (live_of c) k (with_bytes c k row.0) live)
+      (and_from _ _ (ap not (is_sym e.0.0 p) ∙ both.1) (some_from (is_need_of p v) (needs_in (with_bytes c k row.0)) need.0 needed (and_from _ _ target range)))
 
   -- and the other way round
   need_ranges : list_any depends (entries (live_of c)) ≡ true → list_any binding (ranges_on c p) ≡ true
   need_ranges needs_one =
-      let e = where_any depends (entries (live_of c)) needs_one in
+      let e = some_has depends (entries (live_of c)) needs_one in
       let k : Pair = e.0.0 in
       let both = and_parts (not (is k.0 p)) (list_any (is_need_of p v) (needs_in e.0.1)) e.2 in
-      let live = at-entries pair_key (live_of c) k ∙ first_risen pair_key k e.0.1 (entries (live_of c)) (entries_rise (live_of c)) e.1 in
-      let needing = needs_as_row c k (is_need_of p v) e.0.1 live both.1 in
-      let need = where_any (is_need_of p v) needing.needs needing.any in
+      let need = some_has (is_need_of p v) (needs_in e.0.1) both.1 in
       let names = and_parts (is need.0.target p) (binds need.0.range v) need.2 in
-      let needed = names_it c k.0 k.1 p need.0.range (record {
-        release = needing.release;
-        needs = needing.needs;
-        row = needing.row;
-        says = needing.says;
-        any = any_where (λ n. is n.target p && is n.range need.0.range) needing.needs need.0 need.1 (and_from _ _ names.0 (is_self need.0.range));
-      }) in
+      let own = subst (λ (needs : List Need). Has needs need.0) (needs_as_row c k e.0.1 (entry_at pair_key (live_of c) k e.0.1 e.1)) need.1 in
+      let needed : is_needed c.versions k.0 k.1 p need.0.range ≡ true = as_list p need.0.range _
+      ∙ some_from (λ n. is n.target p && is n.range need.0.range) (needs_if (at c.versions k)) need.0 own (and_from _ _ names.0 (is_self need.0.range)) in
       let q : Texts 3 = (k.0, (k.1, (p, need.0.range))) in
       let there = some_at (at c.need_ranges q) (h.stored k.0 k.1 p need.0.range ∙ needed) in
-      let entry = found_has (texts_key 3) q there.0 (entries c.need_ranges) (sym (at-entries (texts_key 3) c.need_ranges q) ∙ there.1) in
-      let kept = has_kept (foreign p) (entries c.need_ranges) (q, there.0) entry (and_from _ _ (is_self p) (ap not (is_sym p k.0) ∙ both.0)) in
-      any_where binding (ranges_on c p) need.0.range (map_has range_of (filter (foreign p) (entries c.need_ranges)) (q, there.0) kept) names.1
+      let kept = has_kept (foreign p) (entries c.need_ranges) (q, there.0) (at_entry (texts_key 3) c.need_ranges q there.0 there.1) (and_from _ _ (is_self p) (ap not (is_sym p k.0) ∙ both.0)) in
+      some_from binding (ranges_on c p) need.0.range (map_has range_of (filter (foreign p) (entries c.need_ranges)) (q, there.0) kept) names.1
 
   pub ranges_tell : list_any binding (ranges_on c p) ≡ is_depended (registry_of c) p v
   ranges_tell = one_truth _ _ range_needs need_ranges

@@ -1,11 +1,6 @@
 -- Calls inside a transaction, one after another.
-use Rattle.registry_tables.proofs.Words.{◌∙◌, refl, Result, Ok, Err, OnOk, Shown, HasCleanDisk, Ready, Reads, IsAsBefore, schema}
+use Rattle.registry_tables.proofs.Words.{◌∙◌, refl, Shown, HasCleanDisk, Ready, Reads, IsAsBefore, schema}
 use Rattle.sqlite.proofs.InsideLemmas.{keeps_then}
-
--- what holds in any case
-pub on_any : {R E P : Type 0} (r : Result R E) → P → OnOk r P
-on_any (Ok x) h = h
-on_any (Err e) h = tt
 
 -- a query, and then a call that changed nothing
 pub reads_as_before : (a b c : Shown) → Reads schema a b → IsAsBefore b c → Reads schema a c

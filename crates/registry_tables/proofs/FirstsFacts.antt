@@ -2,7 +2,7 @@
 use Rattle.registry_tables.proofs.Words.{◌≡◌, ◌∙◌, ◌&&◌, ◌||◌, ℕ, Bool, true, false, cond, List, [], ◌∷◌, drop, filter, map, is_some, refl, sym, ap, codes, list_any, map-map, Value, Stored, Shown}
 use Rattle.registry_tables.proofs.Words.{HasCleanDisk, Row, column, Binary, Compare, Eq, Term, col, op2, Table, Has, all_has, Pair, pair_is, PairMap, among, at, entries, keys, seen, Text, is}
 use Rattle.registry_tables.proofs.Words.{among_keys, pair_key, at-entries, is_sym, text_is, takes, text_in, IsMapped, IsReady, Queried, Reads, Ready, key_of, map_of, MeansQuery, select_where}
-use Rattle.registry_tables.proofs.Words.{in_order, is_wanted, TextsMap, by_texts_given, select_passes_by, and_true, row_parts, Contents, contents, stored, firsts_of, schema, text_spelled, ShowsAll}
+use Rattle.registry_tables.proofs.Words.{in_order, is_wanted, TextsMap, by_texts_given, select_passes_by, and_true, row_parts, Contents, contents, firsts_of, schema, text_spelled, ShowsAll}
 use Rattle.sqlite.specs.Listing.{understood}
 use Rattle.sqlite_tied.specs.Compute.{everything}
 use Rattle.registry_tables.specs.Schema as table
@@ -51,7 +51,7 @@ pub maintained_means : MeansQuery schema maintained_text (select_where table.own
 unfolding understood everything
 maintained_means = ((refl, (refl, refl)), refl)
 
-pub maintained_listed : (u : Text) (old new : Shown) → ShowsAll maintained_text (Stored u ∷ []) old new text_spelled (firsts_of (stored old).owners u)
+pub maintained_listed : (u : Text) (old new : Shown) → ShowsAll maintained_text (Stored u ∷ []) old new text_spelled (λ c. firsts_of c.owners u)
 maintained_listed u = firsts_listed owners_mapped (λ v. refl) u maintained_text _ maintained_means
 
 -- ---- the organisations of a user
@@ -63,7 +63,7 @@ pub organisations_means : MeansQuery schema organisations_text (select_where tab
 unfolding understood everything
 organisations_means = ((refl, (refl, refl)), refl)
 
-pub organisations_listed : (u : Text) (old new : Shown) → ShowsAll organisations_text (Stored u ∷ []) old new text_spelled (firsts_of (stored old).members u)
+pub organisations_listed : (u : Text) (old new : Shown) → ShowsAll organisations_text (Stored u ∷ []) old new text_spelled (λ c. firsts_of c.members u)
 organisations_listed u = firsts_listed members_mapped (λ v. refl) u organisations_text _ organisations_means
 
 -- ---- which texts they are

@@ -1,7 +1,8 @@
 -- What a query by key says of its map: whether something is there.
-use Rattle.registry_tables.proofs.Words.{◌≡◌, ◌==◌, ℕ, true, false, List, [], ◌∷◌, map, length, not, Option, None, Some, is_some, option_map, arith, ne_eqb, refl, sym, ap, ◌∙◌, Row, Trees, Term}
-use Rattle.registry_tables.proofs.Words.{Schema, Table, Shown, HasCleanDisk, at, keys, seen, Text, map-map, Ready, Reads, Queried, IsMapped, listed, map_of, MeansQuery, select_where, by_texts, Texts}
-use Rattle.registry_tables.proofs.Words.{TextsMap, texts_row, seen_as_is, select_finds, text_spelled}
+use Rattle.registry_tables.proofs.Words.{◌≡◌, ◌==◌, ℕ, Bool, true, false, Ordering, Has, IsKey, MapBy, entries, entries_rise, at-entries, first_risen, found_has, List, [], ◌∷◌, map, length, not}
+use Rattle.registry_tables.proofs.Words.{Option, None, Some, is_some, option_map, arith, ne_eqb, refl, sym, ap, ◌∙◌, Row, Trees, Term, Schema, Table, Shown, HasCleanDisk, at, keys, seen, Text}
+use Rattle.registry_tables.proofs.Words.{map-map, Ready, Reads, Queried, IsMapped, listed, map_of, MeansQuery, select_where, by_texts, Texts, TextsMap, texts_row, seen_as_is, select_finds}
+use Rattle.registry_tables.proofs.Words.{text_spelled, filter, cond}
 
 -- rows that give a value that may be there are some where it is
 pub some_found : {Y : Type 0} (read : Row → Y) (rows : List Row) (o : Option Y) → map read rows ≡ listed o → not (length rows == 0) ≡ is_some o
@@ -18,6 +19,26 @@ some_at (Some x) h = (x, refl)
 pub none_at : {X : Type 0} (o : Option X) → is_some o ≡ false → o ≡ None
 none_at None h = refl
 none_at (Some x) h = absurd cc
+
+-- the entries of a map are what is there
+module _ {K X : Type 0} {cmp : K → K → Ordering} {same : K → K → Bool} (key : IsKey cmp same) (m : MapBy cmp X) (k : K) (x : X) where
+  pub entry_at : Has (entries m) (k, x) → at m k ≡ Some x
+  entry_at h = at-entries key m k ∙ first_risen key k x (entries m) (entries_rise m) h
+
+  pub at_entry : at m k ≡ Some x → Has (entries m) (k, x)
+  at_entry e = found_has key k x (entries m) (sym (at-entries key m k) ∙ e)
+
+-- what is made of those that pass is those made that pass
+pub map_filter : {A B : Type 0} (f : A → B) (test : B → Bool) (xs : List A) → map f (filter (λ x. test (f x)) xs) ≡ filter test (map f xs)
+map_filter f test [] = refl
+map_filter {A} f test (x ∷ xs) = each (test (f x)) ∙ ap (λ l. cond (test (f x)) (f x ∷ l) l) (map_filter f test xs)
+  where
+    left : List A
+    left = filter (λ x. test (f x)) xs
+
+    each : (b : Bool) → map f (cond b (x ∷ left) left) ≡ cond b (f x ∷ map f left) (map f left)
+    each true = refl
+    each false = refl
 
 -- what is seen of a value is there where the value is
 pub some_seen : {X Y : Type 0} (g : X → Y) (o : Option X) → is_some (option_map g o) ≡ is_some o

@@ -1,7 +1,7 @@
 -- What the statements on grants make and show.
-use Rattle.registry_tables.proofs.Words.{ℕ, List, [], ◌∷◌, Some, None, is_some, Ok, refl, sym, ap, ◌∙◌, codes, Bool, if◌then◌else◌, Int, Stored, Delete, Select, Shown, HasCleanDisk, col, Text, at}
-use Rattle.registry_tables.proofs.Words.{erase, pairs_of, parts, pair_key, triple_key, Grant, Wrote, Ready, Leaves, Means, MeansQuery, scan, by_texts, in_order, insert_values, update_where}
-use Rattle.registry_tables.proofs.Words.{select_lists_two, delete_erases, schema, IsFreeUnless, with_row, access_of, contents, stored, grant_number, grant_of, granted_spelled, grants_of, ShowsAll}
+use Rattle.registry_tables.proofs.Words.{ℕ, List, [], ◌∷◌, Some, None, is_some, Ok, refl, sym, ap, ◌∙◌, codes, Int, Stored, Delete, Select, Shown, HasCleanDisk, col, Text, at}
+use Rattle.registry_tables.proofs.Words.{erase, pairs_of, parts, pair_key, triple_key, Grant, Wrote, Ready, Leaves, Means, MeansQuery, scan, by_texts, in_order, upsert_values, upsert_puts, put}
+use Rattle.registry_tables.proofs.Words.{select_lists_two, delete_erases, schema, access_of, contents, stored, grant_number, grant_of, granted_spelled, grants_of, ShowsAll}
 use Rattle.registry_tables.proofs.Words.{ShowsWhether}
 use Rattle.sqlite.specs.Listing.{understood}
 use Rattle.sqlite_tied.specs.Compute.{everything}
@@ -9,30 +9,20 @@ use Rattle.registry_tables.specs.Schema as table
 use Rattle.registry_tables.proofs.FoundFacts.{there_found}
 use Rattle.registry_tables.proofs.MappedFacts.{grants_mapped}
 use Rattle.registry_tables.proofs.ReadFacts.{part-read, parts-read, some-read}
-use Rattle.registry_tables.proofs.SetRowFacts.{row_set}
 
--- ---- INSERT
+-- ---- INSERT, or UPDATE of what is granted
 
 abbrev put_text : List ℕ
-put_text = codes "INSERT INTO grants VALUES (?1, ?2, ?3, ?4)"
+put_text = codes "INSERT INTO grants VALUES (?1, ?2, ?3, ?4) ON CONFLICT (org, team, package) DO UPDATE SET level = ?4"
 
-put_means : Means schema put_text (insert_values 7 (col 0 0 ∷ col 0 1 ∷ col 0 2 ∷ col 0 3 ∷ []))
+put_means : Means schema put_text (upsert_values 7 table.grants (col 0 0 ∷ col 0 1 ∷ col 0 2 ∷ col 0 3 ∷ []) (Some (None ∷ None ∷ None ∷ Some 3 ∷ [])) 4)
 unfolding understood everything
 put_means = (refl, (refl, refl))
 
--- ---- UPDATE
-
-abbrev set_text : List ℕ
-set_text = codes "UPDATE grants SET level = ?4 WHERE org = ?1 AND team = ?2 AND package = ?3"
-
--- the key stays, and the grant is the last parameter
-set_means : Means schema set_text (update_where 7 table.grants (None ∷ None ∷ None ∷ Some 3 ∷ []) (by_texts 2 1 0))
-unfolding understood everything
-set_means = (refl, (refl, refl))
-
-pub grant_set : (o t p : Text) (grant : Grant) (stands : Bool) (old new : Shown) → Ready schema old → Wrote (if stands then set_text else put_text) (Stored o ∷ Stored t ∷ Stored p ∷ Int (grant_number grant) ∷ []) old new → HasCleanDisk new
-    → Leaves schema contents (record (stored old) { grants = with_row (stored old).grants (o, (t, p)) (grant_number grant) stands }) new × IsFreeUnless (stored old).grants (o, (t, p)) stands
-grant_set o t p grant = row_set grants_mapped set_text put_text (None ∷ None ∷ None ∷ Some 3 ∷ []) _ set_means put_means (o, (t, p)) (Int (grant_number grant) ∷ []) (grant_number grant) refl (λ vs. refl) (λ vs. refl) refl refl refl
+pub grant_put : (o t p : Text) (grant : Grant) (old new : Shown) → Ready schema old → Wrote put_text (Stored o ∷ Stored t ∷ Stored p ∷ Int (grant_number grant) ∷ []) old new → HasCleanDisk new
+    → Leaves schema contents (record (stored old) { grants = put (stored old).grants (o, (t, p)) (grant_number grant) }) new
+grant_put o t p grant old new form call = upsert_puts grants_mapped put_text _ (Some (None ∷ None ∷ None ∷ Some 3 ∷ [])) (Stored o ∷ Stored t ∷ Stored p ∷ Int (grant_number grant) ∷ [])
+    (record { means = put_means; quiet = refl; plain = refl; inserts = refl; updates = refl; value_is = λ vs. refl; keeps_key = λ r. refl }) old new (Ok call.0) form call.1
 
 -- ---- DELETE
 
@@ -58,7 +48,7 @@ pub find_means : MeansQuery schema find_text (Select (record { lets = []; body =
 unfolding understood everything
 find_means = ((refl, (refl, refl)), refl)
 
-pub grant_found : (o t p : Text) (old new : Shown) → ShowsWhether find_text (Stored o ∷ Stored t ∷ Stored p ∷ []) old new (is_some (at (access_of (stored old)).grants (o, (t, p))))
+pub grant_found : (o t p : Text) (old new : Shown) → ShowsWhether find_text (Stored o ∷ Stored t ∷ Stored p ∷ []) old new (λ c. is_some (at (access_of c).grants (o, (t, p))))
 grant_found o t p old new rows form call clean =
     let it = there_found grants_mapped find_text (col 1 4 ∷ []) _ find_means (o, (t, p)) old new rows form call clean in
     (it.0, it.1 ∙ sym (some-read triple_key (stored old).grants (λ _ n. grant_of n) (o, (t, p))))
@@ -70,7 +60,7 @@ pub list_means : MeansQuery schema list_text (Select (record { lets = []; body =
 unfolding understood everything
 list_means = ((refl, (refl, refl)), refl)
 
-pub grants_listed : (o t : Text) (old new : Shown) → ShowsAll list_text (Stored o ∷ Stored t ∷ []) old new granted_spelled (grants_of (stored old) o t)
+pub grants_listed : (o t : Text) (old new : Shown) → ShowsAll list_text (Stored o ∷ Stored t ∷ []) old new granted_spelled (λ c. grants_of c o t)
 grants_listed o t old new rows form call clean =
     let it = select_lists_two grants_mapped list_text _ _ list_means o t granted_spelled grant_of (λ id vs. refl) old new rows form call clean in
     (it.0, it.1 ∙ sym (ap (λ es. parts es t) (part-read pair_key (stored old).grants grant_of o) ∙ parts-read grant_of (pairs_of (stored old).grants o) t))

@@ -2,9 +2,9 @@
 -- package's scope are all that they have.
 use Rattle.registry_tables.proofs.Words.{◌≡◌, inl, inr, ℕ, List, [], ◌∷◌, map, codes, Bool, true, false, ◌&&◌, Option, Some, None, option_map, refl, sym, ap, ap₂, subst, ◌∙◌, true≢false, IsSome}
 use Rattle.registry_tables.proofs.Words.{list_any, cases_Bool, and_parts, and_from, false_from_ne_true, Stored, Row, col, Select, Shown, HasCleanDisk, Has, some_has, some_from, Text, is, Triple}
-use Rattle.registry_tables.proofs.Words.{pair_is, at, entries, keys, scope_of, is_self, is_sym, pair_key, triple_key, entries_rise, at-entries, grants, team_granted, is_grant, Grant, MeansQuery}
-use Rattle.registry_tables.proofs.Words.{Ready, Reads, Queried, has_mapped, map_has, first_risen, found_has, some_same, schema, Contents, access_of, stored, AreGranted, AreTeamsSound, GrantsInScope}
-use Rattle.registry_tables.proofs.Words.{grant_spelled, granted_in, grant_of, role_of}
+use Rattle.registry_tables.proofs.Words.{pair_is, at, entries, keys, scope_of, is_self, is_sym, pair_key, triple_key, grants, team_granted, is_grant, Grant, MeansQuery, Ready, Reads, Queried}
+use Rattle.registry_tables.proofs.Words.{has_mapped, map_has, some_same, schema, Contents, access_of, stored, AreGranted, AreTeamsSound, GrantsInScope, grant_spelled, granted_in, grant_of}
+use Rattle.registry_tables.proofs.Words.{role_of}
 use Rattle.std.specs.Prelude.{◌↔◌, is_some}
 use Rattle.sqlite.specs.Listing.{understood}
 use Rattle.sqlite_tied.specs.Compute.{everything}
@@ -13,6 +13,7 @@ use Rattle.registry_access.specs.Standings.{is_listed}
 use Rattle.registry_laws_sql.specs.Joins.{Side, given, first, second, comparisons, join, joins, IsJoined}
 use Rattle.registry_laws_sql.proofs.JoinFacts.{select_joins}
 use Rattle.registry_tables.proofs.MappedFacts.{team_members_mapped, grants_mapped}
+use Rattle.registry_tables.proofs.FoundFacts.{at_entry, entry_at}
 use Rattle.registry_tables.proofs.ReadFacts.{at-read, read_there, some-read}
 
 -- the organisation, the user, the organisation again, the team and the package
@@ -42,7 +43,7 @@ module _ (c : Contents) (o u p : Text) (shown : List Grant)
       let pack = and_parts (is p l.1.1) _ team.1 in
       let key : l ≡ (k.0, (k.1.0, p)) = ap₂ (λ (a : Text) (b : Text × Text). (a, b)) (sym (is_true o l.0 same_organisation.0) ∙ is_true o k.0 organisation.0)
       (ap₂ (λ (a b : Text). (a, b)) (sym (is_true k.1.0 l.1.0 team.0)) (sym (is_true p l.1.1 pack.0))) in
-      let there : Has (keys (entries c.team_members)) k = map_has (λ (e : Triple × Unit {0}). e.0) (entries c.team_members) _ (found_has triple_key k it.value (entries c.team_members) (sym (at-entries triple_key c.team_members k) ∙ it.there)) in
+      let there : Has (keys (entries c.team_members)) k = map_has (λ (e : Triple × Unit {0}). e.0) (entries c.team_members) _ (at_entry triple_key c.team_members k it.value it.there) in
       some_from test (keys (entries c.team_members)) k there
       (and_from _ _ (and_from _ _ organisation.0 user.0) (ap (λ x. grants x g) (ap (at (access_of c).grants) (sym key) ∙ at-read triple_key c.grants (λ _ n. grant_of n) l ∙ ap (option_map grant_of) it.other_there) ∙ ap (λ (z : Grant). is_grant z g) (sym it.shown) ∙ h.2))
 
@@ -53,7 +54,7 @@ module _ (c : Contents) (o u p : Text) (shown : List Grant)
       let both = and_parts _ _ k.2 in
       let own = and_parts (is o k.0.0) (is u k.0.1.1) both.0 in
       let e = has_mapped (λ (e : Triple × Unit {0}). e.0) (entries c.team_members) k.0 k.1 in
-      let x = first_risen triple_key k.0 e.0.1 (entries c.team_members) (entries_rise c.team_members) (subst (λ (j : Triple). Has (entries c.team_members) (j, e.0.1)) (sym e.2) e.1) in
+      let x = entry_at triple_key c.team_members k.0 e.0.1 (subst (λ (j : Triple). Has (entries c.team_members) (j, e.0.1)) (sym e.2) e.1) in
       let h = granted_some _ g both.1 in
       let n = read_there triple_key c.grants (λ _ n. grant_of n) (k.0.0, (k.0.1.0, p)) h.0 h.1 in
       let pass : joins 2 2 (Stored o ∷ Stored u ∷ Stored p ∷ []) grant_sides k.0 (k.0.0, (k.0.1.0, p)) ≡ true =
@@ -63,7 +64,7 @@ module _ (c : Contents) (o u p : Text) (shown : List Grant)
         value = e.0.1;
         other_key = (k.0.0, (k.0.1.0, p));
         other = n.0;
-        there = at-entries triple_key c.team_members k.0 ∙ x;
+        there = x;
         other_there = n.1;
         pass = pass;
         shown = sym n.2;
@@ -131,6 +132,6 @@ strangers_have_none c sound o u p g scope none = false_from_ne_true _ (λ any.
     let same_organisation : k.0.0 ≡ o = some_same (sym (scope_is c sound.grants u p g k.0 both.1) ∙ scope) in
     let same_user : k.0.1.1 ≡ u = is_true k.0.1.1 u both.0 in
     let e = has_mapped (λ (e : Triple × Unit {0}). e.0) (entries c.team_members) k.0 k.1 in
-    let x = first_risen triple_key k.0 e.0.1 (entries c.team_members) (entries_rise c.team_members) (subst (λ (j : Triple). Has (entries c.team_members) (j, e.0.1)) (sym e.2) e.1) in
-    let member : IsSome (at (access_of c).roles (k.0.0, k.0.1.1)) = some-read pair_key c.members (λ _ n. role_of n) (k.0.0, k.0.1.1) ∙ sound.members k.0.0 k.0.1.0 k.0.1.1 (is_there (at-entries triple_key c.team_members k.0 ∙ x)) in
+    let x = entry_at triple_key c.team_members k.0 e.0.1 (subst (λ (j : Triple). Has (entries c.team_members) (j, e.0.1)) (sym e.2) e.1) in
+    let member : IsSome (at (access_of c).roles (k.0.0, k.0.1.1)) = some-read pair_key c.members (λ _ n. role_of n) (k.0.0, k.0.1.1) ∙ sound.members k.0.0 k.0.1.0 k.0.1.1 (is_there x) in
     true≢false (sym member ∙ ap₂ (λ (a b : Text). is_some (at (access_of c).roles (a, b))) same_organisation same_user ∙ none))

@@ -1,15 +1,15 @@
 -- The archives that are stored stay those of live versions, each once.
 use Rattle.registry_tables.proofs.Words.{◌≡◌, ◌⊎◌, inl, inr, ℕ, ℤ, Bool, true, false, cond, true≢false, List, [], ◌∷◌, Option, Some, None, is_some, option_map, refl, sym, ap, subst, ◌∙◌}
 use Rattle.registry_tables.proofs.Words.{option_and_then, unwrap_or, find, and_parts, and_from, cases_Bool, int_eq, Has, has_found, Pair, pair_is, Text, is, PairMap, at, put, entries, pair_key}
-use Rattle.registry_tables.proofs.Words.{text_key, same_true, same_self, at-empty, at-entries, at-put, at-put_same, at-put_other, same_map, entries_rise, version_of, release_of, NumberMap, number_key}
-use Rattle.registry_tables.proofs.Words.{first_risen, found_has, AreArchivesSound, is_archive, number_of, next_archive, archive_number, with_archive, HeldAreStored, HoldsArchives, row_of, version_put}
-use Rattle.registry_tables.proofs.Words.{Archive, Contents, LiveVersion, as_release, bytes_held, live_of, with_bytes, fresh}
+use Rattle.registry_tables.proofs.Words.{text_key, same_true, same_self, at-empty, at-put, at-put_same, at-put_other, same_map, version_of, release_of, NumberMap, number_key, AreArchivesSound}
+use Rattle.registry_tables.proofs.Words.{is_archive, number_of, next_archive, archive_number, with_archive, HeldAreStored, HoldsArchives, row_of, version_put, Archive, Contents, LiveVersion}
+use Rattle.registry_tables.proofs.Words.{as_release, bytes_held, live_of, with_bytes, fresh}
 use Rattle.std.specs.Prelude.{if◌then◌else◌}
 use Rattle.registry_publish.specs.Form.{FormParts}
 use Rattle.registry_publish.specs.Integrity.{integrity_text}
 use Rattle.registry_rows.specs.Counting.{counted}
 use Rattle.registry_rows.proofs.CountFacts.{next_is_new}
-use Rattle.registry_tables.proofs.FoundFacts.{none_at, some_at}
+use Rattle.registry_tables.proofs.FoundFacts.{at_entry, entry_at, none_at, some_at}
 use Rattle.registry_tables.proofs.ReadFacts.{at-read}
 
 -- ---- looking an archive up
@@ -33,7 +33,7 @@ found_stands integrity bytes m n e = go (find (entry_is integrity bytes) (entrie
     go (Some x) f e =
         let it = has_found (entry_is integrity bytes) (entries m) x f in
         let same : x.0 ≡ n = cc in
-        ap (at m) (sym same) ∙ at-entries number_key m x.0 ∙ first_risen number_key x.0 x.1 (entries m) (entries_rise m) it.0 ∙ ap (λ (a : Archive). Some a) (archive_is integrity bytes x.1 it.1)
+        ap (at m) (sym same) ∙ entry_at number_key m x.0 x.1 it.0 ∙ ap (λ (a : Archive). Some a) (archive_is integrity bytes x.1 it.1)
 
 none_passes : {A : Type 0} (test : A → Bool) (es : List A) (x : A) → find test es ≡ None → Has es x → test x ≡ false
 none_passes test [] x none h = absurd h
@@ -50,7 +50,7 @@ none_stands integrity bytes m none n a e = go (find (entry_is integrity bytes) (
   where
     go : (o : Option (ℤ × Archive)) → find (entry_is integrity bytes) (entries m) ≡ o → option_map (λ (e : ℤ × Archive). e.0) o ≡ None → is_archive integrity bytes a ≡ false
     go (Some x) f none = absurd cc
-    go None f none = none_passes (entry_is integrity bytes) (entries m) (n, a) f (found_has number_key n a (entries m) (sym (at-entries number_key m n) ∙ e))
+    go None f none = none_passes (entry_is integrity bytes) (entries m) (n, a) f (at_entry number_key m n a e)
 
 -- ---- an archive is stored
 

@@ -1,30 +1,19 @@
 -- Packages with a caller's level on each: those of a scope, and those that are the caller's own.
 use Rattle.registry_tables.proofs.Words.{◌≡◌, ◌⊎◌, ◌∙◌, ◌&&◌, ◌||◌, Bool, true, false, cond, List, [], ◌∷◌, ◌++◌, filter, map, Option, Some, None, is_some, is_none, refl, sym, ap, ap₂, subst}
-use Rattle.registry_tables.proofs.Words.{append_assoc, inl, inr, AllByRecursion, flat_map, list_any, and_parts, map-append, map-map, Shown, Has, all_from, has_filtered, among, at, entries, first_at}
-use Rattle.registry_tables.proofs.Words.{keys, rises, scope_of, Text, text_cmp, is, Status, among_keys, entries_rise, rises_kept, rises_mapped, same_rows, text_key, at-entries, is_self, is_sym}
-use Rattle.registry_tables.proofs.Words.{text_is, is_owner_or_admin, reads, level_in, scope_role, Caller, Operator, User, Anonymous, Level, Role, PackageLevel, filter_twice, map_has, first_risen}
+use Rattle.registry_tables.proofs.Words.{append_assoc, inl, inr, AllByRecursion, flat_map, list_any, and_parts, map-append, map-map, Shown, Has, all_from, has_filtered, among, at, entries}
+use Rattle.registry_tables.proofs.Words.{first_at, keys, rises, scope_of, Text, text_cmp, is, Status, among_keys, entries_rise, rises_kept, rises_mapped, same_rows, text_key, at-entries, is_self}
+use Rattle.registry_tables.proofs.Words.{is_sym, text_is, is_owner_or_admin, reads, level_in, scope_role, Caller, Operator, User, Anonymous, Level, Role, PackageLevel, filter_twice, map_has}
 use Rattle.registry_tables.proofs.Words.{is_scope, is_own, IsReady, Contents, access_of, stored, IsListedFor, firsts_of, last_at, level_entry, leveled, levels_in, levels_on, listed_name}
-use Rattle.registry_tables.proofs.Words.{scopes_levels, unscoped_levels, writable, role_numbered, status_of, package_entry, scope_statuses, schema, ListedPackage, pair_key}
+use Rattle.registry_tables.proofs.Words.{scopes_levels, unscoped_levels, writable, role_numbered, status_of, package_entry, scope_statuses, schema, ListedPackage, pair_key, list_any-append}
 use Rattle.registry_access.specs.Callers.{role_of}
 use Rattle.registry_access.specs.declared.levels.Level.TheVariants.{Write}
 use Rattle.registry_rules.proofs.AllowedFacts.{scope_is}
 use Rattle.registry_rules.proofs.WithdrawnFacts.{among_passing}
 use Rattle.registry_tables.proofs.FirstsFacts.{among_firsts}
-use Rattle.registry_tables.proofs.FoundFacts.{some_at}
+use Rattle.registry_tables.proofs.FoundFacts.{entry_at, map_filter, some_at}
 use Rattle.registry_tables.proofs.ParentFacts.{owned_there}
 use Rattle.registry_tables.proofs.ReadFacts.{some-read}
 use Rattle.registry_tables.proofs.SomeFacts.{or_true}
-
--- ---- filters
-
--- the keys that pass are those of the entries that do
-keys_filtered : {X : Type 0} (f : Text → Bool) (es : List (Text × X)) → keys (filter (λ (e : Text × X). f e.0) es) ≡ filter f (keys es)
-keys_filtered f [] = refl
-keys_filtered {X} f (e ∷ es) = each (f e.0) ∙ ap (λ l. cond (f e.0) (e.0 ∷ l) l) (keys_filtered f es)
-  where
-    each : (a : Bool) → keys (cond a (e ∷ filter (λ (x : Text × X). f x.0) es) (filter (λ (x : Text × X). f x.0) es)) ≡ cond a (e.0 ∷ keys (filter (λ (x : Text × X). f x.0) es)) (keys (filter (λ (x : Text × X). f x.0) es))
-    each true = refl
-    each false = refl
 
 -- ---- the packages of a scope
 
@@ -34,14 +23,14 @@ module _ (c : Contents) (who : Caller) (role : Option Role) (o : Text) (ps : Lis
   listed_right is = all_from (IsListedFor c who role) ps (λ p h.
       let there : Has (scope_statuses c o) (p.name, p.status) = subst (λ (es : List (Text × Status)). Has es (p.name, p.status)) listed (map_has package_entry ps p h) in
       let kept = has_filtered (λ (e : Text × Status). is_scope o (scope_of e.0)) (entries (access_of c).statuses) (p.name, p.status) there in (
-        at-entries text_key (access_of c).statuses p.name ∙ first_risen text_key p.name p.status (entries (access_of c).statuses) (entries_rise (access_of c).statuses) kept.0,
+        entry_at text_key (access_of c).statuses p.name p.status kept.0,
         is ∙ sym (ap (scope_role (access_of c) who) (scope_is o (scope_of p.name) kept.1)),
       ))
 
   -- those that the caller reads are those of the scope that they read
   pub scope_levels : levels_on c who (map listed_name ps) ≡ levels_in c who (λ p. is_scope o (scope_of p))
   scope_levels =
-      ap (levels_on c who) (sym (map-map (λ (e : Text × Status). e.0) package_entry ps) ∙ ap keys listed ∙ keys_filtered (λ p. is_scope o (scope_of p)) (entries (access_of c).statuses))
+      ap (levels_on c who) (sym (map-map (λ (e : Text × Status). e.0) package_entry ps) ∙ ap keys listed ∙ map_filter (λ (e : Text × Status). e.0) (λ p. is_scope o (scope_of p)) (entries (access_of c).statuses))
       ∙ ap (map (leveled c who)) (filter_twice (λ p. is_scope o (scope_of p)) (λ p. reads (level_in (access_of c) who p)) (keys (entries (access_of c).statuses)))
 
 -- ---- one package after another
@@ -80,17 +69,9 @@ first_said f (p ∷ ps) q = ap (cond (is p q) (Some (f p))) (first_said f ps q) 
 
 -- ---- which texts are among others
 
-among_more : (ps qs : List Text) (q : Text) → among is (ps ++ qs) q ≡ (among is ps q || among is qs q)
-among_more [] qs q = refl
-among_more (p ∷ ps) qs q = ap (λ b. is p q || b) (among_more ps qs q) ∙ each (is p q)
-  where
-    each : (b : Bool) → (b || (among is ps q || among is qs q)) ≡ ((b || among is ps q) || among is qs q)
-    each true = refl
-    each false = refl
-
 among_flat : (g : Text → List Text) (os : List Text) (q : Text) → among is (flat_map g os) q ≡ list_any (λ o. among is (g o) q) os
 among_flat g [] q = refl
-among_flat g (o ∷ os) q = among_more (g o) (flat_map g os) q ∙ ap (λ b. among is (g o) q || b) (among_flat g os q)
+among_flat g (o ∷ os) q = list_any-append (λ p. is p q) (g o) (flat_map g os) ∙ ap (λ b. among is (g o) q || b) (among_flat g os q)
 
 -- ---- what users maintain, and what they are members of
 
@@ -169,7 +150,7 @@ module _ (s : Shown) (ready : IsReady schema s) (u : Text) where
 
   gathered_among : (q : Text) → among is (unscoped ++ flat_map scoped organisations) q ≡ among is own q
   gathered_among q =
-      among_more unscoped (flat_map scoped organisations) q
+      list_any-append (λ p. is p q) unscoped (flat_map scoped organisations)
       ∙ ap₂ (λ a b. a || b) (among_passing (λ p. is_none (scope_of p)) (firsts_of c.owners u) q ∙ ap (λ b. is_none (scope_of q) && b) (among_firsts c.owners u q))
       (among_flat scoped organisations q ∙ (λ i. list_any (λ o. among_passing (λ p. is_scope o (scope_of p) && reads_it p) names q i) organisations))
       ∙ same_for q (scope_of q) ∙ sym (among_passing (λ p. is_own (access_of c) (User u) p (scope_of p) && reads_it p) names q)
@@ -201,7 +182,7 @@ module _ (s : Shown) (ready : IsReady schema s) (u : Text) where
   own_rises =
       let test : Text → Bool = λ p. is_own (access_of c) (User u) p (scope_of p) && reads_it p in
       let kept = filter (λ (e : Text × Status). test e.0) (entries (access_of c).statuses) in
-      ap (λ ps. rises text_cmp (map said ps)) (sym (keys_filtered test (entries (access_of c).statuses)))
+      ap (λ ps. rises text_cmp (map said ps)) (sym (map_filter (λ (e : Text × Status). e.0) test (entries (access_of c).statuses)))
       ∙ ap (rises text_cmp) (map-map said (λ (e : Text × Status). e.0) kept)
       ∙ rises_mapped text_cmp (λ (e : Text × Status). said e.0) (λ e. refl) kept
       ∙ rises_kept text_cmp (entries (access_of c).statuses) test (entries_rise (access_of c).statuses)
@@ -227,6 +208,14 @@ module _ (s : Shown) (ready : IsReady schema s) (u : Text) where
       ∙ ap (λ (ps : List PackageLevel). last_at (map level_entry ps) q None) are
       ∙ ap (λ (es : List (Text × Level)). last_at es q None) (map-append level_entry (unscoped_levels c u) (scopes_levels c (User u) organisations) ∙ ap₂ (λ a b. a ++ b) unscoped_said (scopes_said organisations) ∙ sym (map-append said unscoped (flat_map scoped organisations)))
       ∙ last_said level (unscoped ++ flat_map scoped organisations) q None ∙ ap (λ b. cond b (Some (level q)) None) (gathered_among q) ∙ sym (first_said level own q)) ∙ sym own_said)
+
+-- so it is for each user
+abbrev pub AreOwnLevels : Contents → Type 0
+AreOwnLevels c = (u : Text) (gathered sorted : List PackageLevel) → gathered ≡ unscoped_levels c u ++ scopes_levels c (User u) (firsts_of c.members u) → rises text_cmp (map level_entry sorted) ≡ true
+    → ((q : Text) → first_at is (map level_entry sorted) q ≡ last_at (map level_entry gathered) q None) → sorted ≡ levels_in c (User u) (λ p. is_own (access_of c) (User u) p (scope_of p))
+
+pub are_own_levels : (s : Shown) → IsReady schema s → AreOwnLevels (stored s)
+are_own_levels s ready u = own_levels s ready u
 
 -- nobody else has any
 nothing_own : (c : Contents) (who : Caller) (ps : List Text) → ((p : Text) (scope : Option Text) → is_own (access_of c) who p scope ≡ false) → filter (λ p. is_own (access_of c) who p (scope_of p) && reads (level_in (access_of c) who p)) ps ≡ []

@@ -11,6 +11,7 @@ pub mod FirstsFacts
 pub mod FoundFacts
 pub mod GrantFacts
 pub mod HeldNeedFacts
+pub mod InsideFacts
 pub mod JoinedFacts
 pub mod KeptArchiveFacts
 pub mod LevelFacts
@@ -27,16 +28,13 @@ pub mod OpeningFacts
 pub mod OrganisationFacts
 pub mod OverviewFacts
 pub mod ParentFacts
-pub mod QueryFacts
 pub mod RangeFacts
 pub mod ReadFacts
 pub mod ReadableFacts
 pub mod ReferenceFacts
 pub mod RetiredFacts
-pub mod ReviseFacts
 pub mod SchemaFacts
 pub mod ScopeFacts
-pub mod SetRowFacts
 pub mod SomeFacts
 pub mod SortFacts
 pub mod SpentFacts
@@ -48,6 +46,7 @@ pub mod TeamFacts
 pub mod TeamReferenceFacts
 pub mod TeamListFacts
 pub mod TeamMemberFacts
+pub mod ThenFacts
 pub mod TokenFacts
 pub mod UserFacts
 pub mod VersionFacts

@@ -48,7 +48,7 @@ pub find_means : MeansQuery schema find_text (Select (record { lets = []; body =
 unfolding understood everything
 find_means = ((refl, (refl, refl)), refl)
 
-pub maintainer_found : (p u : Text) (old new : Shown) → ShowsWhether find_text (Stored p ∷ Stored u ∷ []) old new (is_some (at (stored old).owners (p, u)))
+pub maintainer_found : (p u : Text) (old new : Shown) → ShowsWhether find_text (Stored p ∷ Stored u ∷ []) old new (λ c. is_some (at c.owners (p, u)))
 maintainer_found p u = there_found owners_mapped find_text (col 1 2 ∷ []) _ find_means (p, u)
 
 abbrev list_text : List ℕ
@@ -58,7 +58,7 @@ pub list_means : MeansQuery schema list_text (Select (record { lets = []; body =
 unfolding understood everything
 list_means = ((refl, (refl, refl)), refl)
 
-pub maintainers_listed : (p : Text) (old new : Shown) → ShowsAll list_text (Stored p ∷ []) old new text_spelled (keys (of (stored old).owners p))
+pub maintainers_listed : (p : Text) (old new : Shown) → ShowsAll list_text (Stored p ∷ []) old new text_spelled (λ c. keys (of c.owners p))
 maintainers_listed p old new rows form call clean =
     let it = select_lists owners_mapped list_text (col 1 2 ∷ []) _ list_means p key_entry (λ (u : Unit {0}). u) (λ id vs. refl) old new rows form call clean in
     (it.0, keys_seen rows (of (stored old).owners p) it.1)

@@ -64,7 +64,7 @@ in_part : (p v : Text) (m : PairMap Text) → map (λ (e : Pair × Text). e.0.1)
 unfolding part
 in_part p v m = tags_are p v (entries m)
 
-pub naming_listed : (p v : Text) (old new : Shown) → ShowsAll naming_text (Stored p ∷ Stored v ∷ []) old new text_spelled (tags_of (registry_of (stored old)) p v)
+pub naming_listed : (p v : Text) (old new : Shown) → ShowsAll naming_text (Stored p ∷ Stored v ∷ []) old new text_spelled (λ c. tags_of (registry_of c) p v)
 naming_listed p v old new rows form call clean =
     let it = select_passes_by (by_texts_given tags_mapped) naming_text naming_wanted (col 1 2 ∷ []) _ naming_means (Stored p ∷ Stored v ∷ []) (names_it p v) (tag_of p) nothing_of whole old new (passes p v old) rows form call clean in (
       it.0,

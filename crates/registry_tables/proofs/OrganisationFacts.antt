@@ -34,7 +34,7 @@ pub find_means : MeansQuery schema find_text (Select (record { lets = []; body =
 unfolding understood everything
 find_means = ((refl, (refl, refl)), refl)
 
-pub organisation_found : (o : Text) (old new : Shown) → ShowsWhether find_text (Stored o ∷ []) old new (is_some (at (stored old).organisations o))
+pub organisation_found : (o : Text) (old new : Shown) → ShowsWhether find_text (Stored o ∷ []) old new (λ c. is_some (at c.organisations o))
 organisation_found o = there_found organisations_mapped find_text (col 1 1 ∷ []) _ find_means o
 
 abbrev list_text : List ℕ
@@ -44,7 +44,7 @@ pub list_means : MeansQuery schema list_text (select_where table.organisations (
 unfolding understood everything
 list_means = ((refl, (refl, refl)), refl)
 
-pub organisations_listed : (old new : Shown) → ShowsAll list_text [] old new text_spelled (keys (entries (stored old).organisations))
+pub organisations_listed : (old new : Shown) → ShowsAll list_text [] old new text_spelled (λ c. keys (entries c.organisations))
 organisations_listed old new rows form call clean =
     let it = select_all organisations_mapped list_text (col 1 1 ∷ []) _ list_means key_entry (λ (u : Unit {0}). u) (λ id vs. refl) old new rows form call clean in
     (it.0, keys_seen rows (entries (stored old).organisations) it.1)

@@ -1,19 +1,20 @@
 -- The numbers that are stored stay in range, and tests of all rows tell whether they are.
-use Rattle.registry_tables.proofs.Words.{◌≡◌, ◌≤◌, ◌∙◌, ℕ, ℤ, Bool, true, false, cond, ◌&&◌, List, [], ◌∷◌, map, pos, is_some, refl, sym, ap, subst, Ordering, Some, None, Option, option_map, IsTrue}
-use Rattle.registry_tables.proofs.Words.{All, codes, if◌then◌else◌, AllByRecursion, list_all, and_from, and_parts, le-leb, list_all-map, map-map, Database, Shown, Term, col, Row, column, IsKey, Pair}
-use Rattle.registry_tables.proofs.Words.{Triple, MapBy, at, empty, entries, erase, first_at, keep, put, revise, seen, Text, Status, IsFoundIn, entries_rise, rows_found, pair_key, text_key, triple_key}
-use Rattle.registry_tables.proofs.Words.{at-empty, at-entries, at-erase, at-keep, at-put, at-revise, Grant, Role, Developer, Admin, Owner, Change, AddUser, AddToken, DropToken, AddOrg, PutMember}
-use Rattle.registry_tables.proofs.Words.{DropMember, AddTeam, PutTeamMember, DropTeamMember, DropTeam, PutGrant, DropGrant, PutOwner, DropOwner, PutStatus, AddVersion, RetireVersion, PutDeprecation}
-use Rattle.registry_tables.proofs.Words.{PutTag, DropTag, text_in, Reads, MeansQuery, in_order, select_where, select_all, reads_then, all_stored, stored_by, with_row, Contents, LiveVersion}
-use Rattle.registry_tables.proofs.Words.{SpentVersion, contents, stored, fresh, grant_number, is_level, is_moment, is_role, is_status, role_number, status_number, HasMoments, HasNumbersInRange}
-use Rattle.registry_tables.proofs.Words.{NumbersAreReadBack, TellsRanges, all_pass, moments_spelled, schema, fourth_number, second_number, third_number, ShowsAll}
-use Rattle.std.proofs.lemmas.List.Elements.{All-head, All-tail}
+use Rattle.registry_tables.proofs.Words.{◌≡◌, ◌≤◌, ◌∙◌, ℕ, ℤ, Bool, true, false, cond, ◌&&◌, List, [], ◌∷◌, map, pos, is_some, refl, sym, ap, subst, Ordering, Some, None, Option, option_map}
+use Rattle.registry_tables.proofs.Words.{IsTrue, codes, if◌then◌else◌, AllByRecursion, list_all, and_from, and_parts, le-leb, list_all-map, Shown, Term, col, Row, column, IsKey, Pair, Triple}
+use Rattle.registry_tables.proofs.Words.{MapBy, at, empty, entries, erase, keep, put, revise, Text, Status, pair_key, text_key, triple_key, at-empty, at-erase, at-keep, at-put, at-revise, Grant}
+use Rattle.registry_tables.proofs.Words.{Role, Developer, Admin, Owner, Change, AddUser, AddToken, DropToken, AddOrg, PutMember, DropMember, AddTeam, PutTeamMember, DropTeamMember, DropTeam}
+use Rattle.registry_tables.proofs.Words.{PutGrant, DropGrant, PutOwner, DropOwner, PutStatus, AddVersion, RetireVersion, PutDeprecation, PutTag, DropTag, text_in, MeansQuery, in_order}
+use Rattle.registry_tables.proofs.Words.{select_where, select_all, all_stored, stored_by, Contents, LiveVersion, SpentVersion, fresh, grant_number, is_level, is_moment, is_role}
+use Rattle.registry_tables.proofs.Words.{is_status, role_number, status_number, HasMoments, HasNumbersInRange, NumbersAreReadBack, TellsRanges, all_pass, schema, fourth_number, second_number}
+use Rattle.registry_tables.proofs.Words.{third_number, test_has, test_from}
 use Rattle.sqlite.specs.Listing.{understood}
 use Rattle.sqlite_tied.specs.Compute.{everything}
 use Rattle.registry_names.specs.Moments.{last_second}
 use Rattle.registry_names.specs.declared.status.Status.TheVariants.{Public, Restricted}
 use Rattle.registry_access.specs.declared.grant.Grant.TheVariants.{ReadOnly, ReadWrite}
 use Rattle.registry_tables.specs.Schema as table
+use Rattle.registry_tables.specs.Queries.{ShowsOnly}
+use Rattle.registry_tables.proofs.FoundFacts.{at_entry, entry_at}
 use Rattle.registry_tables.proofs.MappedFacts.{grants_mapped, members_mapped, packages_mapped, spent_mapped, versions_mapped}
 use Rattle.registry_tables.proofs.NumberFacts.{grant_again, role_again, status_again}
 use Rattle.registry_tables.proofs.StatusFacts.{list_columns, list_means, list_text}
@@ -59,14 +60,6 @@ module _ {K X : Type 0} {cmp : K → K → Ordering} {same : K → K → Bool} (
       go : (b : Bool) → cond b (Some y) (at m k) ≡ Some x → P x
       go true i = let is : y ≡ x = cc in subst P is p
       go false i = each k x i
-
-  of_row : (m : MapBy cmp X) (q : K) (y : X) (stands : Bool) → P y → IsOfEach P m → IsOfEach P (with_row m q y stands)
-  of_row m q y false p each = of_put m q y p each
-  of_row m q y true p each = go (is_some (at m q))
-    where
-      go : (b : Bool) → IsOfEach P (if b then put m q y else m)
-      go true = of_put m q y p each
-      go false = each
 
   of_erased : (m : MapBy cmp X) (q : K) → IsOfEach P m → IsOfEach P (erase m q)
   of_erased m q each k x e = go (same q k) (sym (at-erase key m q k) ∙ e)
@@ -119,8 +112,8 @@ change_in_range (AddUser u) c in_time h = others_in_range c _ refl refl refl ref
 change_in_range (AddToken digest u) c in_time h = others_in_range c _ refl refl refl refl refl h
 change_in_range (DropToken digest) c in_time h = others_in_range c _ refl refl refl refl refl h
 change_in_range (AddOrg o) c in_time h = others_in_range c _ refl refl refl refl refl h
-change_in_range (PutMember o u role stands) c in_time h = record {
-  roles = of_row pair_key (λ n. IsTrue (is_role n)) c.members (o, u) (role_number role) stands (role_within role) h.roles;
+change_in_range (PutMember o u role) c in_time h = record {
+  roles = of_put pair_key (λ n. IsTrue (is_role n)) c.members (o, u) (role_number role) (role_within role) h.roles;
   statuses = h.statuses;
   levels = h.levels;
   live = h.live;
@@ -143,10 +136,10 @@ change_in_range (DropTeam o t) c in_time h = record {
   live = h.live;
   spent = h.spent;
 }
-change_in_range (PutGrant o t p grant stands) c in_time h = record {
+change_in_range (PutGrant o t p grant) c in_time h = record {
   roles = h.roles;
   statuses = h.statuses;
-  levels = of_row triple_key (λ n. IsTrue (is_level n)) c.grants (o, (t, p)) (grant_number grant) stands (grant_within grant) h.levels;
+  levels = of_put triple_key (λ n. IsTrue (is_level n)) c.grants (o, (t, p)) (grant_number grant) (grant_within grant) h.levels;
   live = h.live;
   spent = h.spent;
 }
@@ -159,9 +152,9 @@ change_in_range (DropGrant o t p) c in_time h = record {
 }
 change_in_range (PutOwner p u) c in_time h = others_in_range c _ refl refl refl refl refl h
 change_in_range (DropOwner p u) c in_time h = others_in_range c _ refl refl refl refl refl h
-change_in_range (PutStatus p status stands) c in_time h = record {
+change_in_range (PutStatus p status) c in_time h = record {
   roles = h.roles;
-  statuses = of_row text_key (λ n. IsTrue (is_status n)) c.packages p (status_number status) stands (status_within status) h.statuses;
+  statuses = of_put text_key (λ n. IsTrue (is_status n)) c.packages p (status_number status) (status_within status) h.statuses;
   levels = h.levels;
   live = h.live;
   spent = h.spent;
@@ -188,7 +181,7 @@ change_in_range (PutDeprecation p v message) c in_time h = record {
   live = of_revised pair_key (λ (v : LiveVersion). IsTrue (is_moment v.published)) c.versions _ (λ k r. messaged p v message k r _) h.live;
   spent = h.spent;
 }
-change_in_range (PutTag p t v stands) c in_time h = others_in_range c _ refl refl refl refl refl h
+change_in_range (PutTag p t v) c in_time h = others_in_range c _ refl refl refl refl refl h
 change_in_range (DropTag p t) c in_time h = others_in_range c _ refl refl refl refl refl h
 
 pub changes_in_range : (changes : List Change) (c : Contents) → AllByRecursion HasMoments changes → HasNumbersInRange c → HasNumbersInRange (all_stored changes c)
@@ -198,23 +191,11 @@ changes_in_range (change ∷ changes) c in_time h = changes_in_range changes (st
 -- ---- all rows
 
 module _ {K X : Type 0} {cmp : K → K → Ordering} {same : K → K → Bool} (key : IsKey cmp same) (test : X → Bool) (m : MapBy cmp X) where
-  found_pass : (es : List (K × X)) → list_all test (map (λ (e : K × X). e.1) es) ≡ true → (k : K) (x : X) → first_at same es k ≡ Some x → test x ≡ true
-  found_pass [] all k x h = absurd cc
-  found_pass (e ∷ es) all k x h = let both = and_parts (test e.1) _ all in go both.0 (found_pass es both.1 k x) (same e.0 k) h
-    where
-      go : test e.1 ≡ true → (first_at same es k ≡ Some x → test x ≡ true) → (b : Bool) → cond b (Some e.1) (first_at same es k) ≡ Some x → test x ≡ true
-      go one rest true i = let is : e.1 ≡ x = cc in subst (λ y. test y ≡ true) is one
-      go one rest false i = rest i
-
-  pass_found : (whole es : List (K × X)) → All (IsFoundIn key whole) es → ((k : K) (x : X) → first_at same whole k ≡ Some x → test x ≡ true) → list_all test (map (λ (e : K × X). e.1) es) ≡ true
-  pass_found whole [] found each = refl
-  pass_found whole (e ∷ es) found each = and_from (test e.1) _ (each e.0 e.1 (All-head (IsFoundIn key whole) e es found)) (pass_found whole es (All-tail (IsFoundIn key whole) e es found) each)
-
   pass_each : all_pass test m ≡ true → IsOfEach (λ x. test x ≡ true) m
-  pass_each all k x e = found_pass (entries m) all k x (sym (at-entries key m k) ∙ e)
+  pass_each all k x e = test_has (λ (e : K × X). test e.1) (entries m) (k, x) all (at_entry key m k x e)
 
   each_pass : IsOfEach (λ x. test x ≡ true) m → all_pass test m ≡ true
-  each_pass each = pass_found (entries m) (entries m) (rows_found key (entries m) (entries_rise m)) (λ k x i. each k x (at-entries key m k ∙ i))
+  each_pass each = test_from (λ (e : K × X). test e.1) (entries m) (λ e h. each e.0 e.1 (entry_at key m e.0 e.1 h))
 
 -- all five tables pass exactly where the numbers are in range
 pub tests_tell : (c : Contents) → TellsRanges (all_pass is_role c.members && (all_pass is_status c.packages && (all_pass is_level c.grants && (all_pass (λ v. is_moment v.published) c.versions
@@ -242,13 +223,9 @@ tests_tell c = (
 
 -- ---- SELECT of all rows
 
--- rows that show what is seen of the values
-shown_values : {K X Y : Type 0} (g : X → Y) (read : Row → K × Y) (rows : List Row) (es : List (K × X)) → map read rows ≡ map (seen g) es → map (λ r. (read r).1) rows ≡ map (λ (e : K × X). g e.1) es
-shown_values {K} {X} {Y} g read rows es h = sym (map-map (λ (e : K × Y). e.1) read rows) ∙ ap (map (λ (e : K × Y). e.1)) h ∙ map-map (λ (e : K × Y). e.1) (seen g) es
-
--- all of them pass where the values do
-pub seen_pass : {K X Y : Type 0} (test : Y → Bool) (g : X → Y) (es : List (K × X)) → list_all test (map (λ (e : K × X). g e.1) es) ≡ list_all (λ x. test (g x)) (map (λ (e : K × X). e.1) es)
-seen_pass {K} {X} test g es = list_all-map test (λ (e : K × X). g e.1) es ∙ sym (list_all-map (λ x. test (g x)) (λ (e : K × X). e.1) es)
+-- what rows show passes where the entries do that they show
+pub rows_tested : {E F : Type 0} (test : F → Bool) (read : Row → F) (g : E → F) (rows : List Row) (es : List E) → map read rows ≡ map g es → list_all (λ r. test (read r)) rows ≡ list_all (λ e. test (g e)) es
+rows_tested test read g rows es h = sym (list_all-map test read rows) ∙ ap (list_all test) h ∙ list_all-map test g es
 
 abbrev pair_number : Row → Pair × ℤ
 pair_number r = ((text_in (column r 0), text_in (column r 1)), third_number r)
@@ -260,18 +237,18 @@ pub roles_means : MeansQuery schema roles_text (select_where table.members (col 
 unfolding understood everything
 roles_means = ((refl, (refl, refl)), refl)
 
-pub roles_listed : (old new : Shown) → ShowsAll roles_text [] old new third_number (map (λ e. e.1) (entries (stored old).members))
-roles_listed old new rows form call clean =
+pub roles_tested : (old new : Shown) → ShowsOnly roles_text [] old new (λ r. is_role (third_number r)) (λ c. all_pass is_role c.members)
+roles_tested old new rows form call clean =
     let it = select_all members_mapped roles_text (col 1 1 ∷ col 1 2 ∷ col 1 3 ∷ []) _ roles_means pair_number (λ (n : ℤ). n) (λ id vs. refl) old new rows form call clean in
-    (it.0, shown_values (λ (n : ℤ). n) pair_number rows (entries (stored old).members) it.1)
+    (it.0, rows_tested (λ (e : Pair × ℤ). is_role e.1) pair_number _ rows _ it.1)
 
 abbrev text_number : Row → Text × ℤ
 text_number r = (text_in (column r 0), second_number r)
 
-pub statuses_listed : (old new : Shown) → ShowsAll list_text [] old new second_number (map (λ e. e.1) (entries (stored old).packages))
-statuses_listed old new rows form call clean =
+pub statuses_tested : (old new : Shown) → ShowsOnly list_text [] old new (λ r. is_status (second_number r)) (λ c. all_pass is_status c.packages)
+statuses_tested old new rows form call clean =
     let it = select_all packages_mapped list_text list_columns _ list_means text_number (λ (n : ℤ). n) (λ id vs. refl) old new rows form call clean in
-    (it.0, shown_values (λ (n : ℤ). n) text_number rows (entries (stored old).packages) it.1)
+    (it.0, rows_tested (λ (e : Text × ℤ). is_status e.1) text_number _ rows _ it.1)
 
 abbrev pub levels_text : List ℕ
 levels_text = codes "SELECT org, team, package, level FROM grants ORDER BY org, team, package"
@@ -283,13 +260,14 @@ pub levels_means : MeansQuery schema levels_text (select_where table.grants leve
 unfolding understood everything
 levels_means = ((refl, (refl, refl)), refl)
 
-abbrev triple_number : Row → Triple × ℤ
+-- the key of a grant, and its level
+abbrev pub triple_number : Row → Triple × ℤ
 triple_number r = ((text_in (column r 0), (text_in (column r 1), text_in (column r 2))), fourth_number r)
 
-pub levels_listed : (old new : Shown) → ShowsAll levels_text [] old new fourth_number (map (λ e. e.1) (entries (stored old).grants))
-levels_listed old new rows form call clean =
+pub levels_tested : (old new : Shown) → ShowsOnly levels_text [] old new (λ r. is_level (fourth_number r)) (λ c. all_pass is_level c.grants)
+levels_tested old new rows form call clean =
     let it = select_all grants_mapped levels_text levels_columns _ levels_means triple_number (λ (n : ℤ). n) (λ id vs. refl) old new rows form call clean in
-    (it.0, shown_values (λ (n : ℤ). n) triple_number rows (entries (stored old).grants) it.1)
+    (it.0, rows_tested (λ (e : Triple × ℤ). is_level e.1) triple_number _ rows _ it.1)
 
 abbrev live_text : List ℕ
 live_text = codes "SELECT package, version, published FROM versions ORDER BY package, version"
@@ -298,10 +276,10 @@ pub live_means : MeansQuery schema live_text (select_where table.versions (col 1
 unfolding understood everything
 live_means = ((refl, (refl, refl)), refl)
 
-pub live_listed : (old new : Shown) → ShowsAll live_text [] old new third_number (map (λ e. e.1.published) (entries (stored old).versions))
-live_listed old new rows form call clean =
+pub live_tested : (old new : Shown) → ShowsOnly live_text [] old new (λ r. is_moment (third_number r)) (λ c. all_pass (λ v. is_moment v.published) c.versions)
+live_tested old new rows form call clean =
     let it = select_all versions_mapped live_text (col 1 1 ∷ col 1 2 ∷ col 1 3 ∷ []) _ live_means pair_number (λ (v : LiveVersion). v.published) (λ id vs. refl) old new rows form call clean in
-    (it.0, shown_values (λ (v : LiveVersion). v.published) pair_number rows (entries (stored old).versions) it.1)
+    (it.0, rows_tested (λ (e : Pair × ℤ). is_moment e.1) pair_number _ rows _ it.1)
 
 abbrev spent_text : List ℕ
 spent_text = codes "SELECT package, version, published, withdrawn FROM spent ORDER BY package, version"
@@ -311,18 +289,10 @@ unfolding understood everything
 spent_means = ((refl, (refl, refl)), refl)
 
 abbrev pair_moments : Row → Pair × (ℤ × ℤ)
-pair_moments r = ((text_in (column r 0), text_in (column r 1)), moments_spelled r)
+pair_moments r = ((text_in (column r 0), text_in (column r 1)), (third_number r, fourth_number r))
 
-abbrev pub moments_of : SpentVersion → ℤ × ℤ
-moments_of v = (v.published, v.withdrawn)
-
-pub spent_listed : (old new : Shown) → ShowsAll spent_text [] old new moments_spelled (map (λ e. moments_of e.1) (entries (stored old).spent))
-spent_listed old new rows form call clean =
-    let it = select_all spent_mapped spent_text _ _ spent_means pair_moments moments_of (λ id vs. refl) old new rows form call clean in
-    (it.0, shown_values moments_of pair_moments rows (entries (stored old).spent) it.1)
-
--- ---- one query after another
-
--- a query that tells of what is stored, after one that changed nothing
-pub then_found : {Y : Type 0} (a b c : Shown) (f : Contents → Y) (y : Y) → Reads schema a b → Reads schema b c × (y ≡ f (stored b)) → Reads schema a c × (y ≡ f (stored a))
-then_found a b c f y one two = (reads_then schema a b c one two.0, two.1 ∙ ap (λ (d : Database). f (contents d.trees)) one.same)
+pub spent_tested : (old new : Shown)
+    → ShowsOnly spent_text [] old new (λ r. is_moment (third_number r) && is_moment (fourth_number r)) (λ c. all_pass (λ v. is_moment v.published && is_moment v.withdrawn) c.spent)
+spent_tested old new rows form call clean =
+    let it = select_all spent_mapped spent_text _ _ spent_means pair_moments (λ (v : SpentVersion). (v.published, v.withdrawn)) (λ id vs. refl) old new rows form call clean in
+    (it.0, rows_tested (λ (e : Pair × (ℤ × ℤ)). is_moment e.1.0 && is_moment e.1.1) pair_moments _ rows _ it.1)

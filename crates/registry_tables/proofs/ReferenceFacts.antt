@@ -1,8 +1,8 @@
 -- Which rows the rows of `held` and of `tags` refer to.
-use Rattle.registry_tables.proofs.Words.{◌≡◌, ℤ, [], ◌∷◌, drop, inl, inr, true, false, Some, is_some, refl, sym, ap, ap₂, subst, ◌∙◌, codes, and_parts, Value, Int, Stored, State, Row, column, Binary}
-use Rattle.registry_tables.proofs.Words.{plain, rowid, Compare, Eq, binary, is_true, NoAction, Cascade, agree, has_null, parent_key, Has, all_has, has_got, Pair, Text, at, text_key, same_true}
-use Rattle.registry_tables.proofs.Words.{text_in, int_in, AreOf, numbers, key_of, IsReady, reference, by_number_given, by_texts_given, number_is, number_key, texts_of, types_of, table_rowids}
-use Rattle.registry_tables.proofs.Words.{parent_of, rows_tell_by, row_parts, HeldAreStored, archive_in, version_row, stored, schema}
+use Rattle.registry_tables.proofs.Words.{◌≡◌, ℤ, [], ◌∷◌, drop, inl, inr, true, false, Some, is_some, refl, sym, ap, ap₂, subst, ◌∙◌, codes, and_parts, Value, Int, Stored, State, Row, column}
+use Rattle.registry_tables.proofs.Words.{Binary, plain, rowid, Compare, Eq, binary, is_true, NoAction, Cascade, agree, has_null, parent_key, Has, all_has, has_got, Pair, Text, at, text_key}
+use Rattle.registry_tables.proofs.Words.{same_true, text_in, int_in, AreOf, numbers, key_of, IsReady, reference, by_number_given, by_texts_given, number_is, number_key, texts_of, types_of}
+use Rattle.registry_tables.proofs.Words.{table_rowids, parent_of, rows_tell_by, row_parts, HeldAreStored, archive_in, version_row, stored, schema, Contents}
 use Rattle.sqlite_value.specs.Keys.{first_key}
 use Rattle.sqlite_tied.specs.Compute.{everything}
 use Rattle.registry_rows.proofs.TypeFacts.{number_test, text_test}
@@ -134,3 +134,10 @@ module _ (s : State) (ready : IsReady schema s) where
 
   pub held_stored : HeldAreStored (stored s)
   held_stored = archive_there
+
+-- a version that has an archive lives
+abbrev pub HeldLive : Contents → Type 0
+HeldLive c = (k : Pair) (n : ℤ) → at c.held k ≡ Some n → is_some (at c.versions k) ≡ true
+
+pub held_live : (s : State) → IsReady schema s → HeldLive (stored s)
+held_live s ready = version_there s ready

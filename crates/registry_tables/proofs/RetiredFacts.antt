@@ -1,13 +1,12 @@
 -- The archives and the needs that are stored stay those of live versions, when one is withdrawn or
 -- deprecated.
 use Rattle.registry_tables.proofs.Words.{◌≡◌, inl, inr, ℕ, ℤ, Bool, true, false, not, cond, true≢false, List, [], Option, Some, None, is_some, option_map, refl, sym, ap, ◌∙◌, if◌then◌else◌}
-use Rattle.registry_tables.proofs.Words.{option_and_then, unwrap_or, int_eq, cases_Bool, Pair, pair_is, Text, at, erase, entries, revise, pair_key, same_true, same_self, at-entries, at-erase}
-use Rattle.registry_tables.proofs.Words.{at-erase_same, at-erase_other, at-keep, at-revise, same_map, entries_rise, needs_of, Release, Texts, number_key, first_risen, found_has, texts_key}
-use Rattle.registry_tables.proofs.Words.{HeldAreStored, HoldsArchives, Archive, Contents, LiveVersion, as_release, bytes_held, live_of, with_bytes, HoldsNeeds, names_if_any, archives_left, is_held}
-use Rattle.registry_tables.proofs.Words.{version_retired, with_message, without_rows}
-use Rattle.registry_tables.proofs.FoundFacts.{some_seen}
+use Rattle.registry_tables.proofs.Words.{option_and_then, unwrap_or, int_eq, cases_Bool, Pair, pair_is, Text, at, erase, entries, revise, pair_key, same_true, same_self, at-erase, at-erase_same}
+use Rattle.registry_tables.proofs.Words.{at-erase_other, at-keep, at-revise, same_map, needs_of, Release, Texts, number_key, texts_key, HeldAreStored, HoldsArchives, Archive, Contents}
+use Rattle.registry_tables.proofs.Words.{LiveVersion, as_release, bytes_held, live_of, with_bytes, HoldsNeeds, names_if_any, archives_left, is_held, version_retired, with_message, without_rows}
+use Rattle.registry_tables.proofs.Words.{some_has, some_from}
+use Rattle.registry_tables.proofs.FoundFacts.{at_entry, entry_at, some_seen}
 use Rattle.registry_tables.proofs.ReadFacts.{at-read}
-use Rattle.registry_tables.proofs.SomeFacts.{any_where, where_any}
 
 -- ---- a withdrawal
 
@@ -33,7 +32,7 @@ module _ (p v : Text) (published withdrawn : ℕ) (c : Contents) where
 
   -- what a version that is left has, is held
   still_held : (k : Pair) (n : ℤ) → at after.held k ≡ Some n → is_held n gone ≡ true
-  still_held k n e = any_where (λ (x : Pair × ℤ). int_eq n x.1) (entries after.held) (k, n) (found_has pair_key k n (entries after.held) (sym (at-entries pair_key after.held k) ∙ e)) (same_self number_key n)
+  still_held k n e = some_from (λ (x : Pair × ℤ). int_eq n x.1) (entries after.held) (k, n) (at_entry pair_key after.held k n e) (same_self number_key n)
 
   -- and so is left as it was
   stays_stored : (k : Pair) (n : ℤ) → at after.held k ≡ Some n → at after.archives n ≡ at c.archives n
@@ -110,8 +109,8 @@ module _ (p v : Text) (published withdrawn : ℕ) (c : Contents) where
       where
         each : (b : Bool) → is_held n gone ≡ b → at (if b then c.archives else erase c.archives n) n ≡ Some a → (k : Pair) × (at after.held k ≡ Some n)
         each true t e =
-            let it = where_any (λ (x : Pair × ℤ). int_eq n x.1) (entries after.held) t in
-            (it.0.0, at-entries pair_key after.held it.0.0 ∙ first_risen pair_key it.0.0 it.0.1 (entries after.held) (entries_rise after.held) it.1 ∙ ap (λ (i : ℤ). Some i) (sym (same_true number_key n it.0.1 it.2)))
+            let it = some_has (λ (x : Pair × ℤ). int_eq n x.1) (entries after.held) t in
+            (it.0.0, entry_at pair_key after.held it.0.0 it.0.1 it.1 ∙ ap (λ (i : ℤ). Some i) (sym (same_true number_key n it.0.1 it.2)))
         each false t e = absurd (let none = sym (at-erase_same number_key c.archives n) ∙ e in cc)
 
     owner : (n : ℤ) (a : Archive) → (k : Pair) × (at c.held k ≡ Some n) → at after.archives n ≡ Some a → (k : Pair) × (at after.held k ≡ Some n)

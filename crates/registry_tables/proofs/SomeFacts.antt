@@ -1,27 +1,15 @@
 -- A query for one row that passes: it shows one exactly where an entry of the table's map passes.
-use Rattle.registry_tables.proofs.Words.{◌≡◌, ◌==◌, inl, inr, ℕ, suc, List, [], ◌∷◌, length, not, ◌||◌, take, drop, Bool, true, false, arith, ne_eqb, true≢false, refl, sym, ap, ◌∙◌, list_any, Value}
-use Rattle.registry_tables.proofs.Words.{State, HasCleanDisk, Row, column, Binary, Compare, Eq, binary, is_true, Term, Schema, Table, Trees, Has, all_has, MapBy, entries, entries_rise, at-entries}
-use Rattle.registry_tables.proofs.Words.{takes, equals, KeyKind, map_by, IsReady, Ready, Reads, Queried, Finds, MeansQuery, by_column, is_wanted, select_first, Gives, first_risen, found_has}
-use Rattle.registry_tables.proofs.Words.{query_starts, at_row, row_at, finds, and_true, row_parts}
+use Rattle.registry_tables.proofs.Words.{◌≡◌, ◌==◌, inl, ℕ, suc, List, [], ◌∷◌, length, not, ◌||◌, take, drop, Bool, true, false, arith, ne_eqb, refl, sym, ap, ◌∙◌, list_any, Value, State}
+use Rattle.registry_tables.proofs.Words.{HasCleanDisk, Row, column, Binary, Compare, Eq, binary, is_true, Term, Schema, Table, Trees, Has, all_has, MapBy, entries, takes, equals, KeyKind, map_by}
+use Rattle.registry_tables.proofs.Words.{IsReady, Ready, Reads, Queried, Finds, MeansQuery, by_column, is_wanted, select_first, Gives, query_starts, at_row, row_at, finds, and_true, row_parts}
+use Rattle.registry_tables.proofs.Words.{some_has, some_from}
+use Rattle.registry_tables.proofs.FoundFacts.{at_entry, entry_at}
 
 -- ---- lists
 
 pub or_true : (b : Bool) → (b || true) ≡ true
 or_true true = refl
 or_true false = refl
-
-pub any_where : {A : Type 0} (test : A → Bool) (es : List A) (e : A) → Has es e → test e ≡ true → list_any test es ≡ true
-any_where test [] e h on = absurd h
-any_where test (d ∷ es) e (inl is) on = ap (λ b. b || list_any test es) (sym (ap test is) ∙ on)
-any_where test (d ∷ es) e (inr later) on = ap (λ b. test d || b) (any_where test es e later on) ∙ or_true (test d)
-
-pub where_any : {A : Type 0} (test : A → Bool) (es : List A) → list_any test es ≡ true → (e : A) × Has es e × (test e ≡ true)
-where_any test [] h = absurd (true≢false (sym h))
-where_any {A} test (d ∷ es) h = go (test d) refl h (where_any test es)
-  where
-    go : (b : Bool) → test d ≡ b → (b || list_any test es) ≡ true → (list_any test es ≡ true → (e : A) × Has es e × (test e ≡ true)) → (e : A) × Has (d ∷ es) e × (test e ≡ true)
-    go true on h later = (d, inl refl, on)
-    go false off h later = let it = later h in (it.0, inr it.1, it.2)
 
 not_empty : {A : Type 0} (x : A) (xs : List A) → not (length (x ∷ xs) == 0) ≡ true
 not_empty x xs = ap not (ne_eqb _ 0 (omega arith))
@@ -48,15 +36,13 @@ module _ {k : KeyKind} {C X : Type 0} {schema : Schema} {contents : Trees → C}
     -- the entry of a row that passes
     entry_passes : (r : Row) → Has rows_of r → is_wanted wanted params r ≡ true → list_any test entries_of ≡ true
     entry_passes r h pass =
-        let own = sym (at-entries t.keyed.key (map_by k value rows_of) (k.of_row r)) ∙ at_row k t.keyed.key value rows_of r (t.keyed.once s ready) h in
-        any_where test entries_of (k.of_row r, value (drop 1 r)) (found_has t.keyed.key (k.of_row r) (value (drop 1 r)) entries_of own) (sym (passes r h) ∙ pass)
+        some_from test entries_of (k.of_row r, value (drop 1 r)) (at_entry t.keyed.key (map_by k value rows_of) (k.of_row r) (value (drop 1 r)) (at_row k t.keyed.key value rows_of r (t.keyed.once s ready) h)) (sym (passes r h) ∙ pass)
 
     -- the row of an entry that passes
     row_passes : list_any test entries_of ≡ true → (r : Row) × Has rows_of r × (is_wanted wanted params r ≡ true)
     row_passes on =
-        let it = where_any test entries_of on in
-        let m = map_by k value rows_of in
-        let r = row_at k t.keyed.key value rows_of it.0.0 it.0.1 (at-entries t.keyed.key m it.0.0 ∙ first_risen t.keyed.key it.0.0 it.0.1 entries_of (entries_rise m) it.1) in
+        let it = some_has test entries_of on in
+        let r = row_at k t.keyed.key value rows_of it.0.0 it.0.1 (entry_at t.keyed.key (map_by k value rows_of) it.0.0 it.0.1 it.1) in
         (r.0, r.1, passes r.0 r.1 ∙ ap has r.3 ∙ it.2)
 
     some_where : (rows : List Row) → Finds wanted project params rows_of rows → not (length rows == 0) ≡ list_any test entries_of

@@ -19,7 +19,7 @@ pub find_means : MeansQuery schema find_text (Select (record { lets = []; body =
 unfolding understood everything
 find_means = ((refl, (refl, refl)), refl)
 
-pub withdrawal_found : (p v : Text) (old new : Shown) → ShowsWhether find_text (Stored p ∷ Stored v ∷ []) old new (is_some (at (stored old).spent (p, v)))
+pub withdrawal_found : (p v : Text) (old new : Shown) → ShowsWhether find_text (Stored p ∷ Stored v ∷ []) old new (λ c. is_some (at c.spent (p, v)))
 withdrawal_found p v old new rows form call clean =
     let it = select_finds spent_mapped find_text (col 1 4 ∷ []) _ find_means (p, v) held_spelled (λ (w : SpentVersion). w.withdrawn) (λ id vs. refl) old new rows form call clean in
     (it.0, some_found held_spelled rows _ it.1 ∙ some_seen (λ (w : SpentVersion). w.withdrawn) (at (stored old).spent (p, v)))
@@ -60,7 +60,7 @@ last_found p old new rows form call clean =
 abbrev published_entry : Row → Text × ℕ
 published_entry r = (text_in (column r 2), second_spelled r)
 
-pub publications_found : (p : Text) (old new : Shown) → ShowsAll last_text (Stored p ∷ []) old new second_spelled (spent_publications (of (registry_of (stored old)).spent p))
+pub publications_found : (p : Text) (old new : Shown) → ShowsAll last_text (Stored p ∷ []) old new second_spelled (λ c. spent_publications (of (registry_of c).spent p))
 publications_found p old new rows form call clean =
     let es = of (stored old).spent p in
     let it = select_lists spent_mapped last_text _ _ last_means p published_entry (λ (w : SpentVersion). seconds_of w.published) (λ id vs. ap (λ (n : ℕ). (text_in (column vs 1), n)) (as_seconds (column vs 2))) old new rows form call clean in (

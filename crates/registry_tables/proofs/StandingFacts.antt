@@ -1,7 +1,7 @@
 -- What is granted to a caller, as it is asked for, and in which organisation they have a role.
-use Rattle.registry_tables.proofs.Words.{◌≡◌, ℤ, Bool, true, false, not, ◌&&◌, ◌||◌, List, [], Option, Some, None, is_some, refl, sym, ap, subst, ◌∙◌, true≢false, Database, Shown, scope_of, Text}
+use Rattle.registry_tables.proofs.Words.{◌≡◌, ℤ, Bool, true, false, not, ◌&&◌, ◌||◌, List, [], Option, Some, None, is_some, refl, sym, ap, subst, ◌∙◌, true≢false, Shown, scope_of, Text}
 use Rattle.registry_tables.proofs.Words.{granted, is_maintainer, has_scope, scope_role, Caller, Operator, User, Anonymous, Grant, Role, Developer, Admin, Owner, at, pair_key, IsReady, Contents}
-use Rattle.registry_tables.proofs.Words.{access_of, contents, stored, schema, AreGranted, AreGrantedTo, role_of}
+use Rattle.registry_tables.proofs.Words.{access_of, stored, schema, AreGranted, AreGrantedTo, role_of}
 use Rattle.registry_access.specs.Access.{Access}
 use Rattle.registry_access.specs.RowsFor.{StandingTells, TellsFor, is_owners, is_public, is_read}
 use Rattle.registry_access.specs.Standings.{is_listed}
@@ -40,10 +40,6 @@ no_grants c (User u) p (Some Admin) maintainer scope = λ sound is other g. absu
 no_grants c (User u) p (Some Owner) maintainer scope = λ sound is other g. absurd (true≢false other)
 no_grants c Anonymous p role maintainer scope = λ sound is other g. refl
 
--- what is said of the same tables
-pub grants_before : (who : Caller) (p : Text) (role : Option Role) (maintainer : Bool) (gs : List Grant) (d e : Database) → d ≡ e → AreGrantedTo (contents d.trees) who p role maintainer gs → AreGrantedTo (contents e.trees) who p role maintainer gs
-grants_before who p role maintainer gs d e same = subst (λ (d : Database). AreGrantedTo (contents d.trees) who p role maintainer gs) same
-
 -- ---- what an ask rests on
 
 module _ (s : Standing) (S : Access) (who : Caller) (p : Text) where
@@ -79,13 +75,20 @@ counts_follower true leads h = refl
 counts_follower false true h = absurd (true≢false h)
 counts_follower false false h = refl
 
--- the organisation of a scope in which they have a role is there
-pub scope_there : (s : Shown) → IsReady schema s → (who : Caller) (scope : Option Text) → is_some (scope_role (access_of (stored s)) who scope) ≡ true → has_scope (access_of (stored s)) scope ≡ true
-scope_there s ready who None h = h
-scope_there s ready Operator (Some o) h = absurd (true≢false (sym h))
-scope_there s ready (User u) (Some o) h = go (at (stored s).members (o, u)) refl (sym (some-read pair_key (stored s).members (λ _ n. role_of n) (o, u)) ∙ h)
+-- the organisation of each member is there
+abbrev pub MembersHaveTheirs : Contents → Type 0
+MembersHaveTheirs c = (o u : Text) (role : ℤ) → at c.members (o, u) ≡ Some role → is_some (at c.organisations o) ≡ true
+
+pub have_theirs : (s : Shown) → IsReady schema s → MembersHaveTheirs (stored s)
+have_theirs s ready o u role e = organisation_there s ready o u role e
+
+-- so is the organisation of a scope in which they have a role
+pub scope_there : (c : Contents) → MembersHaveTheirs c → (who : Caller) (scope : Option Text) → is_some (scope_role (access_of c) who scope) ≡ true → has_scope (access_of c) scope ≡ true
+scope_there c have who None h = h
+scope_there c have Operator (Some o) h = absurd (true≢false (sym h))
+scope_there c have (User u) (Some o) h = go (at c.members (o, u)) refl (sym (some-read pair_key c.members (λ _ n. role_of n) (o, u)) ∙ h)
   where
-    go : (role : Option ℤ) → at (stored s).members (o, u) ≡ role → is_some role ≡ true → is_some (at (stored s).organisations o) ≡ true
+    go : (role : Option ℤ) → at c.members (o, u) ≡ role → is_some role ≡ true → is_some (at c.organisations o) ≡ true
     go None e h = absurd (true≢false (sym h))
-    go (Some role) e h = organisation_there s ready o u role e
-scope_there s ready Anonymous (Some o) h = absurd (true≢false (sym h))
+    go (Some role) e h = have o u role e
+scope_there c have Anonymous (Some o) h = absurd (true≢false (sym h))

@@ -1,42 +1,32 @@
 -- What the statements on statuses make and show.
-use Rattle.registry_tables.proofs.Words.{◌≡◌, ℕ, Bool, true, false, not, ◌&&◌, cond, drop, filter, Ordering, Less, Equal, Greater, is_lt, ap, ap₂, List, [], ◌∷◌, map, Some, None, refl, sym, ◌∙◌}
-use Rattle.registry_tables.proofs.Words.{codes, if◌then◌else◌, Int, Stored, Select, Shown, HasCleanDisk, Value, Row, column, value_cmp, Binary, value_cmp-Text, Compare, Ge, Lt, is_true, Has, all_has}
-use Rattle.registry_tables.proofs.Words.{is_ge, Term, col, op2, Text, text_cmp, Wrote, IsReady, Ready, Leaves, package_spelled, schema, access_of, contents, stored, at, entries, seen, Status}
-use Rattle.registry_tables.proofs.Words.{text_key, Means, MeansQuery, scan, by_texts, in_order, is_wanted, select_where, insert_values, update_where, text_in, key_of, by_texts_given, texts_of}
-use Rattle.registry_tables.proofs.Words.{select_all, select_finds, select_passes_by, first_listed, and_true, row_parts, IsFreeUnless, with_row, status_number, status_of, status_spelled, ShowsAll}
-use Rattle.registry_tables.proofs.Words.{ShowsFirst}
+use Rattle.registry_tables.proofs.Words.{◌≡◌, ℕ, not, ◌&&◌, drop, filter, Ordering, Less, Equal, Greater, is_lt, ap, ap₂, List, [], ◌∷◌, Some, None, Ok, refl, sym, ◌∙◌, codes}
+use Rattle.registry_tables.proofs.Words.{Int, Stored, Select, Shown, HasCleanDisk, Value, Row, column, value_cmp, Binary, value_cmp-Text, Compare, Ge, Lt, is_true, Has, all_has, is_ge, Term, col}
+use Rattle.registry_tables.proofs.Words.{op2, Text, text_cmp, Wrote, IsReady, Ready, Leaves, package_spelled, schema, access_of, contents, stored, at, entries, seen, Status, text_key, Means}
+use Rattle.registry_tables.proofs.Words.{MeansQuery, scan, by_texts, in_order, is_wanted, select_where, upsert_values, upsert_puts, put, text_in, key_of, by_texts_given, texts_of, select_all}
+use Rattle.registry_tables.proofs.Words.{select_finds, select_passes_by, first_listed, and_true, row_parts, status_number, status_of, status_spelled, ShowsAll, ShowsFirst}
 use Rattle.sqlite.specs.Listing.{understood}
 use Rattle.sqlite_tied.specs.Compute.{everything}
 use Rattle.sqlite_sql.specs.Ops.{binary}
 use Rattle.registry_tables.specs.Schema as table
 use Rattle.registry_tables.proofs.AfterScopeFacts.{is_between}
 use Rattle.registry_tables.proofs.DependentFacts.{truth_is}
+use Rattle.registry_tables.proofs.FoundFacts.{map_filter}
 use Rattle.registry_tables.proofs.MappedFacts.{packages_mapped}
 use Rattle.registry_tables.proofs.ReadFacts.{at-read, entries-read}
-use Rattle.registry_tables.proofs.SetRowFacts.{row_set}
 
--- ---- INSERT
+-- ---- INSERT, or UPDATE of the status
 
 abbrev put_text : List ℕ
-put_text = codes "INSERT INTO packages VALUES (?1, ?2)"
+put_text = codes "INSERT INTO packages VALUES (?1, ?2) ON CONFLICT (name) DO UPDATE SET status = ?2"
 
-put_means : Means schema put_text (insert_values 6 (col 0 0 ∷ col 0 1 ∷ []))
+put_means : Means schema put_text (upsert_values 6 table.packages (col 0 0 ∷ col 0 1 ∷ []) (Some (None ∷ Some 1 ∷ [])) 2)
 unfolding understood everything
 put_means = (refl, (refl, refl))
 
--- ---- UPDATE
-
-abbrev set_text : List ℕ
-set_text = codes "UPDATE packages SET status = ?2 WHERE name = ?1"
-
--- the name stays, and the status is the second parameter
-set_means : Means schema set_text (update_where 6 table.packages (None ∷ Some 1 ∷ []) (by_texts 0 1 0))
-unfolding understood everything
-set_means = (refl, (refl, refl))
-
-pub status_set : (p : Text) (status : Status) (stands : Bool) (old new : Shown) → Ready schema old → Wrote (if stands then set_text else put_text) (Stored p ∷ Int (status_number status) ∷ []) old new → HasCleanDisk new
-    → Leaves schema contents (record (stored old) { packages = with_row (stored old).packages p (status_number status) stands }) new × IsFreeUnless (stored old).packages p stands
-status_set p status = row_set packages_mapped set_text put_text (None ∷ Some 1 ∷ []) _ set_means put_means p (Int (status_number status) ∷ []) (status_number status) refl (λ vs. refl) (λ vs. refl) refl refl refl
+pub status_put : (p : Text) (status : Status) (old new : Shown) → Ready schema old → Wrote put_text (Stored p ∷ Int (status_number status) ∷ []) old new → HasCleanDisk new
+    → Leaves schema contents (record (stored old) { packages = put (stored old).packages p (status_number status) }) new
+status_put p status old new form call = upsert_puts packages_mapped put_text _ (Some (None ∷ Some 1 ∷ [])) (Stored p ∷ Int (status_number status) ∷ [])
+    (record { means = put_means; quiet = refl; plain = refl; inserts = refl; updates = refl; value_is = λ vs. refl; keeps_key = λ r. refl }) old new (Ok call.0) form call.1
 
 -- ---- SELECT
 
@@ -47,7 +37,7 @@ pub find_means : MeansQuery schema find_text (Select (record { lets = []; body =
 unfolding understood everything
 find_means = ((refl, (refl, refl)), refl)
 
-pub status_found : (p : Text) (old new : Shown) → ShowsFirst find_text (Stored p ∷ []) old new status_spelled (at (access_of (stored old)).statuses p)
+pub status_found : (p : Text) (old new : Shown) → ShowsFirst find_text (Stored p ∷ []) old new status_spelled (λ c. at (access_of c).statuses p)
 status_found p old new rows form call clean =
     let it = select_finds packages_mapped find_text (col 1 2 ∷ []) _ find_means p status_spelled status_of (λ id vs. refl) old new rows form call clean in
     (it.0, first_listed status_spelled rows _ it.1 ∙ sym (at-read text_key (stored old).packages (λ _ n. status_of n) p))
@@ -62,7 +52,7 @@ pub list_means : MeansQuery schema list_text (select_where table.packages list_c
 unfolding understood everything
 list_means = ((refl, (refl, refl)), refl)
 
-pub statuses_listed : (old new : Shown) → ShowsAll list_text [] old new package_spelled (entries (access_of (stored old)).statuses)
+pub statuses_listed : (old new : Shown) → ShowsAll list_text [] old new package_spelled (λ c. entries (access_of c).statuses)
 statuses_listed old new rows form call clean =
     let it = select_all packages_mapped list_text list_columns _ list_means package_spelled status_of (λ id vs. refl) old new rows form call clean in
     (it.0, it.1 ∙ sym (entries-read text_key (stored old).packages (λ _ n. status_of n)))
@@ -103,20 +93,10 @@ passes low high s ready r h =
     ∙ ap₂ (λ a b. a && b) (ap (λ (v : Value). is_true (binary (Compare Ge Binary) v (Stored low))) text ∙ above_test name low)
     (and_true _ ∙ ap (λ (v : Value). is_true (binary (Compare Lt Binary) v (Stored high))) text ∙ below_test name high)
 
--- entries that pass a test of their keys, with their values read
-filter_seen : {X Y : Type 0} (test : Text → Bool) (g : X → Y) (es : List (Text × X)) → map (seen g) (filter (λ (e : Text × X). test e.0) es) ≡ filter (λ (e : Text × Y). test e.0) (map (seen g) es)
-filter_seen test g [] = refl
-filter_seen {X} {Y} test g (e ∷ es) = each (test e.0) ∙ ap (λ (l : List (Text × Y)). cond (test e.0) ((e.0, g e.1) ∷ l) l) (filter_seen test g es)
-  where
-    each : (b : Bool) → map (seen g) (cond b (e ∷ filter (λ (x : Text × X). test x.0) es) (filter (λ (x : Text × X). test x.0) es))
-        ≡ cond b ((e.0, g e.1) ∷ map (seen g) (filter (λ (x : Text × X). test x.0) es)) (map (seen g) (filter (λ (x : Text × X). test x.0) es))
-    each true = refl
-    each false = refl
-
-pub between_listed : (low high : Text) (old new : Shown) → ShowsAll between_text (Stored low ∷ Stored high ∷ []) old new package_spelled (filter (λ (e : Text × Status). is_between low high e.0) (entries (access_of (stored old)).statuses))
+pub between_listed : (low high : Text) (old new : Shown) → ShowsAll between_text (Stored low ∷ Stored high ∷ []) old new package_spelled (λ c. filter (λ (e : Text × Status). is_between low high e.0) (entries (access_of c).statuses))
 between_listed low high old new rows form call clean =
     let it = select_passes_by (by_texts_given packages_mapped) between_text between_wanted list_columns _ between_means (Stored low ∷ Stored high ∷ []) (λ e. is_between low high e.0) package_spelled status_of (λ id vs _. refl) old new (passes low high old) rows form call clean in (
       it.0,
-      it.1 ∙ filter_seen (is_between low high) status_of (entries (stored old).packages)
+      it.1 ∙ map_filter (seen status_of) (λ (e : Text × Status). is_between low high e.0) (entries (stored old).packages)
           ∙ sym (ap (filter (λ (e : Text × Status). is_between low high e.0)) (entries-read text_key (stored old).packages (λ _ n. status_of n))),
     )

@@ -1,14 +1,14 @@
 -- A change of what is stored makes one operation of the registry's state.
-use Rattle.registry_tables.proofs.Words.{◌≡◌, Bool, true, false, not, List, [], ◌∷◌, pos, refl, sym, ap, ap₂, ◌∙◌, is_some, if◌then◌else◌, pair_is, Text, PairMap, TextMap, TripleMap, at, put}
+use Rattle.registry_tables.proofs.Words.{◌≡◌, not, List, [], ◌∷◌, pos, refl, ap, ap₂, ◌∙◌, pair_is, Text, PairMap, TextMap, TripleMap, put}
 use Rattle.registry_tables.proofs.Words.{pair_key, text_key, triple_key, Status, Grant, Role, Change, AddUser, AddToken, DropToken, AddOrg, PutMember, DropMember, AddTeam, PutTeamMember}
 use Rattle.registry_tables.proofs.Words.{DropTeamMember, DropTeam, PutGrant, DropGrant, PutOwner, DropOwner, PutStatus, AddVersion, RetireVersion, PutDeprecation, PutTag, DropTag, made, all_made}
 use Rattle.registry_tables.proofs.Words.{Release, Withdrawal, HeldAreStored, stored_by, all_stored, Contents, access_of, as_withdrawal, registry_of, grant_number, grant_of, role_number, role_of}
 use Rattle.registry_tables.proofs.Words.{status_number, status_of, without_member, without_team}
-use Rattle.registry_rules.specs.Operations.{with_member, with_grant, with_status, with_tag}
+use Rattle.registry_rules.specs.Operations.{with_role, with_grant, with_status}
 use Rattle.registry_rules.specs.State.{State}
 use Rattle.registry_tables.proofs.KeptArchiveFacts.{live_put, put_held_stored}
 use Rattle.registry_tables.proofs.NumberFacts.{grant_again, role_again, status_again}
-use Rattle.registry_tables.proofs.ReadFacts.{read-erase, read-keep, read-put, some-read}
+use Rattle.registry_tables.proofs.ReadFacts.{read-erase, read-keep, read-put}
 use Rattle.registry_tables.proofs.RetiredFacts.{live_retired, live_messaged, retired_held_stored}
 
 -- ---- a number that is written, and what it stands for
@@ -23,7 +23,7 @@ module _ (c : Contents) where
   abbrev with_statuses : TextMap Status → State
   with_statuses statuses = record (registry_of c) { access = record (access_of c) { statuses = statuses } }
 
-  role_put : (o u : Text) (role : Role) → registry_of (record c { members = put c.members (o, u) (role_number role) }) ≡ with_member (registry_of c) o u role
+  role_put : (o u : Text) (role : Role) → registry_of (record c { members = put c.members (o, u) (role_number role) }) ≡ with_role (registry_of c) o u role
   role_put o u role = ap with_roles (read-put pair_key c.members (λ _ n. role_of n) (o, u) (role_number role) ∙ ap (put (access_of c).roles (o, u)) (role_again role))
 
   grant_put : (o t p : Text) (grant : Grant) → registry_of (record c { grants = put c.grants (o, (t, p)) (grant_number grant) }) ≡ with_grant (registry_of c) o t p grant
@@ -32,54 +32,27 @@ module _ (c : Contents) where
   status_put : (p : Text) (status : Status) → registry_of (record c { packages = put c.packages p (status_number status) }) ≡ with_status (registry_of c) p status
   status_put p status = ap with_statuses (read-put text_key c.packages (λ _ n. status_of n) p (status_number status) ∙ ap (put (access_of c).statuses p) (status_again status))
 
-  role_either : (o u : Text) (role : Role) (there : Bool)
-      → registry_of (record c { members = if there then put c.members (o, u) (role_number role) else c.members }) ≡ (if there then with_member (registry_of c) o u role else registry_of c)
-  role_either o u role true = role_put o u role
-  role_either o u role false = refl
-
-  grant_either : (o t p : Text) (grant : Grant) (there : Bool)
-      → registry_of (record c { grants = if there then put c.grants (o, (t, p)) (grant_number grant) else c.grants }) ≡ (if there then with_grant (registry_of c) o t p grant else registry_of c)
-  grant_either o t p grant true = grant_put o t p grant
-  grant_either o t p grant false = refl
-
-  status_either : (p : Text) (status : Status) (there : Bool)
-      → registry_of (record c { packages = if there then put c.packages p (status_number status) else c.packages }) ≡ (if there then with_status (registry_of c) p status else registry_of c)
-  status_either p status true = status_put p status
-  status_either p status false = refl
-
-tag_either : (c : Contents) (p t v : Text) (there : Bool)
-    → registry_of (record c { tags = if there then put c.tags (p, t) v else c.tags }) ≡ (if there then with_tag (registry_of c) p t v else registry_of c)
-tag_either c p t v true = refl
-tag_either c p t v false = refl
-
 pub change_makes : (change : Change) (c : Contents) → HeldAreStored c → registry_of (stored_by change c) ≡ made (registry_of c) change
 change_makes (AddUser u) c held = refl
 change_makes (AddToken digest u) c held = refl
 change_makes (DropToken digest) c held = refl
 change_makes (AddOrg o) c held = refl
-change_makes (PutMember o u role true) c held =
-    role_either c o u role (is_some (at c.members (o, u))) ∙ ap (λ there. if there then with_member (registry_of c) o u role else registry_of c) (sym (some-read pair_key c.members (λ _ n. role_of n) (o, u)))
-change_makes (PutMember o u role false) c held = role_put c o u role
+change_makes (PutMember o u role) c held = role_put c o u role
 change_makes (DropMember o u) c held = ap (with_roles (record c { team_members = (without_member o u c).team_members })) (read-erase pair_key c.members (λ _ n. role_of n) (o, u))
 change_makes (AddTeam o t) c held = refl
 change_makes (PutTeamMember o t u) c held = refl
 change_makes (DropTeamMember o t u) c held = refl
 change_makes (DropTeam o t) c held = ap (with_grants (record c { teams = (without_team o t c).teams; team_members = (without_team o t c).team_members })) (read-keep triple_key c.grants (λ _ n. grant_of n) (λ k. not (pair_is (o, t) (k.0, k.1.0))))
-change_makes (PutGrant o t p grant true) c held =
-    grant_either c o t p grant (is_some (at c.grants (o, (t, p)))) ∙ ap (λ there. if there then with_grant (registry_of c) o t p grant else registry_of c) (sym (some-read triple_key c.grants (λ _ n. grant_of n) (o, (t, p))))
-change_makes (PutGrant o t p grant false) c held = grant_put c o t p grant
+change_makes (PutGrant o t p grant) c held = grant_put c o t p grant
 change_makes (DropGrant o t p) c held = ap (with_grants c) (read-erase triple_key c.grants (λ _ n. grant_of n) (o, (t, p)))
 change_makes (PutOwner p u) c held = refl
 change_makes (DropOwner p u) c held = refl
-change_makes (PutStatus p status true) c held =
-    status_either c p status (is_some (at c.packages p)) ∙ ap (λ there. if there then with_status (registry_of c) p status else registry_of c) (sym (some-read text_key c.packages (λ _ n. status_of n) p))
-change_makes (PutStatus p status false) c held = status_put c p status
+change_makes (PutStatus p status) c held = status_put c p status
 change_makes (AddVersion f now) c held = ap (λ live. record (registry_of c) { live = live }) (live_put f now c held)
 change_makes (RetireVersion p v published withdrawn) c held = ap₂ (λ (live : PairMap Release) (spent : PairMap Withdrawal). record (registry_of c) { live = live; spent = spent })
     (live_retired p v published withdrawn c) (read-put pair_key c.spent (λ _ w. as_withdrawal w) (p, v) (record { published = pos published; withdrawn = pos withdrawn }))
 change_makes (PutDeprecation p v message) c held = ap (λ live. record (registry_of c) { live = live }) (live_messaged p v message c)
-change_makes (PutTag p t v true) c held = tag_either c p t v (is_some (at c.tags (p, t)))
-change_makes (PutTag p t v false) c held = refl
+change_makes (PutTag p t v) c held = refl
 change_makes (DropTag p t) c held = refl
 
 -- what is held stays stored
@@ -88,21 +61,21 @@ change_keeps (AddUser u) c held = held
 change_keeps (AddToken digest u) c held = held
 change_keeps (DropToken digest) c held = held
 change_keeps (AddOrg o) c held = held
-change_keeps (PutMember o u role stands) c held = held
+change_keeps (PutMember o u role) c held = held
 change_keeps (DropMember o u) c held = held
 change_keeps (AddTeam o t) c held = held
 change_keeps (PutTeamMember o t u) c held = held
 change_keeps (DropTeamMember o t u) c held = held
 change_keeps (DropTeam o t) c held = held
-change_keeps (PutGrant o t p grant stands) c held = held
+change_keeps (PutGrant o t p grant) c held = held
 change_keeps (DropGrant o t p) c held = held
 change_keeps (PutOwner p u) c held = held
 change_keeps (DropOwner p u) c held = held
-change_keeps (PutStatus p status stands) c held = held
+change_keeps (PutStatus p status) c held = held
 change_keeps (AddVersion f now) c held = put_held_stored f now c held
 change_keeps (RetireVersion p v published withdrawn) c held = retired_held_stored p v published withdrawn c held
 change_keeps (PutDeprecation p v message) c held = held
-change_keeps (PutTag p t v stands) c held = held
+change_keeps (PutTag p t v) c held = held
 change_keeps (DropTag p t) c held = held
 
 -- no row beside the count of archives changes
@@ -111,21 +84,21 @@ change_counts (AddUser u) c = refl
 change_counts (AddToken digest u) c = refl
 change_counts (DropToken digest) c = refl
 change_counts (AddOrg o) c = refl
-change_counts (PutMember o u role stands) c = refl
+change_counts (PutMember o u role) c = refl
 change_counts (DropMember o u) c = refl
 change_counts (AddTeam o t) c = refl
 change_counts (PutTeamMember o t u) c = refl
 change_counts (DropTeamMember o t u) c = refl
 change_counts (DropTeam o t) c = refl
-change_counts (PutGrant o t p grant stands) c = refl
+change_counts (PutGrant o t p grant) c = refl
 change_counts (DropGrant o t p) c = refl
 change_counts (PutOwner p u) c = refl
 change_counts (DropOwner p u) c = refl
-change_counts (PutStatus p status stands) c = refl
+change_counts (PutStatus p status) c = refl
 change_counts (AddVersion f now) c = refl
 change_counts (RetireVersion p v published withdrawn) c = refl
 change_counts (PutDeprecation p v message) c = refl
-change_counts (PutTag p t v stands) c = refl
+change_counts (PutTag p t v) c = refl
 change_counts (DropTag p t) c = refl
 
 pub changes_make : (changes : List Change) (c : Contents) → HeldAreStored c → registry_of (all_stored changes c) ≡ all_made (registry_of c) changes

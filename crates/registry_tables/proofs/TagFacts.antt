@@ -1,36 +1,26 @@
 -- What the statements on tags make and show.
-use Rattle.registry_tables.proofs.Words.{ℕ, List, [], ◌∷◌, Some, None, is_some, Ok, refl, ◌∙◌, codes, Bool, if◌then◌else◌, option_map_id, Stored, col, Delete, Select, Shown, HasCleanDisk, Text, at}
-use Rattle.registry_tables.proofs.Words.{erase, of, Wrote, Means, MeansQuery, scan, by_texts, in_order, insert_values, update_where, Ready, Leaves, delete_erases, select_finds, select_lists}
-use Rattle.registry_tables.proofs.Words.{first_listed, seen_as_is, schema, IsFreeUnless, with_row, contents, stored, tag_spelled, named_spelled, ShowsAll, ShowsFirst, ShowsWhether}
+use Rattle.registry_tables.proofs.Words.{ℕ, List, [], ◌∷◌, Some, None, is_some, Ok, refl, ◌∙◌, codes, option_map_id, Stored, col, Delete, Select, Shown, HasCleanDisk, Text, at}
+use Rattle.registry_tables.proofs.Words.{erase, of, Wrote, Means, MeansQuery, scan, by_texts, in_order, upsert_values, upsert_puts, put, Ready, Leaves, delete_erases, select_finds, select_lists}
+use Rattle.registry_tables.proofs.Words.{first_listed, seen_as_is, schema, contents, stored, tag_spelled, named_spelled, ShowsAll, ShowsFirst, ShowsWhether}
 use Rattle.sqlite.specs.Listing.{understood}
 use Rattle.sqlite_tied.specs.Compute.{everything}
 use Rattle.registry_tables.specs.Schema as table
 use Rattle.registry_tables.proofs.FoundFacts.{there_found}
 use Rattle.registry_tables.proofs.MappedFacts.{tags_mapped}
-use Rattle.registry_tables.proofs.SetRowFacts.{row_set}
 
--- ---- INSERT
+-- ---- INSERT, or UPDATE of the version
 
 abbrev put_text : List ℕ
-put_text = codes "INSERT INTO tags VALUES (?1, ?2, ?3)"
+put_text = codes "INSERT INTO tags VALUES (?1, ?2, ?3) ON CONFLICT (package, tag) DO UPDATE SET version = ?3"
 
-put_means : Means schema put_text (insert_values 11 (col 0 0 ∷ col 0 1 ∷ col 0 2 ∷ []))
+put_means : Means schema put_text (upsert_values 11 table.tags (col 0 0 ∷ col 0 1 ∷ col 0 2 ∷ []) (Some (None ∷ None ∷ Some 2 ∷ [])) 3)
 unfolding understood everything
 put_means = (refl, (refl, refl))
 
--- ---- UPDATE
-
-abbrev set_text : List ℕ
-set_text = codes "UPDATE tags SET version = ?3 WHERE package = ?1 AND tag = ?2"
-
--- the package and the tag stay, and the version is the third parameter
-set_means : Means schema set_text (update_where 11 table.tags (None ∷ None ∷ Some 2 ∷ []) (by_texts 1 1 0))
-unfolding understood everything
-set_means = (refl, (refl, refl))
-
-pub tag_set : (p t v : Text) (stands : Bool) (old new : Shown) → Ready schema old → Wrote (if stands then set_text else put_text) (Stored p ∷ Stored t ∷ Stored v ∷ []) old new → HasCleanDisk new
-    → Leaves schema contents (record (stored old) { tags = with_row (stored old).tags (p, t) v stands }) new × IsFreeUnless (stored old).tags (p, t) stands
-tag_set p t v = row_set tags_mapped set_text put_text (None ∷ None ∷ Some 2 ∷ []) _ set_means put_means (p, t) (Stored v ∷ []) v refl (λ vs. refl) (λ vs. refl) refl refl refl
+pub tag_put : (p t v : Text) (old new : Shown) → Ready schema old → Wrote put_text (Stored p ∷ Stored t ∷ Stored v ∷ []) old new → HasCleanDisk new
+    → Leaves schema contents (record (stored old) { tags = put (stored old).tags (p, t) v }) new
+tag_put p t v old new form call = upsert_puts tags_mapped put_text _ (Some (None ∷ None ∷ Some 2 ∷ [])) (Stored p ∷ Stored t ∷ Stored v ∷ [])
+    (record { means = put_means; quiet = refl; plain = refl; inserts = refl; updates = refl; value_is = λ vs. refl; keeps_key = λ r. refl }) old new (Ok call.0) form call.1
 
 -- ---- DELETE
 
@@ -56,10 +46,10 @@ pub find_means : MeansQuery schema find_text (Select (record { lets = []; body =
 unfolding understood everything
 find_means = ((refl, (refl, refl)), refl)
 
-pub tag_found : (p t : Text) (old new : Shown) → ShowsWhether find_text (Stored p ∷ Stored t ∷ []) old new (is_some (at (stored old).tags (p, t)))
+pub tag_found : (p t : Text) (old new : Shown) → ShowsWhether find_text (Stored p ∷ Stored t ∷ []) old new (λ c. is_some (at c.tags (p, t)))
 tag_found p t = there_found tags_mapped find_text (col 1 3 ∷ []) _ find_means (p, t)
 
-pub tag_named : (p t : Text) (old new : Shown) → ShowsFirst find_text (Stored p ∷ Stored t ∷ []) old new named_spelled (at (stored old).tags (p, t))
+pub tag_named : (p t : Text) (old new : Shown) → ShowsFirst find_text (Stored p ∷ Stored t ∷ []) old new named_spelled (λ c. at c.tags (p, t))
 tag_named p t old new rows form call clean =
     let it = select_finds tags_mapped find_text (col 1 3 ∷ []) _ find_means (p, t) named_spelled (λ (v : Text). v) (λ id vs. refl) old new rows form call clean in
     (it.0, first_listed named_spelled rows _ it.1 ∙ option_map_id (at (stored old).tags (p, t)))
@@ -71,7 +61,7 @@ pub list_means : MeansQuery schema list_text (Select (record { lets = []; body =
 unfolding understood everything
 list_means = ((refl, (refl, refl)), refl)
 
-pub tags_listed : (p : Text) (old new : Shown) → ShowsAll list_text (Stored p ∷ []) old new tag_spelled (of (stored old).tags p)
+pub tags_listed : (p : Text) (old new : Shown) → ShowsAll list_text (Stored p ∷ []) old new tag_spelled (λ c. of c.tags p)
 tags_listed p old new rows form call clean =
     let it = select_lists tags_mapped list_text _ _ list_means p tag_spelled (λ (v : Text). v) (λ id vs. refl) old new rows form call clean in
     (it.0, it.1 ∙ seen_as_is (of (stored old).tags p))

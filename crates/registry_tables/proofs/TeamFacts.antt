@@ -35,7 +35,7 @@ pub find_means : MeansQuery schema find_text (Select (record { lets = []; body =
 unfolding understood everything
 find_means = ((refl, (refl, refl)), refl)
 
-pub team_found : (o t : Text) (old new : Shown) → ShowsWhether find_text (Stored o ∷ Stored t ∷ []) old new (is_some (at (stored old).teams (o, t)))
+pub team_found : (o t : Text) (old new : Shown) → ShowsWhether find_text (Stored o ∷ Stored t ∷ []) old new (λ c. is_some (at c.teams (o, t)))
 team_found o t = there_found teams_mapped find_text (col 1 2 ∷ []) _ find_means (o, t)
 
 abbrev list_text : List ℕ
@@ -45,7 +45,7 @@ pub list_means : MeansQuery schema list_text (Select (record { lets = []; body =
 unfolding understood everything
 list_means = ((refl, (refl, refl)), refl)
 
-pub teams_listed : (o : Text) (old new : Shown) → ShowsAll list_text (Stored o ∷ []) old new text_spelled (keys (of (stored old).teams o))
+pub teams_listed : (o : Text) (old new : Shown) → ShowsAll list_text (Stored o ∷ []) old new text_spelled (λ c. keys (of c.teams o))
 teams_listed o old new rows form call clean =
     let it = select_lists teams_mapped list_text (col 1 2 ∷ []) _ list_means o key_entry (λ (u : Unit {0}). u) (λ id vs. refl) old new rows form call clean in
     (it.0, keys_seen rows (of (stored old).teams o) it.1)

@@ -15,7 +15,7 @@ pub users_means : MeansQuery schema users_text (Select (record { lets = []; body
 unfolding understood everything
 users_means = ((refl, (refl, refl)), refl)
 
-pub users_listed : (o t : Text) (old new : Shown) → ShowsAll users_text (Stored o ∷ Stored t ∷ []) old new text_spelled (users_of (stored old) o t)
+pub users_listed : (o t : Text) (old new : Shown) → ShowsAll users_text (Stored o ∷ Stored t ∷ []) old new text_spelled (λ c. users_of c o t)
 users_listed o t old new rows form call clean =
     let it = select_lists_two team_members_mapped users_text (col 1 3 ∷ []) _ users_means o t key_entry (λ (u : Unit {0}). u) (λ id vs. refl) old new rows form call clean in
     (it.0, keys_seen rows (parts (pairs_of (stored old).team_members o) t) it.1)

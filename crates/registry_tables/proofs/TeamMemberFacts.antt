@@ -47,5 +47,5 @@ pub find_means : MeansQuery schema find_text (Select (record { lets = []; body =
 unfolding understood everything
 find_means = ((refl, (refl, refl)), refl)
 
-pub team_member_found : (o t u : Text) (old new : Shown) → ShowsWhether find_text (Stored o ∷ Stored t ∷ Stored u ∷ []) old new (is_some (at (stored old).team_members (o, (t, u))))
+pub team_member_found : (o t u : Text) (old new : Shown) → ShowsWhether find_text (Stored o ∷ Stored t ∷ Stored u ∷ []) old new (λ c. is_some (at c.team_members (o, (t, u))))
 team_member_found o t u = there_found team_members_mapped find_text (col 1 3 ∷ []) _ find_means (o, (t, u))

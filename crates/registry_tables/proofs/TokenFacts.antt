@@ -49,7 +49,7 @@ pub find_means : MeansQuery schema find_text (Select (record { lets = []; body =
 unfolding understood everything
 find_means = ((refl, (refl, refl)), refl)
 
-pub user_of_found : (digest : Text) (old new : Shown) → ShowsFirst find_text (Blob digest ∷ []) old new named_spelled (at (stored old).tokens digest)
+pub user_of_found : (digest : Text) (old new : Shown) → ShowsFirst find_text (Blob digest ∷ []) old new named_spelled (λ c. at c.tokens digest)
 user_of_found digest old new rows form call clean =
     let it = select_finds_by (by_bytes_given tokens_mapped) find_text (col 1 2 ∷ []) _ find_means digest named_spelled (λ (u : Text). u) (λ id vs. refl) old new rows form call clean in
     (it.0, first_listed named_spelled rows _ it.1 ∙ option_map_id (at (stored old).tokens digest))
@@ -73,7 +73,7 @@ is_either : (u : Text) (es : List (Text × Text)) → filter (λ (e : Text × Te
 is_either u [] = refl
 is_either u (e ∷ es) = rw (is_sym u e.1, is_either u es) refl
 
-pub tokens_listed : (u : Text) (old new : Shown) → ShowsAll list_text (Stored u ∷ []) old new blob_of_row (tokens_of (registry_of (stored old)) u)
+pub tokens_listed : (u : Text) (old new : Shown) → ShowsAll list_text (Stored u ∷ []) old new blob_of_row (λ c. tokens_of (registry_of c) u)
 tokens_listed u old new rows form call clean =
     let it = select_has_by (by_bytes_given tokens_mapped) 1 (Stored u) refl (λ (x : Text). is u x) (λ vs. refl) list_text (col 1 1 ∷ []) _ list_means digest_of nothing_of (λ id vs. refl) old new rows form call clean in (
       it.0,

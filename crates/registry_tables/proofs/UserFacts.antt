@@ -34,7 +34,7 @@ pub find_means : MeansQuery schema find_text (Select (record { lets = []; body =
 unfolding understood everything
 find_means = ((refl, (refl, refl)), refl)
 
-pub user_found : (u : Text) (old new : Shown) → ShowsWhether find_text (Stored u ∷ []) old new (is_some (at (stored old).users u))
+pub user_found : (u : Text) (old new : Shown) → ShowsWhether find_text (Stored u ∷ []) old new (λ c. is_some (at c.users u))
 user_found u = there_found users_mapped find_text (col 1 1 ∷ []) _ find_means u
 
 abbrev list_text : List ℕ
@@ -44,7 +44,7 @@ pub list_means : MeansQuery schema list_text (select_where table.users (col 1 1 
 unfolding understood everything
 list_means = ((refl, (refl, refl)), refl)
 
-pub users_listed : (old new : Shown) → ShowsAll list_text [] old new text_spelled (keys (entries (stored old).users))
+pub users_listed : (old new : Shown) → ShowsAll list_text [] old new text_spelled (λ c. keys (entries c.users))
 users_listed old new rows form call clean =
     let it = select_all users_mapped list_text (col 1 1 ∷ []) _ list_means key_entry (λ (u : Unit {0}). u) (λ id vs. refl) old new rows form call clean in
     (it.0, keys_seen rows (entries (stored old).users) it.1)

@@ -55,12 +55,12 @@ pub find_means : MeansQuery schema find_text (Select (record { lets = []; body =
 unfolding understood everything
 find_means = ((refl, (refl, refl)), refl)
 
-pub version_found : (p v : Text) (old new : Shown) → ShowsWhether find_text (Stored p ∷ Stored v ∷ []) old new (is_some (at (live_of (stored old)) (p, v)))
+pub version_found : (p v : Text) (old new : Shown) → ShowsWhether find_text (Stored p ∷ Stored v ∷ []) old new (λ c. is_some (at (live_of c) (p, v)))
 version_found p v old new rows form call clean =
     let it = select_finds versions_mapped find_text (col 1 3 ∷ []) _ find_means (p, v) held_spelled (λ (r : LiveVersion). r.published) (λ id vs. refl) old new rows form call clean in
     (it.0, some_found held_spelled rows _ it.1 ∙ some_seen (λ (r : LiveVersion). r.published) (at (stored old).versions (p, v)) ∙ sym (lives_as_row (stored old) (p, v)))
 
-pub published_found : (p v : Text) (old new : Shown) → ShowsFirst find_text (Stored p ∷ Stored v ∷ []) old new number_spelled (published_at (registry_of (stored old)) p v)
+pub published_found : (p v : Text) (old new : Shown) → ShowsFirst find_text (Stored p ∷ Stored v ∷ []) old new number_spelled (λ c. published_at (registry_of c) p v)
 published_found p v old new rows form call clean =
     let it = select_finds versions_mapped find_text (col 1 3 ∷ []) _ find_means (p, v) number_spelled (λ (r : LiveVersion). seconds_of r.published) (λ id vs. as_seconds (column vs 2)) old new rows form call clean in
     (it.0, first_listed number_spelled rows _ it.1 ∙ sym (published_as_row (stored old) (p, v)))
@@ -72,7 +72,7 @@ pub document_means : MeansQuery schema document_text (Select (record { lets = []
 unfolding understood everything
 document_means = ((refl, (refl, refl)), refl)
 
-pub document_found : (p v : Text) (old new : Shown) → ShowsFirst document_text (Stored p ∷ Stored v ∷ []) old new document_spelled (option_map document (at (live_of (stored old)) (p, v)))
+pub document_found : (p v : Text) (old new : Shown) → ShowsFirst document_text (Stored p ∷ Stored v ∷ []) old new document_spelled (λ c. option_map document (at (live_of c) (p, v)))
 document_found p v old new rows form call clean =
     let it = select_finds versions_mapped document_text (col 1 4 ∷ col 1 5 ∷ []) _ document_means (p, v) document_spelled (λ (r : LiveVersion). document (as_release r)) (λ id vs. refl) old new rows form call clean in
     (it.0, first_listed document_spelled rows _ it.1 ∙ sym (document_as_row (stored old) (p, v)))
@@ -89,7 +89,7 @@ pub list_means : MeansQuery schema list_text (Select (record { lets = []; body =
 unfolding understood everything
 list_means = ((refl, (refl, refl)), refl)
 
-pub versions_listed : (p : Text) (old new : Shown) → ShowsAll list_text (Stored p ∷ []) old new row_spelled (map (seen document) (of (live_of (stored old)) p))
+pub versions_listed : (p : Text) (old new : Shown) → ShowsAll list_text (Stored p ∷ []) old new row_spelled (λ c. map (seen document) (of (live_of c) p))
 versions_listed p old new rows form call clean =
     let it = select_lists versions_mapped list_text list_columns _ list_means p row_spelled (λ (r : LiveVersion). document (as_release r)) (λ id vs. refl) old new rows form call clean in
     (it.0, it.1 ∙ sym (documents_as_rows (stored old) p))
@@ -102,7 +102,7 @@ unfolding understood everything
 times_means = ((refl, (refl, refl)), refl)
 
 -- the rows show when each live version was published
-pub times_listed : (p : Text) (old new : Shown) → ShowsAll times_text (Stored p ∷ []) old new time_spelled (map (seen published) (of (live_of (stored old)) p))
+pub times_listed : (p : Text) (old new : Shown) → ShowsAll times_text (Stored p ∷ []) old new time_spelled (λ c. map (seen published) (of (live_of c) p))
 times_listed p old new rows form call clean =
     let it = select_lists versions_mapped times_text _ _ times_means p time_spelled (λ (r : LiveVersion). published (as_release r)) (λ id vs. ap (λ (n : ℕ). (text_in (column vs 1), n)) (as_seconds (column vs 2))) old new rows form call clean in
     (it.0, it.1 ∙ sym (times_as_rows (stored old) p))
@@ -115,7 +115,7 @@ unfolding understood everything
 live_means = ((refl, (refl, refl)), refl)
 
 -- the rows show which versions of the package live
-pub live_listed : (p : Text) (old new : Shown) → ShowsAll live_text (Stored p ∷ []) old new text_spelled (live_versions (registry_of (stored old)) p)
+pub live_listed : (p : Text) (old new : Shown) → ShowsAll live_text (Stored p ∷ []) old new text_spelled (λ c. live_versions (registry_of c) p)
 live_listed p old new rows form call clean =
     let it = select_lists versions_mapped live_text _ _ live_means p version_spelled (λ (r : LiveVersion). tt) (λ id vs. refl) old new rows form call clean in (
       it.0,
@@ -131,7 +131,7 @@ unfolding understood everything
 first_means = ((refl, (refl, refl)), refl)
 
 -- a version of the package lives where there is a first one
-pub live_found : (p : Text) (old new : Shown) → ShowsWhether first_text (Stored p ∷ []) old new (has_live (registry_of (stored old)) p)
+pub live_found : (p : Text) (old new : Shown) → ShowsWhether first_text (Stored p ∷ []) old new (λ c. has_live (registry_of c) p)
 live_found p old new rows form call clean =
     let it = select_lists_first versions_mapped 1 first_text (col 1 2 ∷ []) _ first_means p version_spelled (λ (r : LiveVersion). tt) (λ id vs. refl) old new rows form call clean in
     (it.0, first_shown version_spelled rows (λ (r : LiveVersion). tt) (of (stored old).versions p) it.1 ∙ sym (lives_as_rows (stored old) p))

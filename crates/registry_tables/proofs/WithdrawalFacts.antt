@@ -1,5 +1,5 @@
 -- What the statements make that withdraw a version, and what goes with its row.
-use Rattle.registry_tables.proofs.Words.{◌≡◌, ℕ, ℤ, List, [], ◌∷◌, pos, not, true, false, true≢false, None, Some, is_some, Ok, refl, sym, ap, ◌∙◌, codes, int_eq, Int, Stored, Delete, Shown}
+use Rattle.registry_tables.proofs.Words.{◌≡◌, ℕ, ℤ, List, [], ◌∷◌, pos, not, true≢false, None, Some, is_some, Ok, refl, sym, ap, ◌∙◌, codes, int_eq, Int, Stored, Delete, Shown}
 use Rattle.registry_tables.proofs.Words.{HasCleanDisk, col, Text, pair_is, at, put, erase, keep, pair_key, at-erase_same, Wrote, numbers, Ready, Leaves, Means, MeansQuery, delete_where, select_first}
 use Rattle.registry_tables.proofs.Words.{scan, by_column, by_texts, insert_values, by_number_given, by_texts_given, insert_puts, insert_meets_none, delete_erases_by, IsUntagged, Contents, contents}
 use Rattle.registry_tables.proofs.Words.{stored, schema, is_held, without_rows, ShowsWhether}
@@ -92,7 +92,7 @@ pub holders_means : MeansQuery schema holders_text (select_first 1 table.held (c
 unfolding understood everything
 holders_means = ((refl, (refl, refl)), refl)
 
-pub archive_had : (n : ℤ) (old new : Shown) → ShowsWhether holders_text (Int n ∷ []) old new (is_held n (stored old))
+pub archive_had : (n : ℤ) (old new : Shown) → ShowsWhether holders_text (Int n ∷ []) old new (λ c. is_held n c)
 archive_had n = select_some_by (by_texts_given held_mapped) 2 (Int n) refl (λ (m : ℤ). int_eq n m) (λ vs. refl) holders_text (col 1 1 ∷ []) _ holders_means
 
 -- ---- among those that were withdrawn

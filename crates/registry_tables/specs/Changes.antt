@@ -1,5 +1,5 @@
 -- What a change makes of what is stored.
-use Rattle.std.specs.Prelude.{◌≡◌, ℕ, pos, Bool, true, false, List, [], ◌∷◌, None, Some, is_some, if◌then◌else◌}
+use Rattle.std.specs.Prelude.{◌≡◌, ℕ, pos, true, false, List, [], ◌∷◌, None, Some, is_some}
 use Rattle.registry_names.specs.Texts.{Text}
 use Rattle.std.specs.declared.cmp.Ordering.{Ordering}
 use Rattle.registry_names.specs.Maps.{MapBy, at, put, erase}
@@ -13,21 +13,9 @@ use Rattle.registry_tables.specs.Numbers.{grant_number, role_number, status_numb
 use Rattle.registry_tables.specs.Teams.{without_member, without_team}
 use Rattle.registry_tables.specs.Withdrawals.{version_retired, with_message}
 
--- a key that is there has this value
-abbrev pub amended : {K X : Type 0} {cmp : K → K → Ordering} → MapBy cmp X → K → X → MapBy cmp X
-amended m k x = if is_some (at m k) then put m k x else m
-
--- the row of a key: a new one, or what is there already is amended
-abbrev pub with_row : {K X : Type 0} {cmp : K → K → Ordering} → MapBy cmp X → K → X → Bool → MapBy cmp X
-with_row m k x stands = if stands then amended m k x else put m k x
-
 -- nothing is under the key
 abbrev pub IsFree : {K X : Type 0} {cmp : K → K → Ordering} → MapBy cmp X → K → Type 0
 IsFree m k = at m k ≡ None
-
--- nothing is, if the row is to be a new one
-abbrev pub IsFreeUnless : {K X : Type 0} {cmp : K → K → Ordering} → MapBy cmp X → K → Bool → Type 0
-IsFreeUnless m k stands = stands ≡ false → IsFree m k
 
 -- the row of a version that is published at this moment and not deprecated: its archive is
 -- elsewhere
@@ -53,21 +41,21 @@ stored_by (AddUser u) c = record c { users = put c.users u tt }
 stored_by (AddToken digest u) c = record c { tokens = put c.tokens digest u }
 stored_by (DropToken digest) c = record c { tokens = erase c.tokens digest }
 stored_by (AddOrg o) c = record c { organisations = put c.organisations o tt }
-stored_by (PutMember o u role stands) c = record c { members = with_row c.members (o, u) (role_number role) stands }
+stored_by (PutMember o u role) c = record c { members = put c.members (o, u) (role_number role) }
 stored_by (DropMember o u) c = without_member o u c
 stored_by (AddTeam o t) c = record c { teams = put c.teams (o, t) tt }
 stored_by (PutTeamMember o t u) c = record c { team_members = put c.team_members (o, (t, u)) tt }
 stored_by (DropTeamMember o t u) c = record c { team_members = erase c.team_members (o, (t, u)) }
 stored_by (DropTeam o t) c = without_team o t c
-stored_by (PutGrant o t p grant stands) c = record c { grants = with_row c.grants (o, (t, p)) (grant_number grant) stands }
+stored_by (PutGrant o t p grant) c = record c { grants = put c.grants (o, (t, p)) (grant_number grant) }
 stored_by (DropGrant o t p) c = record c { grants = erase c.grants (o, (t, p)) }
 stored_by (PutOwner p u) c = record c { owners = put c.owners (p, u) tt }
 stored_by (DropOwner p u) c = record c { owners = erase c.owners (p, u) }
-stored_by (PutStatus p status stands) c = record c { packages = with_row c.packages p (status_number status) stands }
+stored_by (PutStatus p status) c = record c { packages = put c.packages p (status_number status) }
 stored_by (AddVersion f now) c = version_put f now c
 stored_by (RetireVersion p v published withdrawn) c = version_retired p v published withdrawn c
 stored_by (PutDeprecation p v message) c = record c { versions = with_message c.versions (p, v) message }
-stored_by (PutTag p t v stands) c = record c { tags = with_row c.tags (p, t) v stands }
+stored_by (PutTag p t v) c = record c { tags = put c.tags (p, t) v }
 stored_by (DropTag p t) c = record c { tags = erase c.tags (p, t) }
 
 -- changes, made in their order
@@ -94,26 +82,27 @@ pub record MayRetire (p v : Text) (c : Contents) : Type 0 where
   pub not_spent : IsFree c.spent (p, v)
   pub untagged : IsUntagged p v c
 
--- What must hold of what is stored for the change to be answered. A new row has a key under
--- which nothing is. Other changes ask for nothing, except those of versions
+-- What must hold of what is stored for the change to be answered. A new row has a key under which
+-- nothing is. A role, a grant, a status and a tag take the place of what is there. These changes and
+-- all others ask for nothing, except those of versions
 abbrev pub Asks : Change → Contents → Type 0
 Asks (AddUser u) c = IsFree c.users u
 Asks (AddToken digest u) c = IsFree c.tokens digest
 Asks (DropToken digest) c = Unit {0}
 Asks (AddOrg o) c = IsFree c.organisations o
-Asks (PutMember o u role stands) c = IsFreeUnless c.members (o, u) stands
+Asks (PutMember o u role) c = Unit {0}
 Asks (DropMember o u) c = Unit {0}
 Asks (AddTeam o t) c = IsFree c.teams (o, t)
 Asks (PutTeamMember o t u) c = IsFree c.team_members (o, (t, u))
 Asks (DropTeamMember o t u) c = Unit {0}
 Asks (DropTeam o t) c = Unit {0}
-Asks (PutGrant o t p grant stands) c = IsFreeUnless c.grants (o, (t, p)) stands
+Asks (PutGrant o t p grant) c = Unit {0}
 Asks (DropGrant o t p) c = Unit {0}
 Asks (PutOwner p u) c = IsFree c.owners (p, u)
 Asks (DropOwner p u) c = Unit {0}
-Asks (PutStatus p status stands) c = IsFreeUnless c.packages p stands
+Asks (PutStatus p status) c = Unit {0}
 Asks (AddVersion f now) c = IsNew f c
 Asks (RetireVersion p v published withdrawn) c = MayRetire p v c
 Asks (PutDeprecation p v message) c = Unit {0}
-Asks (PutTag p t v stands) c = IsFreeUnless c.tags (p, t) stands
+Asks (PutTag p t v) c = Unit {0}
 Asks (DropTag p t) c = Unit {0}

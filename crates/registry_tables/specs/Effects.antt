@@ -1,5 +1,5 @@
--- What a call inside a transaction finds, makes and says. `old` and `new` are the transaction at
--- its entry and at its exit.
+-- What one statement, or a call over other tables, finds and makes. `old` and `new` are the
+-- transaction at its entry and at its exit.
 use Rattle.std.specs.Prelude.{◌≡◌, Result, IfOk, IsTrue, OnOk}
 use Rattle.sqlite.specs.Held.{state}
 use Rattle.sqlite.specs.State.{State as Shown, HasCleanDisk, KeepsCommit}
@@ -62,10 +62,6 @@ module _ {S : Type 0} (store : Ghosts S) where
     -- an answer is determined by what is stored, and leaves everything as it was
     abbrev pub Loads : (R → Contents → Type 0) → Type 0
     Loads is_told = HasCleanDisk (shown new) → IfOk result (λ answer. Reads schema (shown old) (shown new) × is_told answer (stored_in old))
-
-    -- the same of an answer that may need no statement
-    abbrev pub Knows : (R → Contents → Type 0) → Type 0
-    Knows is_told = HasCleanDisk (shown new) → IfOk result (λ answer. IsAsBefore (shown old) (shown new) × is_told answer (stored_in old))
 
     -- the same of a database without tables
     abbrev pub TellsNone : (R → Type 0) → Type 0

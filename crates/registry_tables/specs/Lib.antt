@@ -5,6 +5,7 @@ pub mod Contents
 pub mod Creation
 pub mod Effects
 pub mod Fresh
+pub mod Inside
 pub mod Laws
 pub mod Levels
 pub mod Needs

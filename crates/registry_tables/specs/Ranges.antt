@@ -1,8 +1,7 @@
 -- Whether the numbers that are stored are in range.
-use Rattle.std.specs.Prelude.{◌≡◌, ◌≤◌, ◌↔◌, ◌&&◌, ℕ, ℤ, pos, Bool, List, map, Some, IsTrue}
+use Rattle.std.specs.Prelude.{◌≡◌, ◌≤◌, ◌↔◌, ℕ, ℤ, pos, Bool, List, Some, IsTrue}
 use Rattle.std.specs.List.{AllByRecursion, list_all}
 use Rattle.std.specs.declared.cmp.Ordering.{Ordering}
-use Rattle.sqlite_value.specs.Order.{Row}
 use Rattle.registry_names.specs.Keys.{Pair, Triple}
 use Rattle.registry_names.specs.Maps.{MapBy, at, entries}
 use Rattle.registry_names.specs.Moments.{last_second}
@@ -14,8 +13,6 @@ use Rattle.registry_rules.specs.Changes.{Change, AddVersion, RetireVersion}
 use Rattle.registry_tables.specs.Changes.{all_stored, stored_by}
 use Rattle.registry_tables.specs.Contents.{Contents, LiveVersion, SpentVersion}
 use Rattle.registry_tables.specs.Numbers.{grant_number, grant_of, is_level, is_moment, is_role, is_status, role_number, role_of, seconds_of, status_number, status_of}
-use Rattle.registry_tables.specs.Spelled.{fourth_number, third_number}
-use Rattle.registry_tables.specs.declared.numbers.SpentMoments.{SpentMoments}
 
 -- each number of a role, a status, what is granted and a moment is in range
 pub record HasNumbersInRange (c : Contents) : Type 0 where
@@ -31,17 +28,7 @@ TellsRanges fine c = IsTrue fine ↔ HasNumbersInRange c
 
 -- each value of a map passes
 abbrev pub all_pass : {K X : Type 0} {cmp : K → K → Ordering} → (X → Bool) → MapBy cmp X → Bool
-all_pass test m = list_all test (map (λ e. e.1) (entries m))
-
--- the moments of a version that was withdrawn, in the third and the fourth column of a row
-abbrev pub moments_spelled : Row → ℤ × ℤ
-moments_spelled r = (third_number r, fourth_number r)
-
-abbrev pub is_pair_of_moments : ℤ × ℤ → Bool
-is_pair_of_moments pair = is_moment pair.0 && is_moment pair.1
-
-abbrev pub moments_entry : SpentMoments → ℤ × ℤ
-moments_entry m = (m.published, m.withdrawn)
+all_pass test m = list_all (λ e. test e.1) (entries m)
 
 -- ---- what is written
 

@@ -4,10 +4,9 @@ ghost use Rattle.std.specs.Prelude.{◌≡◌, IfOk, [], ◌∷◌};
 ghost use Rattle.registry_access.specs.Agreement.{SameOrganisation};
 ghost use Rattle.registry_access.specs.RowMaps.{state_of};
 ghost use Rattle.registry_access.specs.declared.caller.Caller.TheVariants as caller;
-ghost use Rattle.registry_rows.specs.Frames.{Stays};
 ghost use Rattle.registry_tables.specs.Access.{RowsGiveStoredRole, TellOrganisation};
 ghost use Rattle.registry_tables.specs.Contents.{access_of};
-ghost use Rattle.registry_tables.specs.Effects.{InForm, Knows, Loads};
+ghost use Rattle.registry_tables.specs.Inside.{Finds, Knows};
 
 use crate::members::load_role;
 use crate::organisations::has_organisation;
@@ -21,11 +20,9 @@ pub fn load_access<S: Alter>(
     alloc: Global,
     tx: &mut Transaction<'_, S>,
     caller: &Caller,
-    organisation: &str,
+    organisation: &Ident,
 ) -> Result<AccessRows, Fault>
-    requires in_form { InForm S.Store tx.old }
-    ensures stays { Stays S.Store tx.old tx.new }
-    ensures loads { Loads S.Store tx.old tx.new result
+    ensures { Finds S.Store tx.old tx.new result
         (λ rows c. SameOrganisation (state_of rows) (access_of c) caller.now organisation.now) }
 {
     let organisations = organisation_rows(alloc, tx, organisation)?;
@@ -45,11 +42,9 @@ pub fn load_access<S: Alter>(
 fn organisation_rows<S: Alter>(
     alloc: Global,
     tx: &mut Transaction<'_, S>,
-    organisation: &str,
+    organisation: &Ident,
 ) -> Result<Vec<Text>, Fault>
-    requires in_form { InForm S.Store tx.old }
-    ensures stays { Stays S.Store tx.old tx.new }
-    ensures loads { Loads S.Store tx.old tx.new result
+    ensures { Finds S.Store tx.old tx.new result
         (λ names c. TellOrganisation names.items c organisation.now) }
 {
     if has_organisation(tx, organisation)? {
@@ -59,10 +54,10 @@ fn organisation_rows<S: Alter>(
     }
 }
 
-fn one_name(alloc: Global, name: &str) -> Result<Vec<Text>, Fault>
+fn one_name(alloc: Global, name: &Ident) -> Result<Vec<Text>, Fault>
     ensures { IfOk result (λ names. names.items ≡ name.now ∷ []) }
 {
-    let name = Text::from_str(alloc, name)?;
+    let name = Text::from_str(alloc, name.text())?;
     Ok(vec![in alloc; name]?)
 }
 
@@ -71,11 +66,9 @@ fn member_rows<S: Alter>(
     alloc: Global,
     tx: &mut Transaction<'_, S>,
     caller: &Caller,
-    organisation: &str,
+    organisation: &Ident,
 ) -> Result<Vec<MemberRow>, Fault>
-    requires in_form { InForm S.Store tx.old }
-    ensures stays { Stays S.Store tx.old tx.new }
-    ensures knows { Knows S.Store tx.old tx.new result
+    ensures { Knows S.Store tx.old tx.new result
         (λ members c. RowsGiveStoredRole members.items c caller.now organisation.now) }
 {
     match caller {
@@ -89,31 +82,29 @@ fn user_rows<S: Alter>(
     alloc: Global,
     tx: &mut Transaction<'_, S>,
     user: &Ident,
-    organisation: &str,
+    organisation: &Ident,
 ) -> Result<Vec<MemberRow>, Fault>
-    requires in_form { InForm S.Store tx.old }
-    ensures stays { Stays S.Store tx.old tx.new }
-    ensures loads { Loads S.Store tx.old tx.new result
+    ensures { Finds S.Store tx.old tx.new result
         (λ members c. RowsGiveStoredRole members.items c (caller.User user.now) organisation.now) }
 {
-    match load_role(tx, organisation, user.text())? {
-        Some(role) => one_member(alloc, organisation, user.text(), role),
+    match load_role(tx, organisation, user)? {
+        Some(role) => one_member(alloc, organisation, user, role),
         None => Ok(Vec::new(alloc)),
     }
 }
 
 fn one_member(
     alloc: Global,
-    organisation: &str,
-    user: &str,
+    organisation: &Ident,
+    user: &Ident,
     role: Role,
 ) -> Result<Vec<MemberRow>, Fault>
     ensures { IfOk result (λ members. members.items
         ≡ record { organisation = organisation.now; user = user.now; role = role } ∷ []) }
 {
     let member = MemberRow {
-        organisation: Text::from_str(alloc, organisation)?,
-        user: Text::from_str(alloc, user)?,
+        organisation: Text::from_str(alloc, organisation.text())?,
+        user: Text::from_str(alloc, user.text())?,
         role,
     };
     Ok(vec![in alloc; member]?)

@@ -1,17 +1,15 @@
 //! The tables `archives` and `held`: each archive that is stored, once, and which of them each live
 //! version has.
 
-ghost use Rattle.std.specs.Prelude.{◌≡◌, ℕ, ℤ, List, IfOk, Some, map, option_map};
-ghost use Rattle.sqlite.specs.State.{HasCleanDisk};
+ghost use Rattle.std.specs.Prelude.{⊤, ◌≡◌, ℕ, ℤ, List, IfOk, Some, map, option_map};
 ghost use Rattle.sqlite_value.specs.Order.{column};
 ghost use Rattle.registry_names.specs.Maps.{at, erase, put};
 ghost use Rattle.registry_names.specs.Texts.{is};
 ghost use Rattle.registry_rows.specs.Columns.{blob_in};
-ghost use Rattle.registry_rows.specs.Frames.{Stays};
 ghost use Rattle.registry_tables.specs.Archives.{archive_number, next_archive, number_of, with_archive, with_next_archive};
 ghost use Rattle.registry_tables.specs.Changes.{IsFree, with_archive_of};
 ghost use Rattle.registry_tables.specs.Contents.{live_of};
-ghost use Rattle.registry_tables.specs.Effects.{InForm, IsUnderWay, Makes, Loads, OnlyWhere, shown, stored_in};
+ghost use Rattle.registry_tables.specs.Inside.{Finds, Makes};
 ghost use Rattle.registry_tables.specs.Spelled.{archive_spelled, blob_of_row, held_spelled, number_among};
 ghost use Rattle.registry_tables.specs.Withdrawals as withdrawals;
 
@@ -33,9 +31,7 @@ pub fn load_archive<S: Alter>(
     name: &Name,
     version: &str,
 ) -> Result<Option<Blob>, Fault>
-    requires in_form { InForm S.Store tx.old }
-    ensures stays { Stays S.Store tx.old tx.new }
-    ensures loads { Loads S.Store tx.old tx.new result
+    ensures { Finds S.Store tx.old tx.new result
         (λ archive c. archive
         ≡ option_map (λ r. r.archive) (at (live_of c) (name.now, version.now))) }
 {
@@ -54,9 +50,7 @@ pub(crate) fn held_archive<S: Alter>(
     name: &Name,
     version: &str,
 ) -> Result<Option<i64>, Fault>
-    requires in_form { InForm S.Store tx.old }
-    ensures stays { Stays S.Store tx.old tx.new }
-    ensures loads { Loads S.Store tx.old tx.new result
+    ensures { Finds S.Store tx.old tx.new result
         (λ number c. number ≡ at c.held (name.now, version.now)) }
 {
     find::<NumberRow, S>(
@@ -68,19 +62,24 @@ pub(crate) fn held_archive<S: Alter>(
 
 // The bytes of the archive with this number. It is a fault where no archive has it.
 fn load_bytes<S: Alter>(tx: &mut Transaction<'_, S>, number: i64) -> Result<Blob, Fault>
-    requires in_form { InForm S.Store tx.old }
-    ensures stays { Stays S.Store tx.old tx.new }
-    ensures loads { Loads S.Store tx.old tx.new result
+    ensures { Finds S.Store tx.old tx.new result
         (λ bytes c. option_map (λ a. a.bytes) (at c.archives number) ≡ Some bytes) }
 {
-    match find::<BytesRow, S>(
-        tx,
-        "SELECT bytes FROM archives WHERE id = ?1",
-        params![number],
-    )? {
+    match find_bytes(tx, number)? {
         Some(bytes) => Ok(bytes),
         None => Err(Fault::Database),
     }
+}
+
+fn find_bytes<S: Alter>(tx: &mut Transaction<'_, S>, number: i64) -> Result<Option<Blob>, Fault>
+    ensures { Finds S.Store tx.old tx.new result
+        (λ found c. found ≡ option_map (λ a. a.bytes) (at c.archives number)) }
+{
+    find::<BytesRow, S>(
+        tx,
+        "SELECT bytes FROM archives WHERE id = ?1",
+        params![number],
+    )
 }
 
 /// Lets the version of a form have its archive, which is stored where it isn't yet.
@@ -88,9 +87,7 @@ pub(crate) fn put_archive<S: Alter>(
     tx: &mut Transaction<'_, S>,
     form: &PublishForm,
 ) -> Result<(), Fault>
-    requires under_way { IsUnderWay S.Store tx.old }
-    ensures stays { Stays S.Store tx.old tx.new }
-    ensures makes { Makes S.Store tx.old tx.new result (with_archive_of form.now) }
+    ensures { Makes S.Store tx.old tx.new result (λ _ _. ⊤) (with_archive_of form.now) }
 {
     let number = store_archive(tx, form.integrity(), form.archive())?;
     hold_archive(tx, form.name().text(), form.version().text(), number)
@@ -107,11 +104,9 @@ pub fn store_archive<S: Alter>(
     integrity: &str,
     bytes: &[u8],
 ) -> Result<i64, Fault>
-    requires under_way { IsUnderWay S.Store tx.old }
-    ensures stays { Stays S.Store tx.old tx.new }
-    ensures makes { Makes S.Store tx.old tx.new result (with_archive integrity.now bytes.now) }
-    ensures number { HasCleanDisk (shown S.Store tx.new) → IfOk result (λ number. number
-        ≡ archive_number integrity.now bytes.now (stored_in S.Store tx.old)) }
+    ensures { Makes S.Store tx.old tx.new result
+        (λ number c. number ≡ archive_number integrity.now bytes.now c)
+        (with_archive integrity.now bytes.now) }
 {
     match find_number(tx, integrity, bytes)? {
         Some(number) => Ok(number),
@@ -125,9 +120,7 @@ fn find_number<S: Alter>(
     integrity: &str,
     bytes: &[u8],
 ) -> Result<Option<i64>, Fault>
-    requires in_form { InForm S.Store tx.old }
-    ensures stays { Stays S.Store tx.old tx.new }
-    ensures loads { Loads S.Store tx.old tx.new result
+    ensures { Finds S.Store tx.old tx.new result
         (λ number c. number ≡ number_of integrity.now bytes.now c.archives) }
 {
     let rows = query(
@@ -162,12 +155,9 @@ fn has_bytes(row: &Row, bytes: &[u8]) -> Result<bool, Fault>
 
 // Adds an archive, and answers its number.
 fn add<S: Alter>(tx: &mut Transaction<'_, S>, integrity: &str, bytes: &[u8]) -> Result<i64, Fault>
-    requires in_form { InForm S.Store tx.old }
-    ensures stays { Stays S.Store tx.old tx.new }
-    ensures makes { Makes S.Store tx.old tx.new result
+    ensures { Makes S.Store tx.old tx.new result
+        (λ number c. number ≡ next_archive c)
         (with_next_archive integrity.now bytes.now) }
-    ensures number { HasCleanDisk (shown S.Store tx.new) → IfOk result
-        (λ number. number ≡ next_archive (stored_in S.Store tx.old)) }
 {
     write(
         tx,
@@ -187,12 +177,9 @@ pub fn hold_archive<S: Alter>(
     version: &str,
     number: i64,
 ) -> Result<(), Fault>
-    requires in_form { InForm S.Store tx.old }
-    ensures stays { Stays S.Store tx.old tx.new }
-    ensures makes { Makes S.Store tx.old tx.new result
+    ensures { Makes S.Store tx.old tx.new result
+        (λ _ c. IsFree c.held (name.now, version.now))
         (λ c. record c { held = put c.held (name.now, version.now) number }) }
-    ensures was_new { OnlyWhere S.Store tx.old tx.new result
-        (λ c. IsFree c.held (name.now, version.now)) }
 {
     write(
         tx,
@@ -203,9 +190,8 @@ pub fn hold_archive<S: Alter>(
 
 /// Drops the archive of this number, unless a version has it.
 pub(crate) fn free_archive<S: Alter>(tx: &mut Transaction<'_, S>, number: i64) -> Result<(), Fault>
-    requires under_way { IsUnderWay S.Store tx.old }
-    ensures stays { Stays S.Store tx.old tx.new }
-    ensures makes { Makes S.Store tx.old tx.new result
+    ensures { Makes S.Store tx.old tx.new result
+        (λ _ _. ⊤)
         (λ c. record c { archives = withdrawals.archives_left (Some number) c }) }
 {
     if is_held(tx, number)? {
@@ -216,10 +202,7 @@ pub(crate) fn free_archive<S: Alter>(tx: &mut Transaction<'_, S>, number: i64) -
 
 // Whether a version has the archive with this number.
 fn is_held<S: Alter>(tx: &mut Transaction<'_, S>, number: i64) -> Result<bool, Fault>
-    requires in_form { InForm S.Store tx.old }
-    ensures stays { Stays S.Store tx.old tx.new }
-    ensures loads { Loads S.Store tx.old tx.new result
-        (λ held c. held ≡ withdrawals.is_held number c) }
+    ensures { Finds S.Store tx.old tx.new result (λ held c. held ≡ withdrawals.is_held number c) }
 {
     has(
         tx,
@@ -230,9 +213,8 @@ fn is_held<S: Alter>(tx: &mut Transaction<'_, S>, number: i64) -> Result<bool, F
 
 // Drops the archive with this number.
 fn drop_archive<S: Alter>(tx: &mut Transaction<'_, S>, number: i64) -> Result<(), Fault>
-    requires in_form { InForm S.Store tx.old }
-    ensures stays { Stays S.Store tx.old tx.new }
-    ensures makes { Makes S.Store tx.old tx.new result
+    ensures { Makes S.Store tx.old tx.new result
+        (λ _ _. ⊤)
         (λ c. record c { archives = erase c.archives number }) }
 {
     write(tx, "DELETE FROM archives WHERE id = ?1", params![number])

@@ -1,14 +1,10 @@
 //! Who asks.
 
 ghost use Rattle.std.specs.Prelude.{◌≡◌, IfOk, None};
-ghost use Rattle.registry_rows.specs.Frames.{Stays};
-ghost use Rattle.registry_rows.specs.Ready.{Reads};
-ghost use Rattle.sqlite.specs.State.{HasCleanDisk};
 ghost use Rattle.registry_rules.specs.Callers.{caller_of};
 ghost use Rattle.registry_rules.specs.declared.request.Credential.TheVariants as shown_as;
 ghost use Rattle.registry_tables.specs.Contents.{registry_of};
-ghost use Rattle.registry_tables.specs.Effects.{InForm, Knows, Loads, shown};
-ghost use Rattle.registry_tables.specs.Schema.{schema};
+ghost use Rattle.registry_tables.specs.Inside.{Finds, IsOpen, Knows};
 
 use crate::texts::read_back;
 use crate::tokens::load_token_user;
@@ -27,12 +23,9 @@ pub fn load_caller<S: Alter>(
     tx: &mut Transaction<'_, S>,
     who: &Credential,
 ) -> Result<Option<Caller>, Fault>
-    requires in_form { InForm S.Store tx.old }
-    ensures stays { Stays S.Store tx.old tx.new }
     ensures knows { Knows S.Store tx.old tx.new result
         (λ caller c. caller ≡ caller_of (registry_of c) who.now) }
-    ensures nobody { HasCleanDisk (shown S.Store tx.new) → IfOk result (λ caller. caller ≡ None
-        → Reads schema (shown S.Store tx.old) (shown S.Store tx.new)) }
+    ensures nobody { IfOk result (λ caller. caller ≡ None → IsOpen S.Store tx.new) }
 {
     match who {
         Credential::Operator => Ok(Some(Caller::Operator)),
@@ -47,12 +40,10 @@ fn load_user<S: Alter>(
     tx: &mut Transaction<'_, S>,
     user: &Ident,
 ) -> Result<Option<Caller>, Fault>
-    requires in_form { InForm S.Store tx.old }
-    ensures stays { Stays S.Store tx.old tx.new }
-    ensures loads { Loads S.Store tx.old tx.new result
+    ensures { Finds S.Store tx.old tx.new result
         (λ caller c. caller ≡ caller_of (registry_of c) (shown_as.User user.now)) }
 {
-    if has_user(tx, user.text())? {
+    if has_user(tx, user)? {
         let user = read_back(Ident::parse(alloc, user.text()))?;
         Ok(Some(Caller::User(user)))
     } else {
@@ -65,9 +56,7 @@ fn load_token<S: Alter>(
     tx: &mut Transaction<'_, S>,
     digest: &TokenDigest,
 ) -> Result<Option<Caller>, Fault>
-    requires in_form { InForm S.Store tx.old }
-    ensures stays { Stays S.Store tx.old tx.new }
-    ensures loads { Loads S.Store tx.old tx.new result
+    ensures { Finds S.Store tx.old tx.new result
         (λ caller c. caller ≡ caller_of (registry_of c) (shown_as.Token digest.now)) }
 {
     let user = load_token_user(alloc, tx, digest)?;

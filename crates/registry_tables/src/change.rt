@@ -1,10 +1,9 @@
 //! Changes, made in the tables.
 
 ghost use Rattle.std.specs.Prelude.{OnOk};
-ghost use Rattle.registry_rows.specs.Frames.{Stays};
 ghost use Rattle.registry_rules.specs.Changes.{change_of};
 ghost use Rattle.registry_tables.specs.Changes.{Asks, stored_by};
-ghost use Rattle.registry_tables.specs.Effects.{InForm, Makes, OnlyWhere};
+ghost use Rattle.registry_tables.specs.Inside.{Makes};
 ghost use Rattle.registry_tables.specs.Ranges.{HasMoments};
 
 use crate::grants::{drop_grant, put_grant};
@@ -25,7 +24,8 @@ use sqlite::{Alter, Transaction};
 
 /// Makes one change. Nothing else that is stored is changed.
 ///
-/// A new row of a key that is there already is a fault. So are a version that is published after it
+/// A role, a grant, a status and a tag take the place of what was there. Any other new row of a key
+/// that is there already is a fault. So are a version that is published after it
 /// was withdrawn, or in a package without a status, and one that is withdrawn although it doesn't
 /// live, was withdrawn already, or has a tag.
 ///
@@ -33,10 +33,9 @@ use sqlite::{Alter, Transaction};
 /// of a version that doesn't live. A grant refers to its team and its package's status, a
 /// maintainer to the user and to that status.
 pub fn make<S: Alter>(tx: &mut Transaction<'_, S>, change: &Change<'_>) -> Result<(), Fault>
-    requires in_form { InForm S.Store tx.old }
-    ensures stays { Stays S.Store tx.old tx.new }
-    ensures makes { Makes S.Store tx.old tx.new result (stored_by (change_of change.now)) }
-    ensures asks { OnlyWhere S.Store tx.old tx.new result (Asks (change_of change.now)) }
+    ensures makes { Makes S.Store tx.old tx.new result
+        (λ _. Asks (change_of change.now))
+        (stored_by (change_of change.now)) }
     ensures in_time { OnOk result (HasMoments (change_of change.now)) }
 {
     match *change {
@@ -48,8 +47,7 @@ pub fn make<S: Alter>(tx: &mut Transaction<'_, S>, change: &Change<'_>) -> Resul
             organisation,
             user,
             role,
-            stands,
-        } => put_member(tx, organisation, user.text(), role, stands),
+        } => put_member(tx, organisation, user.text(), role),
         Change::DropMember { organisation, user } => drop_member(tx, organisation, user.text()),
         Change::AddTeam { organisation, team } => add_team(tx, organisation, team),
         Change::PutTeamMember {
@@ -68,8 +66,7 @@ pub fn make<S: Alter>(tx: &mut Transaction<'_, S>, change: &Change<'_>) -> Resul
             team,
             package,
             grant,
-            stands,
-        } => put_grant(tx, organisation, team, package.text(), grant, stands),
+        } => put_grant(tx, organisation, team, package.text(), grant),
         Change::DropGrant {
             organisation,
             team,
@@ -77,11 +74,7 @@ pub fn make<S: Alter>(tx: &mut Transaction<'_, S>, change: &Change<'_>) -> Resul
         } => drop_grant(tx, organisation, team, package.text()),
         Change::PutOwner { package, user } => put_owner(tx, package.text(), user.text()),
         Change::DropOwner { package, user } => drop_owner(tx, package.text(), user.text()),
-        Change::PutStatus {
-            package,
-            status,
-            stands,
-        } => put_status(tx, package.text(), status, stands),
+        Change::PutStatus { package, status } => put_status(tx, package.text(), status),
         Change::AddVersion { form, at } => put_version(tx, form, *at),
         Change::RetireVersion {
             package,
@@ -98,8 +91,7 @@ pub fn make<S: Alter>(tx: &mut Transaction<'_, S>, change: &Change<'_>) -> Resul
             package,
             tag,
             version,
-            stands,
-        } => put_tag(tx, package.text(), tag, version.text(), stands),
+        } => put_tag(tx, package.text(), tag, version.text()),
         Change::DropTag { package, tag } => drop_tag(tx, package.text(), tag),
     }
 }

@@ -1,8 +1,7 @@
 //! The table `sqlite_sequence`, in which SQLite counts the numbers of archives.
 
 ghost use Rattle.std.specs.Prelude.{◌≡◌, ◌==◌, IfOk, length};
-ghost use Rattle.registry_rows.specs.Frames.{Stays};
-ghost use Rattle.registry_tables.specs.Effects.{InForm, Loads};
+ghost use Rattle.registry_tables.specs.Inside.{Finds};
 ghost use Rattle.registry_tables.specs.Opening.{is_name_of_archives, name_archives_alone};
 
 use crate::queries::query;
@@ -13,10 +12,7 @@ use sqlite::{Alter, Row, Transaction};
 /// Whether SQLite counts for the archives alone, as in tables that we made: no other row is there.
 /// `Database` is returned for another row whose name isn't a text.
 pub fn counts_archives_alone<S: Alter>(tx: &mut Transaction<'_, S>) -> Result<bool, Fault>
-    requires in_form { InForm S.Store tx.old }
-    ensures stays { Stays S.Store tx.old tx.new }
-    ensures loads { Loads S.Store tx.old tx.new result
-        (λ alone c. alone ≡ (length c.counters == 0)) }
+    ensures { Finds S.Store tx.old tx.new result (λ alone c. alone ≡ (length c.counters == 0)) }
 {
     let rows = query(tx, "SELECT name FROM sqlite_sequence", &[])?;
     name_archives(&rows)

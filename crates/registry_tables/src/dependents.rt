@@ -3,10 +3,9 @@
 ghost use Rattle.std.specs.Prelude.{◌≡◌, IfOk, map};
 ghost use Rattle.std.specs.List.{list_any};
 ghost use Rattle.registry_ranges.specs.Texts as ranges;
-ghost use Rattle.registry_rows.specs.Frames.{Stays};
 ghost use Rattle.registry_rules.specs.Withdrawals as definitions;
 ghost use Rattle.registry_tables.specs.Contents.{registry_of};
-ghost use Rattle.registry_tables.specs.Effects.{InForm, Loads};
+ghost use Rattle.registry_tables.specs.Inside.{Finds};
 ghost use Rattle.registry_tables.specs.Needs.{HoldsNeeds};
 ghost use Rattle.registry_tables.specs.Withdrawals.{version_text};
 
@@ -25,10 +24,9 @@ pub fn is_depended<S: Alter>(
     name: &Name,
     version: &Ver,
 ) -> Result<bool, Fault>
-    requires in_form { InForm S.Store tx.old }
-    ensures stays { Stays S.Store tx.old tx.new }
-    ensures loads { Loads S.Store tx.old tx.new result (λ depended c. HoldsNeeds c
-        → depended ≡ definitions.is_depended (registry_of c) name.now version.now) }
+    ensures { Finds S.Store tx.old tx.new result
+        (λ depended c. HoldsNeeds c → depended
+        ≡ definitions.is_depended (registry_of c) name.now version.now) }
 {
     let texts = load_dependents(alloc, tx, name)?;
     any_binds(alloc, &texts, version)
@@ -42,10 +40,9 @@ pub fn is_any_depended<S: Alter>(
     name: &Name,
     live: &[LiveVersion],
 ) -> Result<bool, Fault>
-    requires in_form { InForm S.Store tx.old }
-    ensures stays { Stays S.Store tx.old tx.new }
-    ensures loads { Loads S.Store tx.old tx.new result (λ depended c. HoldsNeeds c
-        → depended ≡ list_any (definitions.is_depended (registry_of c) name.now)
+    ensures { Finds S.Store tx.old tx.new result
+        (λ depended c. HoldsNeeds c → depended
+        ≡ list_any (definitions.is_depended (registry_of c) name.now)
         (definitions.versions_in (map version_text live.now))) }
 {
     let texts = load_dependents(alloc, tx, name)?;

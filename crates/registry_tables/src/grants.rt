@@ -1,20 +1,17 @@
 //! The table `grants`: what teams are granted on packages of their organisation's scope.
 
-ghost use Rattle.std.specs.Prelude.{◌≡◌, IfOk, is_some, map};
+ghost use Rattle.std.specs.Prelude.{⊤, ◌≡◌, IfOk, is_some, map};
 ghost use Rattle.registry_access.specs.declared.grant.Grant.{Grant as Right};
-ghost use Rattle.registry_names.specs.Maps.{at, erase};
+ghost use Rattle.registry_names.specs.Maps.{at, erase, put};
 ghost use Rattle.registry_names.specs.Texts.{Text as Bytes};
-ghost use Rattle.registry_rows.specs.Frames.{Stays};
-ghost use Rattle.registry_tables.specs.Changes.{IsFreeUnless, with_row};
 ghost use Rattle.registry_tables.specs.Contents.{access_of};
-ghost use Rattle.registry_tables.specs.Effects.{InForm, Makes, OnlyWhere, Loads};
+ghost use Rattle.registry_tables.specs.Inside.{Finds, Makes};
 ghost use Rattle.registry_tables.specs.Numbers.{grant_number};
 ghost use Rattle.registry_tables.specs.Teams.{AreGranted, grant_spelled, granted_entry, granted_spelled, grants_of};
 
 use crate::queries::{has, list, query};
-use crate::rows::set_row;
 use registry_access::Grant;
-use registry_names::{Fault, Name, Text};
+use registry_names::{Fault, Ident, Name, Text};
 use registry_packument::Granted;
 use registry_rows::{RowKind, values_of_rows, write};
 use sqlite::{Alter, Error, Row, Transaction, params};
@@ -23,47 +20,38 @@ use std::alloc::Global;
 /// Whether the team is granted something on the package.
 pub fn has_grant<S: Alter>(
     tx: &mut Transaction<'_, S>,
-    organisation: &str,
-    team: &str,
+    organisation: &Ident,
+    team: &Ident,
     name: &Name,
 ) -> Result<bool, Fault>
-    requires in_form { InForm S.Store tx.old }
-    ensures stays { Stays S.Store tx.old tx.new }
-    ensures loads { Loads S.Store tx.old tx.new result
+    ensures { Finds S.Store tx.old tx.new result
         (λ has c. has
         ≡ is_some (at (access_of c).grants (organisation.now, (team.now, name.now)))) }
 {
     has(
         tx,
         "SELECT level FROM grants WHERE org = ?1 AND team = ?2 AND package = ?3",
-        params![organisation, team, name.text()],
+        params![organisation.text(), team.text(), name.text()],
     )
 }
 
-/// Grants a team this on a package. The flag says whether it is granted something on it already.
+/// Grants a team this on a package, whatever it was granted before.
 pub(crate) fn put_grant<S: Alter>(
     tx: &mut Transaction<'_, S>,
     organisation: &str,
     team: &str,
     name: &str,
     grant: Grant,
-    stands: bool,
 ) -> Result<(), Fault>
-    requires in_form { InForm S.Store tx.old }
-    ensures stays { Stays S.Store tx.old tx.new }
-    ensures makes { Makes S.Store tx.old tx.new result
+    ensures { Makes S.Store tx.old tx.new result
+        (λ _ _. ⊤)
         (λ c. record c {
-          grants = with_row c.grants
-              (organisation.now, (team.now, name.now)) (grant_number grant) stands;
+          grants = put c.grants (organisation.now, (team.now, name.now)) (grant_number grant);
         }) }
-    ensures was_new { OnlyWhere S.Store tx.old tx.new result
-        (λ c. IsFreeUnless c.grants (organisation.now, (team.now, name.now)) stands) }
 {
-    set_row(
+    write(
         tx,
-        stands,
-        "UPDATE grants SET level = ?4 WHERE org = ?1 AND team = ?2 AND package = ?3",
-        "INSERT INTO grants VALUES (?1, ?2, ?3, ?4)",
+        "INSERT INTO grants VALUES (?1, ?2, ?3, ?4) ON CONFLICT (org, team, package) DO UPDATE SET level = ?4",
         params![organisation, team, name, number_of(grant)],
     )
 }
@@ -75,9 +63,8 @@ pub(crate) fn drop_grant<S: Alter>(
     team: &str,
     name: &str,
 ) -> Result<(), Fault>
-    requires in_form { InForm S.Store tx.old }
-    ensures stays { Stays S.Store tx.old tx.new }
-    ensures makes { Makes S.Store tx.old tx.new result
+    ensures { Makes S.Store tx.old tx.new result
+        (λ _ _. ⊤)
         (λ c. record c { grants = erase c.grants (organisation.now, (team.now, name.now)) }) }
 {
     write(
@@ -102,18 +89,16 @@ pub fn load_grants<S: Alter>(
     alloc: Global,
     tx: &mut Transaction<'_, S>,
     organisation: &str,
-    user: &str,
+    user: &Ident,
     name: &Name,
 ) -> Result<Vec<Grant>, Fault>
-    requires in_form { InForm S.Store tx.old }
-    ensures stays { Stays S.Store tx.old tx.new }
-    ensures loads { Loads S.Store tx.old tx.new result
+    ensures { Finds S.Store tx.old tx.new result
         (λ grants c. AreGranted c organisation.now user.now name.now grants.items) }
 {
     let rows = query(
         tx,
         "SELECT grants.level FROM team_members, grants WHERE team_members.org = ?1 AND team_members.user = ?2 AND grants.org = ?1 AND grants.team = team_members.team AND grants.package = ?3",
-        params![organisation, user, name.text()],
+        params![organisation, user.text(), name.text()],
     )?;
     values_of_rows::<GrantRow>(alloc, &rows)
 }
@@ -122,19 +107,17 @@ pub fn load_grants<S: Alter>(
 pub(crate) fn load_team_grants<S: Alter>(
     alloc: Global,
     tx: &mut Transaction<'_, S>,
-    organisation: &str,
-    team: &str,
+    organisation: &Ident,
+    team: &Ident,
 ) -> Result<Vec<Granted>, Fault>
-    requires in_form { InForm S.Store tx.old }
-    ensures stays { Stays S.Store tx.old tx.new }
-    ensures loads { Loads S.Store tx.old tx.new result
+    ensures { Finds S.Store tx.old tx.new result
         (λ granted c. map granted_entry granted.items ≡ grants_of c organisation.now team.now) }
 {
     list::<ListedGrant, S>(
         alloc,
         tx,
         "SELECT package, level FROM grants WHERE org = ?1 AND team = ?2 ORDER BY package",
-        params![organisation, team],
+        params![organisation.text(), team.text()],
     )
 }
 

@@ -9,11 +9,10 @@ ghost use Rattle.registry_access.specs.declared.caller.Caller.TheVariants as ask
 ghost use Rattle.registry_names.specs.Maps.{first_at, rises};
 ghost use Rattle.registry_names.specs.Names.{scope_of};
 ghost use Rattle.registry_names.specs.Texts.{Text as Bytes, is, text_cmp};
-ghost use Rattle.registry_rows.specs.Frames.{Stays};
 ghost use Rattle.registry_rules.specs.Refusals.{is_scope};
 ghost use Rattle.registry_rules.specs.State.{is_own};
 ghost use Rattle.registry_tables.specs.Contents.{access_of};
-ghost use Rattle.registry_tables.specs.Effects.{InForm, Knows, Loads};
+ghost use Rattle.registry_tables.specs.Inside.{Finds, Knows};
 ghost use Rattle.registry_tables.specs.Levels.{IsListedFor, last_at, level_entry, levels_in, levels_on, listed_name, scopes_levels, unscoped_levels, writable};
 ghost use Rattle.registry_tables.specs.Teams.{AreTeamsSound};
 
@@ -37,10 +36,8 @@ pub fn load_scope_packages<S: Alter>(
     caller: &Caller,
     organisation: &Ident,
 ) -> Result<Vec<PackageLevel>, Fault>
-    requires in_form { InForm S.Store tx.old }
-    ensures stays { Stays S.Store tx.old tx.new }
-    ensures loads { Loads S.Store tx.old tx.new result (λ packages c. AreTeamsSound c
-        → packages.items
+    ensures { Finds S.Store tx.old tx.new result
+        (λ packages c. AreTeamsSound c → packages.items
         ≡ levels_in c caller.now (λ p. is_scope organisation.now (scope_of p))) }
 {
     let packages = load_scope_statuses(alloc, tx, organisation)?;
@@ -55,10 +52,8 @@ pub fn load_own_packages<S: Alter>(
     tx: &mut Transaction<'_, S>,
     caller: &Caller,
 ) -> Result<Vec<PackageLevel>, Fault>
-    requires in_form { InForm S.Store tx.old }
-    ensures stays { Stays S.Store tx.old tx.new }
-    ensures knows { Knows S.Store tx.old tx.new result (λ packages c. AreTeamsSound c
-        → packages.items
+    ensures { Knows S.Store tx.old tx.new result
+        (λ packages c. AreTeamsSound c → packages.items
         ≡ levels_in c caller.now (λ p. is_own (access_of c) caller.now p (scope_of p))) }
 {
     match caller {
@@ -74,15 +69,13 @@ fn load_user_packages<S: Alter>(
     caller: &Caller,
     user: &Ident,
 ) -> Result<Vec<PackageLevel>, Fault>
-    requires in_form { InForm S.Store tx.old }
     requires user { caller.now ≡ asker.User user.now }
-    ensures stays { Stays S.Store tx.old tx.new }
-    ensures loads { Loads S.Store tx.old tx.new result (λ packages c. AreTeamsSound c
-        → packages.items
+    ensures { Finds S.Store tx.old tx.new result
+        (λ packages c. AreTeamsSound c → packages.items
         ≡ levels_in c caller.now (λ p. is_own (access_of c) caller.now p (scope_of p))) }
 {
     let mut packages = load_unscoped(alloc, tx, user)?;
-    let organisations = load_user_organisations(alloc, tx, user.text())?;
+    let organisations = load_user_organisations(alloc, tx, user)?;
     add_scopes(alloc, tx, caller, organisations, &mut packages)?;
     in_order(alloc, packages)
 }
@@ -93,12 +86,10 @@ fn load_unscoped<S: Alter>(
     tx: &mut Transaction<'_, S>,
     user: &Ident,
 ) -> Result<Vec<PackageLevel>, Fault>
-    requires in_form { InForm S.Store tx.old }
-    ensures stays { Stays S.Store tx.old tx.new }
-    ensures loads { Loads S.Store tx.old tx.new result
+    ensures { Finds S.Store tx.old tx.new result
         (λ packages c. packages.items ≡ unscoped_levels c user.now) }
 {
-    let names = load_maintained(alloc, tx, user.text())?;
+    let names = load_maintained(alloc, tx, user)?;
     written(alloc, names)
 }
 
@@ -136,10 +127,8 @@ fn add_scopes<S: Alter>(
     organisations: Vec<Text>,
     packages: &mut Vec<PackageLevel>,
 ) -> Result<(), Fault>
-    requires in_form { InForm S.Store tx.old }
-    ensures stays { Stays S.Store tx.old tx.new }
-    ensures knows { Knows S.Store tx.old tx.new result (λ done c. AreTeamsSound c
-        → packages.new.items
+    ensures { Knows S.Store tx.old tx.new result
+        (λ done c. AreTeamsSound c → packages.new.items
         ≡ packages.old.items ++ scopes_levels c caller.now organisations.items) }
 {
     for organisation in organisations {
@@ -185,13 +174,11 @@ fn load_caller_role<S: Alter>(
     caller: &Caller,
     organisation: &Ident,
 ) -> Result<Option<Role>, Fault>
-    requires in_form { InForm S.Store tx.old }
-    ensures stays { Stays S.Store tx.old tx.new }
-    ensures knows { Knows S.Store tx.old tx.new result
+    ensures { Knows S.Store tx.old tx.new result
         (λ role c. role ≡ role_of (access_of c) caller.now organisation.now) }
 {
     match caller {
-        Caller::User(user) => load_role(tx, organisation.text(), user.text()),
+        Caller::User(user) => load_role(tx, organisation, user),
         Caller::Operator | Caller::Anonymous => Ok(None),
     }
 }
@@ -205,10 +192,8 @@ fn with_levels<S: Alter>(
     role: Option<Role>,
     packages: Vec<ListedPackage>,
 ) -> Result<Vec<PackageLevel>, Fault>
-    requires in_form { InForm S.Store tx.old }
-    ensures stays { Stays S.Store tx.old tx.new }
-    ensures knows { Knows S.Store tx.old tx.new result (λ levels c. AreTeamsSound c
-        → AllByRecursion (IsListedFor c caller.now role) packages.items
+    ensures { Knows S.Store tx.old tx.new result
+        (λ levels c. AreTeamsSound c → AllByRecursion (IsListedFor c caller.now role) packages.items
         → levels.items ≡ levels_on c caller.now (map listed_name packages.items)) }
 {
     let mut levels = Vec::new(alloc);
@@ -240,11 +225,9 @@ fn level_on<S: Alter>(
     role: Option<Role>,
     listed: &ListedPackage,
 ) -> Result<Level, Fault>
-    requires in_form { InForm S.Store tx.old }
-    ensures stays { Stays S.Store tx.old tx.new }
-    ensures knows { Knows S.Store tx.old tx.new result (λ level c. AreTeamsSound c
-        → IsListedFor c caller.now role listed.now
-        → level ≡ level_in (access_of c) caller.now listed.now.name) }
+    ensures { Knows S.Store tx.old tx.new result
+        (λ level c. AreTeamsSound c → IsListedFor c caller.now role listed.now → level
+        ≡ level_in (access_of c) caller.now listed.now.name) }
 {
     if matches!(role, Some(Role::Owner | Role::Admin)) {
         return Ok(Level::Write);
@@ -262,11 +245,10 @@ fn load_level<S: Alter>(
     name: &Name,
     status: Status,
 ) -> Result<Level, Fault>
-    requires in_form { InForm S.Store tx.old }
-    ensures stays { Stays S.Store tx.old tx.new }
-    ensures knows { Knows S.Store tx.old tx.new result (λ level c. AreTeamsSound c
-        → IsListedFor c caller.now role (record { name = name.now; status = status })
-        → level ≡ level_in (access_of c) caller.now name.now) }
+    ensures { Knows S.Store tx.old tx.new result
+        (λ level c. AreTeamsSound c
+        → IsListedFor c caller.now role (record { name = name.now; status = status }) → level
+        ≡ level_in (access_of c) caller.now name.now) }
 {
     let maintainer = maintains(tx, caller, name)?;
     let grants = load_granted(alloc, tx, caller, name, role, maintainer)?;

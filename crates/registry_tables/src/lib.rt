@@ -23,8 +23,8 @@ mod needs;
 mod numbers;
 mod organisations;
 mod packages;
+mod passing;
 mod queries;
-mod rows;
 mod schema;
 mod scopes;
 mod spent;
@@ -66,7 +66,7 @@ pub use crate::team_members::{is_in_team, load_team_users};
 pub use crate::team_packages::load_team_packages;
 pub use crate::teams::{has_team, load_teams};
 pub use crate::tokens::{load_token_user, load_user_tokens};
-pub use crate::users::{has_user, load_users};
+pub use crate::users::{has_nameless_user, has_user, load_users};
 pub use crate::versions::{
     DocumentRow, has_live, has_version, load_document, load_live, load_live_since, load_published,
     load_times, put_version,

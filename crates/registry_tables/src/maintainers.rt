@@ -1,18 +1,17 @@
 //! The table `owners`: the maintainers of every package.
 
-ghost use Rattle.std.specs.Prelude.{◌≡◌, is_some, not};
+ghost use Rattle.std.specs.Prelude.{⊤, ◌≡◌, is_some, not};
 ghost use Rattle.std.specs.List.{list_any};
 ghost use Rattle.registry_names.specs.Maps.{at, erase, keys, of, put};
 ghost use Rattle.registry_names.specs.Texts.{is};
-ghost use Rattle.registry_rows.specs.Frames.{Stays};
 ghost use Rattle.registry_rules.specs.State as spec;
 ghost use Rattle.registry_tables.specs.Changes.{IsFree};
 ghost use Rattle.registry_tables.specs.Contents.{registry_of};
-ghost use Rattle.registry_tables.specs.Effects.{InForm, Makes, OnlyWhere, Loads};
+ghost use Rattle.registry_tables.specs.Inside.{Finds, Makes};
 ghost use Rattle.registry_tables.specs.Levels.{firsts_of};
 
 use crate::queries::{has, texts};
-use registry_names::{Fault, Name, Text};
+use registry_names::{Fault, Ident, Name, Text};
 use registry_rows::write;
 use sqlite::{Alter, Transaction, params};
 use std::alloc::Global;
@@ -21,17 +20,15 @@ use std::alloc::Global;
 pub fn is_maintainer<S: Alter>(
     tx: &mut Transaction<'_, S>,
     name: &Name,
-    user: &str,
+    user: &Ident,
 ) -> Result<bool, Fault>
-    requires in_form { InForm S.Store tx.old }
-    ensures stays { Stays S.Store tx.old tx.new }
-    ensures loads { Loads S.Store tx.old tx.new result
+    ensures { Finds S.Store tx.old tx.new result
         (λ is c. is ≡ is_some (at c.owners (name.now, user.now))) }
 {
     has(
         tx,
         "SELECT user FROM owners WHERE package = ?1 AND user = ?2",
-        params![name.text(), user],
+        params![name.text(), user.text()],
     )
 }
 
@@ -40,15 +37,13 @@ pub fn has_other_maintainer<S: Alter>(
     alloc: Global,
     tx: &mut Transaction<'_, S>,
     name: &Name,
-    user: &str,
+    user: &Ident,
 ) -> Result<bool, Fault>
-    requires in_form { InForm S.Store tx.old }
-    ensures stays { Stays S.Store tx.old tx.new }
-    ensures loads { Loads S.Store tx.old tx.new result
+    ensures { Finds S.Store tx.old tx.new result
         (λ has c. has ≡ spec.has_other_maintainer (registry_of c) name.now user.now) }
 {
     let maintainers = load_maintainers(alloc, tx, name)?;
-    Ok(maintained_by_another(&maintainers, user))
+    Ok(maintained_by_another(&maintainers, user.text()))
 }
 
 /// The maintainers of a package, in byte order.
@@ -57,9 +52,7 @@ pub fn load_maintainers<S: Alter>(
     tx: &mut Transaction<'_, S>,
     name: &Name,
 ) -> Result<Vec<Text>, Fault>
-    requires in_form { InForm S.Store tx.old }
-    ensures stays { Stays S.Store tx.old tx.new }
-    ensures loads { Loads S.Store tx.old tx.new result
+    ensures { Finds S.Store tx.old tx.new result
         (λ users c. users.items ≡ keys (of c.owners name.now)) }
 {
     texts(
@@ -74,18 +67,16 @@ pub fn load_maintainers<S: Alter>(
 pub(crate) fn load_maintained<S: Alter>(
     alloc: Global,
     tx: &mut Transaction<'_, S>,
-    user: &str,
+    user: &Ident,
 ) -> Result<Vec<Text>, Fault>
-    requires in_form { InForm S.Store tx.old }
-    ensures stays { Stays S.Store tx.old tx.new }
-    ensures loads { Loads S.Store tx.old tx.new result
+    ensures { Finds S.Store tx.old tx.new result
         (λ packages c. packages.items ≡ firsts_of c.owners user.now) }
 {
     texts(
         alloc,
         tx,
         "SELECT package FROM owners WHERE user = ?1 ORDER BY package, user",
-        params![user],
+        params![user.text()],
     )
 }
 
@@ -111,12 +102,9 @@ pub(crate) fn put_owner<S: Alter>(
     name: &str,
     user: &str,
 ) -> Result<(), Fault>
-    requires in_form { InForm S.Store tx.old }
-    ensures stays { Stays S.Store tx.old tx.new }
-    ensures makes { Makes S.Store tx.old tx.new result
+    ensures { Makes S.Store tx.old tx.new result
+        (λ _ c. IsFree c.owners (name.now, user.now))
         (λ c. record c { owners = put c.owners (name.now, user.now) tt }) }
-    ensures was_new { OnlyWhere S.Store tx.old tx.new result
-        (λ c. IsFree c.owners (name.now, user.now)) }
 {
     write(
         tx,
@@ -131,9 +119,8 @@ pub(crate) fn drop_owner<S: Alter>(
     name: &str,
     user: &str,
 ) -> Result<(), Fault>
-    requires in_form { InForm S.Store tx.old }
-    ensures stays { Stays S.Store tx.old tx.new }
-    ensures makes { Makes S.Store tx.old tx.new result
+    ensures { Makes S.Store tx.old tx.new result
+        (λ _ _. ⊤)
         (λ c. record c { owners = erase c.owners (name.now, user.now) }) }
 {
     write(

@@ -1,25 +1,22 @@
 //! The table `members`: the members of every organisation, each with their role.
 
-ghost use Rattle.std.specs.Prelude.{◌≡◌, ◌&&◌, IfOk, Some, map, not};
+ghost use Rattle.std.specs.Prelude.{⊤, ◌≡◌, ◌&&◌, IfOk, Some, map, not};
 ghost use Rattle.std.specs.List.{list_any};
 ghost use Rattle.registry_access.specs.declared.role.Role.{Role as Rank};
 ghost use Rattle.registry_access.specs.Levels.{is_owner};
-ghost use Rattle.registry_names.specs.Maps.{at, of};
+ghost use Rattle.registry_names.specs.Maps.{at, of, put};
 ghost use Rattle.registry_names.specs.Texts.{Text as Bytes, is};
-ghost use Rattle.registry_rows.specs.Frames.{Stays};
 ghost use Rattle.registry_rules.specs.State as spec;
-ghost use Rattle.registry_tables.specs.Changes.{IsFreeUnless, with_row};
 ghost use Rattle.registry_tables.specs.Contents.{access_of, registry_of};
-ghost use Rattle.registry_tables.specs.Effects.{InForm, Makes, OnlyWhere, Loads};
+ghost use Rattle.registry_tables.specs.Inside.{Finds, Makes};
 ghost use Rattle.registry_tables.specs.Levels.{firsts_of};
 ghost use Rattle.registry_tables.specs.Numbers.{role_number};
 ghost use Rattle.registry_tables.specs.Spelled.{member_entry, member_spelled, role_spelled};
 ghost use Rattle.registry_tables.specs.Teams.{without_member};
 
 use crate::queries::{find, list, texts};
-use crate::rows::set_row;
 use registry_access::Role;
-use registry_names::{Fault, Text};
+use registry_names::{Fault, Ident, Text};
 use registry_packument::Member;
 use registry_rows::{RowKind, write};
 use sqlite::{Alter, Error, Row, Transaction, params};
@@ -28,18 +25,28 @@ use std::alloc::Global;
 /// The role of a user in an organisation. `None` where they aren't a member of it.
 pub fn load_role<S: Alter>(
     tx: &mut Transaction<'_, S>,
-    organisation: &str,
-    user: &str,
+    organisation: &Ident,
+    user: &Ident,
 ) -> Result<Option<Role>, Fault>
-    requires in_form { InForm S.Store tx.old }
-    ensures stays { Stays S.Store tx.old tx.new }
-    ensures loads { Loads S.Store tx.old tx.new result
+    ensures { Finds S.Store tx.old tx.new result
+        (λ role c. role ≡ at (access_of c).roles (organisation.now, user.now)) }
+{
+    find_role(tx, organisation.text(), user)
+}
+
+/// The same of an organisation by its text.
+pub(crate) fn find_role<S: Alter>(
+    tx: &mut Transaction<'_, S>,
+    organisation: &str,
+    user: &Ident,
+) -> Result<Option<Role>, Fault>
+    ensures { Finds S.Store tx.old tx.new result
         (λ role c. role ≡ at (access_of c).roles (organisation.now, user.now)) }
 {
     find::<RoleRow, S>(
         tx,
         "SELECT role FROM members WHERE org = ?1 AND user = ?2",
-        params![organisation, user],
+        params![organisation, user.text()],
     )
 }
 
@@ -47,19 +54,16 @@ pub fn load_role<S: Alter>(
 pub fn load_members<S: Alter>(
     alloc: Global,
     tx: &mut Transaction<'_, S>,
-    organisation: &str,
+    organisation: &Ident,
 ) -> Result<Vec<Member>, Fault>
-    requires in_form { InForm S.Store tx.old }
-    ensures stays { Stays S.Store tx.old tx.new }
-    ensures loads { Loads S.Store tx.old tx.new result
-        (λ members c. map member_entry members.items
-        ≡ of (access_of c).roles organisation.now) }
+    ensures { Finds S.Store tx.old tx.new result
+        (λ members c. map member_entry members.items ≡ of (access_of c).roles organisation.now) }
 {
     list::<ListedMember, S>(
         alloc,
         tx,
         "SELECT user, role FROM members WHERE org = ?1 ORDER BY user",
-        params![organisation],
+        params![organisation.text()],
     )
 }
 
@@ -67,18 +71,16 @@ pub fn load_members<S: Alter>(
 pub(crate) fn load_user_organisations<S: Alter>(
     alloc: Global,
     tx: &mut Transaction<'_, S>,
-    user: &str,
+    user: &Ident,
 ) -> Result<Vec<Text>, Fault>
-    requires in_form { InForm S.Store tx.old }
-    ensures stays { Stays S.Store tx.old tx.new }
-    ensures loads { Loads S.Store tx.old tx.new result
+    ensures { Finds S.Store tx.old tx.new result
         (λ organisations c. organisations.items ≡ firsts_of c.members user.now) }
 {
     texts(
         alloc,
         tx,
         "SELECT org FROM members WHERE user = ?1 ORDER BY org, user",
-        params![user],
+        params![user.text()],
     )
 }
 
@@ -86,16 +88,14 @@ pub(crate) fn load_user_organisations<S: Alter>(
 pub fn has_other_owner<S: Alter>(
     alloc: Global,
     tx: &mut Transaction<'_, S>,
-    organisation: &str,
-    user: &str,
+    organisation: &Ident,
+    user: &Ident,
 ) -> Result<bool, Fault>
-    requires in_form { InForm S.Store tx.old }
-    ensures stays { Stays S.Store tx.old tx.new }
-    ensures loads { Loads S.Store tx.old tx.new result
+    ensures { Finds S.Store tx.old tx.new result
         (λ has c. has ≡ spec.has_other_owner (registry_of c) organisation.now user.now) }
 {
     let members = load_members(alloc, tx, organisation)?;
-    Ok(owned_by_another(&members, user))
+    Ok(owned_by_another(&members, user.text()))
 }
 
 fn owned_by_another(members: &[Member], user: &str) -> bool
@@ -112,28 +112,22 @@ fn names(member: &Member, user: &str) -> bool
     member.user.as_str() == user
 }
 
-/// Gives a user this role in an organisation. The flag says whether they are a member already.
+/// Gives a user this role in an organisation, whatever they had there before.
 pub(crate) fn put_member<S: Alter>(
     tx: &mut Transaction<'_, S>,
     organisation: &str,
     user: &str,
     role: Role,
-    stands: bool,
 ) -> Result<(), Fault>
-    requires in_form { InForm S.Store tx.old }
-    ensures stays { Stays S.Store tx.old tx.new }
-    ensures makes { Makes S.Store tx.old tx.new result
+    ensures { Makes S.Store tx.old tx.new result
+        (λ _ _. ⊤)
         (λ c. record c {
-          members = with_row c.members (organisation.now, user.now) (role_number role) stands;
+          members = put c.members (organisation.now, user.now) (role_number role);
         }) }
-    ensures was_new { OnlyWhere S.Store tx.old tx.new result
-        (λ c. IsFreeUnless c.members (organisation.now, user.now) stands) }
 {
-    set_row(
+    write(
         tx,
-        stands,
-        "UPDATE members SET role = ?3 WHERE org = ?1 AND user = ?2",
-        "INSERT INTO members VALUES (?1, ?2, ?3)",
+        "INSERT INTO members VALUES (?1, ?2, ?3) ON CONFLICT (org, user) DO UPDATE SET role = ?3",
         params![organisation, user, number_of(role)],
     )
 }
@@ -144,9 +138,9 @@ pub(crate) fn drop_member<S: Alter>(
     organisation: &str,
     user: &str,
 ) -> Result<(), Fault>
-    requires in_form { InForm S.Store tx.old }
-    ensures stays { Stays S.Store tx.old tx.new }
-    ensures makes { Makes S.Store tx.old tx.new result (without_member organisation.now user.now) }
+    ensures { Makes S.Store tx.old tx.new result
+        (λ _ _. ⊤)
+        (without_member organisation.now user.now) }
 {
     write(
         tx,

@@ -1,19 +1,10 @@
 //! The table `need_ranges`: what every live version depends on.
 
-ghost use Rattle.std.specs.Prelude.{◌≡◌, IfOk, is_some};
-ghost use Rattle.std.specs.List.{list_any};
-ghost use Rattle.sqlite.specs.State.{HasCleanDisk};
-ghost use Rattle.registry_names.specs.Maps.{at};
-ghost use Rattle.registry_names.specs.Versions.{VersionParts};
-ghost use Rattle.registry_ranges.specs.Texts.{binds};
-ghost use Rattle.registry_rules.specs.Withdrawals.{is_depended};
-ghost use Rattle.registry_rows.specs.Frames.{Stays};
-ghost use Rattle.registry_tables.specs.Contents.{registry_of};
-ghost use Rattle.registry_tables.specs.Effects.{InForm, IsUnderWay, Makes, Loads, shown, stored_in};
-ghost use Rattle.registry_tables.specs.Needs.{HoldsNeeds, need_key, with_need, with_needs};
-ghost use Rattle.registry_tables.specs.Withdrawals.{ranges_on};
+ghost use Rattle.std.specs.Prelude.{⊤};
+ghost use Rattle.registry_tables.specs.Inside.{Finds, Makes, MayMake};
+ghost use Rattle.registry_tables.specs.Needs.{AreDependents, with_need, with_needs};
 
-use crate::queries::{has, texts};
+use crate::queries::texts;
 use registry_names::{Fault, Name, Text};
 use registry_publish::Need;
 use registry_rows::write;
@@ -22,89 +13,37 @@ use std::alloc::Global;
 
 /// Puts what a version depends on. A pair of a target and a range that is named twice is put once.
 ///
-/// Whether a need is there already is asked only of one whose target isn't above all before it. A
-/// manifest names each kind in rising order, so it is asked of no need where there is one kind.
-///
-/// No clause says so, but a version that doesn't live is a fault, except where nothing is listed,
-/// and so may be a need that the version has already.
+/// No clause says so, but a version that doesn't live is a fault, except where nothing is listed.
 pub fn put_needs<S: Alter>(
     tx: &mut Transaction<'_, S>,
     name: &str,
     version: &str,
     needs: &[Need],
 ) -> Result<(), Fault>
-    requires under_way { IsUnderWay S.Store tx.old }
-    ensures stays { Stays S.Store tx.old tx.new }
-    ensures makes { Makes S.Store tx.old tx.new result
+    ensures { MayMake S.Store tx.old tx.new result
+        (λ _ _. ⊤)
         (λ c. record c { need_ranges = with_needs c.need_ranges name.now version.now needs.now }) }
 {
-    let mut last = "";
     for need in needs {
-        let target = need.target.as_str();
-        let may_repeat = target <= last;
-        put_need(tx, name, version, need, may_repeat)?;
-        if !may_repeat {
-            last = target;
-        }
+        put_need(tx, name, version, need)?;
     }
     Ok(())
 }
 
-// Puts a need, unless it may be there already and is.
+// Puts a need. One that is there stays.
 fn put_need<S: Alter>(
     tx: &mut Transaction<'_, S>,
     name: &str,
     version: &str,
     need: &Need,
-    may_repeat: bool,
 ) -> Result<(), Fault>
-    requires under_way { IsUnderWay S.Store tx.old }
-    ensures stays { Stays S.Store tx.old tx.new }
-    ensures makes { Makes S.Store tx.old tx.new result
-        (λ c. record c { need_ranges = with_need c.need_ranges name.now version.now need.now }) }
-{
-    if !may_repeat {
-        return insert_need(tx, name, version, need);
-    }
-    if has_need(tx, name, version, need)? {
-        return Ok(());
-    }
-    insert_need(tx, name, version, need)
-}
-
-fn insert_need<S: Alter>(
-    tx: &mut Transaction<'_, S>,
-    name: &str,
-    version: &str,
-    need: &Need,
-) -> Result<(), Fault>
-    requires in_form { InForm S.Store tx.old }
-    ensures stays { Stays S.Store tx.old tx.new }
-    ensures makes { Makes S.Store tx.old tx.new result
+    ensures { Makes S.Store tx.old tx.new result
+        (λ _ _. ⊤)
         (λ c. record c { need_ranges = with_need c.need_ranges name.now version.now need.now }) }
 {
     write(
         tx,
-        "INSERT INTO need_ranges VALUES (?1, ?2, ?3, ?4)",
-        params![name, version, need.target.as_str(), need.range.as_str()],
-    )
-}
-
-// Whether the version has this need.
-fn has_need<S: Alter>(
-    tx: &mut Transaction<'_, S>,
-    name: &str,
-    version: &str,
-    need: &Need,
-) -> Result<bool, Fault>
-    requires in_form { InForm S.Store tx.old }
-    ensures stays { Stays S.Store tx.old tx.new }
-    ensures loads { Loads S.Store tx.old tx.new result
-        (λ has c. has ≡ is_some (at c.need_ranges (need_key name.now version.now need.now))) }
-{
-    has(
-        tx,
-        "SELECT target FROM need_ranges WHERE package = ?1 AND version = ?2 AND target = ?3 AND range = ?4",
+        "INSERT INTO need_ranges VALUES (?1, ?2, ?3, ?4) ON CONFLICT (package, version, target, range) DO NOTHING",
         params![name, version, need.target.as_str(), need.range.as_str()],
     )
 }
@@ -118,13 +57,7 @@ pub fn load_dependents<S: Alter>(
     tx: &mut Transaction<'_, S>,
     name: &Name,
 ) -> Result<Vec<Text>, Fault>
-    requires in_form { InForm S.Store tx.old }
-    ensures stays { Stays S.Store tx.old tx.new }
-    ensures loads { Loads S.Store tx.old tx.new result
-        (λ texts c. texts.items ≡ ranges_on c name.now) }
-    ensures depended { HasCleanDisk (shown S.Store tx.new) → HoldsNeeds (stored_in S.Store tx.old)
-        → IfOk result (λ texts. (v : VersionParts) → list_any (λ text. binds text v) texts.items
-        ≡ is_depended (registry_of (stored_in S.Store tx.old)) name.now v) }
+    ensures { Finds S.Store tx.old tx.new result (λ texts c. AreDependents texts.items c name.now) }
 {
     texts(
         alloc,

@@ -2,12 +2,11 @@
 
 ghost use Rattle.std.specs.Prelude.{◌≡◌, is_some};
 ghost use Rattle.registry_names.specs.Maps.{at, entries, keys, put};
-ghost use Rattle.registry_rows.specs.Frames.{Stays};
 ghost use Rattle.registry_tables.specs.Changes.{IsFree};
-ghost use Rattle.registry_tables.specs.Effects.{InForm, Makes, OnlyWhere, Loads};
+ghost use Rattle.registry_tables.specs.Inside.{Finds, Makes};
 
 use crate::queries::{has, texts};
-use registry_names::{Fault, Text};
+use registry_names::{Fault, Ident, Text};
 use registry_rows::write;
 use sqlite::{Alter, Transaction, params};
 use std::alloc::Global;
@@ -15,11 +14,20 @@ use std::alloc::Global;
 /// Whether there is an organisation of this name.
 pub fn has_organisation<S: Alter>(
     tx: &mut Transaction<'_, S>,
+    organisation: &Ident,
+) -> Result<bool, Fault>
+    ensures { Finds S.Store tx.old tx.new result
+        (λ has c. has ≡ is_some (at c.organisations organisation.now)) }
+{
+    is_organisation(tx, organisation.text())
+}
+
+/// The same of its text.
+pub(crate) fn is_organisation<S: Alter>(
+    tx: &mut Transaction<'_, S>,
     organisation: &str,
 ) -> Result<bool, Fault>
-    requires in_form { InForm S.Store tx.old }
-    ensures stays { Stays S.Store tx.old tx.new }
-    ensures loads { Loads S.Store tx.old tx.new result
+    ensures { Finds S.Store tx.old tx.new result
         (λ has c. has ≡ is_some (at c.organisations organisation.now)) }
 {
     has(
@@ -34,9 +42,7 @@ pub fn load_organisations<S: Alter>(
     alloc: Global,
     tx: &mut Transaction<'_, S>,
 ) -> Result<Vec<Text>, Fault>
-    requires in_form { InForm S.Store tx.old }
-    ensures stays { Stays S.Store tx.old tx.new }
-    ensures loads { Loads S.Store tx.old tx.new result
+    ensures { Finds S.Store tx.old tx.new result
         (λ names c. names.items ≡ keys (entries c.organisations)) }
 {
     texts(alloc, tx, "SELECT name FROM orgs ORDER BY name", &[])
@@ -47,12 +53,9 @@ pub(crate) fn add_organisation<S: Alter>(
     tx: &mut Transaction<'_, S>,
     organisation: &str,
 ) -> Result<(), Fault>
-    requires in_form { InForm S.Store tx.old }
-    ensures stays { Stays S.Store tx.old tx.new }
-    ensures makes { Makes S.Store tx.old tx.new result
+    ensures { Makes S.Store tx.old tx.new result
+        (λ _ c. IsFree c.organisations organisation.now)
         (λ c. record c { organisations = put c.organisations organisation.now tt }) }
-    ensures was_new { OnlyWhere S.Store tx.old tx.new result
-        (λ c. IsFree c.organisations organisation.now) }
 {
     write(tx, "INSERT INTO orgs VALUES (?1)", params![organisation])
 }

@@ -6,9 +6,8 @@ ghost use Rattle.registry_names.specs.Maps.{at, entries};
 ghost use Rattle.registry_names.specs.Tags.{latest};
 ghost use Rattle.registry_names.specs.Texts.{Text as Bytes};
 ghost use Rattle.registry_names.specs.declared.status.Status.{Status as Readers};
-ghost use Rattle.registry_rows.specs.Frames.{Stays};
 ghost use Rattle.registry_tables.specs.Contents.{access_of};
-ghost use Rattle.registry_tables.specs.Effects.{InForm, Knows, Loads};
+ghost use Rattle.registry_tables.specs.Inside.{Finds, Knows};
 ghost use Rattle.registry_tables.specs.Overviews.{is_after_scope, package_entry, package_spelled, packages_viewed, scope_statuses, viewed};
 
 use crate::queries::list;
@@ -27,9 +26,7 @@ pub fn load_packages<S: Alter>(
     alloc: Global,
     tx: &mut Transaction<'_, S>,
 ) -> Result<Vec<Overview>, Fault>
-    requires in_form { InForm S.Store tx.old }
-    ensures stays { Stays S.Store tx.old tx.new }
-    ensures loads { Loads S.Store tx.old tx.new result
+    ensures { Finds S.Store tx.old tx.new result
         (λ packages c. packages.items ≡ packages_viewed c) }
 {
     let packages = load_statuses(alloc, tx)?;
@@ -48,9 +45,7 @@ fn load_statuses<S: Alter>(
     alloc: Global,
     tx: &mut Transaction<'_, S>,
 ) -> Result<Vec<ListedPackage>, Fault>
-    requires in_form { InForm S.Store tx.old }
-    ensures stays { Stays S.Store tx.old tx.new }
-    ensures loads { Loads S.Store tx.old tx.new result
+    ensures { Finds S.Store tx.old tx.new result
         (λ packages c. map package_entry packages.items ≡ entries (access_of c).statuses) }
 {
     list::<ListedPackage, S>(
@@ -67,9 +62,7 @@ pub(crate) fn load_scope_statuses<S: Alter>(
     tx: &mut Transaction<'_, S>,
     organisation: &Ident,
 ) -> Result<Vec<ListedPackage>, Fault>
-    requires in_form { InForm S.Store tx.old }
-    ensures stays { Stays S.Store tx.old tx.new }
-    ensures loads { Loads S.Store tx.old tx.new result
+    ensures { Finds S.Store tx.old tx.new result
         (λ packages c. map package_entry packages.items ≡ scope_statuses c organisation.now) }
 {
     let scope = scoped(alloc, organisation, "")?;
@@ -87,12 +80,10 @@ fn load_after_scope<S: Alter>(
     tx: &mut Transaction<'_, S>,
     organisation: &Ident,
 ) -> Result<Vec<ListedPackage>, Fault>
-    requires in_form { InForm S.Store tx.old }
-    ensures stays { Stays S.Store tx.old tx.new }
-    ensures loads { Loads S.Store tx.old tx.new result (λ packages c.
-        map package_entry packages.items
-        ≡ filter (λ (e : Bytes × Readers). is_after_scope organisation.now e.0)
-        (entries (access_of c).statuses)) }
+    ensures { Finds S.Store tx.old tx.new result
+        (λ packages c. map package_entry packages.items
+        ≡ filter (λ (e : Bytes
+        × Readers). is_after_scope organisation.now e.0) (entries (access_of c).statuses)) }
 {
     let first = scoped(alloc, organisation, "/")?;
     let end = scoped(alloc, organisation, "0")?;
@@ -140,9 +131,7 @@ fn with_latest<S: Alter>(
     tx: &mut Transaction<'_, S>,
     packages: Vec<ListedPackage>,
 ) -> Result<Vec<Overview>, Fault>
-    requires in_form { InForm S.Store tx.old }
-    ensures stays { Stays S.Store tx.old tx.new }
-    ensures knows { Knows S.Store tx.old tx.new result
+    ensures { Knows S.Store tx.old tx.new result
         (λ rows c. rows.items ≡ map (λ p. viewed c (package_entry p)) packages.items) }
 {
     let mut rows = Vec::new(alloc);
@@ -159,10 +148,7 @@ fn overview<S: Alter>(
     tx: &mut Transaction<'_, S>,
     listed: ListedPackage,
 ) -> Result<Overview, Fault>
-    requires in_form { InForm S.Store tx.old }
-    ensures stays { Stays S.Store tx.old tx.new }
-    ensures loads { Loads S.Store tx.old tx.new result
-        (λ row c. row ≡ viewed c (package_entry listed)) }
+    ensures { Finds S.Store tx.old tx.new result (λ row c. row ≡ viewed c (package_entry listed)) }
 {
     let ListedPackage { name, status } = listed;
     let latest = load_latest(alloc, tx, &name)?;
@@ -179,9 +165,7 @@ fn load_latest<S: Alter>(
     tx: &mut Transaction<'_, S>,
     name: &Text,
 ) -> Result<Option<Text>, Fault>
-    requires in_form { InForm S.Store tx.old }
-    ensures stays { Stays S.Store tx.old tx.new }
-    ensures loads { Loads S.Store tx.old tx.new result
+    ensures { Finds S.Store tx.old tx.new result
         (λ version c. version ≡ at c.tags (name.now, latest)) }
 {
     let name = read_back(Name::parse(alloc, name.as_str()))?;

@@ -1,12 +1,12 @@
 //! Queries: whether a row is shown, what the first row spells, and what all rows spell.
 
-ghost use Rattle.std.specs.Prelude.{◌≡◌, Bool, IfOk, List, Option, map, option_map};
+ghost use Rattle.std.specs.Prelude.{◌≡◌, Bool, List, Option, map, option_map};
 ghost use Rattle.sqlite.specs.Values.{bound};
 ghost use Rattle.registry_names.specs.Texts.{Text as Bytes};
-ghost use Rattle.registry_rows.specs.Frames.{Stays};
-ghost use Rattle.registry_rows.specs.Ready.{Queried};
-ghost use Rattle.registry_tables.specs.Effects.{InForm, Loads, shown};
-ghost use Rattle.registry_tables.specs.Queries.{IsQuery, ShowsAll, ShowsFirst, ShowsWhether};
+ghost use Rattle.registry_tables.specs.Contents.{Contents};
+ghost use Rattle.registry_tables.specs.Effects.{shown};
+ghost use Rattle.registry_tables.specs.Inside.{Finds};
+ghost use Rattle.registry_tables.specs.Queries.{HasShown, IsQuery, ShowsAll, ShowsFirst, ShowsWhether};
 ghost use Rattle.registry_tables.specs.Teams.{text_spelled};
 
 use crate::texts::TextRow;
@@ -22,11 +22,9 @@ pub(crate) fn query<S: Alter>(
     text: &str,
     params: &[ValueRef<'_>],
 ) -> Result<Vec<Row>, Fault>
-    requires in_form { InForm S.Store tx.old }
-    requires query { IsQuery text.now }
-    ensures stays { Stays S.Store tx.old tx.new }
-    ensures shown { IfOk result (λ rows. Queried text.now (bound params.now)
-        (shown S.Store tx.old) (shown S.Store tx.new) rows.items) }
+    ensures { IsQuery text.now → Finds S.Store tx.old tx.new result
+        (λ rows c. HasShown text.now (bound params.now) (shown S.Store tx.old)
+        (shown S.Store tx.new) c rows.items) }
 {
     read(tx, text, params)
 }
@@ -37,12 +35,9 @@ pub(crate) fn has<S: Alter>(
     text: &str,
     params: &[ValueRef<'_>],
 ) -> Result<bool, Fault>
-    requires in_form { InForm S.Store tx.old }
-    requires query { IsQuery text.now }
-    ensures stays { Stays S.Store tx.old tx.new }
-    ensures loads { (is : Bool) → ShowsWhether text.now (bound params.now)
-        (shown S.Store tx.old) (shown S.Store tx.new) is
-        → Loads S.Store tx.old tx.new result (λ has c. has ≡ is) }
+    ensures { (is : Contents → Bool) → IsQuery text.now
+        → ShowsWhether text.now (bound params.now) (shown S.Store tx.old) (shown S.Store tx.new) is
+        → Finds S.Store tx.old tx.new result (λ has c. has ≡ is c) }
 {
     let rows = query(tx, text, params)?;
     Ok(!rows.is_empty())
@@ -54,12 +49,10 @@ pub(crate) fn find<K: RowKind, S: Alter>(
     text: &str,
     params: &[ValueRef<'_>],
 ) -> Result<Option<K::Value>, Fault>
-    requires in_form { InForm S.Store tx.old }
-    requires query { IsQuery text.now }
-    ensures stays { Stays S.Store tx.old tx.new }
-    ensures loads { (first : Option K.Seen) → ShowsFirst text.now (bound params.now)
-        (shown S.Store tx.old) (shown S.Store tx.new) K.spelled first
-        → Loads S.Store tx.old tx.new result (λ found c. option_map K.seen found ≡ first) }
+    ensures { (first : Contents → Option K.Seen) → IsQuery text.now
+        → ShowsFirst text.now (bound params.now) (shown S.Store tx.old) (shown S.Store tx.new)
+        K.spelled first
+        → Finds S.Store tx.old tx.new result (λ found c. option_map K.seen found ≡ first c) }
 {
     let rows = query(tx, text, params)?;
     value_of_first_row::<K>(&rows)
@@ -72,12 +65,10 @@ pub(crate) fn list<K: RowKind, S: Alter>(
     text: &str,
     params: &[ValueRef<'_>],
 ) -> Result<Vec<K::Value>, Fault>
-    requires in_form { InForm S.Store tx.old }
-    requires query { IsQuery text.now }
-    ensures stays { Stays S.Store tx.old tx.new }
-    ensures loads { (all : List K.Seen) → ShowsAll text.now (bound params.now)
-        (shown S.Store tx.old) (shown S.Store tx.new) K.spelled all
-        → Loads S.Store tx.old tx.new result (λ values c. map K.seen values.items ≡ all) }
+    ensures { (all : Contents → List K.Seen) → IsQuery text.now
+        → ShowsAll text.now (bound params.now) (shown S.Store tx.old) (shown S.Store tx.new)
+        K.spelled all
+        → Finds S.Store tx.old tx.new result (λ values c. map K.seen values.items ≡ all c) }
 {
     let rows = query(tx, text, params)?;
     values_of_rows::<K>(alloc, &rows)
@@ -90,12 +81,10 @@ pub(crate) fn texts<S: Alter>(
     text: &str,
     params: &[ValueRef<'_>],
 ) -> Result<Vec<Text>, Fault>
-    requires in_form { InForm S.Store tx.old }
-    requires query { IsQuery text.now }
-    ensures stays { Stays S.Store tx.old tx.new }
-    ensures loads { (all : List Bytes) → ShowsAll text.now (bound params.now)
-        (shown S.Store tx.old) (shown S.Store tx.new) text_spelled all
-        → Loads S.Store tx.old tx.new result (λ texts c. texts.items ≡ all) }
+    ensures { (all : Contents → List Bytes) → IsQuery text.now
+        → ShowsAll text.now (bound params.now) (shown S.Store tx.old) (shown S.Store tx.new)
+        text_spelled all
+        → Finds S.Store tx.old tx.new result (λ texts c. texts.items ≡ all c) }
 {
     list::<TextRow, S>(alloc, tx, text, params)
 }

@@ -3,12 +3,11 @@
 ghost use Rattle.std.specs.Prelude.{◌≡◌, ◌≤◌, is_some, pos};
 ghost use Rattle.registry_names.specs.Maps.{at, of, put};
 ghost use Rattle.registry_names.specs.Moments.{last_second};
-ghost use Rattle.registry_rows.specs.Frames.{Stays};
 ghost use Rattle.registry_rules.specs.Moments.{spent_publications};
 ghost use Rattle.registry_rules.specs.Withdrawals.{last_withdrawal};
 ghost use Rattle.registry_tables.specs.Changes.{IsFree};
 ghost use Rattle.registry_tables.specs.Contents.{registry_of};
-ghost use Rattle.registry_tables.specs.Effects.{InForm, Makes, OnlyWhere, Loads};
+ghost use Rattle.registry_tables.specs.Inside.{Finds, Makes};
 
 use crate::moments::{SecondMoment, last_moment};
 use crate::queries::{has, list, query};
@@ -23,9 +22,7 @@ pub fn is_spent<S: Alter>(
     name: &Name,
     version: &str,
 ) -> Result<bool, Fault>
-    requires in_form { InForm S.Store tx.old }
-    ensures stays { Stays S.Store tx.old tx.new }
-    ensures loads { Loads S.Store tx.old tx.new result
+    ensures { Finds S.Store tx.old tx.new result
         (λ spent c. spent ≡ is_some (at (registry_of c).spent (name.now, version.now))) }
 {
     has_withdrawal(tx, name, version)
@@ -37,9 +34,7 @@ pub(crate) fn has_withdrawal<S: Alter>(
     name: &Name,
     version: &str,
 ) -> Result<bool, Fault>
-    requires in_form { InForm S.Store tx.old }
-    ensures stays { Stays S.Store tx.old tx.new }
-    ensures loads { Loads S.Store tx.old tx.new result
+    ensures { Finds S.Store tx.old tx.new result
         (λ has c. has ≡ is_some (at c.spent (name.now, version.now))) }
 {
     has(
@@ -54,9 +49,7 @@ pub fn load_last_withdrawal<S: Alter>(
     tx: &mut Transaction<'_, S>,
     name: &Name,
 ) -> Result<Option<Moment>, Fault>
-    requires in_form { InForm S.Store tx.old }
-    ensures stays { Stays S.Store tx.old tx.new }
-    ensures loads { Loads S.Store tx.old tx.new result
+    ensures { Finds S.Store tx.old tx.new result
         (λ last c. last ≡ last_withdrawal (registry_of c) name.now) }
 {
     let rows = query(
@@ -73,9 +66,7 @@ pub fn load_spent_publications<S: Alter>(
     tx: &mut Transaction<'_, S>,
     name: &Name,
 ) -> Result<Vec<Moment>, Fault>
-    requires in_form { InForm S.Store tx.old }
-    ensures stays { Stays S.Store tx.old tx.new }
-    ensures loads { Loads S.Store tx.old tx.new result
+    ensures { Finds S.Store tx.old tx.new result
         (λ moments c. moments.items ≡ spent_publications (of (registry_of c).spent name.now)) }
 {
     list::<SecondMoment, S>(
@@ -92,25 +83,27 @@ pub fn load_spent_publications<S: Alter>(
 /// One that was withdrawn already is a fault, and so is a package without a status.
 pub(crate) fn put_withdrawal<S: Alter>(
     tx: &mut Transaction<'_, S>,
-    name: &str,
+    name: &Name,
     version: &str,
     published: Moment,
     withdrawn: Moment,
 ) -> Result<(), Fault>
-    requires in_form { InForm S.Store tx.old }
-    ensures stays { Stays S.Store tx.old tx.new }
     ensures makes { Makes S.Store tx.old tx.new result
+        (λ _ c. IsFree c.spent (name.now, version.now))
         (λ c. record c {
           spent = put c.spent (name.now, version.now)
               (record { published = pos published; withdrawn = pos withdrawn });
         }) }
-    ensures was_new { OnlyWhere S.Store tx.old tx.new result
-        (λ c. IsFree c.spent (name.now, version.now)) }
     ensures in_time { (published ≤ last_second) × (withdrawn ≤ last_second) }
 {
     write(
         tx,
         "INSERT INTO spent VALUES (?1, ?2, ?3, ?4)",
-        params![name, version, published.seconds(), withdrawn.seconds()],
+        params![
+            name.text(),
+            version,
+            published.seconds(),
+            withdrawn.seconds()
+        ],
     )
 }

@@ -6,15 +6,14 @@ ghost use Rattle.registry_access.specs.Levels.{is_owner_or_admin};
 ghost use Rattle.registry_access.specs.Positions as positions;
 ghost use Rattle.registry_access.specs.RowsFor.{TellsFor, is_owners, is_public, is_read};
 ghost use Rattle.registry_names.specs.Names.{scope_of};
-ghost use Rattle.registry_rows.specs.Frames.{Stays};
 ghost use Rattle.registry_tables.specs.Contents.{access_of};
-ghost use Rattle.registry_tables.specs.Effects.{InForm, Knows, Loads};
+ghost use Rattle.registry_tables.specs.Inside.{Finds, Knows};
 ghost use Rattle.registry_tables.specs.Teams.{AreGrantedTo, AreTeamsSound};
 
 use crate::grants::load_grants;
 use crate::maintainers::is_maintainer;
-use crate::members::load_role;
-use crate::organisations::has_organisation;
+use crate::members::find_role;
+use crate::organisations::is_organisation;
 use crate::statuses::load_status;
 use registry_access::{Ask, Caller, Grant, Role, Standing};
 use registry_names::{Fault, Name, Status};
@@ -36,9 +35,8 @@ pub fn load_standing<S: Alter>(
     name: &Name,
     ask: &Ask<'_>,
 ) -> Result<Standing, Fault>
-    requires in_form { InForm S.Store tx.old }
-    ensures stays { Stays S.Store tx.old tx.new }
-    ensures loads { Loads S.Store tx.old tx.new result (λ standing c. AreTeamsSound c
+    ensures { Finds S.Store tx.old tx.new result
+        (λ standing c. AreTeamsSound c
         → TellsFor ask.now standing (access_of c) caller.now name.now) }
 {
     let status = load_status(tx, name)?;
@@ -77,17 +75,16 @@ fn has_scope<S: Alter>(
     name: &Name,
     has_member: bool,
 ) -> Result<bool, Fault>
-    requires in_form { InForm S.Store tx.old }
-    ensures stays { Stays S.Store tx.old tx.new }
-    ensures knows { Knows S.Store tx.old tx.new result (λ there c.
-        (has_member ≡ true → positions.has_scope (access_of c) (scope_of name.now) ≡ true)
+    ensures { Knows S.Store tx.old tx.new result
+        (λ there c. (has_member ≡ true
+        → positions.has_scope (access_of c) (scope_of name.now) ≡ true)
         → there ≡ positions.has_scope (access_of c) (scope_of name.now)) }
 {
     if has_member {
         return Ok(true);
     }
     match name.scope() {
-        Some(organisation) => has_organisation(tx, organisation),
+        Some(organisation) => is_organisation(tx, organisation),
         None => Ok(false),
     }
 }
@@ -98,13 +95,11 @@ fn load_scope_role<S: Alter>(
     caller: &Caller,
     name: &Name,
 ) -> Result<Option<Role>, Fault>
-    requires in_form { InForm S.Store tx.old }
-    ensures stays { Stays S.Store tx.old tx.new }
-    ensures knows { Knows S.Store tx.old tx.new result (λ role c. role
-        ≡ positions.scope_role (access_of c) caller.now (scope_of name.now)) }
+    ensures { Knows S.Store tx.old tx.new result
+        (λ role c. role ≡ positions.scope_role (access_of c) caller.now (scope_of name.now)) }
 {
     match (caller, name.scope()) {
-        (Caller::User(user), Some(organisation)) => load_role(tx, organisation, user.text()),
+        (Caller::User(user), Some(organisation)) => find_role(tx, organisation, user),
         _ => Ok(None),
     }
 }
@@ -115,13 +110,11 @@ pub(crate) fn maintains<S: Alter>(
     caller: &Caller,
     name: &Name,
 ) -> Result<bool, Fault>
-    requires in_form { InForm S.Store tx.old }
-    ensures stays { Stays S.Store tx.old tx.new }
-    ensures knows { Knows S.Store tx.old tx.new result (λ is c. is
-        ≡ callers.is_maintainer (access_of c) caller.now name.now) }
+    ensures { Knows S.Store tx.old tx.new result
+        (λ is c. is ≡ callers.is_maintainer (access_of c) caller.now name.now) }
 {
     match caller {
-        Caller::User(user) => is_maintainer(tx, name, user.text()),
+        Caller::User(user) => is_maintainer(tx, name, user),
         Caller::Operator | Caller::Anonymous => Ok(false),
     }
 }
@@ -135,11 +128,9 @@ fn maintains_for<S: Alter>(
     ask: &Ask<'_>,
     role: Option<Role>,
 ) -> Result<bool, Fault>
-    requires in_form { InForm S.Store tx.old }
-    ensures stays { Stays S.Store tx.old tx.new }
-    ensures knows { Knows S.Store tx.old tx.new result (λ is c.
-        (is_owners ask.now || not (is_owner_or_admin role)) ≡ true
-        → is ≡ callers.is_maintainer (access_of c) caller.now name.now) }
+    ensures { Knows S.Store tx.old tx.new result
+        (λ is c. (is_owners ask.now || not (is_owner_or_admin role)) ≡ true → is
+        ≡ callers.is_maintainer (access_of c) caller.now name.now) }
 {
     if counts_maintainer(ask, role) {
         maintains(tx, caller, name)
@@ -165,14 +156,12 @@ pub(crate) fn load_granted<S: Alter>(
     role: Option<Role>,
     maintainer: bool,
 ) -> Result<Vec<Grant>, Fault>
-    requires in_form { InForm S.Store tx.old }
-    ensures stays { Stays S.Store tx.old tx.new }
-    ensures knows { Knows S.Store tx.old tx.new result (λ grants c.
-        AreGrantedTo c caller.now name.now role maintainer grants.items) }
+    ensures { Knows S.Store tx.old tx.new result
+        (λ grants c. AreGrantedTo c caller.now name.now role maintainer grants.items) }
 {
     match (caller, role, maintainer, name.scope()) {
         (Caller::User(user), Some(Role::Developer), false, Some(organisation)) => {
-            load_grants(alloc, tx, organisation, user.text(), name)
+            load_grants(alloc, tx, organisation, user, name)
         }
         _ => Ok(Vec::new(alloc)),
     }

@@ -1,17 +1,14 @@
 //! The table `packages`: every name that was ever published, and who may read it.
 
-ghost use Rattle.std.specs.Prelude.{◌≡◌, IfOk};
-ghost use Rattle.registry_names.specs.Maps.{at};
+ghost use Rattle.std.specs.Prelude.{⊤, ◌≡◌, IfOk};
+ghost use Rattle.registry_names.specs.Maps.{at, put};
 ghost use Rattle.registry_names.specs.declared.status.Status.{Status as Readers};
-ghost use Rattle.registry_rows.specs.Frames.{Stays};
-ghost use Rattle.registry_tables.specs.Changes.{IsFreeUnless, with_row};
 ghost use Rattle.registry_tables.specs.Contents.{access_of};
-ghost use Rattle.registry_tables.specs.Effects.{InForm, Makes, OnlyWhere, Loads};
+ghost use Rattle.registry_tables.specs.Inside.{Finds, Makes};
 ghost use Rattle.registry_tables.specs.Numbers.{status_number};
 ghost use Rattle.registry_tables.specs.Spelled.{status_spelled};
 
 use crate::queries::find;
-use crate::rows::set_row;
 use registry_names::{Fault, Name, Status};
 use registry_rows::{RowKind, write};
 use sqlite::{Alter, Error, Row, Transaction, params};
@@ -21,9 +18,7 @@ pub fn load_status<S: Alter>(
     tx: &mut Transaction<'_, S>,
     name: &Name,
 ) -> Result<Option<Status>, Fault>
-    requires in_form { InForm S.Store tx.old }
-    ensures stays { Stays S.Store tx.old tx.new }
-    ensures loads { Loads S.Store tx.old tx.new result
+    ensures { Finds S.Store tx.old tx.new result
         (λ status c. status ≡ at (access_of c).statuses name.now) }
 {
     find_status(tx, name.text())
@@ -34,9 +29,7 @@ pub(crate) fn find_status<S: Alter>(
     tx: &mut Transaction<'_, S>,
     name: &str,
 ) -> Result<Option<Status>, Fault>
-    requires in_form { InForm S.Store tx.old }
-    ensures stays { Stays S.Store tx.old tx.new }
-    ensures loads { Loads S.Store tx.old tx.new result
+    ensures { Finds S.Store tx.old tx.new result
         (λ status c. status ≡ at (access_of c).statuses name.now) }
 {
     find::<StatusRow, S>(
@@ -46,27 +39,19 @@ pub(crate) fn find_status<S: Alter>(
     )
 }
 
-/// Gives a package this status. The flag says whether it has one already.
+/// Gives a package this status, whatever it had before.
 pub(crate) fn put_status<S: Alter>(
     tx: &mut Transaction<'_, S>,
     name: &str,
     status: Status,
-    stands: bool,
 ) -> Result<(), Fault>
-    requires in_form { InForm S.Store tx.old }
-    ensures stays { Stays S.Store tx.old tx.new }
-    ensures makes { Makes S.Store tx.old tx.new result
-        (λ c. record c {
-          packages = with_row c.packages name.now (status_number status) stands;
-        }) }
-    ensures was_new { OnlyWhere S.Store tx.old tx.new result
-        (λ c. IsFreeUnless c.packages name.now stands) }
+    ensures { Makes S.Store tx.old tx.new result
+        (λ _ _. ⊤)
+        (λ c. record c { packages = put c.packages name.now (status_number status) }) }
 {
-    set_row(
+    write(
         tx,
-        stands,
-        "UPDATE packages SET status = ?2 WHERE name = ?1",
-        "INSERT INTO packages VALUES (?1, ?2)",
+        "INSERT INTO packages VALUES (?1, ?2) ON CONFLICT (name) DO UPDATE SET status = ?2",
         params![name, number_of(status)],
     )
 }

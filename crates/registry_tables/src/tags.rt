@@ -1,17 +1,14 @@
 //! The table `tags`: the dist-tags of every package. A tag names a live version.
 
-ghost use Rattle.std.specs.Prelude.{◌≡◌, is_some, map};
-ghost use Rattle.registry_names.specs.Maps.{at, erase, of};
+ghost use Rattle.std.specs.Prelude.{⊤, ◌≡◌, is_some, map};
+ghost use Rattle.registry_names.specs.Maps.{at, erase, of, put};
 ghost use Rattle.registry_names.specs.Texts.{Text as Bytes};
-ghost use Rattle.registry_rows.specs.Frames.{Stays};
 ghost use Rattle.registry_rules.specs.Withdrawals.{tags_of};
-ghost use Rattle.registry_tables.specs.Changes.{IsFreeUnless, with_row};
 ghost use Rattle.registry_tables.specs.Contents.{registry_of};
-ghost use Rattle.registry_tables.specs.Effects.{InForm, Makes, OnlyWhere, Loads};
+ghost use Rattle.registry_tables.specs.Inside.{Finds, Makes};
 ghost use Rattle.registry_tables.specs.Spelled.{tag_entry, tag_spelled};
 
 use crate::queries::{find, has, list, texts};
-use crate::rows::set_row;
 use crate::texts::TextRow;
 use registry_names::{DistTag, Fault, Name, Text};
 use registry_rows::{RowKind, write};
@@ -20,9 +17,7 @@ use std::alloc::Global;
 
 /// Whether the package has this tag.
 pub fn has_tag<S: Alter>(tx: &mut Transaction<'_, S>, name: &Name, tag: &str) -> Result<bool, Fault>
-    requires in_form { InForm S.Store tx.old }
-    ensures stays { Stays S.Store tx.old tx.new }
-    ensures loads { Loads S.Store tx.old tx.new result
+    ensures { Finds S.Store tx.old tx.new result
         (λ has c. has ≡ is_some (at c.tags (name.now, tag.now))) }
 {
     has(
@@ -38,9 +33,7 @@ pub fn load_tag<S: Alter>(
     name: &Name,
     tag: &str,
 ) -> Result<Option<Text>, Fault>
-    requires in_form { InForm S.Store tx.old }
-    ensures stays { Stays S.Store tx.old tx.new }
-    ensures loads { Loads S.Store tx.old tx.new result
+    ensures { Finds S.Store tx.old tx.new result
         (λ named c. named ≡ at c.tags (name.now, tag.now)) }
 {
     find::<TextRow, S>(
@@ -56,9 +49,7 @@ pub fn load_tags<S: Alter>(
     tx: &mut Transaction<'_, S>,
     name: &Name,
 ) -> Result<Vec<DistTag>, Fault>
-    requires in_form { InForm S.Store tx.old }
-    ensures stays { Stays S.Store tx.old tx.new }
-    ensures loads { Loads S.Store tx.old tx.new result
+    ensures { Finds S.Store tx.old tx.new result
         (λ tags c. map tag_entry tags.items ≡ of c.tags name.now) }
 {
     list::<ListedTag, S>(
@@ -76,9 +67,7 @@ pub fn load_version_tags<S: Alter>(
     name: &Name,
     version: &str,
 ) -> Result<Vec<Text>, Fault>
-    requires in_form { InForm S.Store tx.old }
-    ensures stays { Stays S.Store tx.old tx.new }
-    ensures loads { Loads S.Store tx.old tx.new result
+    ensures { Finds S.Store tx.old tx.new result
         (λ tags c. tags.items ≡ tags_of (registry_of c) name.now version.now) }
 {
     texts(
@@ -89,26 +78,20 @@ pub fn load_version_tags<S: Alter>(
     )
 }
 
-/// Lets a tag of a package name this version. The flag says whether the tag is there already.
+/// Lets a tag of a package name this version, whatever it named before.
 pub(crate) fn put_tag<S: Alter>(
     tx: &mut Transaction<'_, S>,
     name: &str,
     tag: &str,
     version: &str,
-    stands: bool,
 ) -> Result<(), Fault>
-    requires in_form { InForm S.Store tx.old }
-    ensures stays { Stays S.Store tx.old tx.new }
-    ensures makes { Makes S.Store tx.old tx.new result
-        (λ c. record c { tags = with_row c.tags (name.now, tag.now) version.now stands }) }
-    ensures was_new { OnlyWhere S.Store tx.old tx.new result
-        (λ c. IsFreeUnless c.tags (name.now, tag.now) stands) }
+    ensures { Makes S.Store tx.old tx.new result
+        (λ _ _. ⊤)
+        (λ c. record c { tags = put c.tags (name.now, tag.now) version.now }) }
 {
-    set_row(
+    write(
         tx,
-        stands,
-        "UPDATE tags SET version = ?3 WHERE package = ?1 AND tag = ?2",
-        "INSERT INTO tags VALUES (?1, ?2, ?3)",
+        "INSERT INTO tags VALUES (?1, ?2, ?3) ON CONFLICT (package, tag) DO UPDATE SET version = ?3",
         params![name, tag, version],
     )
 }
@@ -119,9 +102,8 @@ pub(crate) fn drop_tag<S: Alter>(
     name: &str,
     tag: &str,
 ) -> Result<(), Fault>
-    requires in_form { InForm S.Store tx.old }
-    ensures stays { Stays S.Store tx.old tx.new }
-    ensures makes { Makes S.Store tx.old tx.new result
+    ensures { Makes S.Store tx.old tx.new result
+        (λ _ _. ⊤)
         (λ c. record c { tags = erase c.tags (name.now, tag.now) }) }
 {
     write(

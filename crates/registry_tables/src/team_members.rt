@@ -1,15 +1,14 @@
 //! The table `team_members`: the members of every team. A member of a team is a member of its
 //! organisation.
 
-ghost use Rattle.std.specs.Prelude.{◌≡◌, is_some};
+ghost use Rattle.std.specs.Prelude.{⊤, ◌≡◌, is_some};
 ghost use Rattle.registry_names.specs.Maps.{at, erase, put};
-ghost use Rattle.registry_rows.specs.Frames.{Stays};
 ghost use Rattle.registry_tables.specs.Changes.{IsFree};
-ghost use Rattle.registry_tables.specs.Effects.{InForm, Makes, OnlyWhere, Loads};
+ghost use Rattle.registry_tables.specs.Inside.{Finds, Makes};
 ghost use Rattle.registry_tables.specs.Teams.{users_of};
 
 use crate::queries::{has, texts};
-use registry_names::{Fault, Text};
+use registry_names::{Fault, Ident, Text};
 use registry_rows::write;
 use sqlite::{Alter, Transaction, params};
 use std::alloc::Global;
@@ -17,19 +16,17 @@ use std::alloc::Global;
 /// Whether the user is in this team of the organisation.
 pub fn is_in_team<S: Alter>(
     tx: &mut Transaction<'_, S>,
-    organisation: &str,
-    team: &str,
-    user: &str,
+    organisation: &Ident,
+    team: &Ident,
+    user: &Ident,
 ) -> Result<bool, Fault>
-    requires in_form { InForm S.Store tx.old }
-    ensures stays { Stays S.Store tx.old tx.new }
-    ensures loads { Loads S.Store tx.old tx.new result
+    ensures { Finds S.Store tx.old tx.new result
         (λ is c. is ≡ is_some (at c.team_members (organisation.now, (team.now, user.now)))) }
 {
     has(
         tx,
         "SELECT user FROM team_members WHERE org = ?1 AND team = ?2 AND user = ?3",
-        params![organisation, team, user],
+        params![organisation.text(), team.text(), user.text()],
     )
 }
 
@@ -41,14 +38,12 @@ pub(crate) fn put_team_member<S: Alter>(
     team: &str,
     user: &str,
 ) -> Result<(), Fault>
-    requires in_form { InForm S.Store tx.old }
-    ensures stays { Stays S.Store tx.old tx.new }
-    ensures makes { Makes S.Store tx.old tx.new result
+    ensures { Makes S.Store tx.old tx.new result
+        (λ _ c. IsFree c.team_members (organisation.now, (team.now, user.now)))
         (λ c. record c {
-          team_members = put c.team_members (organisation.now, (team.now, user.now)) tt;
+          team_members = put c.team_members (organisation.now, (team.now, user.now))
+              tt;
         }) }
-    ensures was_new { OnlyWhere S.Store tx.old tx.new result
-        (λ c. IsFree c.team_members (organisation.now, (team.now, user.now))) }
 {
     write(
         tx,
@@ -64,11 +59,11 @@ pub(crate) fn drop_team_member<S: Alter>(
     team: &str,
     user: &str,
 ) -> Result<(), Fault>
-    requires in_form { InForm S.Store tx.old }
-    ensures stays { Stays S.Store tx.old tx.new }
-    ensures makes { Makes S.Store tx.old tx.new result
+    ensures { Makes S.Store tx.old tx.new result
+        (λ _ _. ⊤)
         (λ c. record c {
-          team_members = erase c.team_members (organisation.now, (team.now, user.now));
+          team_members = erase c.team_members
+              (organisation.now, (team.now, user.now));
         }) }
 {
     write(
@@ -82,18 +77,16 @@ pub(crate) fn drop_team_member<S: Alter>(
 pub fn load_team_users<S: Alter>(
     alloc: Global,
     tx: &mut Transaction<'_, S>,
-    organisation: &str,
-    team: &str,
+    organisation: &Ident,
+    team: &Ident,
 ) -> Result<Vec<Text>, Fault>
-    requires in_form { InForm S.Store tx.old }
-    ensures stays { Stays S.Store tx.old tx.new }
-    ensures loads { Loads S.Store tx.old tx.new result
+    ensures { Finds S.Store tx.old tx.new result
         (λ users c. users.items ≡ users_of c organisation.now team.now) }
 {
     texts(
         alloc,
         tx,
         "SELECT user FROM team_members WHERE org = ?1 AND team = ?2 ORDER BY user",
-        params![organisation, team],
+        params![organisation.text(), team.text()],
     )
 }

@@ -3,16 +3,15 @@
 ghost use Rattle.std.specs.Prelude.{◌≡◌, map};
 ghost use Rattle.registry_access.specs.Levels as levels;
 ghost use Rattle.registry_access.specs.Positions.{level_in};
-ghost use Rattle.registry_rows.specs.Frames.{Stays};
 ghost use Rattle.registry_tables.specs.Contents.{access_of};
-ghost use Rattle.registry_tables.specs.Effects.{InForm, Knows, Loads};
+ghost use Rattle.registry_tables.specs.Inside.{Finds, Knows};
 ghost use Rattle.registry_tables.specs.Teams.{AreTeamsSound, granted_entry, grants_read, readable};
 
 use crate::grants::load_team_grants;
 use crate::standing::load_standing;
 use crate::texts::read_back;
 use registry_access::{Ask, Caller, allowed_by};
-use registry_names::{Fault, Name, Text};
+use registry_names::{Fault, Ident, Name, Text};
 use registry_packument::Granted;
 use sqlite::{Alter, Transaction};
 use std::alloc::Global;
@@ -22,13 +21,12 @@ pub fn load_team_packages<S: Alter>(
     alloc: Global,
     tx: &mut Transaction<'_, S>,
     caller: &Caller,
-    organisation: &str,
-    team: &str,
+    organisation: &Ident,
+    team: &Ident,
 ) -> Result<Vec<Granted>, Fault>
-    requires in_form { InForm S.Store tx.old }
-    ensures stays { Stays S.Store tx.old tx.new }
-    ensures loads { Loads S.Store tx.old tx.new result (λ granted c. AreTeamsSound c
-        → map granted_entry granted.items ≡ grants_read c caller.now organisation.now team.now) }
+    ensures { Finds S.Store tx.old tx.new result
+        (λ granted c. AreTeamsSound c → map granted_entry granted.items
+        ≡ grants_read c caller.now organisation.now team.now) }
 {
     let granted = load_team_grants(alloc, tx, organisation, team)?;
     read_by(alloc, tx, caller, granted)
@@ -41,10 +39,9 @@ fn read_by<S: Alter>(
     caller: &Caller,
     granted: Vec<Granted>,
 ) -> Result<Vec<Granted>, Fault>
-    requires in_form { InForm S.Store tx.old }
-    ensures stays { Stays S.Store tx.old tx.new }
-    ensures knows { Knows S.Store tx.old tx.new result (λ read c. AreTeamsSound c
-        → map granted_entry read.items ≡ readable c caller.now (map granted_entry granted.items)) }
+    ensures { Knows S.Store tx.old tx.new result
+        (λ read c. AreTeamsSound c → map granted_entry read.items
+        ≡ readable c caller.now (map granted_entry granted.items)) }
 {
     let mut read = Vec::new(alloc);
     for row in granted {
@@ -62,10 +59,8 @@ fn is_read<S: Alter>(
     caller: &Caller,
     name: &Text,
 ) -> Result<bool, Fault>
-    requires in_form { InForm S.Store tx.old }
-    ensures stays { Stays S.Store tx.old tx.new }
-    ensures loads { Loads S.Store tx.old tx.new result (λ is c. AreTeamsSound c
-        → is ≡ levels.reads (level_in (access_of c) caller.now name.now)) }
+    ensures { Finds S.Store tx.old tx.new result
+        (λ is c. AreTeamsSound c → is ≡ levels.reads (level_in (access_of c) caller.now name.now)) }
 {
     let name = read_back(Name::parse(alloc, name.as_str()))?;
     let ask = Ask::Read(&name);

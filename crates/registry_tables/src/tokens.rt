@@ -1,17 +1,16 @@
 //! The table `tokens`: the digest of each token, and its user. A token's text is kept nowhere.
 
-ghost use Rattle.std.specs.Prelude.{◌≡◌, ℕ, List};
+ghost use Rattle.std.specs.Prelude.{⊤, ◌≡◌, ℕ, List};
 ghost use Rattle.registry_names.specs.Maps.{at, erase, put};
-ghost use Rattle.registry_rows.specs.Frames.{Stays};
 ghost use Rattle.registry_rules.specs.State.{tokens_of};
 ghost use Rattle.registry_tables.specs.Changes.{IsFree};
 ghost use Rattle.registry_tables.specs.Contents.{registry_of};
-ghost use Rattle.registry_tables.specs.Effects.{InForm, Makes, OnlyWhere, Loads};
+ghost use Rattle.registry_tables.specs.Inside.{Finds, Makes};
 ghost use Rattle.registry_tables.specs.Spelled.{blob_of_row};
 
 use crate::queries::{find, list};
 use crate::texts::{TextRow, read_back};
-use registry_names::{Fault, Ident};
+use registry_names::{Fault, Ident, Text};
 use registry_publish::TokenDigest;
 use registry_rows::{RowKind, write};
 use sqlite::types::Type;
@@ -24,18 +23,25 @@ pub fn load_token_user<S: Alter>(
     tx: &mut Transaction<'_, S>,
     digest: &TokenDigest,
 ) -> Result<Option<Ident>, Fault>
-    requires in_form { InForm S.Store tx.old }
-    ensures stays { Stays S.Store tx.old tx.new }
-    ensures loads { Loads S.Store tx.old tx.new result (λ user c. user ≡ at c.tokens digest.now) }
+    ensures { Finds S.Store tx.old tx.new result (λ user c. user ≡ at c.tokens digest.now) }
 {
-    match find::<TextRow, S>(
-        tx,
-        "SELECT user FROM tokens WHERE digest = ?1",
-        params![digest.as_slice()],
-    )? {
+    match find_user(tx, digest)? {
         Some(user) => Ok(Some(read_back(Ident::parse(alloc, user.as_str()))?)),
         None => Ok(None),
     }
+}
+
+fn find_user<S: Alter>(
+    tx: &mut Transaction<'_, S>,
+    digest: &TokenDigest,
+) -> Result<Option<Text>, Fault>
+    ensures { Finds S.Store tx.old tx.new result (λ user c. user ≡ at c.tokens digest.now) }
+{
+    find::<TextRow, S>(
+        tx,
+        "SELECT user FROM tokens WHERE digest = ?1",
+        params![digest.as_slice()],
+    )
 }
 
 /// The digests of a user's tokens, in byte order.
@@ -44,9 +50,7 @@ pub fn load_user_tokens<S: Alter>(
     tx: &mut Transaction<'_, S>,
     user: &Ident,
 ) -> Result<Vec<TokenDigest>, Fault>
-    requires in_form { InForm S.Store tx.old }
-    ensures stays { Stays S.Store tx.old tx.new }
-    ensures loads { Loads S.Store tx.old tx.new result
+    ensures { Finds S.Store tx.old tx.new result
         (λ digests c. digests.items ≡ tokens_of (registry_of c) user.now) }
 {
     list::<DigestRow, S>(
@@ -64,12 +68,9 @@ pub(crate) fn add_token<S: Alter>(
     digest: &TokenDigest,
     user: &str,
 ) -> Result<(), Fault>
-    requires in_form { InForm S.Store tx.old }
-    ensures stays { Stays S.Store tx.old tx.new }
-    ensures makes { Makes S.Store tx.old tx.new result
+    ensures { Makes S.Store tx.old tx.new result
+        (λ _ c. IsFree c.tokens digest.now)
         (λ c. record c { tokens = put c.tokens digest.now user.now }) }
-    ensures was_new { OnlyWhere S.Store tx.old tx.new result
-        (λ c. IsFree c.tokens digest.now) }
 {
     write(
         tx,
@@ -83,9 +84,8 @@ pub(crate) fn drop_token<S: Alter>(
     tx: &mut Transaction<'_, S>,
     digest: &TokenDigest,
 ) -> Result<(), Fault>
-    requires in_form { InForm S.Store tx.old }
-    ensures stays { Stays S.Store tx.old tx.new }
-    ensures makes { Makes S.Store tx.old tx.new result
+    ensures { Makes S.Store tx.old tx.new result
+        (λ _ _. ⊤)
         (λ c. record c { tokens = erase c.tokens digest.now }) }
 {
     write(

@@ -1,12 +1,11 @@
 //! The table `users`: everybody who may ask in a name of their own.
 
-ghost use Rattle.std.specs.Prelude.{◌≡◌, is_some, length, map};
+ghost use Rattle.std.specs.Prelude.{◌≡◌, [], is_some, length, map};
 ghost use Rattle.registry_names.specs.Maps.{at, entries, keys, put};
-ghost use Rattle.registry_rows.specs.Frames.{Stays};
 ghost use Rattle.registry_rules.specs.State.{tokens_of};
 ghost use Rattle.registry_tables.specs.Changes.{IsFree};
 ghost use Rattle.registry_tables.specs.Contents.{registry_of};
-ghost use Rattle.registry_tables.specs.Effects.{InForm, Knows, Makes, OnlyWhere, Loads};
+ghost use Rattle.registry_tables.specs.Inside.{Finds, Knows, Makes};
 ghost use Rattle.registry_tables.specs.Overviews.{counted, users_counted};
 
 use crate::queries::{has, texts};
@@ -19,13 +18,22 @@ use sqlite::{Alter, Transaction, params};
 use std::alloc::Global;
 
 /// Whether there is a user of this name.
-pub fn has_user<S: Alter>(tx: &mut Transaction<'_, S>, user: &str) -> Result<bool, Fault>
-    requires in_form { InForm S.Store tx.old }
-    ensures stays { Stays S.Store tx.old tx.new }
-    ensures loads { Loads S.Store tx.old tx.new result
-        (λ has c. has ≡ is_some (at c.users user.now)) }
+pub fn has_user<S: Alter>(tx: &mut Transaction<'_, S>, user: &Ident) -> Result<bool, Fault>
+    ensures { Finds S.Store tx.old tx.new result (λ has c. has ≡ is_some (at c.users user.now)) }
 {
-    has(tx, "SELECT name FROM users WHERE name = ?1", params![user])
+    has(
+        tx,
+        "SELECT name FROM users WHERE name = ?1",
+        params![user.text()],
+    )
+}
+
+/// Whether there is a user without a name. There is none, but a request that needs nothing asks for
+/// this, so that it fails, too, where the registry is shut.
+pub fn has_nameless_user<S: Alter>(tx: &mut Transaction<'_, S>) -> Result<bool, Fault>
+    ensures { Finds S.Store tx.old tx.new result (λ has c. has ≡ is_some (at c.users [])) }
+{
+    has(tx, "SELECT name FROM users WHERE name = ?1", params![""])
 }
 
 /// All users, in byte order, each with how many tokens they have.
@@ -33,9 +41,7 @@ pub fn load_users<S: Alter>(
     alloc: Global,
     tx: &mut Transaction<'_, S>,
 ) -> Result<Vec<TokenCount>, Fault>
-    requires in_form { InForm S.Store tx.old }
-    ensures stays { Stays S.Store tx.old tx.new }
-    ensures loads { Loads S.Store tx.old tx.new result (λ users c. users.items ≡ users_counted c) }
+    ensures { Finds S.Store tx.old tx.new result (λ users c. users.items ≡ users_counted c) }
 {
     let names = load_names(alloc, tx)?;
     with_counts(alloc, tx, names)
@@ -43,10 +49,7 @@ pub fn load_users<S: Alter>(
 
 // The names of all users, in byte order.
 fn load_names<S: Alter>(alloc: Global, tx: &mut Transaction<'_, S>) -> Result<Vec<Text>, Fault>
-    requires in_form { InForm S.Store tx.old }
-    ensures stays { Stays S.Store tx.old tx.new }
-    ensures loads { Loads S.Store tx.old tx.new result
-        (λ names c. names.items ≡ keys (entries c.users)) }
+    ensures { Finds S.Store tx.old tx.new result (λ names c. names.items ≡ keys (entries c.users)) }
 {
     texts(alloc, tx, "SELECT name FROM users ORDER BY name", &[])
 }
@@ -57,9 +60,7 @@ fn with_counts<S: Alter>(
     tx: &mut Transaction<'_, S>,
     names: Vec<Text>,
 ) -> Result<Vec<TokenCount>, Fault>
-    requires in_form { InForm S.Store tx.old }
-    ensures stays { Stays S.Store tx.old tx.new }
-    ensures knows { Knows S.Store tx.old tx.new result
+    ensures { Knows S.Store tx.old tx.new result
         (λ users c. users.items ≡ map (counted c) names.items) }
 {
     let mut users = Vec::new(alloc);
@@ -76,9 +77,7 @@ fn with_count<S: Alter>(
     tx: &mut Transaction<'_, S>,
     name: Text,
 ) -> Result<TokenCount, Fault>
-    requires in_form { InForm S.Store tx.old }
-    ensures stays { Stays S.Store tx.old tx.new }
-    ensures loads { Loads S.Store tx.old tx.new result (λ user c. user ≡ counted c name) }
+    ensures { Finds S.Store tx.old tx.new result (λ user c. user ≡ counted c name) }
 {
     let tokens = count_tokens(alloc, tx, &name)?;
     Ok(TokenCount { user: name, tokens })
@@ -90,9 +89,7 @@ fn count_tokens<S: Alter>(
     tx: &mut Transaction<'_, S>,
     name: &Text,
 ) -> Result<u64, Fault>
-    requires in_form { InForm S.Store tx.old }
-    ensures stays { Stays S.Store tx.old tx.new }
-    ensures loads { Loads S.Store tx.old tx.new result
+    ensures { Finds S.Store tx.old tx.new result
         (λ count c. count ≡ length (tokens_of (registry_of c) name.now)) }
 {
     let user = read_back(Ident::parse(alloc, name.as_str()))?;
@@ -102,12 +99,9 @@ fn count_tokens<S: Alter>(
 
 /// Adds a user. A user of the same name is a fault.
 pub(crate) fn add_user<S: Alter>(tx: &mut Transaction<'_, S>, user: &str) -> Result<(), Fault>
-    requires in_form { InForm S.Store tx.old }
-    ensures stays { Stays S.Store tx.old tx.new }
-    ensures makes { Makes S.Store tx.old tx.new result
+    ensures { Makes S.Store tx.old tx.new result
+        (λ _ c. IsFree c.users user.now)
         (λ c. record c { users = put c.users user.now tt }) }
-    ensures was_new { OnlyWhere S.Store tx.old tx.new result
-        (λ c. IsFree c.users user.now) }
 {
     write(tx, "INSERT INTO users VALUES (?1)", params![user])
 }

@@ -1,18 +1,17 @@
 //! The table `versions`: the live versions of every package.
 
-ghost use Rattle.std.specs.Prelude.{◌≡◌, ◌≤◌, ℕ, true, IfOk, OnOk, is_some, map, option_map};
+ghost use Rattle.std.specs.Prelude.{⊤, ◌≡◌, ◌≤◌, ℕ, true, IfOk, OnOk, is_some, map, option_map};
 ghost use Rattle.registry_names.specs.Maps.{at, of, put, seen};
 ghost use Rattle.registry_names.specs.Moments.{last_second};
 ghost use Rattle.registry_names.specs.Texts.{Text as Bytes};
 ghost use Rattle.registry_names.specs.Versions.{text_of_version};
-ghost use Rattle.registry_rows.specs.Frames.{Stays};
 ghost use Rattle.registry_rules.specs.Actions as actions;
 ghost use Rattle.registry_rules.specs.State as state;
 ghost use Rattle.registry_rules.specs.Facts.{since_of};
 ghost use Rattle.registry_rules.specs.Withdrawals.{live_since, live_versions, published_at};
 ghost use Rattle.registry_tables.specs.Changes.{IsFree, IsNew, row_of, version_put};
 ghost use Rattle.registry_tables.specs.Contents.{live_of, registry_of};
-ghost use Rattle.registry_tables.specs.Effects.{InForm, Makes, OnlyWhere, Loads};
+ghost use Rattle.registry_tables.specs.Inside.{Finds, Makes};
 ghost use Rattle.registry_packument.specs.Heads.{time_entry};
 ghost use Rattle.registry_tables.specs.Spelled.{document, document_entry, document_spelled, published, row_entry, row_spelled, time_spelled};
 ghost use Rattle.registry_tables.specs.Withdrawals.{with_message};
@@ -37,9 +36,7 @@ pub fn has_version<S: Alter>(
     name: &Name,
     version: &str,
 ) -> Result<bool, Fault>
-    requires in_form { InForm S.Store tx.old }
-    ensures stays { Stays S.Store tx.old tx.new }
-    ensures loads { Loads S.Store tx.old tx.new result
+    ensures { Finds S.Store tx.old tx.new result
         (λ lives c. lives ≡ is_some (at (live_of c) (name.now, version.now))) }
 {
     has(
@@ -55,9 +52,7 @@ pub fn load_published<S: Alter>(
     name: &Name,
     version: &str,
 ) -> Result<Option<Moment>, Fault>
-    requires in_form { InForm S.Store tx.old }
-    ensures stays { Stays S.Store tx.old tx.new }
-    ensures loads { Loads S.Store tx.old tx.new result
+    ensures { Finds S.Store tx.old tx.new result
         (λ published c. published ≡ published_at (registry_of c) name.now version.now) }
 {
     find::<MomentRow, S>(
@@ -73,9 +68,7 @@ pub fn load_live<S: Alter>(
     tx: &mut Transaction<'_, S>,
     name: &Name,
 ) -> Result<Vec<Ver>, Fault>
-    requires in_form { InForm S.Store tx.old }
-    ensures stays { Stays S.Store tx.old tx.new }
-    ensures loads { Loads S.Store tx.old tx.new result
+    ensures { Finds S.Store tx.old tx.new result
         (λ live c. map text_of_version live.items ≡ live_versions (registry_of c) name.now) }
 {
     let texts = load_live_texts(alloc, tx, name)?;
@@ -87,9 +80,7 @@ fn load_live_texts<S: Alter>(
     tx: &mut Transaction<'_, S>,
     name: &Name,
 ) -> Result<Vec<Text>, Fault>
-    requires in_form { InForm S.Store tx.old }
-    ensures stays { Stays S.Store tx.old tx.new }
-    ensures loads { Loads S.Store tx.old tx.new result
+    ensures { Finds S.Store tx.old tx.new result
         (λ live c. live.items ≡ live_versions (registry_of c) name.now) }
 {
     texts(
@@ -114,9 +105,7 @@ fn all_parsed(alloc: Global, texts: &[Text]) -> Result<Vec<Ver>, Fault>
 
 /// Whether a version of the package lives.
 pub fn has_live<S: Alter>(tx: &mut Transaction<'_, S>, name: &Name) -> Result<bool, Fault>
-    requires in_form { InForm S.Store tx.old }
-    ensures stays { Stays S.Store tx.old tx.new }
-    ensures loads { Loads S.Store tx.old tx.new result
+    ensures { Finds S.Store tx.old tx.new result
         (λ lives c. lives ≡ state.has_live (registry_of c) name.now) }
 {
     has(
@@ -137,10 +126,8 @@ pub fn load_times<S: Alter>(
     tx: &mut Transaction<'_, S>,
     name: &Name,
 ) -> Result<Vec<VersionTime>, Fault>
-    requires in_form { InForm S.Store tx.old }
-    ensures stays { Stays S.Store tx.old tx.new }
-    ensures loads { Loads S.Store tx.old tx.new result (λ times c.
-        map time_entry times.items ≡ map (seen published) (of (live_of c) name.now)) }
+    ensures { Finds S.Store tx.old tx.new result
+        (λ times c. map time_entry times.items ≡ map (seen published) (of (live_of c) name.now)) }
 {
     list::<TimeRow, S>(
         alloc,
@@ -157,9 +144,7 @@ pub fn load_live_since<S: Alter>(
     tx: &mut Transaction<'_, S>,
     name: &Name,
 ) -> Result<Vec<LiveVersion>, Fault>
-    requires in_form { InForm S.Store tx.old }
-    ensures stays { Stays S.Store tx.old tx.new }
-    ensures loads { Loads S.Store tx.old tx.new result
+    ensures { Finds S.Store tx.old tx.new result
         (λ live c. map since_of live.items ≡ live_since (registry_of c) name.now) }
 {
     let times = load_times(alloc, tx, name)?;
@@ -196,9 +181,7 @@ pub fn load_document<S: Alter>(
     name: &Name,
     version: &str,
 ) -> Result<Option<DocumentRow>, Fault>
-    requires in_form { InForm S.Store tx.old }
-    ensures stays { Stays S.Store tx.old tx.new }
-    ensures loads { Loads S.Store tx.old tx.new result
+    ensures { Finds S.Store tx.old tx.new result
         (λ found c. option_map document_entry found
         ≡ option_map document (at (live_of c) (name.now, version.now))) }
 {
@@ -218,10 +201,9 @@ pub fn put_version<S: Alter>(
     form: &PublishForm,
     published: Moment,
 ) -> Result<(), Fault>
-    requires in_form { InForm S.Store tx.old }
-    ensures stays { Stays S.Store tx.old tx.new }
-    ensures makes { Makes S.Store tx.old tx.new result (version_put form.now published) }
-    ensures was_new { OnlyWhere S.Store tx.old tx.new result (IsNew form.now) }
+    ensures makes { Makes S.Store tx.old tx.new result
+        (λ _. IsNew form.now)
+        (version_put form.now published) }
     ensures in_time { OnOk result (published ≤ last_second) }
 {
     if has_withdrawal(tx, form.name(), form.version().text())? {
@@ -238,16 +220,13 @@ fn insert_version<S: Alter>(
     form: &PublishForm,
     published: Moment,
 ) -> Result<(), Fault>
-    requires in_form { InForm S.Store tx.old }
-    ensures stays { Stays S.Store tx.old tx.new }
-    ensures makes { Makes S.Store tx.old tx.new result (λ c. record c {
-      versions = put c.versions
-          (form.now.name, actions.version_of form.now) (row_of form.now published);
-    }) }
-    ensures was_new { OnlyWhere S.Store tx.old tx.new result
-        (λ c. IsFree c.versions (form.now.name, actions.version_of form.now)) }
-    ensures has_status { OnlyWhere S.Store tx.old tx.new result
-        (λ c. is_some (at c.packages form.now.name) ≡ true) }
+    ensures makes { Makes S.Store tx.old tx.new result
+        (λ _ c. IsFree c.versions (form.now.name, actions.version_of form.now)
+        × (is_some (at c.packages form.now.name) ≡ true))
+        (λ c. record c {
+          versions = put c.versions (form.now.name, actions.version_of form.now)
+              (row_of form.now published);
+        }) }
     ensures in_time { published ≤ last_second }
 {
     write(
@@ -269,10 +248,9 @@ pub(crate) fn put_message<S: Alter>(
     version: &str,
     message: &str,
 ) -> Result<(), Fault>
-    requires in_form { InForm S.Store tx.old }
-    ensures stays { Stays S.Store tx.old tx.new }
-    ensures makes { Makes S.Store tx.old tx.new result (λ c. record c
-        { versions = with_message c.versions (name.now, version.now) message.now }) }
+    ensures { Makes S.Store tx.old tx.new result
+        (λ _ _. ⊤)
+        (λ c. record c { versions = with_message c.versions (name.now, version.now) message.now }) }
 {
     write(
         tx,

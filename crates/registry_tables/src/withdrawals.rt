@@ -2,9 +2,8 @@
 
 ghost use Rattle.std.specs.Prelude.{◌≤◌, OnOk};
 ghost use Rattle.registry_names.specs.Moments.{last_second};
-ghost use Rattle.registry_rows.specs.Frames.{Stays};
 ghost use Rattle.registry_tables.specs.Changes.{IsUntagged, MayRetire};
-ghost use Rattle.registry_tables.specs.Effects.{InForm, Makes, OnlyWhere};
+ghost use Rattle.registry_tables.specs.Inside.{Makes};
 ghost use Rattle.registry_tables.specs.Withdrawals.{version_retired, without_rows};
 
 use crate::archives::{free_archive, held_archive};
@@ -25,35 +24,32 @@ pub(crate) fn retire_version<S: Alter>(
     published: Moment,
     withdrawn: Moment,
 ) -> Result<(), Fault>
-    requires in_form { InForm S.Store tx.old }
-    ensures stays { Stays S.Store tx.old tx.new }
     ensures makes { Makes S.Store tx.old tx.new result
+        (λ _. MayRetire name.now version.now)
         (version_retired name.now version.now published withdrawn) }
-    ensures may_retire { OnlyWhere S.Store tx.old tx.new result (MayRetire name.now version.now) }
     ensures in_time { OnOk result ((published ≤ last_second) × (withdrawn ≤ last_second)) }
 {
     let Some(number) = held_archive(tx, name, version)? else {
         return Err(Fault::Database);
     };
-    drop_version(tx, name.text(), version)?;
+    drop_version(tx, name, version)?;
     free_archive(tx, number)?;
-    put_withdrawal(tx, name.text(), version, published, withdrawn)
+    put_withdrawal(tx, name, version, published, withdrawn)
 }
 
 // Drops the rows of a version: its own, and with it those of its needs and of its archive.
 fn drop_version<S: Alter>(
     tx: &mut Transaction<'_, S>,
-    name: &str,
+    name: &Name,
     version: &str,
 ) -> Result<(), Fault>
-    requires in_form { InForm S.Store tx.old }
-    ensures stays { Stays S.Store tx.old tx.new }
-    ensures makes { Makes S.Store tx.old tx.new result (without_rows name.now version.now) }
-    ensures untagged { OnlyWhere S.Store tx.old tx.new result (IsUntagged name.now version.now) }
+    ensures { Makes S.Store tx.old tx.new result
+        (λ _. IsUntagged name.now version.now)
+        (without_rows name.now version.now) }
 {
     write(
         tx,
         "DELETE FROM versions WHERE package = ?1 AND version = ?2",
-        params![name, version],
+        params![name.text(), version],
     )
 }

@@ -4,7 +4,7 @@
 use crate::outcome::same;
 use crate::parts::{ident, string};
 use registry_access::{Caller, Role, Standing};
-use registry_names::{Moment, Status};
+use registry_names::{LATEST, Moment, Status};
 use registry_publish::PublishForm;
 use registry_rules::{
     About, Action, Change, Credential, Facts, PublishFacts, Request, decide, may_ask,
@@ -14,8 +14,8 @@ use std::process::Abort;
 
 // A body; ` => ` and the changes that its publication makes, each with `; ` behind it.
 const CASES: &str =
-    r#"{"name":"@lab/kit","versions":{"1.0.0":{"name":"@lab/kit","version":"1.0.0"}},"_attachments":{"kit.tgz":{"data":"YWJj"}}} => AddVersion @lab/kit 1.0.0 100; PutTag @lab/kit latest 1.0.0 false; 
-{"name":"@lab/kit","versions":{"1.0.0":{"name":"@lab/kit","version":"1.0.0"}},"dist-tags":{"next":"1.0.0"},"_attachments":{"kit.tgz":{"data":"YWJj"}}} => AddVersion @lab/kit 1.0.0 100; PutTag @lab/kit latest 1.0.0 false; PutTag @lab/kit next 1.0.0 false; "#;
+    r#"{"name":"@lab/kit","versions":{"1.0.0":{"name":"@lab/kit","version":"1.0.0"}},"_attachments":{"kit.tgz":{"data":"YWJj"}}} => AddVersion @lab/kit 1.0.0 100; PutTag @lab/kit latest 1.0.0; 
+{"name":"@lab/kit","versions":{"1.0.0":{"name":"@lab/kit","version":"1.0.0"}},"dist-tags":{"next":"1.0.0"},"_attachments":{"kit.tgz":{"data":"YWJj"}}} => AddVersion @lab/kit 1.0.0 100; PutTag @lab/kit latest 1.0.0; PutTag @lab/kit next 1.0.0; "#;
 
 #[test]
 fn publications_without_a_latest(rt: HostRuntime) {
@@ -26,16 +26,15 @@ fn publications_without_a_latest(rt: HostRuntime) {
 }
 
 fn is_decided(rt: &impl Abort, alloc: Global, body: &str, wanted: &str) {
+    let form = PublishForm::read(alloc, body.as_bytes()).expect(rt, "a body in form");
     let facts = Facts {
         caller: Some(Caller::User(ident(rt, alloc, "ann"))),
-        about: About::Publish(without_latest(alloc)),
+        about: About::Publish(without_latest(alloc, &form)),
     };
     let request = Request {
         at: Moment::clamped(100),
         who: Credential::Anonymous,
-        what: Action::Publish {
-            form: PublishForm::read(alloc, body.as_bytes()).expect(rt, "a body in form"),
-        },
+        what: Action::Publish { form },
     };
     same(rt, body, &may_ask(&facts, &request).err(), &None);
     let changes = decide(alloc, &facts, &request).expect(rt, "changes");
@@ -47,8 +46,8 @@ fn is_decided(rt: &impl Abort, alloc: Global, body: &str, wanted: &str) {
     same(rt, body, told.as_str(), wanted);
 }
 
-// What is known where an owner publishes another version.
-fn without_latest(alloc: Global) -> PublishFacts {
+// What is known where an owner publishes another version: `latest` is there only as the form's tag.
+fn without_latest(alloc: Global, form: &PublishForm) -> PublishFacts {
     PublishFacts {
         standing: Standing {
             organisation: true,
@@ -59,10 +58,8 @@ fn without_latest(alloc: Global) -> PublishFacts {
         },
         version_lives: false,
         version_spent: false,
-        tag_stands: false,
-        latest_stands: false,
-        lives: true,
-        last_withdrawal: None,
+        latest_stands: form.tag().text() == LATEST,
+        gone_since: None,
     }
 }
 
@@ -73,10 +70,9 @@ fn described(rt: &impl Abort, alloc: Global, change: &Change<'_>) -> String {
             package,
             tag,
             version,
-            stands,
         } => {
             let (name, version) = (package.text(), version.text());
-            let text = format!(in alloc; "PutTag {name} {tag} {version} {stands}; ");
+            let text = format!(in alloc; "PutTag {name} {tag} {version}; ");
             text.expect(rt, "memory")
         }
         Change::AddVersion { form, at } => {

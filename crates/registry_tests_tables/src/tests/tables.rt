@@ -2,8 +2,7 @@
 //! each call does, and shows what the calls before it put.
 //!
 //! A case is some lines, of which the first says what it shows. Each other line is a call, with its
-//! arguments and then an arrow and what is answered, if anything is. `-again` behind the name of a call
-//! says that the row is there already. At the end may stand:
+//! arguments and then an arrow and what is answered, if anything is. At the end may stand:
 //!
 //! - `then fault` and a line: this call is a fault of the database;
 //! - `then rows` and the tables of all rows that are there, for a need its target and range;
@@ -100,18 +99,9 @@ status-of kit -> none
 status kit restricted
 status @lab/pad restricted
 status-of kit -> restricted
-status-again kit public
+status kit public
 status-of kit -> public
 status-of @lab/pad -> restricted
-
-another status is put where there is one, and only there
-status-again kit public
-status-of kit -> none
-then rows meta
-
-a first status isn't put where there is one
-status kit public
-then fault status kit public
 
 a status of a number that is none is a fault
 number kit 1
@@ -127,7 +117,7 @@ tags kit ->
 tag kit 1.0.0 latest
 tag kit 2.0.0 beta
 tags kit -> beta=2.0.0 latest=1.0.0
-tag-again kit 2.0.0 latest
+tag kit 2.0.0 latest
 tags kit -> beta=2.0.0 latest=2.0.0
 has-tag kit beta -> true
 has-tag kid beta -> false
@@ -135,8 +125,8 @@ drop-tag kit beta
 has-tag kit beta -> false
 tags kit -> latest=2.0.0
 drop-tag kit beta
-tag-again kit 1.0.0 beta
-tags kit -> latest=2.0.0
+tag kit 1.0.0 beta
+tags kit -> beta=1.0.0 latest=2.0.0
 
 packages stand apart
 status kit public
@@ -146,24 +136,18 @@ add @lab/pad 1.0.0 2
 add @lab/pad 2.0.0 2
 tag kit 1.0.0 latest
 tag @lab/pad 1.0.0 latest
-tag-again @lab/pad 2.0.0 latest
+tag @lab/pad 2.0.0 latest
 tags kit -> latest=1.0.0
 tags @lab/pad -> latest=2.0.0
 drop-tag kit latest
 tags kit ->
 tags @lab/pad -> latest=2.0.0
 
-a new tag isn't put where there is one
-status kit public
-add kit 1.0.0 1
-tag kit 1.0.0 latest
-then fault tag kit 1.0.0 latest
-
 a tag needs its version
 status kit public
 add kit 1.0.0 1
 tag kit 1.0.0 latest
-then fault tag-again kit 1.0.1 latest
+then fault tag kit 1.0.1 latest
 
 each call puts its rows
 status kit public
@@ -357,7 +341,7 @@ has-grant @lab/kit lab docs -> false
 has-grant @lab/kit labs devs -> false
 has-grant @lab/pad lab devs -> false
 standing @lab/kit ann -> true developer restricted false read-only
-grant-again @lab/kit lab devs read-write
+grant @lab/kit lab devs read-write
 standing @lab/kit ann -> true developer restricted false read-write
 standing @lab/kit bob -> true none restricted false
 standing @lab/kit NOBODY -> true none restricted false

@@ -1,51 +1,60 @@
-use Rattle.registry_desk.proofs.Words.{◌≡◌, ◌∙◌, arith, ap, sym, subst, IfOk, rules, IfOk-weaker, Database, HasCleanDisk, NoCaller, Leaves, on_answer, stays_then, caller_of, Contents, contents}
-use Rattle.registry_desk.proofs.Words.{registry_of, shown, stored_in, HasNumbersInRange, schema, AreTeamsSound, answer, IsCallerIn, NeedsFor, settled_by, AreAnswers, LeavesCacheRight}
-use Rattle.registry_desk.proofs.AnswerFacts.{nobody_is_refused}
+use Rattle.registry_desk.proofs.Words.{◌≡◌, ◌∙◌, refl, sym, Some, NoCaller, caller_of, FactsTell, registry_of, AreTeamsSound, NeedsFor, TellsSome}
+use Rattle.registry_desk.specs.declared.policy.Found.TheVariants as found
+use Rattle.registry_desk.proofs.AnswerFacts.{known_stands, nobody_is_refused, refused, same_caller}
+use Rattle.registry_desk.proofs.EarlyFacts.{found_some, found_told, known_refused}
+use Rattle.registry_desk.proofs.InsideFacts.{found_does, found_then, known_does, known_found}
+use Rattle.registry_desk.proofs.KeptFacts.{leaves_refused, sound_for}
 use Rattle.registry_desk.proofs.SettlingFacts.{refused_settles}
-use Rattle.registry_desk.proofs.KeptFacts.{leaves_refused}
 use Rattle.registry_desk.proofs.answer.identify_and_answer.Goals as goal
 
-pub returns-in-Some : goal.returns-in-Some
-returns-in-Some g c =
+-- ---- nobody asks
+
+pub returns-in_default-clause-answers : goal.returns-in_default-clause-answers
+returns-in_default-clause-answers g c = known_does c.in_ok-caller.ensures.knows (λ d known.
     let r = c.args.request.now in
-    let new = shown g.S.Store c.load_facts_and_answer.new.tx in
-    let result = c.load_facts_and_answer.result in
-    let told = c.load_facts_and_answer.ensures in
-    let it = λ (clean : HasCleanDisk new). c.in_ok-caller.ensures.knows (omega (arith, told.stays.survives.clean, clean)) in
-    let same : HasCleanDisk new → stored_in g.S.Store c.load_caller.new.tx ≡ stored_in g.S.Store c.args.tx.now = λ clean. ap (λ (d : Database). contents d.trees) (it clean).0.same in
-    let known : HasCleanDisk new → IsCallerIn (stored_in g.S.Store c.load_caller.new.tx) r c.in-Some.caller = λ clean. sym c.in-Some.is ∙ (it clean).1 ∙ ap (λ (d : Contents). caller_of (registry_of d) r.who) (sym (same clean)) in
+    let none = nobody_is_refused (registry_of d) r (sym c.in_default.is ∙ known) in
     record {
-      stays = stays_then g.S.Store c.args.tx.now c.load_caller.new.tx c.load_facts_and_answer.new.tx c.load_caller.ensures.stays told.stays;
-      goes_on = told.goes_on;
-      answers = λ sound needs right clean.
-          let back = sym (same clean) in
-          IfOk-weaker result _ _ (λ _ e. e ∙ ap (λ (d : Contents). answer (registry_of d) r) (same clean)) (told.answers (known clean) (subst AreTeamsSound back sound) (subst (λ (d : Contents). NeedsFor r.what d) back needs) (subst (λ (d : Contents). AreAnswers d c.args.caches.now) back right) clean);
-      settles = λ sound needs clean.
-          let back = sym (same clean) in
-          on_answer result (λ left. subst (λ (d : Contents). Leaves schema contents (settled_by r d) new) (same clean) left) (told.settles (known clean) (subst AreTeamsSound back sound) (subst (λ (d : Contents). NeedsFor r.what d) back needs) clean);
-      written = λ sound ranged clean. told.written (known clean) (subst AreTeamsSound (sym (same clean)) sound) (subst HasNumbersInRange (sym (same clean)) ranged) clean;
-      unchanged = λ clean. IfOk-weaker result _ _ (λ _ stay none. stay none ∙ same clean) (told.unchanged clean);
-      served = search rules;
-      no_more = told.no_more;
-      right = λ clean. subst (λ (d : Contents). IfOk result (LeavesCacheRight d (stored_in g.S.Store c.load_facts_and_answer.new.tx) r.what c.args.caches.now c.load_facts_and_answer.new.caches)) (same clean) (told.right clean);
-    }
+      answer = λ _ _ _. sym (refused (registry_of d) r NoCaller none);
+      settled = λ _ _. sym (refused_settles d r NoCaller none);
+      written = λ teams numbers. record { grants = teams.grants; numbers = numbers };
+      unchanged = λ _. refl;
+      right = leaves_refused d d r.what c.args.caches.now NoCaller refl;
+    })
 
-pub returns-in-None-clause-settles : goal.returns-in-None-clause-settles
-returns-in-None-clause-settles g c sound needs clean =
+-- ---- refused early
+
+pub returns-in-Refused-clause-answers : goal.returns-in-Refused-clause-answers
+returns-in-Refused-clause-answers g c = found_does (known_found c.in_ok-caller.ensures.knows c.in_ok-refusal.ensures) (λ d held it.
     let r = c.args.request.now in
-    let was = stored_in g.S.Store c.args.tx.now in
-    let it = c.in_ok-caller.ensures.knows clean in
-    let reads = c.in_ok-caller.ensures.nobody clean c.in-None.is in
+    let why = c.in-Refused.refusal in
+    let early = λ (teams : AreTeamsSound d) (needs : NeedsFor r.what d). rw c.in-Refused.is at (found_told _ d r.at c.in-Some.caller r.what (it.1 teams) needs) in
+    let none = λ (teams : AreTeamsSound d) (needs : NeedsFor r.what d). known_refused (registry_of d) c.in-Some.caller r why (sym c.in-Some.is ∙ it.0) (early teams needs) in
     record {
-      holds = ap (λ (d : Database). contents d.trees) reads.same ∙ sym (refused_settles was r NoCaller (nobody_is_refused (registry_of was) r (sym c.in-None.is ∙ it.1)));
-      ready = reads.ready;
-      mode = reads.mode ∙ c.requires.begun (omega (arith, c.load_caller.ensures.stays.survives.clean, clean));
-    }
+      answer = λ teams needs _. sym (refused (registry_of d) r why (none teams needs));
+      settled = λ teams needs. sym (refused_settles d r why (none teams needs));
+      written = λ teams numbers. record { grants = teams.grants; numbers = numbers };
+      unchanged = λ _. refl;
+      right = leaves_refused d d r.what c.args.caches.now why refl;
+    })
 
-pub returns-in-None-clause-right : goal.returns-in-None-clause-right
-returns-in-None-clause-right g c clean =
-    leaves_refused (stored_in g.S.Store c.args.tx.now) (stored_in g.S.Store c.load_caller.new.tx) c.args.request.now.what c.args.caches.now NoCaller
-    (ap (λ (d : Database). contents d.trees) (c.in_ok-caller.ensures.knows clean).0.same)
+-- ---- decided
 
-pub load_facts_and_answer-requires-clause-begun : goal.load_facts_and_answer-requires-clause-begun
-load_facts_and_answer-requires-clause-begun g c clean = (c.in_ok-caller.ensures.knows clean).0.mode ∙ c.requires.begun (omega (arith, c.load_caller.ensures.stays.survives.clean, clean))
+pub returns-in-About-clause-answers : goal.returns-in-About-clause-answers
+returns-in-About-clause-answers g c =
+    let r = c.args.request.now in
+    let who = c.in-Some.caller in
+    let about = c.in-About.about in
+    let was = c.args.caches.now in
+    found_then c.decide_and_apply.result (known_found c.in_ok-caller.ensures.knows c.in_ok-refusal.ensures) c.decide_and_apply.ensures.answers (λ given d e held it decided.
+    let known : Some who ≡ caller_of (registry_of d) r.who = sym c.in-Some.is ∙ it.0 in
+    let stands : AreTeamsSound d → NeedsFor r.what d → FactsTell (record { caller = Some who; about = about }) (registry_of d) r = λ teams needs.
+    known_stands (registry_of d) who about r known (rw c.in-About.is at (found_told _ d r.at who r.what (it.1 teams) needs)).1 in
+    record {
+      answer = λ teams needs are. decided.answer (stands teams needs) (sound_for r.what d was teams are);
+      settled = λ teams needs. decided.settled (stands teams needs);
+      written = λ teams numbers.
+          let some : TellsSome (found.About about) (registry_of d) who r.what = rw c.in-About.is at (found_some _ d r.at who r.what (it.1 teams)) in
+          decided.written some.0 (known_stands some.0 who about r (known ∙ sym (same_caller (registry_of d) some.0 some.1 r.who)) some.2) (record { grants = teams.grants; numbers = numbers });
+      unchanged = decided.unchanged;
+      right = decided.right held;
+    })

@@ -1,31 +1,20 @@
-use Rattle.registry_desk.proofs.Words.{◌∙◌, ap, arith, map, subst, sym, take_all, stays_then, change_of, all_stored, stored_in, HasNumbersInRange}
-use Rattle.registry_tables.proofs.RangeFacts.{change_in_range}
-use Rattle.registry_desk.proofs.MakingFacts.{changes_next}
+use Rattle.registry_desk.proofs.Words.{err_from_is_err_and, map, refl, subst, take_all, change_of}
+use Rattle.registry_desk.specs.Answering.{AreMade}
+use Rattle.registry_desk.proofs.InsideFacts.{does_fail, does_nothing, does_so, made_next, makes_does}
 use Rattle.registry_desk.proofs.answer.make_all.Goals as goal
 
-pub loop-change-preserved : goal.loop-change-preserved
-loop-change-preserved g c = record {
-  stays = stays_then g.S.Store c.args.tx.now c.loop-change.tx c.make.new.tx c.loop-change.invariant.stays c.make.ensures.stays;
-  made = λ clean.
-      let before = c.loop-change.invariant.made (omega (arith, c.make.ensures.stays.survives.clean, clean)) in
-      let it = c.in_ok-make.ensures.makes clean in
-      record {
-        holds = changes_next c.args.changes.now c.loop-change.change-index c.change-item.result c.loop-change-test.true c.change-item.is
-            (stored_in g.S.Store c.args.tx.now) (stored_in g.S.Store c.loop-change.tx) (stored_in g.S.Store c.make.new.tx) before.holds it.holds;
-        ready = it.ready;
-        mode = it.mode;
-      };
-  ranged = λ were clean.
-      subst HasNumbersInRange (sym (c.in_ok-make.ensures.makes clean).holds)
-      (change_in_range (change_of c.change-item.result) (stored_in g.S.Store c.loop-change.tx) c.in_ok-make.ensures.in_time
-      (c.loop-change.invariant.ranged were (omega (arith, c.make.ensures.stays.survives.clean, clean))));
-}
+pub loop-change-init : goal.loop-change-init
+loop-change-init g c = does_nothing (λ d. record { made = refl; in_range = λ were. were })
 
-pub returns-clause-makes : goal.returns-clause-makes
-returns-clause-makes g c clean =
-    let it = c.loop-change.invariant.made clean in
-    record {
-      holds = it.holds ∙ ap (λ changes. all_stored (map change_of changes) (stored_in g.S.Store c.args.tx.now)) (take_all c.loop-change.change-index c.args.changes.now c.loop-change-test.false);
-      ready = it.ready;
-      mode = it.mode;
-    }
+pub loop-change-preserved : goal.loop-change-preserved
+loop-change-preserved g c =
+    made_next c.args.changes.now c.loop-change.change-index c.change-item.result c.loop-change-test.true c.change-item.is c.loop-change.invariant c.in_ok-make.ensures.makes c.in_ok-make.ensures.in_time
+
+pub returns-in_err-make : goal.returns-in_err-make
+returns-in_err-make g c =
+    let fault = err_from_is_err_and c.from_residual.result c.from_residual.ensures.1 in
+    does_fail c.from_residual.result fault.0 fault.1 c.loop-change.invariant (makes_does c.make.result c.make.ensures.makes)
+
+pub returns : goal.returns
+returns g c = does_so c.loop-change.invariant
+    (λ d e it. subst (λ changes. AreMade (map change_of changes) d e) (take_all c.loop-change.change-index c.args.changes.now c.loop-change-test.false) it)

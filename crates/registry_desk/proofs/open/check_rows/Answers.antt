@@ -1,48 +1,29 @@
-use Rattle.registry_desk.proofs.Words.{◌∙◌, ap, arith, refl, subst, sym, Database, HasCleanDisk, on_answer, reads_then, stays_then, contents, shown, stored_in, schema, on_any, IsAsWritten}
-use Rattle.registry_migration.proofs.StayFacts.{no_more, stays_going}
+use Rattle.registry_desk.proofs.Words.{◌∙◌, ap, arith, option_map, refl, subst, sym, IfOk-weaker, Database, HasCleanDisk, InForm, IsTrue, reads_then, stays_then, contents, shown, schema, CountsArchivesAlone, IsAsWritten}
+use Rattle.std.specs.Prelude.{pos}
+use Rattle.registry_migration.proofs.StayFacts.{stays_going}
+use Rattle.registry_tables.proofs.InsideFacts.{finds_reads, finds_stays}
 use Rattle.registry_desk.proofs.open.check_rows.Goals as goal
 
-pub counts_archives_alone-requires : goal.counts_archives_alone-requires
-counts_archives_alone-requires g c = record { in_form = λ clean _. (c.in_ok-opened.ensures.ours c.requires.in_form clean).0.ready }
-
-pub check_sound-requires : goal.check_sound-requires
-check_sound-requires g c = record { in_form = λ clean _. (c.in_ok-counts_archives_alone.ensures.loads clean).0.ready }
-
 pub returns-in_err-opened-clause-stays : goal.returns-in_err-opened-clause-stays
-returns-in_err-opened-clause-stays g c = stays_going g.S.Store c.args.tx.now c.opened.new.tx c.opened.ensures.same_reference c.requires.going c.opened.ensures.committed c.opened.ensures.survives
+returns-in_err-opened-clause-stays g c = stays_going g.S.Store c.args.tx.now c.opened.new.tx c.opened.ensures.same_reference (λ _. c.requires.going) c.opened.ensures.committed c.opened.ensures.survives
 
-pub returns-clause-stays : goal.returns-clause-stays
-returns-clause-stays g c = stays_then g.S.Store c.args.tx.now c.counts_archives_alone.new.tx c.check_sound.new.tx
-    (stays_then g.S.Store c.args.tx.now c.opened.new.tx c.counts_archives_alone.new.tx
-    (stays_going g.S.Store c.args.tx.now c.opened.new.tx c.opened.ensures.same_reference c.requires.going c.opened.ensures.committed c.opened.ensures.survives)
-    c.counts_archives_alone.ensures.stays) c.check_sound.ensures.stays
-
-pub returns-clause-reads : goal.returns-clause-reads
-returns-clause-reads g c clean =
+pub returns : goal.returns
+returns g c =
     let was = shown g.S.Store c.args.tx.now in
     let one = shown g.S.Store c.opened.new.tx in
-    let two = shown g.S.Store c.counts_archives_alone.new.tx in
-    let clean_two : HasCleanDisk two = omega (arith, c.check_sound.ensures.stays.survives.clean, clean) in
-    let clean_one : HasCleanDisk one = omega (arith, c.counts_archives_alone.ensures.stays.survives.clean, clean_two) in
-    let to_two = reads_then schema was one two (c.in_ok-opened.ensures.ours c.requires.in_form clean_one).0 (c.in_ok-counts_archives_alone.ensures.loads clean_two).0 in
-    on_answer c.check_sound.result (λ more. reads_then schema was two (shown g.S.Store c.check_sound.new.tx) to_two more) (c.check_sound.ensures.reads clean)
-
-pub returns-clause-counted : goal.returns-clause-counted
-returns-clause-counted g c clean =
-    let one = shown g.S.Store c.opened.new.tx in
-    let two = shown g.S.Store c.counts_archives_alone.new.tx in
-    let clean_two : HasCleanDisk two = omega (arith, c.check_sound.ensures.stays.survives.clean, clean) in
-    let clean_one : HasCleanDisk one = omega (arith, c.counts_archives_alone.ensures.stays.survives.clean, clean_two) in
-    let opens = (c.in_ok-opened.ensures.ours c.requires.in_form clean_one).0 in
-    on_any c.check_sound.result
-    (ap (λ (d : Database). (contents d.trees).counters) (sym opens.same)
-    ∙ no_more (stored_in g.S.Store c.opened.new.tx).counters (sym (c.in_ok-counts_archives_alone.ensures.loads clean_two).1 ∙ c.in_ok-check_so.ensures.ok.0 refl))
-
-pub returns-clause-written : goal.returns-clause-written
-returns-clause-written g c clean =
-    let one = shown g.S.Store c.opened.new.tx in
-    let two = shown g.S.Store c.counts_archives_alone.new.tx in
-    let clean_two : HasCleanDisk two = omega (arith, c.check_sound.ensures.stays.survives.clean, clean) in
-    let clean_one : HasCleanDisk one = omega (arith, c.counts_archives_alone.ensures.stays.survives.clean, clean_two) in
-    let same = (c.in_ok-counts_archives_alone.ensures.loads clean_two).0.same ∙ (c.in_ok-opened.ensures.ours c.requires.in_form clean_one).0.same in
-    on_answer c.check_sound.result (λ written. subst (λ (d : Database). IsAsWritten (contents d.trees)) same written) (c.check_sound.ensures.written clean)
+    let first = stays_going g.S.Store c.args.tx.now c.opened.new.tx c.opened.ensures.same_reference (λ _. c.requires.going) c.opened.ensures.committed c.opened.ensures.survives in
+    let opens = c.in_ok-opened.ensures.ours c.requires.in_form in
+    let form : InForm g.S.Store c.opened.new.tx = λ clean _. (opens clean).0.ready in
+    let begun : HasCleanDisk one → IsTrue one.in_transaction = λ clean. (opens clean).0.mode ∙ c.requires.going in
+    let last = finds_stays g.S.Store c.opened.new.tx c.check_held.new.tx c.check_held.result form begun c.check_held.ensures in
+    let read = finds_reads g.S.Store c.opened.new.tx c.check_held.new.tx c.check_held.result form begun c.check_held.ensures in
+    let were : HasCleanDisk (shown g.S.Store c.check_held.new.tx) → HasCleanDisk one = λ clean. omega (arith, last.survives.clean, clean) in
+    record {
+      stays = stays_then g.S.Store c.args.tx.now c.opened.new.tx c.check_held.new.tx first last;
+      reads = λ clean. IfOk-weaker c.check_held.result _ _ (λ _ told. reads_then schema was one (shown g.S.Store c.check_held.new.tx) (opens (were clean)).0 told.0) (read clean);
+      ours = λ clean. IfOk-weaker c.check_held.result _ _ (λ _ told. let at = opens (were clean) in record {
+        numbered = sym at.1.1 ∙ ap (option_map (λ n. pos n)) (c.in_ok-check_number.ensures.ok.0 refl);
+        counted = subst (λ (d : Database). CountsArchivesAlone (contents d.trees)) at.0.same told.1.0;
+        written = subst (λ (d : Database). IsAsWritten (contents d.trees)) at.0.same told.1.1;
+      }) (read clean);
+    }

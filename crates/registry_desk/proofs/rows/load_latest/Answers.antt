@@ -1,25 +1,9 @@
-use Rattle.registry_desk.proofs.Words.{◌≡◌, ◌∙◌, arith, ap, sym, Some, Option, option_map, Database, HasCleanDisk, at, latest, Text, reads_then, stays_then, contents, live_of, shown, stored_in}
-use Rattle.registry_desk.proofs.Words.{schema, document}
+use Rattle.registry_desk.proofs.Words.{◌∙◌, ap, sym, Option, option_map, at, Text, live_of, document}
 use Rattle.std.specs.Prelude.{option_and_then}
+use Rattle.registry_desk.proofs.InsideFacts.{both, found}
 use Rattle.registry_desk.proofs.rows.load_latest.Goals as goal
 
-pub returns-in_err-document-in-Some-clause-stays : goal.returns-in_err-document-in-Some-clause-stays
-returns-in_err-document-in-Some-clause-stays g c = stays_then g.S.Store c.args.tx.now c.load_tag.new.tx c.load_document.new.tx c.load_tag.ensures.stays c.load_document.ensures.stays
-
-pub returns-in_ok-document-in-Some-clause-stays : goal.returns-in_ok-document-in-Some-clause-stays
-returns-in_ok-document-in-Some-clause-stays g c = stays_then g.S.Store c.args.tx.now c.load_tag.new.tx c.load_document.new.tx c.load_tag.ensures.stays c.load_document.ensures.stays
-
-pub returns-in_ok-document-in-Some-clause-loads : goal.returns-in_ok-document-in-Some-clause-loads
-returns-in_ok-document-in-Some-clause-loads g c clean =
-    let mid = shown g.S.Store c.load_tag.new.tx in
-    let was = stored_in g.S.Store c.args.tx.now in
-    let p = c.args.name.now in
-    let were : HasCleanDisk mid = omega (arith, c.load_document.ensures.stays.survives.clean, clean) in
-    let named = c.in_ok-version.ensures.loads were in
-    let found = c.in_ok-document-in-Some.ensures.loads clean in
-    let tag : Some c.in-Some.version ≡ at was.tags (p, latest) = sym c.in-Some.is ∙ named.1 in (
-      reads_then schema (shown g.S.Store c.args.tx.now) mid (shown g.S.Store c.load_document.new.tx) named.0 found.0,
-      found.1 ∙ ap (λ (d : Database). option_map document (at (live_of (contents d.trees)) (p, c.as_str.result.now))) named.0.same
-          ∙ ap (λ (v : Text). option_map document (at (live_of was) (p, v))) c.as_str.ensures.text
-          ∙ ap (λ (o : Option Text). option_map document (option_and_then (λ v. at (live_of was) (p, v)) o)) tag,
-    )
+pub returns-in_ok-document-in-Some : goal.returns-in_ok-document-in-Some
+returns-in_ok-document-in-Some g c = found (both c.in_ok-version.ensures c.in_ok-document-in-Some.ensures) (λ d it.
+    it.1 ∙ ap (λ (v : Text). option_map document (at (live_of d) (c.args.name.now, v))) c.as_str.ensures.text
+    ∙ ap (λ (o : Option Text). option_map document (option_and_then (λ v. at (live_of d) (c.args.name.now, v)) o)) (sym c.in-Some.is ∙ it.0))

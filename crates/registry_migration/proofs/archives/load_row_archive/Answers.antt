@@ -3,6 +3,7 @@ use Rattle.std.proofs.lemmas.Result.{IfOk-weaker}
 use Rattle.registry_rows.proofs.QuietFacts.{read_stays}
 use Rattle.registry_tables.specs.Effects.{shown}
 use Rattle.registry_tables.specs.Spelled.{blob_of_row}
+use Rattle.registry_tables.proofs.InsideFacts.{on_any, open_queried}
 use Rattle.registry_migration.proofs.StatementFacts.{archive_found}
 use Rattle.registry_migration.proofs.archives.load_row_archive.Goals as goal
 
@@ -13,4 +14,5 @@ returns g c =
     record {
       stays = read_stays g.S.Store _ _ _ c.args.tx.now c.read.new.tx _ c.in_ok-rows.ensures.same_reference call (λ clean. (it clean).0);
       loads = λ clean. IfOk-weaker c.first_archive.result _ _ (λ _ e. ((it clean).0, sym (it clean).1 ∙ ap (λ rows. option_map blob_of_row (slice_get rows 0)) (sym c.deref.ensures.value) ∙ e)) c.first_archive.ensures;
+      ran = on_any c.first_archive.result (open_queried g.S.Store _ _ c.args.tx.now c.read.new.tx _ call);
     }

@@ -6,7 +6,7 @@ use Rattle.registry_rows.proofs.QuietFacts.{on_answer, stays_then}
 use Rattle.registry_tables.specs.Contents.{Contents, contents}
 use Rattle.registry_tables.specs.Effects.{shown, stored_in}
 use Rattle.registry_tables.specs.Fresh.{CountsArchivesAlone, schema_key}
-use Rattle.registry_tables.proofs.EffectFacts.{on_any}
+use Rattle.registry_tables.proofs.InsideFacts.{on_any}
 use Rattle.registry_migration.specs.Older.{contents_of}
 use Rattle.registry_migration.specs.Steps.{HasNoneMoved}
 use Rattle.registry_migration.proofs.MigrationFacts.{migrated, none_moved_yet, number_kept, readable, still_no_ranges}

@@ -1,14 +1,10 @@
-use Rattle.registry_tables.proofs.Words.{◌∙◌, arith, ap, refl, Database, HasCleanDisk, access_of, contents, shown}
-use Rattle.registry_access.specs.Callers.{role_of}
+use Rattle.registry_tables.proofs.Words.{refl}
 use Rattle.registry_access.specs.declared.rows.AccessRows.{AccessRows}
-use Rattle.registry_tables.proofs.EffectFacts.{reads_as_before}
+use Rattle.registry_tables.proofs.InsideFacts.{finds_of, found_and}
 use Rattle.registry_tables.proofs.access.load_access.Goals as goal
 
-pub returns-clause-loads : goal.returns-clause-loads
-returns-clause-loads g c clean =
-    let were : HasCleanDisk (shown g.S.Store c.organisation_rows.new.tx) = omega (arith, c.member_rows.ensures.stays.survives.clean, clean) in
-    let there = c.in_ok-organisations.ensures.loads were in
-    let known = c.in_ok-members.ensures.knows clean in
+pub returns : goal.returns
+returns g c =
     let rows : AccessRows = record {
       organisations = c.in_ok-organisations.organisations;
       members = c.in_ok-members.members;
@@ -17,10 +13,6 @@ returns-clause-loads g c clean =
       grants = c.new-3.result;
       packages = c.new-4.result;
       maintainers = c.new-5.result;
-    } in (
-      reads_as_before (shown g.S.Store c.args.tx.now) (shown g.S.Store c.organisation_rows.new.tx) (shown g.S.Store c.member_rows.new.tx) there.0 known.0,
-      record {
-        organisation = there.1 rows refl;
-        role = known.1 rows refl ∙ ap (λ (d : Database). role_of (access_of (contents d.trees)) c.args.caller.now c.args.organisation.now) there.0.same;
-      },
-    )
+    } in
+    finds_of g.S.Store c.args.tx.now c.member_rows.new.tx _ _ (found_and g.S.Store c.args.tx.now c.organisation_rows.new.tx c.member_rows.new.tx _ _ c.in_ok-organisations.ensures c.in_ok-members.ensures)
+    (λ d it. record { organisation = it.0 rows refl; role = it.1 rows refl })

@@ -1,13 +1,15 @@
-use Rattle.registry_tables.proofs.Words.{◌∙◌, ap, map, IfOk-weaker, shown, archive_spelled, number_among}
+use Rattle.registry_tables.proofs.Words.{rules, ◌∙◌, List, ap, map, IfOk-weaker, Row, Contents, archive_spelled, number_among, number_of}
 use Rattle.registry_tables.proofs.ArchiveFacts.{archive_listed, list_means}
-use Rattle.registry_tables.proofs.QueryFacts.{is_query}
+use Rattle.registry_tables.proofs.InsideFacts.{finds_of, is_query, shown_of}
 use Rattle.registry_tables.proofs.archives.find_number.Goals as goal
 
-pub query-requires-clause-query : goal.query-requires-clause-query
-query-requires-clause-query g c = is_query list_means
+pub returns : goal.returns
+returns g c =
+    let read = λ (rows : List Row). number_among c.args.bytes.now (map archive_spelled rows) in
+    let is = λ (d : Contents). number_of c.args.integrity.now c.args.bytes.now d.archives in
+    finds_of g.S.Store c.args.tx.now c.query.new.tx c.in_ok-rows.rows c.first_with.result (c.in_ok-rows.ensures (is_query list_means)) (λ d it.
+    let shown = rw (c.params-to_sql.ensures) at it in
+    IfOk-weaker c.first_with.result _ _ (λ _ first. first ∙ ap read c.deref.ensures.value ∙ shown_of _ _ _ _ read is (archive_listed c.args.integrity.now c.args.bytes.now _ _) d _ shown) c.first_with.ensures)
 
-pub returns-clause-loads : goal.returns-clause-loads
-returns-clause-loads g c clean =
-    let call = rw (c.params-to_sql.ensures) at c.in_ok-rows.ensures.shown in
-    let it = archive_listed c.args.integrity.now c.args.bytes.now (shown g.S.Store c.args.tx.now) (shown g.S.Store c.query.new.tx) _ c.requires.in_form call clean in
-    IfOk-weaker c.first_with.result _ _ (λ _ e. (it.0, e ∙ ap (λ rows. number_among c.args.bytes.now (map archive_spelled rows)) c.deref.ensures.value ∙ it.1)) c.first_with.ensures
+pub returns-in_err-rows : goal.returns-in_err-rows
+returns-in_err-rows g c = let it = c.in_err-rows.ensures (is_query list_means) in search rules

@@ -1,9 +1,6 @@
 use Rattle.registry_tables.proofs.ArchiveFacts.{held_found, held_means}
-use Rattle.registry_tables.proofs.QueryFacts.{found_as_is, is_query}
+use Rattle.registry_tables.proofs.InsideFacts.{found_as_is, is_query}
 use Rattle.registry_tables.proofs.archives.held_archive.Goals as goal
 
-pub find-requires-clause-query : goal.find-requires-clause-query
-find-requires-clause-query g c = is_query held_means
-
-pub returns-clause-loads : goal.returns-clause-loads
-returns-clause-loads g c = found_as_is _ c.find.result _ (c.find.ensures.loads _ (rw (c.params-to_sql.ensures, c.params-to_sql-2.ensures, c.text.ensures.text) (held_found c.args.name.now c.args.version.now _ _)))
+pub returns : goal.returns
+returns g c = found_as_is g.S.Store c.args.tx.now c.find.new.tx c.find.result (c.find.ensures _ (is_query held_means) (rw (c.params-to_sql.ensures, c.params-to_sql-2.ensures, c.text.ensures.text) (held_found c.args.name.now c.args.version.now _ _)))

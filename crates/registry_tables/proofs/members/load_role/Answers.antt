@@ -1,9 +1,4 @@
-use Rattle.registry_tables.proofs.MemberFacts.{find_means, role_found}
-use Rattle.registry_tables.proofs.QueryFacts.{found_as_is, is_query}
 use Rattle.registry_tables.proofs.members.load_role.Goals as goal
 
-pub find-requires-clause-query : goal.find-requires-clause-query
-find-requires-clause-query g c = is_query find_means
-
-pub returns-clause-loads : goal.returns-clause-loads
-returns-clause-loads g c = found_as_is _ c.find.result _ (c.find.ensures.loads _ (rw (c.params-to_sql.ensures, c.params-to_sql-2.ensures) (role_found c.args.organisation.now c.args.user.now _ _)))
+pub returns : goal.returns
+returns g c = rw (c.text.ensures.text) at c.find_role.ensures

@@ -1,4 +1,3 @@
-use Rattle.registry_tables.proofs.Words.{at}
 use Rattle.registry_tables.proofs.meta.opened.Goals as goal
 
 pub returns-clause-opened : goal.returns-clause-opened

@@ -1,14 +1,8 @@
-use Rattle.registry_tables.proofs.Words.{◌∙◌, ap, arith, sym, Database, contents, stored_in}
-use Rattle.registry_tables.proofs.NeedFacts.{stands_already}
+use Rattle.registry_tables.proofs.InsideFacts.{write_makes}
+use Rattle.registry_tables.proofs.NeedFacts.{need_put}
 use Rattle.registry_tables.proofs.needs.put_need.Goals as goal
 
-pub returns-then-branch-clause-makes : goal.returns-then-branch-clause-makes
-returns-then-branch-clause-makes g c clean =
-    let before = c.requires.under_way (omega (arith, c.has_need.ensures.stays.survives.clean, clean)) in
-    let reads = (c.in_ok-has_need.ensures.loads clean).0 in
-    record {
-      holds = ap (λ (d : Database). contents d.trees) reads.same
-          ∙ stands_already c.args.name.now c.args.version.now c.args.need.now (stored_in g.S.Store c.args.tx.now) (sym (c.in_ok-has_need.ensures.loads clean).1 ∙ c.if-branch.true);
-      ready = reads.ready;
-      mode = reads.mode ∙ before.mode;
-    }
+pub returns : goal.returns
+returns g c = write_makes g.S.Store _ _ c.args.tx.now c.write.new.tx c.write.result c.write.ensures.stays
+    (rw (c.params-to_sql.ensures, c.params-to_sql-2.ensures, c.params-to_sql-3.ensures, c.params-to_sql-4.ensures, c.as_str.ensures.text, c.as_str-2.ensures.text) at c.write.ensures.wrote)
+    (λ form wrote clean. (tt, need_put c.args.name.now c.args.version.now c.args.need.now _ _ form wrote clean))

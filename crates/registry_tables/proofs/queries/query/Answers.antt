@@ -1,5 +1,5 @@
-use Rattle.registry_tables.proofs.QueryFacts.{query_stays}
+use Rattle.registry_tables.proofs.InsideFacts.{query_finds}
 use Rattle.registry_tables.proofs.queries.query.Goals as goal
 
-pub returns-clause-stays : goal.returns-clause-stays
-returns-clause-stays g c = query_stays g.S.Store _ _ c.args.tx.now c.read.new.tx _ c.read.result c.requires.query c.requires.in_form c.read.ensures.same_reference c.read.ensures.shown c.read.ensures.failed
+pub returns : goal.returns
+returns g c query = query_finds g.S.Store _ _ c.args.tx.now c.read.new.tx _ c.read.result query c.read.ensures.same_reference c.read.ensures.shown c.read.ensures.failed

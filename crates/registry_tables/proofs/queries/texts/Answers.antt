@@ -1,5 +1,5 @@
-use Rattle.registry_tables.proofs.QueryFacts.{listed_as_is}
+use Rattle.registry_tables.proofs.InsideFacts.{listed_as_is}
 use Rattle.registry_tables.proofs.queries.texts.Goals as goal
 
-pub returns-clause-loads : goal.returns-clause-loads
-returns-clause-loads g c all shows = listed_as_is _ _ c.list.result _ (c.list.ensures.loads all shows)
+pub returns : goal.returns
+returns g c all query shows = listed_as_is g.S.Store c.args.tx.now c.list.new.tx _ c.list.result (c.list.ensures all query shows)

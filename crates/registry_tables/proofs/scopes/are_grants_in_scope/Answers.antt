@@ -1,13 +1,10 @@
-use Rattle.registry_tables.proofs.Words.{◌≡◌, ◌∙◌, ap, sym, list_all, list_all-map, stored_in}
-use Rattle.registry_tables.specs.Scopes.{is_in_its_scope, place_entry}
-use Rattle.registry_tables.proofs.ScopeFacts.{in_scope_told}
+use Rattle.registry_tables.proofs.Words.{◌∙◌, sym}
+use Rattle.registry_tables.proofs.InsideFacts.{finds_so, is_query}
+use Rattle.registry_tables.proofs.RangeFacts.{levels_means}
+use Rattle.registry_tables.proofs.ScopeFacts.{in_scope_told, scopes_tested}
 use Rattle.registry_tables.proofs.scopes.are_grants_in_scope.Goals as goal
 
-pub returns-clause-loads : goal.returns-clause-loads
-returns-clause-loads g c clean =
-    let it = c.in_ok-places.ensures.loads clean in
-    let told = in_scope_told (stored_in g.S.Store c.args.tx.now) in
-    let same : c.are_in_scope.result ≡ _ = c.are_in_scope.ensures ∙ ap (list_all _) c.deref.ensures.value ∙ sym (list_all-map is_in_its_scope place_entry c.in_ok-places.places.items) ∙ ap (list_all is_in_its_scope) it.1 in (
-      it.0,
-      (λ are. told.0 (sym same ∙ are), λ scoped. same ∙ told.1 scoped),
-    )
+pub returns : goal.returns
+returns g c = finds_so g.S.Store c.args.tx.now c.all_rows_pass.new.tx c.all_rows_pass.result
+    (λ d _ is. let told = in_scope_told d in (λ are. told.0 (sym is ∙ are), λ scoped. is ∙ told.1 scoped))
+    (c.all_rows_pass.ensures _ (is_query levels_means) (scopes_tested _ _))

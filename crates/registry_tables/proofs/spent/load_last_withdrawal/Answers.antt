@@ -1,13 +1,15 @@
-use Rattle.registry_tables.proofs.Words.{◌∙◌, ap, map, IfOk-weaker, shown, number_spelled, last_number}
-use Rattle.registry_tables.proofs.QueryFacts.{is_query}
+use Rattle.registry_tables.proofs.Words.{rules, ◌∙◌, List, ap, map, IfOk-weaker, Row, Contents, number_spelled, last_number, last_withdrawal, registry_of}
+use Rattle.registry_tables.proofs.InsideFacts.{finds_of, is_query, shown_of}
 use Rattle.registry_tables.proofs.SpentFacts.{last_found, last_means}
 use Rattle.registry_tables.proofs.spent.load_last_withdrawal.Goals as goal
 
-pub query-requires-clause-query : goal.query-requires-clause-query
-query-requires-clause-query g c = is_query last_means
+pub returns : goal.returns
+returns g c =
+    let read = λ (rows : List Row). last_number (map number_spelled rows) in
+    let is = λ (d : Contents). last_withdrawal (registry_of d) c.args.name.now in
+    finds_of g.S.Store c.args.tx.now c.query.new.tx c.in_ok-rows.rows c.last_moment.result (c.in_ok-rows.ensures (is_query last_means)) (λ d it.
+    let shown = rw (c.params-to_sql.ensures, c.text.ensures.text) at it in
+    IfOk-weaker c.last_moment.result _ _ (λ _ last. last ∙ ap read c.deref.ensures.value ∙ shown_of _ _ _ _ read is (last_found c.args.name.now _ _) d _ shown) c.last_moment.ensures)
 
-pub returns-clause-loads : goal.returns-clause-loads
-returns-clause-loads g c clean =
-    let call = rw (c.params-to_sql.ensures, c.text.ensures.text) at c.in_ok-rows.ensures.shown in
-    let it = last_found c.args.name.now (shown g.S.Store c.args.tx.now) (shown g.S.Store c.query.new.tx) _ c.requires.in_form call clean in
-    IfOk-weaker c.last_moment.result _ _ (λ _ e. (it.0, e ∙ ap (λ rows. last_number (map number_spelled rows)) c.deref.ensures.value ∙ it.1)) c.last_moment.ensures
+pub returns-in_err-rows : goal.returns-in_err-rows
+returns-in_err-rows g c = let it = c.in_err-rows.ensures (is_query last_means) in search rules

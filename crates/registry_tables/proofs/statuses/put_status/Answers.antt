@@ -1,15 +1,11 @@
-use Rattle.registry_tables.proofs.Words.{SFits, w64, rules, to_z-of_z, on_answer, shown}
-use Rattle.registry_tables.proofs.StatusFacts.{status_set}
+use Rattle.registry_tables.proofs.Words.{SFits, w64, rules, to_z-of_z}
+use Rattle.registry_tables.proofs.InsideFacts.{write_makes}
+use Rattle.registry_tables.proofs.StatusFacts.{status_put}
 use Rattle.registry_tables.proofs.statuses.put_status.Goals as goal
 
-pub returns-clause-makes : goal.returns-clause-makes
-returns-clause-makes g c clean =
+pub returns : goal.returns
+returns g c =
     let fits : SFits w64 c.number_of.result = search rules in
-    on_answer c.set_row.result (λ wrote. (status_set c.args.name.now c.args.status c.args.stands (shown g.S.Store c.args.tx.now) (shown g.S.Store c.set_row.new.tx) c.requires.in_form wrote clean).0)
-    (rw (c.params-to_sql.ensures, c.params-to_sql-2.ensures, to_z-of_z w64 c.number_of.result fits, c.number_of.ensures) at c.set_row.ensures.wrote)
-
-pub returns-clause-was_new : goal.returns-clause-was_new
-returns-clause-was_new g c clean =
-    let fits : SFits w64 c.number_of.result = search rules in
-    on_answer c.set_row.result (λ wrote. (status_set c.args.name.now c.args.status c.args.stands (shown g.S.Store c.args.tx.now) (shown g.S.Store c.set_row.new.tx) c.requires.in_form wrote clean).1)
-    (rw (c.params-to_sql.ensures, c.params-to_sql-2.ensures, to_z-of_z w64 c.number_of.result fits, c.number_of.ensures) at c.set_row.ensures.wrote)
+    write_makes g.S.Store _ _ c.args.tx.now c.write.new.tx c.write.result c.write.ensures.stays
+    (rw (c.params-to_sql.ensures, c.params-to_sql-2.ensures, to_z-of_z w64 c.number_of.result fits, c.number_of.ensures) at c.write.ensures.wrote)
+    (λ form wrote clean. (tt, status_put c.args.name.now c.args.status _ _ form wrote clean))

@@ -1,8 +1,8 @@
-use Rattle.registry_tables.proofs.Words.{on_answer, shown}
+use Rattle.registry_tables.proofs.InsideFacts.{write_makes}
 use Rattle.registry_tables.proofs.TagFacts.{tag_dropped}
 use Rattle.registry_tables.proofs.tags.drop_tag.Goals as goal
 
-pub returns-clause-makes : goal.returns-clause-makes
-returns-clause-makes g c clean = on_answer c.write.result
-    (λ wrote. tag_dropped c.args.name.now c.args.tag.now (shown g.S.Store c.args.tx.now) (shown g.S.Store c.write.new.tx) c.requires.in_form wrote clean)
+pub returns : goal.returns
+returns g c = write_makes g.S.Store _ _ c.args.tx.now c.write.new.tx c.write.result c.write.ensures.stays
     (rw (c.params-to_sql.ensures, c.params-to_sql-2.ensures) at c.write.ensures.wrote)
+    (λ form wrote clean. (tt, tag_dropped c.args.name.now c.args.tag.now _ _ form wrote clean))

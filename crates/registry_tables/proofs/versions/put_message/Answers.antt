@@ -1,8 +1,8 @@
-use Rattle.registry_tables.proofs.Words.{on_answer, shown}
+use Rattle.registry_tables.proofs.InsideFacts.{write_makes}
 use Rattle.registry_tables.proofs.VersionFacts.{message_set}
 use Rattle.registry_tables.proofs.versions.put_message.Goals as goal
 
-pub returns-clause-makes : goal.returns-clause-makes
-returns-clause-makes g c clean = on_answer c.write.result
-    (λ wrote. message_set c.args.name.now c.args.version.now c.args.message.now (shown g.S.Store c.args.tx.now) (shown g.S.Store c.write.new.tx) c.requires.in_form wrote clean)
+pub returns : goal.returns
+returns g c = write_makes g.S.Store _ _ c.args.tx.now c.write.new.tx c.write.result c.write.ensures.stays
     (rw (c.params-to_sql.ensures, c.params-to_sql-2.ensures, c.params-to_sql-3.ensures) at c.write.ensures.wrote)
+    (λ form wrote clean. (tt, message_set c.args.name.now c.args.version.now c.args.message.now _ _ form wrote clean))

@@ -1,7 +1,7 @@
 //! What the tables answer to a line of a case.
 
 ghost use Rattle.std.specs.Prelude.{◌≡◌, OnOk};
-ghost use Rattle.registry_tables.specs.Effects.{InForm};
+ghost use Rattle.registry_tests_tables.specs.Resting.{IsWhole};
 
 use super::asked::Asked;
 use super::changes::change_of;
@@ -26,9 +26,9 @@ pub fn answer<S: Alter>(
     tx: &mut Transaction<'_, S>,
     asked: &Asked<'_>,
 ) -> Result<Loaded, Fault>
-    requires in_form { InForm S.Store tx.old }
+    requires whole { IsWhole S.Store tx.old }
     ensures same_reference { tx.new.conn.ghost_name ≡ tx.old.conn.ghost_name }
-    ensures in_form { OnOk result (InForm S.Store tx.new) }
+    ensures whole { OnOk result (IsWhole S.Store tx.new) }
 {
     match change_of(rt, asked) {
         Some(change) => {
@@ -46,9 +46,9 @@ fn about_packages<S: Alter>(
     tx: &mut Transaction<'_, S>,
     asked: &Asked<'_>,
 ) -> Result<Loaded, Fault>
-    requires in_form { InForm S.Store tx.old }
+    requires whole { IsWhole S.Store tx.old }
     ensures same_reference { tx.new.conn.ghost_name ≡ tx.old.conn.ghost_name }
-    ensures in_form { OnOk result (InForm S.Store tx.new) }
+    ensures whole { OnOk result (IsWhole S.Store tx.new) }
 {
     let third = asked.words[2];
     match asked.verb {
@@ -71,9 +71,9 @@ fn about_versions<S: Alter>(
     tx: &mut Transaction<'_, S>,
     asked: &Asked<'_>,
 ) -> Result<Loaded, Fault>
-    requires in_form { InForm S.Store tx.old }
+    requires whole { IsWhole S.Store tx.old }
     ensures same_reference { tx.new.conn.ghost_name ≡ tx.old.conn.ghost_name }
-    ensures in_form { OnOk result (InForm S.Store tx.new) }
+    ensures whole { OnOk result (IsWhole S.Store tx.new) }
 {
     let third = asked.words[2];
     match asked.verb {
@@ -92,18 +92,49 @@ fn about_people<S: Alter>(
     tx: &mut Transaction<'_, S>,
     asked: &Asked<'_>,
 ) -> Result<Loaded, Fault>
-    requires in_form { InForm S.Store tx.old }
+    requires whole { IsWhole S.Store tx.old }
     ensures same_reference { tx.new.conn.ghost_name ≡ tx.old.conn.ghost_name }
-    ensures in_form { OnOk result (InForm S.Store tx.new) }
+    ensures whole { OnOk result (IsWhole S.Store tx.new) }
 {
     let [_, second, third, fourth, _, _] = asked.words;
     match asked.verb {
-        "team-users" => Ok(Loaded::Names(load_team_users(alloc, tx, second, third)?)),
-        "grants" => Ok(Loaded::Grants(load_grants(alloc, tx, third, fourth, asked.name(rt))?)),
-        "has-grant" => Ok(Loaded::IsSo(has_grant(tx, third, fourth, asked.name(rt))?)),
-        "is-maintainer" => Ok(Loaded::IsSo(is_maintainer(tx, asked.name(rt), third)?)),
+        "team-users" => {
+            let (organisation, team) = two_of(rt, alloc, second, third);
+            let users = load_team_users(alloc, tx, &organisation, &team)?;
+            Ok(Loaded::Names(users))
+        }
+        "grants" => {
+            let user = ident_of(rt, alloc, fourth);
+            let grants = load_grants(alloc, tx, third, &user, asked.name(rt))?;
+            Ok(Loaded::Grants(grants))
+        }
+        "has-grant" => {
+            let (organisation, team) = two_of(rt, alloc, third, fourth);
+            let has = has_grant(tx, &organisation, &team, asked.name(rt))?;
+            Ok(Loaded::IsSo(has))
+        }
+        _ => about_maintainers(rt, alloc, tx, asked),
+    }
+}
+
+// Answers about the maintainers of a package.
+fn about_maintainers<S: Alter>(
+    rt: &impl Abort,
+    alloc: Global,
+    tx: &mut Transaction<'_, S>,
+    asked: &Asked<'_>,
+) -> Result<Loaded, Fault>
+    requires whole { IsWhole S.Store tx.old }
+    ensures same_reference { tx.new.conn.ghost_name ≡ tx.old.conn.ghost_name }
+    ensures whole { OnOk result (IsWhole S.Store tx.new) }
+{
+    match asked.verb {
+        "is-maintainer" => {
+            let is = is_maintainer(tx, asked.name(rt), asked.user(rt))?;
+            Ok(Loaded::IsSo(is))
+        }
         "has-other-maintainer" => {
-            let has = has_other_maintainer(alloc, tx, asked.name(rt), third)?;
+            let has = has_other_maintainer(alloc, tx, asked.name(rt), asked.user(rt))?;
             Ok(Loaded::IsSo(has))
         }
         _ => about_callers(rt, alloc, tx, asked),
@@ -117,9 +148,9 @@ fn about_callers<S: Alter>(
     tx: &mut Transaction<'_, S>,
     asked: &Asked<'_>,
 ) -> Result<Loaded, Fault>
-    requires in_form { InForm S.Store tx.old }
+    requires whole { IsWhole S.Store tx.old }
     ensures same_reference { tx.new.conn.ghost_name ≡ tx.old.conn.ghost_name }
-    ensures in_form { OnOk result (InForm S.Store tx.new) }
+    ensures whole { OnOk result (IsWhole S.Store tx.new) }
 {
     let [_, second, third, _, _, _] = asked.words;
     match asked.verb {
@@ -129,18 +160,27 @@ fn about_callers<S: Alter>(
             Ok(Loaded::Standing(standing))
         }
         "team-packages" => {
-            let granted = load_team_packages(alloc, tx, &asked.caller, second, third)?;
+            let (organisation, team) = two_of(rt, alloc, second, third);
+            let granted = load_team_packages(alloc, tx, &asked.caller, &organisation, &team)?;
             Ok(Loaded::Granted(granted))
         }
         "token-user" => Ok(Loaded::User(load_token_user(alloc, tx, &asked.digest)?)),
         "tokens" => Ok(Loaded::Digests(load_user_tokens(alloc, tx, asked.user(rt))?)),
-        "in-scope" => Ok(Loaded::IsSo(are_grants_in_scope(alloc, tx)?)),
-        "in-range" => Ok(Loaded::IsSo(numbers_are_in_range(alloc, tx)?)),
+        "in-scope" => Ok(Loaded::IsSo(are_grants_in_scope(tx)?)),
+        "in-range" => Ok(Loaded::IsSo(numbers_are_in_range(tx)?)),
         _ => {
             run(rt, tx, asked)?;
             Ok(Loaded::Done)
         }
     }
+}
+
+fn ident_of(rt: &impl Abort, alloc: Global, word: &str) -> Ident {
+    Ident::parse(alloc, word).ok().expect(rt, word)
+}
+
+fn two_of(rt: &impl Abort, alloc: Global, one: &str, other: &str) -> (Ident, Ident) {
+    (ident_of(rt, alloc, one), ident_of(rt, alloc, other))
 }
 
 // Runs a statement that puts a row which no call puts.
@@ -149,9 +189,9 @@ fn run<S: Alter>(
     tx: &mut Transaction<'_, S>,
     asked: &Asked<'_>,
 ) -> Result<(), Fault>
-    requires in_form { InForm S.Store tx.old }
+    requires whole { IsWhole S.Store tx.old }
     ensures same_reference { tx.new.conn.ghost_name ≡ tx.old.conn.ghost_name }
-    ensures in_form { OnOk result (InForm S.Store tx.new) }
+    ensures whole { OnOk result (IsWhole S.Store tx.new) }
 {
     let [_, _, third, fourth, fifth, _] = asked.words;
     match asked.verb {
@@ -172,9 +212,9 @@ fn put_number<S: Alter>(
     package: &Name,
     number: i64,
 ) -> Result<(), Fault>
-    requires in_form { InForm S.Store tx.old }
+    requires whole { IsWhole S.Store tx.old }
     ensures same_reference { tx.new.conn.ghost_name ≡ tx.old.conn.ghost_name }
-    ensures in_form { OnOk result (InForm S.Store tx.new) }
+    ensures whole { OnOk result (IsWhole S.Store tx.new) }
 {
     write(
         tx,
@@ -190,9 +230,9 @@ fn put_level<S: Alter>(
     package: &Name,
     number: i64,
 ) -> Result<(), Fault>
-    requires in_form { InForm S.Store tx.old }
+    requires whole { IsWhole S.Store tx.old }
     ensures same_reference { tx.new.conn.ghost_name ≡ tx.old.conn.ghost_name }
-    ensures in_form { OnOk result (InForm S.Store tx.new) }
+    ensures whole { OnOk result (IsWhole S.Store tx.new) }
 {
     write(
         tx,
@@ -207,9 +247,9 @@ fn put_short<S: Alter>(
     digest: &[u8],
     user: &Ident,
 ) -> Result<(), Fault>
-    requires in_form { InForm S.Store tx.old }
+    requires whole { IsWhole S.Store tx.old }
     ensures same_reference { tx.new.conn.ghost_name ≡ tx.old.conn.ghost_name }
-    ensures in_form { OnOk result (InForm S.Store tx.new) }
+    ensures whole { OnOk result (IsWhole S.Store tx.new) }
 {
     write(
         tx,

@@ -12,10 +12,8 @@ const ABC: &str = "YWJj";
 /// A line, and what its words say.
 #[derive(Drop)]
 pub struct Asked<'a> {
-    /// What is to be done: its first word, without `-again`.
+    /// What is to be done: its first word.
     pub verb: &'a str,
-    /// Whether the row is to be there already: the first word ends with `-again`.
-    pub stands: bool,
     /// Its words; those that it lacks are empty.
     pub words: [&'a str; 6],
     /// The moment of the fourth word.
@@ -39,8 +37,7 @@ impl<'a> Asked<'a> {
         let byte = words[1].parse::<u8>().unwrap_or(0);
         let body = body_of(alloc, &words).expect(rt, "memory");
         Asked {
-            verb: words[0].strip_suffix("-again").unwrap_or(words[0]),
-            stands: words[0].ends_with("-again"),
+            verb: words[0],
             words,
             at: Moment::clamped(words[3].parse::<i64>().unwrap_or(0)),
             until: Moment::clamped(words[4].parse::<i64>().unwrap_or(0)),

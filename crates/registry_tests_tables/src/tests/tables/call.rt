@@ -3,7 +3,7 @@
 ghost use Rattle.std.specs.Prelude.{◌≡◌, OnOk};
 ghost use Rattle.sqlite.specs.Held.{state};
 ghost use Rattle.sqlite.specs.Steps.{IsEmpty};
-ghost use Rattle.registry_tables.specs.Effects.{InForm};
+ghost use Rattle.registry_tests_tables.specs.Resting.{IsWhole};
 
 use super::answers::answer;
 use super::asked::Asked;
@@ -49,7 +49,7 @@ fn comes_out_inside<S: Alter>(
     tx: &mut Transaction<'_, S>,
     case: &str,
 )
-    requires in_form { InForm S.Store tx.old }
+    requires whole { IsWhole S.Store tx.old }
     ensures same_reference { tx.new.conn.ghost_name ≡ tx.old.conn.ghost_name }
 {
     let (lines, end) = case.split_once("\nthen ").unwrap_or((case, ""));
@@ -65,9 +65,9 @@ pub fn all_answer<S: Alter>(
     tx: &mut Transaction<'_, S>,
     lines: &str,
 )
-    requires in_form { InForm S.Store tx.old }
+    requires whole { IsWhole S.Store tx.old }
     ensures same_reference { tx.new.conn.ghost_name ≡ tx.old.conn.ghost_name }
-    ensures in_form { InForm S.Store tx.new }
+    ensures whole { IsWhole S.Store tx.new }
 {
     let (shows, lines) = lines.split_once('\n').expect(rt, lines);
     for line in lines.lines() {
@@ -82,9 +82,9 @@ fn answers<S: Alter>(
     shows: &str,
     line: &str,
 )
-    requires in_form { InForm S.Store tx.old }
+    requires whole { IsWhole S.Store tx.old }
     ensures same_reference { tx.new.conn.ghost_name ≡ tx.old.conn.ghost_name }
-    ensures in_form { InForm S.Store tx.new }
+    ensures whole { IsWhole S.Store tx.new }
 {
     let (line, wanted) = line.split_once(" ->").unwrap_or((line, ""));
     match told(rt, alloc, tx, line) {
@@ -100,9 +100,9 @@ fn told<S: Alter>(
     tx: &mut Transaction<'_, S>,
     line: &str,
 ) -> Result<String, Fault>
-    requires in_form { InForm S.Store tx.old }
+    requires whole { IsWhole S.Store tx.old }
     ensures same_reference { tx.new.conn.ghost_name ≡ tx.old.conn.ghost_name }
-    ensures in_form { OnOk result (InForm S.Store tx.new) }
+    ensures whole { OnOk result (IsWhole S.Store tx.new) }
 {
     let asked = Asked::of(rt, alloc, line);
     match answer(rt, alloc, tx, &asked) {
@@ -114,7 +114,7 @@ fn told<S: Alter>(
 // What comes after the lines: nothing; a line that is a fault of the database; or a look at every row
 // that is there.
 fn ends<S: Alter>(rt: &impl Abort, alloc: Global, tx: &mut Transaction<'_, S>, end: &str)
-    requires in_form { InForm S.Store tx.old }
+    requires whole { IsWhole S.Store tx.old }
     ensures same_reference { tx.new.conn.ghost_name ≡ tx.old.conn.ghost_name }
 {
     match end.split_once(' ') {

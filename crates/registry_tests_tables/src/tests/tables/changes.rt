@@ -17,7 +17,6 @@ pub fn change_of<'a>(rt: &impl Abort, asked: &'a Asked<'a>) -> Option<Change<'a>
             organisation,
             user: asked.user(rt),
             role: Role::Developer,
-            stands: false,
         },
         "team" => Change::AddTeam { organisation, team },
         "team-member" => Change::PutTeamMember {
@@ -43,14 +42,12 @@ fn change_of_package<'a>(rt: &impl Abort, asked: &'a Asked<'a>) -> Option<Change
         "status" => Change::PutStatus {
             package: asked.name(rt),
             status: asked.status(rt),
-            stands: asked.stands,
         },
         "grant" => Change::PutGrant {
             organisation,
             team,
             package: asked.name(rt),
             grant: asked.grant(rt),
-            stands: asked.stands,
         },
         "drop-grant" => Change::DropGrant {
             organisation,
@@ -92,7 +89,6 @@ fn change_of_versions<'a>(rt: &impl Abort, asked: &'a Asked<'a>) -> Option<Chang
             package: asked.name(rt),
             tag: fourth,
             version: asked.version(rt),
-            stands: asked.stands,
         },
         "drop-tag" => Change::DropTag {
             package: asked.name(rt),

@@ -1,5 +1,15 @@
 use Rattle.registry_desk.proofs.OpenedFacts.{no_error}
 use Rattle.registry_desk.proofs.open.Registry+FileStore+File.open.Goals as goal
 
-pub returns-in-Ok-clause-uri : goal.returns-in-Ok-clause-uri
-returns-in-Ok-clause-uri c uri = absurd (no_error _ _ (c.in-Ok.ensures.uri uri))
+pub returns-in-Ok : goal.returns-in-Ok
+returns-in-Ok c =
+    let it = c.in-Ok.ensures in
+    record {
+      written = it.written;
+      served = it.served;
+      durable = it.durable;
+      guarded = it.guarded;
+      unlimited = it.unlimited;
+      memory = λ memory. absurd (no_error _ _ (it.memory memory));
+      uri = λ uri. absurd (no_error _ _ (it.uri uri));
+    }

@@ -24,35 +24,44 @@ module _ {S : Type 0} {g : calls.Ghosts Host} {start : Ghosts S} where
   fresh_image : (files : Files (Modelled Host S g start)) → IsFresh true files.log → IsFresh false files.db → image (seen_in files.log) (seen_in files.db) ≡ image_at start
   fresh_image files log db = ap₂ image (ap₂ (seen start.log start.db) log.0 log.1) (ap₂ (seen start.log start.db) db.0 db.1)
 
--- ---- what is left of the files
+pub returns-in-Ok-open_files : goal.returns-in-Ok-open_files
+returns-in-Ok-open_files g c =
+    let files = c.in-Ok-files_at in
+    let registry = file_state c.in-Ok-open_files.registry in
+    let it = c.in-Ok-open_files.ensures in
+    let same = fresh_image files.files files.ensures.fresh.0 files.ensures.fresh.1 in
+    record {
+      found = subst (λ i. HoldsFound i registry) same it.found;
+      each = subst (λ i. HoldsEach i registry) same it.each;
+      empty = subst (λ i. IsFreshIfEmpty i registry) same it.empty;
+      written = it.written;
+      served = it.served;
+      durable = it.durable;
+      guarded = it.guarded;
+      unlimited = it.unlimited;
+      left = tt;
+      cause = tt;
+      again = tt;
+      memory = λ memory. absurd (files.ensures.memory memory);
+      uri = λ uri. absurd (files.ensures.uri uri);
+    }
 
-pub returns-in-Err-open_files-clause-left : goal.returns-in-Err-open_files-clause-left
-returns-in-Err-open_files-clause-left g c = rw c.handed_back.ensures (c.in-Ok-files_at.files, c.in-Ok-files_at.ensures.fresh, c.in-Err-open_files.ensures.left)
-
-pub returns-in-Err-open_files-clause-cause : goal.returns-in-Err-open_files-clause-cause
-returns-in-Err-open_files-clause-cause g c = rw c.handed_back.ensures (c.in-Ok-files_at.files, c.in-Ok-files_at.ensures.fresh, c.in-Err-open_files.ensures.cause)
-
-pub returns-in-Err-open_files-clause-again : goal.returns-in-Err-open_files-clause-again
-returns-in-Err-open_files-clause-again g c = rw c.handed_back.ensures c.in-Err-open_files.ensures.again
-
--- ---- what the registry holds
-
-pub returns-in-Ok-open_files-clause-found : goal.returns-in-Ok-open_files-clause-found
-returns-in-Ok-open_files-clause-found g c =
-    subst (λ i. HoldsFound i (file_state c.in-Ok-open_files.registry)) (fresh_image c.in-Ok-files_at.files c.in-Ok-files_at.ensures.fresh.0 c.in-Ok-files_at.ensures.fresh.1) c.in-Ok-open_files.ensures.found
-
-pub returns-in-Ok-open_files-clause-each : goal.returns-in-Ok-open_files-clause-each
-returns-in-Ok-open_files-clause-each g c =
-    subst (λ i. HoldsEach i (file_state c.in-Ok-open_files.registry)) (fresh_image c.in-Ok-files_at.files c.in-Ok-files_at.ensures.fresh.0 c.in-Ok-files_at.ensures.fresh.1) c.in-Ok-open_files.ensures.each
-
-pub returns-in-Ok-open_files-clause-empty : goal.returns-in-Ok-open_files-clause-empty
-returns-in-Ok-open_files-clause-empty g c =
-    subst (λ i. IsFreshIfEmpty i (file_state c.in-Ok-open_files.registry)) (fresh_image c.in-Ok-files_at.files c.in-Ok-files_at.ensures.fresh.0 c.in-Ok-files_at.ensures.fresh.1) c.in-Ok-open_files.ensures.empty
-
--- ---- a path that is no file's
-
-pub returns-in-Ok-open_files-clause-uri : goal.returns-in-Ok-open_files-clause-uri
-returns-in-Ok-open_files-clause-uri g c uri = absurd (c.in-Ok-files_at.ensures.uri uri)
-
-pub returns-in-Err-open_files-clause-uri : goal.returns-in-Err-open_files-clause-uri
-returns-in-Err-open_files-clause-uri g c uri = absurd (c.in-Ok-files_at.ensures.uri uri)
+pub returns-in-Err-open_files : goal.returns-in-Err-open_files
+returns-in-Err-open_files g c =
+    let files = c.in-Ok-files_at in
+    let it = c.in-Err-open_files.ensures in
+    record {
+      found = tt;
+      each = tt;
+      empty = tt;
+      written = tt;
+      served = tt;
+      durable = tt;
+      guarded = tt;
+      unlimited = tt;
+      left = rw c.handed_back.ensures (files.files, files.ensures.fresh, it.left);
+      cause = rw c.handed_back.ensures (files.files, files.ensures.fresh, it.cause);
+      again = rw c.handed_back.ensures it.again;
+      memory = λ memory. absurd (files.ensures.memory memory);
+      uri = λ uri. absurd (files.ensures.uri uri);
+    }

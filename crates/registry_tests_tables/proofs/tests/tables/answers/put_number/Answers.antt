@@ -1,9 +1,7 @@
-use Rattle.registry_rows.proofs.QuietFacts.{on_answer}
-use Rattle.registry_tables.specs.Effects.{shown}
 use Rattle.registry_tests_tables.proofs.RowFacts.{number_keeps}
+use Rattle.registry_tests_tables.proofs.WholeFacts.{write_whole}
 use Rattle.registry_tests_tables.proofs.tests.tables.answers.put_number.Goals as goal
 
-pub returns-clause-in_form : goal.returns-clause-in_form
-returns-clause-in_form g c = on_answer c.write.result
-    (λ wrote. number_keeps _ _ (shown g.S.Store c.args.tx.now) (shown g.S.Store c.write.new.tx) c.requires.in_form wrote)
-    (rw (c.params-to_sql.ensures, c.params-to_sql-2.ensures) at c.write.ensures.wrote)
+pub returns-clause-whole : goal.returns-clause-whole
+returns-clause-whole g c = write_whole g.S.Store c.args.tx.now c.write.new.tx _ _ c.write.result (number_keeps _ _ _ _)
+    (rw (c.params-to_sql.ensures, c.params-to_sql-2.ensures) at c.write.ensures.wrote) c.requires.whole
