@@ -5,11 +5,12 @@
 #     examples/beside.sh [PROGRAM]
 #
 # PROGRAM is out/registry where it is left out. All that is made lies in a folder of its own, which is
-# removed. A list of commands is run twice, each by itself on one file and beside a server on another:
-# both must print the same, byte for byte, and end alike. Then it is tried what a killed server leaves,
-# two servers, a folder that others may enter, a path too long for a socket, a server that is just
-# starting, one that is halted, clients that stop in the middle, more clients at once than there are
-# slots, and a server that is killed while it answers. Last come tokens that are made and end beside a
+# removed. Two lists of commands, one of which is the story with the example of each subcommand, are run
+# twice, each command by itself on one file and beside a server on another: both must print the same,
+# byte for byte, and end alike. Then it is tried what a killed server leaves, two servers, a folder
+# that others may enter, a path too long for a socket, a server that is just starting, one that is
+# halted, clients that stop in the middle, more clients at once than there are slots, and a server that
+# is killed while it answers. Last come tokens that are made and end beside a
 # server, copies and checks while versions are published, commands that are killed or halted while they
 # hold the server, and stops. Each try prints a line, and the last line is `N passed, 0 failed`, with status
 # 0, or the status is 1. It takes four minutes, and needs curl and python3.
@@ -164,7 +165,7 @@ cat > "$work/commands" <<'END'
 --at 100 --as bob tag-set @lab/kit next 1.0.0
 --at 100 --as bob tag-rm @lab/kit latest
 --at 100 --as bob deprecate @lab/kit * old
---at 100 --as bob deprecate @lab/kit 1.x EMPTY
+--at 100 --as bob deprecate @lab/kit 1.x ''
 --at 100 --as ann team-create lab two
 --at 100 --as ann team-add lab two bob
 --at 100 --as ann grant lab two @lab/kit read-write
@@ -212,55 +213,47 @@ for version, file in ('1.0.0', 'body'), ('1.1.0', 'more'), ('1.2.0', 'last'):
 open(f'{sys.argv[1]}/broken', 'w').write(json.dumps(body)[:-1])
 END
 
-# Runs each line of the list on a file, and keeps what came of it.
+# The calls of the story that shows each subcommand by its example, and the files that they publish.
+python3 - "$top/crates/registry_tests_stories/data/subcommands.txt" "$work" <<'END'
+import pathlib, sys
+work = pathlib.Path(sys.argv[2])
+story = open(sys.argv[1]).read().split('== Each subcommand, with the examples of the table\n')[1].split('\n== ')[0].split('\n')
+moment = next(line.split()[1] for line in story if line.startswith('at '))
+for name, text in zip(story, story[1:]):
+    if name.startswith('file '):
+        (work / name.split()[1]).write_text(text.removeprefix('| '))
+calls = [line.removeprefix('$ registry ') for line in story if line.startswith('$ registry ')]
+(work / 'examples').write_text(''.join(f'--at {moment} {call}\n' for call in calls))
+END
+
+# Runs each line of a list on a file, and keeps what came of it.
 run_all() {
-    number=0
-    while read -r line; do
-        number=$((number + 1))
-        set -f
-        # shellcheck disable=SC2086
-        set -- "$1" "$2" $line
-        file=$1
-        into=$2
-        shift 2
-        words=
-        for word in "$@"; do
-            case $word in
-            BODY) word=$work/body ;;
-            MORE) word=$work/more ;;
-            LAST) word=$work/last ;;
-            BROKEN) word=$work/broken ;;
-            NOTHING) word=$work/nothing ;;
-            esac
-            words="$words$word
-"
-        done
-        set -- "$file" "$into"
-        printf '%s' "$words" | python3 -c '
-import subprocess, sys
-words = ["" if word == "EMPTY" else word for word in sys.stdin.read().splitlines()]
-program, file, into = sys.argv[1:]
-came = subprocess.run([program, "--db", file, *words], capture_output=True)
-open(into, "wb").write(came.stdout + b"|" + came.stderr + b"|" + str(came.returncode).encode())
-' "$program" "$file" "$work/$into.$number"
-        set +f
-    done < "$work/commands"
+    python3 - "$program" "$work" "$1" "$2" "$3" <<'END'
+import pathlib, shlex, subprocess, sys
+program, work, calls, file, into = sys.argv[1:]
+for number, line in enumerate(open(f'{work}/{calls}'), 1):
+    words = [f'{work}/{word.lower()}' if word in ('BODY', 'MORE', 'LAST', 'BROKEN', 'NOTHING') else word for word in shlex.split(line)]
+    came = subprocess.run([program, '--db', f'{work}/{file}', *words], cwd=work, capture_output=True)
+    pathlib.Path(f'{work}/{into}.{number}').write_bytes(came.stdout + b'|' + came.stderr + b'|' + str(came.returncode).encode())
+END
 }
 all_are_the_same() {
-    run_all "$work/alone.db" alone
-    serve "$work/beside.db"
-    run_all "$work/beside.db" beside
+    calls=$1
+    run_all "$calls" "$calls-alone.db" alone
+    serve "$work/$calls-beside.db"
+    run_all "$calls" "$calls-beside.db" beside
     number=0
     while read -r line; do
         number=$((number + 1))
         cmp "$work/alone.$number" "$work/beside.$number" >> "$work/said" || { echo "$line" >> "$work/said"; return 1; }
-    done < "$work/commands"
+    done < "$work/$calls"
     stop
-    run both "$work/beside.db" --as ann teams lab
+    run both "$work/$calls-beside.db" --as ann teams lab
     is both 0 developers
 }
-say "$(wc -l < "$work/commands") commands, each by itself and beside a server"
-try 'each prints the same, byte for byte, and ends alike' all_are_the_same
+say "$(cat "$work/commands" "$work/examples" | wc -l) commands, each by itself and beside a server"
+try 'each prints the same, byte for byte, and ends alike' all_are_the_same commands
+try 'so does the example of each subcommand' all_are_the_same examples
 
 db=$work/registry.db
 run first "$db" --operator user-add ann
