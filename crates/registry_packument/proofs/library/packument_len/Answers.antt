@@ -1,7 +1,7 @@
 use Rattle.std.proofs.Common.{inr}
 use Rattle.std.proofs.lemmas.Result.{err_from_is_err_and}
 use Rattle.registry_packument.proofs.LenFacts.{whole_len, with_left-start, with_left-step, opening_fault, row_fault}
-use Rattle.registry_packument.proofs.stream.packument_len.Goals as goal
+use Rattle.registry_packument.proofs.library.packument_len.Goals as goal
 
 pub returns-in_err-count-clause-err : goal.returns-in_err-count-clause-err
 returns-in_err-count-clause-err g c known =

@@ -1,7 +1,7 @@
 use Rattle.std.proofs.Common.{◌≡◌, ◌+◌, drop, length}
 use Rattle.std.specs.Prelude.{flat_map}
 use Rattle.registry_packument.specs.Members.{member_bytes, text_of_members}
-use Rattle.registry_packument.proofs.packument.text_len.Given as goal
+use Rattle.registry_packument.proofs.library.text_len.Given as goal
 
 -- the whole is what is counted, and then the members that are left
 abbrev pub invariant-loop-member : goal.invariant-loop-member

@@ -3,7 +3,7 @@ use Rattle.registry_names.proofs.ByteStreamFacts.{on_err}
 use Rattle.registry_packument.specs.Streams.{row_prefix, versions_prefix}
 use Rattle.registry_packument.specs.Packuments.{version_pairs}
 use Rattle.registry_packument.proofs.StreamFacts.{HasLeft-piece, HasLeft-failed, HasLeft-stopped, HasLeft-none, behind, versions_prefix-cut, versions_prefix-next, length-versions_prefix, is_some-next}
-use Rattle.registry_packument.proofs.stream.write_versions.Goals as goal
+use Rattle.registry_packument.proofs.library.write_versions.Goals as goal
 
 pub returns-in_err-row-clause-err : goal.returns-in_err-row-clause-err
 returns-in_err-row-clause-err g c known =

@@ -3,7 +3,7 @@ use Rattle.std.proofs.lemmas.Result.{on_err_weaker}
 use Rattle.registry_names.proofs.ByteStreamFacts.{Writes-append, WritesPrefix-append, WritesPrefix-longer, on_err}
 use Rattle.registry_packument.specs.Streams.{versions_prefix}
 use Rattle.registry_packument.proofs.StreamFacts.{pack_prefix-parts, pack_text-written, on_ok_both}
-use Rattle.registry_packument.proofs.stream.write_packument.Goals as goal
+use Rattle.registry_packument.proofs.library.write_packument.Goals as goal
 
 pub returns-in_err-write_opening-clause-err : goal.returns-in_err-write_opening-clause-err
 returns-in_err-write_opening-clause-err g c known =

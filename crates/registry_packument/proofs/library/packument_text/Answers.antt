@@ -3,7 +3,7 @@ use Rattle.std.proofs.lemmas.Result.{err_from_is_err_and}
 use Rattle.registry_packument.specs.ObjectTexts.{object_text}
 use Rattle.registry_packument.specs.Packuments.{pack_pairs, version_pairs}
 use Rattle.registry_packument.proofs.MemberFacts.{fault_from_map, text_of_pack}
-use Rattle.registry_packument.proofs.packument.packument_text.Goals as goal
+use Rattle.registry_packument.proofs.library.packument_text.Goals as goal
 
 pub returns-in_err-members-clause-err : goal.returns-in_err-members-clause-err
 returns-in_err-members-clause-err g c known =

@@ -2,7 +2,7 @@ use Rattle.std.proofs.Common.{◌≡◌, false, is_some}
 use Rattle.registry_packument.specs.Packuments.{version_pairs}
 use Rattle.registry_packument.specs.Streams.{versions_prefix}
 use Rattle.registry_packument.proofs.StreamFacts.{HasLeft}
-use Rattle.registry_packument.proofs.stream.write_versions.Given as goal
+use Rattle.registry_packument.proofs.library.write_versions.Given as goal
 
 abbrev pub invariant-versions : goal.invariant-versions
 invariant-versions g l = record {

@@ -3,7 +3,7 @@ use Rattle.std.specs.Prelude.{flat_map}
 use Rattle.std.proofs.lemmas.List.{drop_all}
 use Rattle.registry_packument.specs.Members.{member_bytes}
 use Rattle.registry_packument.proofs.MemberFacts.{len_start, len_next}
-use Rattle.registry_packument.proofs.packument.text_len.Goals as goal
+use Rattle.registry_packument.proofs.library.text_len.Goals as goal
 
 pub loop-member-init : goal.loop-member-init
 loop-member-init c = len_start c.args.start.now c.args.members.now _ c.in_ok-len.ensures

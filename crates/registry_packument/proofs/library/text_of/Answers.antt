@@ -1,7 +1,7 @@
 use Rattle.std.proofs.Common.{drop}
 use Rattle.std.proofs.lemmas.List.{drop_all}
 use Rattle.registry_packument.proofs.MemberFacts.{member_pushed, members_pushed}
-use Rattle.registry_packument.proofs.packument.text_of.Goals as goal
+use Rattle.registry_packument.proofs.library.text_of.Goals as goal
 
 pub loop-member-preserved : goal.loop-member-preserved
 loop-member-preserved c =

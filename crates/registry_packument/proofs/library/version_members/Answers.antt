@@ -5,7 +5,7 @@ use Rattle.registry_packument.specs.Members.{member_bytes, text_of_members}
 use Rattle.registry_packument.specs.Packuments.{version_pair, version_pairs, versions_text}
 use Rattle.registry_packument.proofs.MemberFacts.{members_none, members_more, fault_of_map}
 use Rattle.registry_packument.proofs.PackFacts.{row_step, row_stop, rows_end}
-use Rattle.registry_packument.proofs.packument.version_members.Goals as goal
+use Rattle.registry_packument.proofs.library.version_members.Goals as goal
 
 pub versions-init : goal.versions-init
 versions-init g c = record {

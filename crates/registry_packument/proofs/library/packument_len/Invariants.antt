@@ -1,6 +1,6 @@
 use Rattle.std.proofs.Common.{◌≡◌}
 use Rattle.registry_packument.proofs.LenFacts.{with_left, whole_len}
-use Rattle.registry_packument.proofs.stream.packument_len.Given as goal
+use Rattle.registry_packument.proofs.library.packument_len.Given as goal
 
 abbrev pub invariant-versions : goal.invariant-versions
 invariant-versions g l = record {

@@ -2,7 +2,7 @@ use Rattle.std.proofs.Common.{◌≡◌, ◌+◌, arith, length}
 use Rattle.std.proofs.lemmas.Result.{IfOk-weaker}
 use Rattle.registry_packument.specs.Packuments.{version_pair}
 use Rattle.registry_packument.proofs.LenFacts.{row_long}
-use Rattle.registry_packument.proofs.stream.counted_row.Goals as goal
+use Rattle.registry_packument.proofs.library.counted_row.Goals as goal
 
 pub returns-clause-ok : goal.returns-clause-ok
 returns-clause-ok c =

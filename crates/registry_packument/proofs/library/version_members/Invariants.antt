@@ -3,7 +3,7 @@ use Rattle.std.specs.Prelude.{flat_map}
 use Rattle.registry_packument.specs.Members.{member_bytes}
 use Rattle.registry_packument.specs.Packuments.{version_pairs, versions_text}
 use Rattle.registry_packument.proofs.PackFacts.{whole_of}
-use Rattle.registry_packument.proofs.packument.version_members.Given as goal
+use Rattle.registry_packument.proofs.library.version_members.Given as goal
 
 abbrev pub invariant-versions : goal.invariant-versions
 invariant-versions g l = record {
