@@ -11,12 +11,11 @@ EVERY := 1
 JOBS := 1
 SECONDS := 600
 
-.PHONY: help demo quick try run build test check stories stops plants fmt npm npm-team front fronts beside log socket kill files older page limits large soak starve fuzz bench compare house copy installs examples kit
+.PHONY: help demo quick run build test check stories stops plants docs fmt npm npm-team front fronts beside log socket kill files older page limits large soak starve fuzz bench compare house copy installs examples kit
 
 help:
 	@echo 'Build:'
 	@echo '  make demo     serves a new registry to try with npm: minutes, and nothing is proved'
-	@echo '  make try      runs the program before any proof: a few minutes, and nothing is proved'
 	@echo '  make run      proves and builds the program, and publishes $(BODY)'
 	@echo '  make build    proves and builds the program as out/registry'
 	@echo
@@ -28,6 +27,7 @@ help:
 	@echo '  make stops    stops a disk at each of its calls, and changes a byte of a page that is read'
 	@echo '  make plants   tries each wrong body that was not tried since it changed'
 	@echo '  make fmt      formats the files'
+	@echo '  make docs     writes out/docs: each public call with its clauses, and each wrong body'
 	@echo
 	@echo 'Try the built program out/registry:'
 	@echo '  make npm      publishes and installs with the stock npm client: a minute'
@@ -59,11 +59,6 @@ ifeq ($(KIT),)
 	@echo 'the Rattle kit is missing: put its command rt on the path' >&2
 	@exit 1
 endif
-
-try: kit
-	@echo 'running the program before any proof' >&2
-	@(cd $(PROGRAM) && rt try) < $(BODY)
-	@echo 'Nothing was proved: make run proves the program.' >&2
 
 demo: kit
 	@tools/demo
@@ -177,6 +172,9 @@ plants: kit
 examples:
 	@cmp $(EXAMPLE) $(PROGRAM)/stdin
 	@cmp $(PACKUMENT) $(PROGRAM)/stdout
+
+docs:
+	@tools/make_pages --docs
 
 check: kit
 	@rt all check
