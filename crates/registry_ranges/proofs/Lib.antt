@@ -13,5 +13,8 @@ pub mod LawFacts
 pub mod CombinationFacts
 pub mod PieceFacts
 pub mod RangeFacts
+pub mod IntervalFacts
+pub mod ConditionFacts
 pub mod SelectorFacts
 pub mod BindingFacts
+pub mod ManyFacts

@@ -1,7 +1,7 @@
 -- What is kept of a selector are the conditions of its value.
-use Rattle.std.proofs.Common.{◌≡◌, ◌+◌, ◌++◌, List, [], ◌∷◌, ℕ, Some, None, Option, Bool, true, false, length, drop, refl, sym, ap, ◌∙◌, append_assoc, append-nil, arith}
-use Rattle.std.proofs.lemmas.List.{drop-append-le, length-append}
+use Rattle.std.proofs.Common.{◌≡◌, ◌++◌, List, [], ◌∷◌, ℕ, Some, None, Option, Bool, true, false, refl, sym, ap, subst, unwrap_or, ◌∙◌, append_assoc, append-nil}
 use Rattle.std.specs.Prelude.{IsTrue, ◌↔◌}
+use Rattle.registry_names.specs.Versions.{IsVersionOf, VersionParts}
 use Rattle.registry_ranges.specs.declared.reader.Place.{Place}
 use Rattle.registry_ranges.specs.declared.reader.Place.TheVariants.{Before}
 use Rattle.registry_ranges.specs.declared.simple.Operator.{Operator}
@@ -11,12 +11,13 @@ use Rattle.registry_ranges.specs.Bounds.{IsPart}
 use Rattle.registry_ranges.specs.Values.{Part, simple, hyphen, nothing, Ranges}
 use Rattle.registry_ranges.specs.Prefixes.{Prefix, any, major, minor, full, IsPrefix}
 use Rattle.registry_ranges.specs.Reading.{◌>>=◌}
-use Rattle.registry_ranges.specs.RangeViews.{AreEnds, last_end, pieces}
-use Rattle.registry_ranges.specs.SelectorViews.{asks_pre}
-use Rattle.registry_ranges.specs.Selectors.{Condition, agreement, comparison, condition_of_simple, condition_of, conditions_of_range, conditions_of_others, conditions_of, HasConditions, IsSelector, SelectsAs}
+use Rattle.registry_ranges.specs.Intervals.{Interval, CoverTheSame, CoverWhat, CoversMore, interval_of, meet, some_covers, whole}
+use Rattle.registry_ranges.specs.SelectorViews.{IsAsked, conditions_read}
+use Rattle.registry_ranges.specs.Selectors.{Condition, agreement, comparison, condition_of_simple, condition_of, conditions_of_range, conditions_of_others, conditions_of, HasConditions, IsSelector, SelectsAs, set_selects}
 use Rattle.registry_ranges.specs.Steps.{part, or, end, wrong, reading, with_part, with_range, step}
+use Rattle.registry_ranges.proofs.ConditionFacts.{CoversWhat, no-conditions, no-ranges, one-condition, one-range, same-what}
+use Rattle.registry_ranges.proofs.IntervalFacts.{pushed-covers}
 use Rattle.registry_ranges.proofs.PartialFacts.{some-value}
-use Rattle.registry_ranges.proofs.PieceFacts.{ends-longer, ends-more, last-bound, piece-ends, piece-left, pieces-append}
 use Rattle.registry_ranges.proofs.ReadingFacts.{reading-sound, reading-step, reads-value}
 
 -- ---- the conditions read so far, and those of what is left
@@ -99,37 +100,6 @@ keeps-end text done ranges range place xs k e n =
     let last : kept done range (reading place xs) ≡ Some ranges = rw (reading-step place xs, ← e, n) (simp append-nil) in
     kept-all text (reading Before text) ranges refl (k ∙ last)
 
--- ---- the same of one list of conditions and the ends of the ranges in it
-
-abbrev pub Keeps : List ℕ → List ℕ → List Condition → Place → List ℕ → Type 0
-Keeps text ends cs place rest = AreEnds 0 ends (length cs) × KeepsAll text (pieces 0 ends cs) (drop (last_end 0 ends) cs) place rest
-
-pub piece-part : (text ends : List ℕ) (cs new : List Condition) (place then : Place) (xs rest : List ℕ) (p : Part) (c : Condition)
-    → Keeps text ends cs place xs → part p then rest ≡ step place xs → condition_of p ≡ Some c → new ≡ cs ++ c ∷ [] → Keeps text ends new then rest
-piece-part text ends cs new place then xs rest p c k e q n =
-    let len : length new ≡ length cs + length (c ∷ []) = rw n (length-append cs (c ∷ [])) in
-    let same : pieces 0 ends new ≡ pieces 0 ends cs = rw n (pieces-append 0 ends cs (c ∷ []) k.0) in
-    let more : drop (last_end 0 ends) new ≡ drop (last_end 0 ends) cs ++ c ∷ [] =
-    rw n (drop-append-le (last_end 0 ends) cs (c ∷ []) (last-bound 0 ends (length cs) k.0)) in (
-      ends-longer 0 ends (length cs) (length new) k.0 (omega arith),
-      rw same (keeps-part text (pieces 0 ends cs) (drop (last_end 0 ends) cs) (drop (last_end 0 ends) new) place then xs rest p c k.1 e q more),
-    )
-
-pub piece-or : (text ends more : List ℕ) (cs : List Condition) (place then : Place) (xs rest next : List ℕ)
-    → Keeps text ends cs place xs → or rest ≡ step place xs → more ≡ ends ++ length cs ∷ [] → then ≡ Before → next ≡ rest → Keeps text more cs then next
-piece-or text ends more cs place then xs rest next k e m p r = (
-  rw m (ends-more 0 ends (length cs) k.0),
-  keeps-or text (pieces 0 ends cs) (pieces 0 more cs) (drop (last_end 0 ends) cs) (drop (last_end 0 more) cs) place then xs rest next k.1 e
-      (piece-ends ends more cs m) (piece-left ends more cs m) p r,
-)
-
-pub piece-end : (text ends more : List ℕ) (cs : List Condition) (place : Place) (xs : List ℕ)
-    → Keeps text ends cs place xs → end ≡ step place xs → more ≡ ends ++ length cs ∷ [] → HasConditions text (pieces 0 more cs)
-piece-end text ends more cs place xs k e m = keeps-end text (pieces 0 ends cs) (pieces 0 more cs) (drop (last_end 0 ends) cs) place xs k.1 e (piece-ends ends more cs m)
-
-pub are-ends : (text ends more : List ℕ) (cs : List Condition) (place : Place) (xs : List ℕ) → Keeps text ends cs place xs → more ≡ ends ++ length cs ∷ [] → AreEnds 0 more (length cs)
-are-ends text ends more cs place xs k m = rw m (ends-more 0 ends (length cs) k.0)
-
 -- a selector's conditions are kept
 pub selector-kept : (text : List ℕ) (ranges : List (List Condition)) → HasConditions text ranges → kept [] [] (reading Before text) ≡ Some ranges
 selector-kept text ranges h = rw (reads-value text h.0 h.1) (kept-whole h.0 ∙ h.2)
@@ -137,17 +107,61 @@ selector-kept text ranges h = rw (reads-value text h.0 h.1) (kept-whole h.0 ∙ 
 none-kept : (text : List ℕ) → IsSelector text → kept [] [] (reading Before text) ≡ None → ⊥
 none-kept text s h = cc (selector-kept text s.0 s.1, h)
 
-pub keeps-wrong : (text : List ℕ) (done : List (List Condition)) (range : List Condition) (place : Place) (xs : List ℕ)
+keeps-wrong : (text : List ℕ) (done : List (List Condition)) (range : List Condition) (place : Place) (xs : List ℕ)
     → KeepsAll text done range place xs → wrong ≡ step place xs → IsSelector text → ⊥
 keeps-wrong text done range place xs k e s =
     let last : kept done range (reading place xs) ≡ None = rw (reading-step place xs, ← e) refl in
     none-kept text s (k ∙ last)
 
-pub keeps-no_part : (text : List ℕ) (done : List (List Condition)) (range : List Condition) (place then : Place) (xs rest : List ℕ) (p : Part)
+keeps-no_part : (text : List ℕ) (done : List (List Condition)) (range : List Condition) (place then : Place) (xs rest : List ℕ) (p : Part)
     → KeepsAll text done range place xs → part p then rest ≡ step place xs → condition_of p ≡ None → IsSelector text → ⊥
 keeps-no_part text done range place then xs rest p k e q s =
     let last : kept done range (reading place xs) ≡ None = rw (reading-step place xs, ← e) (kept-no_part done range p (reading then rest) q) in
     none-kept text s (k ∙ last)
+
+-- ---- the intervals read so far
+
+-- some ranges and the prefix of another were read, and the intervals cover what these select
+abbrev pub ReadsOn : List ℕ → Place → List ℕ → Interval → List Interval → Type 0
+ReadsOn text place rest now intervals = (done : List (List Condition)) × (range : List Condition)
+    × KeepsAll text done range place rest × CoversWhat range now × CoverWhat done intervals
+
+pub reads-none : (text : List ℕ) (place : Place) (rest : List ℕ) (now : Interval) (intervals : List Interval)
+    → place ≡ Before → rest ≡ text → now ≡ whole → intervals ≡ [] → ReadsOn text place rest now intervals
+reads-none text place rest now intervals p r n i = ([], [], rw (p, r) refl, no-conditions now n, no-ranges intervals i)
+
+pub reads-part : (text : List ℕ) (place then : Place) (xs rest : List ℕ) (p : Part) (c : Condition) (now new : Interval) (intervals : List Interval)
+    → ReadsOn text place xs now intervals → part p then rest ≡ step place xs → condition_of p ≡ Some c → new ≡ meet now (interval_of c) → ReadsOn text then rest new intervals
+reads-part text place then xs rest p c now new intervals r e q n =
+    (r.0, r.1 ++ c ∷ [], keeps-part text r.0 r.1 (r.1 ++ c ∷ []) place then xs rest p c r.2 e q refl, one-condition r.1 now new c r.3 n, r.4)
+
+pub reads-or : (text : List ℕ) (place then : Place) (xs rest next : List ℕ) (now fresh : Interval) (old new : List Interval)
+    → ReadsOn text place xs now old → or rest ≡ step place xs → CoversMore old new now → fresh ≡ whole → then ≡ Before → next ≡ rest → ReadsOn text then next fresh new
+reads-or text place then xs rest next now fresh old new r e m f p n =
+    let more = r.0 ++ r.1 ∷ [] in
+    (more, [], keeps-or text r.0 more r.1 [] place then xs rest next r.2 e refl refl p n, no-conditions fresh f, one-range r.0 r.1 old new now r.4 r.3 m)
+
+-- the conditions that are read are those of the text
+pub conditions-read : (text : List ℕ) (ranges : List (List Condition)) → HasConditions text ranges → conditions_read text ≡ ranges
+conditions-read text ranges h =
+    ap (λ (o : Option Ranges). unwrap_or (o >>= conditions_of) []) (reads-value text h.0 h.1) ∙ ap (λ (o : Option (List (List Condition))). unwrap_or o []) h.2
+
+pub reads-end : (text : List ℕ) (place : Place) (xs : List ℕ) (now : Interval) (intervals : List Interval)
+    → ReadsOn text place xs now intervals → end ≡ step place xs → HasConditions text (conditions_read text) × CoverWhat (conditions_read text) (intervals ++ now ∷ [])
+reads-end text place xs now intervals r e =
+    let ranges = r.0 ++ r.1 ∷ [] in
+    let has : HasConditions text ranges = keeps-end text r.0 ranges r.1 place xs r.2 e refl in
+    let same = conditions-read text ranges has in
+    let what : CoverWhat ranges (intervals ++ now ∷ []) = one-range r.0 r.1 intervals (intervals ++ now ∷ []) now r.4 r.3 (pushed-covers intervals (intervals ++ now ∷ []) now refl) in
+    (subst (HasConditions text) (sym same) has, subst (λ (rs : List (List Condition)). CoverWhat rs (intervals ++ now ∷ [])) (sym same) what)
+
+pub reads-wrong : (text : List ℕ) (place : Place) (xs : List ℕ) (now : Interval) (intervals : List Interval)
+    → ReadsOn text place xs now intervals → wrong ≡ step place xs → IsSelector text → ⊥
+reads-wrong text place xs now intervals r e s = keeps-wrong text r.0 r.1 place xs r.2 e s
+
+pub reads-no_part : (text : List ℕ) (place then : Place) (xs rest : List ℕ) (p : Part) (now : Interval) (intervals : List Interval)
+    → ReadsOn text place xs now intervals → part p then rest ≡ step place xs → condition_of p ≡ None → IsSelector text → ⊥
+reads-no_part text place then xs rest p now intervals r e q s = keeps-no_part text r.0 r.1 place then xs rest p r.2 e q s
 
 -- ---- whether there are conditions
 
@@ -200,35 +214,35 @@ selector-is text s = rw (selector-kept text s.0 s.1) refl
 pub selector-iff : (text : List ℕ) (b : Bool) → is_selectable Before text ≡ b → IsTrue b ↔ IsSelector text
 selector-iff text b e = (λ h. selectable-is text (kept [] [] (reading Before text)) refl (e ∙ h), λ s. sym e ∙ selector-is text s)
 
--- ---- prereleases of the grammar
+-- ---- numbers and prereleases of the grammar
 
-agreement-pre : (p : Prefix) → IsPrefix p → asks_pre (agreement p) ≡ true
-agreement-pre any v = refl
-agreement-pre (major a) v = refl
-agreement-pre (minor a b) v = refl
-agreement-pre (full a b c pre) v = v.3
+agreement-asked : (p : Prefix) → IsPrefix p → IsAsked (agreement p)
+agreement-asked any v = tt
+agreement-asked (major a) v = v
+agreement-asked (minor a b) v = v.1
+agreement-asked (full a b c pre) v = v.3
 
-comparison-pre : (r : Relation) (p : Prefix) (c : Condition) → IsPrefix p → comparison r p ≡ Some c → asks_pre c ≡ true
-comparison-pre r any c v h = cc h
-comparison-pre r (major a) c v h = cc h
-comparison-pre r (minor a b) c v h = cc h
-comparison-pre r (full a b p pre) c v h = rw (sym (some-value _ _ h)) v.3
+comparison-asked : (r : Relation) (p : Prefix) (c : Condition) → IsPrefix p → comparison r p ≡ Some c → IsAsked c
+comparison-asked r any c v h = cc h
+comparison-asked r (major a) c v h = cc h
+comparison-asked r (minor a b) c v h = cc h
+comparison-asked r (full a b p pre) c v h = rw (sym (some-value _ _ h)) v.3
 
-simple-asks_pre : (o : Operator) (p : Prefix) (c : Condition) → IsPrefix p → condition_of_simple o p ≡ Some c → asks_pre c ≡ true
-simple-asks_pre Bare p c v h = rw (sym (some-value _ _ h)) (agreement-pre p v)
-simple-asks_pre Less p c v h = comparison-pre _ p c v h
-simple-asks_pre Greater p c v h = comparison-pre _ p c v h
-simple-asks_pre LessEq p c v h = comparison-pre _ p c v h
-simple-asks_pre GreaterEq p c v h = comparison-pre _ p c v h
-simple-asks_pre Equal p c v h = comparison-pre _ p c v h
-simple-asks_pre Tilde p c v h = cc h
-simple-asks_pre TildeGreater p c v h = cc h
-simple-asks_pre Caret p c v h = cc h
+simple-asked : (o : Operator) (p : Prefix) (c : Condition) → IsPrefix p → condition_of_simple o p ≡ Some c → IsAsked c
+simple-asked Bare p c v h = rw (sym (some-value _ _ h)) (agreement-asked p v)
+simple-asked Less p c v h = comparison-asked _ p c v h
+simple-asked Greater p c v h = comparison-asked _ p c v h
+simple-asked LessEq p c v h = comparison-asked _ p c v h
+simple-asked GreaterEq p c v h = comparison-asked _ p c v h
+simple-asked Equal p c v h = comparison-asked _ p c v h
+simple-asked Tilde p c v h = cc h
+simple-asked TildeGreater p c v h = cc h
+simple-asked Caret p c v h = cc h
 
-pub condition-pre : (p : Part) (c : Condition) → IsPart p → condition_of p ≡ Some c → asks_pre c ≡ true
-condition-pre nothing c v h = rw (sym (some-value _ _ h)) refl
-condition-pre (hyphen low high) c v h = cc h
-condition-pre (simple o p) c v h = simple-asks_pre o p c v h
+pub condition-asked : (p : Part) (c : Condition) → IsPart p → condition_of p ≡ Some c → IsAsked c
+condition-asked nothing c v h = rw (sym (some-value _ _ h)) tt
+condition-asked (hyphen low high) c v h = cc h
+condition-asked (simple o p) c v h = simple-asked o p c v h
 
 -- ---- what the conditions mean
 
@@ -243,3 +257,18 @@ conditions-mean text ranges h v =
     (λ t. (ranges, h, t), λ s. rw (same-conditions text ranges s.0 h s.1) s.2)
 
 pub ruleset parse_facts = (conditions-text, conditions-mean)
+
+-- ---- what the intervals mean
+
+pub new-covers : (text : List ℕ) (old pushed new : List Interval) (more : Interval)
+    → CoverWhat (conditions_read text) (old ++ more ∷ []) → pushed ≡ old ++ more ∷ [] → CoverTheSame pushed new → CoverWhat (conditions_read text) new
+new-covers text old pushed new more w e same =
+    same-what (conditions_read text) pushed new (subst (CoverWhat (conditions_read text)) (sym e) w) same
+
+pub ruleset new_facts = (new-covers)
+
+pub cover-selects : (t : List ℕ) (v : VersionParts) (ranges : List (List Condition)) (intervals : List Interval) (r : Bool)
+    → IsVersionOf t v → CoverWhat ranges intervals → r ≡ some_covers v intervals → r ≡ set_selects v ranges
+cover-selects t v ranges intervals r is w e = e ∙ w v is.2
+
+pub ruleset selects_facts = (cover-selects)

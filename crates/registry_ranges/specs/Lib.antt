@@ -9,5 +9,8 @@ pub mod Bounds
 pub mod RangeViews
 pub mod Tags
 pub mod Selectors
+pub mod Intervals
+pub mod IntervalViews
 pub mod SelectorViews
 pub mod Laws
+pub mod Many

@@ -1,14 +1,13 @@
--- The conditions that a program keeps of a selector, as the definitions see them.
-use Rattle.std.specs.Prelude.{◌≡◌, ℕ, List, [], ◌∷◌, ◌++◌, length, map, Bool, true, Option, Some, None}
-use Rattle.std.specs.declared.vec.Vec.{Vec}
-use Rattle.std.specs.declared.alloc.Global.{Global}
-use Rattle.registry_names.specs.Versions.{VersionParts}
+-- What a selector's text asks of a version, as the definitions see it.
+use Rattle.std.specs.Prelude.{◌≡◌, ◌≤◌, ℕ, List, [], true, Option, Some, None, unwrap_or}
+use Rattle.registry_names.specs.Versions.{greatest_number}
 use Rattle.registry_ranges.specs.declared.condition as Code
 use Rattle.registry_ranges.specs.declared.condition.Question.TheVariants as code_question
-use Rattle.registry_ranges.specs.declared.condition.Condition.TheVariants as code
-use Rattle.registry_ranges.specs.Bounds.{bound_view, comparator_view, has_pre}
-use Rattle.registry_ranges.specs.RangeViews.{pieces}
-use Rattle.registry_ranges.specs.Selectors.{Condition, all, has_major, has_minor, compared, meets_condition}
+use Rattle.registry_ranges.specs.declared.reader.Place.TheVariants.{Before}
+use Rattle.registry_ranges.specs.Bounds.{bound_view, has_pre}
+use Rattle.registry_ranges.specs.Reading.{◌>>=◌}
+use Rattle.registry_ranges.specs.Selectors.{Condition, all, has_major, has_minor, compared, conditions_of}
+use Rattle.registry_ranges.specs.Steps.{reading}
 
 -- a condition whose prerelease is in the text
 abbrev pub question_view : Code.Question.Question → Condition
@@ -21,41 +20,13 @@ abbrev pub asked_view : Option Code.Question.Question → Option Condition
 asked_view None = None
 asked_view (Some q) = Some (question_view q)
 
--- a condition that was kept
-abbrev pub condition_view : Code.Condition.Condition → Condition
-condition_view code.All = all
-condition_view (code.Major a) = has_major a
-condition_view (code.Minor a b) = has_minor a b
-condition_view (code.Compared c) = compared (comparator_view c)
+-- its numbers are in bounds, and its prerelease is one or the empty text
+abbrev pub IsAsked : Condition → Type 0
+IsAsked all = Unit {0}
+IsAsked (has_major a) = a ≤ greatest_number
+IsAsked (has_minor a b) = b ≤ greatest_number
+IsAsked (compared c) = has_pre c ≡ true
 
--- its prerelease is one or the empty text
-abbrev pub asks_pre : Condition → Bool
-asks_pre all = true
-asks_pre (has_major a) = true
-asks_pre (has_minor a b) = true
-asks_pre (compared c) = has_pre c
-
-abbrev pub conditions_view : List Code.Condition.Condition → List Condition
-conditions_view cs = map condition_view cs
-
-abbrev pub condition_count : List Code.Condition.Condition → ℕ
-condition_count cs = length (conditions_view cs)
-
--- the conditions of each range, which end at these places
-abbrev pub conditions_in : List ℕ → List Code.Condition.Condition → List (List Condition)
-conditions_in ends cs = pieces 0 ends (conditions_view cs)
-
-abbrev pub selector_view : Vec ℕ Global → Vec Code.Condition.Condition Global → List (List Condition)
-selector_view ends cs = conditions_in ends.items cs.items
-
--- a version meets what was kept
-abbrev pub meets_kept : VersionParts → Code.Condition.Condition → Bool
-meets_kept v c = meets_condition v (condition_view c)
-
--- a condition is kept after the others
-abbrev pub AddsCondition : Vec Code.Condition.Condition Global → Vec Code.Condition.Condition Global → Condition → Type 0
-AddsCondition old new more = conditions_view new.items ≡ conditions_view old.items ++ more ∷ []
-
--- a range ends after all conditions
-abbrev pub AddsConditionsEnd : Vec ℕ Global → Vec ℕ Global → Vec Code.Condition.Condition Global → Type 0
-AddsConditionsEnd old new cs = new.items ≡ old.items ++ condition_count cs.items ∷ []
+-- the conditions of a text that is a selector
+abbrev pub conditions_read : List ℕ → List (List Condition)
+conditions_read text = unwrap_or (reading Before text >>= conditions_of) []

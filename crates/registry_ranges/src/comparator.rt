@@ -25,9 +25,9 @@ pub enum Comparator {
     Version(Relation, Box<Version>),
 }
 
-// The prerelease of a text that is one.
+/// The prerelease of a text that is one.
 #[tactic(auto, using(crate::proofs::ComparatorFacts::prerelease_facts))]
-fn prerelease(alloc: Global, text: &[u8]) -> Result<Prerelease, Fault>
+pub fn prerelease(alloc: Global, text: &[u8]) -> Result<Prerelease, Fault>
     requires { is_pre_release text.now ≡ true }
     ensures ok { IfOk result (λ p. pre_text p ≡ text.now) }
     ensures err { IfErr result (λ e. e ≡ Fault.Memory) }
@@ -74,7 +74,7 @@ fn is_below(version: &Ver, major: u64, minor: u64, patch: u64) -> bool
         .is_lt()
 }
 
-fn has_numbers(version: &Ver, major: u64, minor: u64, patch: u64) -> bool
+pub(crate) fn has_numbers(version: &Ver, major: u64, minor: u64, patch: u64) -> bool
     ensures { result ≡ spec.has_numbers version.now major minor patch }
 {
     let version = version.as_semver();

@@ -1,19 +1,16 @@
 //! What each form of a selector asks of a version.
 
-ghost use Rattle.std.specs.Prelude.{◌≡◌, true, IfOk, IfErr};
+ghost use Rattle.std.specs.Prelude.{◌≡◌};
 ghost use Rattle.registry_ranges.specs.Prefixes.{prefix_view};
-ghost use Rattle.registry_ranges.specs.SelectorViews.{asked_view, asks_pre, condition_view, question_view};
+ghost use Rattle.registry_ranges.specs.SelectorViews.{asked_view, question_view};
 ghost use Rattle.registry_ranges.specs.Selectors as spec;
 ghost use Rattle.registry_ranges.specs.Steps.{part_view};
 
 use crate::bound::Bound;
-use crate::comparator::Comparator;
 use crate::prefix::Prefix;
 use crate::reader::Part;
 use crate::relation::Relation;
 use crate::simple::Operator;
-use registry_names::{Fault, Ver};
-use std::alloc::Global;
 
 /// What is asked of a version, with a prerelease that is in the text.
 #[derive(Clone, Copy)]
@@ -26,19 +23,6 @@ pub enum Question<'a> {
     Minor(u64, u64),
     /// A relation to a version.
     Compared(Bound<'a>),
-}
-
-/// What is asked of a version, kept.
-#[derive(Debug, Drop)]
-pub enum Condition {
-    /// Nothing.
-    All,
-    /// This major number.
-    Major(u64),
-    /// These major and minor numbers.
-    Minor(u64, u64),
-    /// A relation to a version.
-    Compared(Comparator),
 }
 
 // A prefix with no operator.
@@ -103,34 +87,5 @@ pub fn question_of(part: Part<'_>) -> Option<Question<'_>>
         Part::Empty => Some(Question::All),
         Part::Hyphen(_, _) => None,
         Part::Simple(simple) => simple_question(simple.operator, simple.prefix),
-    }
-}
-
-impl Condition {
-    /// Keeps what is asked.
-    pub fn new(alloc: Global, question: Question<'_>) -> Result<Condition, Fault>
-        requires { asks_pre (question_view question) ≡ true }
-        ensures ok { IfOk result (λ c. condition_view c ≡ question_view question.entry) }
-        ensures err { IfErr result (λ e. e ≡ Fault.Memory) }
-    {
-        match question {
-            Question::All => Ok(Condition::All),
-            Question::Major(major) => Ok(Condition::Major(major)),
-            Question::Minor(major, minor) => Ok(Condition::Minor(major, minor)),
-            Question::Compared(bound) => Ok(Condition::Compared(Comparator::new(alloc, bound)?)),
-        }
-    }
-
-    /// Whether a version meets it.
-    pub fn is_met(&self, version: &Ver) -> bool
-        ensures { result ≡ spec.meets_condition version.now (condition_view self.now) }
-    {
-        let parts = version.as_semver();
-        match self {
-            Condition::All => true,
-            Condition::Major(major) => parts.major == *major,
-            Condition::Minor(major, minor) => parts.major == *major && parts.minor == *minor,
-            Condition::Compared(comparator) => comparator.holds(version),
-        }
     }
 }

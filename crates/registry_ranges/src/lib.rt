@@ -3,9 +3,10 @@
 //! [node-semver](https://github.com/npm/node-semver).
 //!
 //! A text is a range exactly where the grammar has it, and a range allows exactly the versions that
-//! the tables say. A range is read in one scan, a selector and a tag in two, in time linear in the
-//! text, with no recursion; asking takes no memory. Whether a text binds one version is decided
-//! while it is read.
+//! the tables say. A range is read in one scan, a selector and a tag in two, with no recursion, in
+//! time linear in the text; a selector's ranges are also sorted, so that a version is looked for by
+//! one binary search. Asking takes no memory. Whether a text binds one version, or one of many, is
+//! decided while it is read.
 #![tactic(auto)]
 
 mod binding;
@@ -14,7 +15,11 @@ mod comparator;
 mod component;
 mod condition;
 mod dist_tag;
+mod end;
+mod interval;
+mod intervals;
 pub mod laws;
+mod many;
 mod number;
 mod partial;
 mod prefix;
@@ -28,6 +33,7 @@ mod simple;
 
 pub use crate::binding::binds;
 pub use crate::dist_tag::tag;
+pub use crate::many::binds_any;
 pub use crate::range::Range;
 pub use crate::range_text::is_range;
 pub use crate::selector::Selector;

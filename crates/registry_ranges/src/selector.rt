@@ -1,15 +1,14 @@
 //! Selectors of versions.
 
-ghost use Rattle.std.specs.Prelude.{◌≡◌, ◌≤◌, ◌↔◌, ◌⊎◌, length, slice_range, Err, IfOk, IfErr, IsTrue, OnOk, true};
-ghost use Rattle.std.specs.List.{list_all};
-ghost use Rattle.registry_ranges.specs.RangeViews.{AreEnds};
-ghost use Rattle.registry_ranges.specs.SelectorViews.{AddsCondition, AddsConditionsEnd, asks_pre};
-ghost use Rattle.registry_ranges.specs.SelectorViews.{conditions_in, conditions_view, condition_count};
-ghost use Rattle.registry_ranges.specs.SelectorViews.{meets_kept, question_view};
+ghost use Rattle.std.specs.Prelude.{◌≡◌, ◌↔◌, ◌⊎◌, ◌++◌, ◌∷◌, [], Err, IfOk, IfErr, IsTrue};
+ghost use Rattle.registry_ranges.specs.Intervals.{CoverWhat};
+ghost use Rattle.registry_ranges.specs.SelectorViews.{conditions_read};
 ghost use Rattle.registry_ranges.specs.Selectors as spec;
 ghost use Rattle.registry_ranges.specs.Selectors.{HasConditions, IsSelector, SelectsAs};
 
-use crate::condition::{Condition, Question, question_of};
+use crate::condition::question_of;
+use crate::interval::Interval;
+use crate::intervals::{FEWEST, add, cover, put_in_order};
 use crate::reader::{Reader, Step};
 use registry_names::{Fault, Refusal, Stop, Ver};
 use std::alloc::Global;
@@ -20,24 +19,25 @@ use std::marker::Model;
 /// see its conditions, one list for each of the ranges that `||` separates.
 #[derive(Debug, Drop)]
 pub struct Selector {
-    // The conditions of each range, one range after another.
-    conditions: Vec<Condition>,
-    // Where each range ends among them.
-    ends: Vec<usize>,
+    // Its conditions, which contracts see, are those of its text.
+    text: String,
+    // The versions that they select.
+    intervals: Vec<Interval>,
 }
 
 impl Model for Selector {
-    ghost use Rattle.std.specs.Prelude.{List};
+    ghost use Rattle.std.specs.Prelude.{List, string_bytes};
     ghost use Rattle.registry_ranges.specs.Selectors.{Condition};
 
     ghost Value = { List (List Condition) };
 
-    ghost use Rattle.registry_ranges.specs.RangeViews.{AreEnds};
-    ghost use Rattle.registry_ranges.specs.SelectorViews.{condition_count, selector_view};
+    ghost use Rattle.registry_ranges.specs.Intervals.{Ascend, CoverWhat};
+    ghost use Rattle.registry_ranges.specs.SelectorViews.{conditions_read};
 
-    ghost view = { λ s. selector_view s.ends s.conditions };
+    ghost view = { λ s. conditions_read (string_bytes s.text) };
 
-    ghost invariant = { λ s. AreEnds 0 s.ends.items (condition_count s.conditions.items) };
+    ghost invariant = { λ s. CoverWhat (conditions_read (string_bytes s.text)) s.intervals.items
+        × Ascend s.intervals.items };
 }
 
 // Whether a text is a selector.
@@ -60,74 +60,36 @@ fn is_selector(text: &str) -> bool
     }
 }
 
-fn push(alloc: Global, conditions: &mut Vec<Condition>, question: Question<'_>) -> Result<(), Fault>
-    requires { asks_pre (question_view question) ≡ true }
-    ensures ok { OnOk result
-        (AddsCondition conditions.old conditions.new (question_view question.entry)) }
-    ensures err { IfErr result (λ e. e ≡ Fault.Memory) }
-{
-    let condition = Condition::new(alloc, question)?;
-    conditions.push(condition)?;
-    Ok(())
-}
-
-// A range ends after all conditions that are kept.
-#[tactic(auto, using(crate::proofs::PieceFacts::view_facts))]
-fn push_end(ends: &mut Vec<usize>, conditions: &Vec<Condition>) -> Result<(), Fault>
-    ensures ok { OnOk result (AddsConditionsEnd ends.old ends.new conditions.now) }
-    ensures err { IfErr result (λ e. e ≡ Fault.Memory) }
-{
-    ends.push(conditions.len())?;
-    Ok(())
-}
-
-fn all_met(range: &[Condition], version: &Ver) -> bool
-    ensures { result ≡ list_all (meets_kept version.now) range.now }
-{
-    range.iter().all(|condition| condition.is_met(version))
-}
-
-#[tactic(auto, using(crate::proofs::RangeFacts::tests_of_views))]
-fn range_selects(range: &[Condition], version: &Ver) -> bool
-    ensures { result ≡ list_all (spec.meets_condition version.now) (conditions_view range.now) }
-{
-    all_met(range, version)
-}
-
-// The range between two places.
-#[tactic(auto, using(crate::proofs::PieceFacts::view_facts))]
-fn range_at(conditions: &[Condition], start: usize, end: usize) -> &[Condition]
-    requires { (start ≤ end) × (end ≤ length conditions.now) }
-    ensures { conditions_view result.now
-        ≡ slice_range (conditions_view conditions.now) start end }
-{
-    &conditions[start..end]
-}
-
-fn set_selects(ends: &[usize], conditions: &[Condition], version: &Ver) -> bool
-    requires { AreEnds 0 ends.now (condition_count conditions.now) }
-    ensures { result ≡ spec.set_selects version.now (conditions_in ends.now conditions.now) }
-{
-    let mut start = 0;
-    'places: for i in 0..ends.len() {
-        let end = ends[i];
-        if range_selects(range_at(conditions, start, end), version) {
-            return true;
-        }
-        start = end;
-    }
-    false
-}
-
 impl Selector {
+    // The selector of a text, whose last range is still apart from the others.
+    #[tactic(auto, using(crate::proofs::SelectorFacts::new_facts))]
+    fn new(
+        alloc: Global,
+        text: &str,
+        intervals: Vec<Interval>,
+        last: Interval,
+    ) -> Result<Selector, Fault>
+        requires read { HasConditions text.now (conditions_read text.now) }
+        requires cover { CoverWhat (conditions_read text.now) (intervals.items ++ last ∷ []) }
+        ensures ok { IfOk result (HasConditions text.now) }
+        ensures err { IfErr result (λ e. e ≡ Fault.Memory) }
+    {
+        let text = String::from_str(alloc, text)?;
+        let mut intervals = intervals;
+        intervals.push(last)?;
+        put_in_order(&mut intervals);
+        Ok(Selector { text, intervals })
+    }
+
     // Reads a text that is a selector.
     fn read(alloc: Global, text: &str) -> Result<Selector, Fault>
         requires { IsSelector text.now }
         ensures ok { IfOk result (HasConditions text.now) }
         ensures err { IfErr result (λ e. e ≡ Fault.Memory) }
     {
-        let mut conditions = Vec::new(alloc);
-        let mut ends = Vec::new(alloc);
+        let mut intervals = Vec::new(alloc);
+        let mut limit = FEWEST;
+        let mut range = Interval::whole();
         let mut reader = Reader::new(text.as_bytes());
         'steps: loop {
             match reader.step() {
@@ -135,17 +97,16 @@ impl Selector {
                     let Some(question) = question_of(part) else {
                         unreachable!();
                     };
-                    push(alloc, &mut conditions, question)?;
+                    let asked = Interval::of(alloc, question)?;
+                    range = range.meet(asked);
                     reader = next;
                 }
                 Step::Or(next) => {
-                    push_end(&mut ends, &conditions)?;
+                    limit = add(&mut intervals, limit, range)?;
+                    range = Interval::whole();
                     reader = Reader::new(next);
                 }
-                Step::End => {
-                    push_end(&mut ends, &conditions)?;
-                    return Ok(Selector { conditions, ends });
-                }
+                Step::End => return Selector::new(alloc, text, intervals, range),
                 Step::Wrong => unreachable!(),
             }
         }
@@ -171,9 +132,12 @@ impl Selector {
     }
 
     /// Whether a version is selected. Takes no memory.
+    #[tactic(auto, using(crate::proofs::SelectorFacts::selects_facts))]
     pub fn selects(&self, version: &Ver) -> bool
         ensures { result ≡ spec.set_selects version.now self.now }
     {
-        set_selects(&self.ends, &self.conditions, version)
+        // Reading the text tells the prover that the version's numbers are in bounds.
+        let _valid = version.text();
+        cover(self.intervals.as_slice(), version)
     }
 }
