@@ -6,7 +6,8 @@ ghost use Rattle.registry_ranges.specs.Intervals.{Ascend, CoverTheSame, CoversMo
 use crate::interval::Interval;
 use registry_names::{Fault, Ver};
 
-/// Puts intervals in order, without those that another covers.
+/// Puts intervals in order of their starts, without those that end where one before them does, or
+/// before.
 pub fn put_in_order(intervals: &mut Vec<Interval>)
     ensures same { CoverTheSame intervals.old.items intervals.new.items }
     ensures ascend { Ascend intervals.new.items }
@@ -19,8 +20,8 @@ pub fn put_in_order(intervals: &mut Vec<Interval>)
 pub const FEWEST: usize = 64;
 
 /// Adds an interval. At the limit all are put in order, and the next limit is twice as many as are
-/// left. So there are at most about twice as many as none of the others covers, and all the sorting
-/// together takes no longer than a few sorts of them.
+/// left. So there are never many more than twice the different ones, and all the sorting together
+/// takes no longer than a few sorts of all that are added.
 #[tactic(auto, using(crate::proofs::IntervalFacts::add_facts))]
 pub fn add(intervals: &mut Vec<Interval>, limit: usize, interval: Interval) -> Result<usize, Fault>
     ensures ok { OnOk result (CoversMore intervals.old.items intervals.new.items interval) }
