@@ -31,7 +31,7 @@ differ : (x y : ℕ) → (x ≡ y → ⊥) → (x == y) ≡ false
 differ x y apart = false_from_ne_true _ (λ e. apart (eqb-true x y e))
 
 -- texts with the same first byte, and with another
-between_more : (c : ℕ) (low high t : Text) → is_between (c ∷ low) (c ∷ high) (c ∷ t) ≡ is_between low high t
+pub between_more : (c : ℕ) (low high t : Text) → is_between (c ∷ low) (c ∷ high) (c ∷ t) ≡ is_between low high t
 between_more c low high t = ap (λ (o : Ordering). not (is_lt (ordering_then o (text_cmp t low))) && is_lt (ordering_then o (text_cmp t high))) (sym (nat_cmp_is c c Equal refl))
 
 same_byte : (c d : ℕ) → d ≡ c → (d == c) ≡ true
@@ -45,7 +45,7 @@ between_other c d low high t other = ordered d c (λ o. (not (is_lt (ordering_th
     (λ less. refl) (λ e. absurd (true≢false (sym (same_byte c d e) ∙ other))) (λ more. refl)
 
 -- what stands before the first slash
-slash_next : (c : ℕ) (t : Text) → before_first (λ d. d == 47) (c ∷ t) ≡ cond (c == 47) [] (c ∷ before_first (λ d. d == 47) t)
+pub slash_next : (c : ℕ) (t : Text) → before_first (λ d. d == 47) (c ∷ t) ≡ cond (c == 47) [] (c ∷ before_first (λ d. d == 47) t)
 slash_next c t = go (c == 47)
   where
     more : (n : ℕ) → take (1 + n) (c ∷ t) ≡ c ∷ take n t
@@ -56,7 +56,7 @@ slash_next c t = go (c == 47)
     go false = more (position_or_len (λ d. d == 47) t)
 
 -- nothing is below the empty text
-never_below : (t : Text) → is_lt (text_cmp t []) ≡ false
+pub never_below : (t : Text) → is_lt (text_cmp t []) ≡ false
 never_below [] = refl
 never_below (c ∷ t) = refl
 
@@ -122,7 +122,7 @@ after_scope_filtered o (e ∷ es) form none =
     missed true x rest h = absurd (never_some (sym h))
     missed false x rest h = (refl, h)
 
-all_of : (t : Text) → t ++ [] ≡ t
+pub all_of : (t : Text) → t ++ [] ≡ t
 all_of [] = refl
 all_of (c ∷ t) = ap (λ l. c ∷ l) (all_of t)
 

@@ -6,7 +6,7 @@ use Rattle.registry_tables.proofs.Words.{in_order, is_wanted, TextsMap, by_texts
 use Rattle.sqlite.specs.Listing.{understood}
 use Rattle.sqlite_tied.specs.Compute.{everything}
 use Rattle.registry_tables.specs.Schema as table
-use Rattle.registry_tables.proofs.MappedFacts.{members_mapped, owners_mapped}
+use Rattle.registry_tables.proofs.MappedFacts.{members_mapped}
 
 -- the second text is the parameter
 abbrev second_wanted : List Term
@@ -41,18 +41,6 @@ module _ {X : Type 0} {place : ℕ} {child : Table} {value : Row → X} {change 
         sym (map-map (λ (e : Pair × Unit {0}). e.0.0) key_with rows) ∙ ap (map (λ (e : Pair × Unit {0}). e.0.0)) it.1
             ∙ map-map (λ (e : Pair × Unit {0}). e.0.0) (seen nothing_of) (filter has_second (entries (map_of 1 value (old.now.trees child.tree)))),
       )
-
--- ---- the packages that a user maintains
-
-abbrev maintained_text : List ℕ
-maintained_text = codes "SELECT package FROM owners WHERE user = ?1 ORDER BY package, user"
-
-pub maintained_means : MeansQuery schema maintained_text (select_where table.owners (col 1 1 ∷ []) second_wanted (in_order 1 1) (codes "package" ∷ []))
-unfolding understood everything
-maintained_means = ((refl, (refl, refl)), refl)
-
-pub maintained_listed : (u : Text) (old new : Shown) → ShowsAll maintained_text (Stored u ∷ []) old new text_spelled (λ c. firsts_of c.owners u)
-maintained_listed u = firsts_listed owners_mapped (λ v. refl) u maintained_text _ maintained_means
 
 -- ---- the organisations of a user
 

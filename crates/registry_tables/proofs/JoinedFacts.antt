@@ -20,7 +20,7 @@ use Rattle.registry_tables.proofs.ReadFacts.{at-read, read_there, some-read}
 abbrev grant_sides : List (Side × Side)
 grant_sides = (first 0, given 0) ∷ (first 2, given 1) ∷ (second 0, given 0) ∷ (second 1, first 1) ∷ (second 2, given 2) ∷ []
 
-granted_some : (o : Option Grant) (g : Grant) → grants o g ≡ true → (h : Grant) × (o ≡ Some h) × (is_grant h g ≡ true)
+pub granted_some : (o : Option Grant) (g : Grant) → grants o g ≡ true → (h : Grant) × (o ≡ Some h) × (is_grant h g ≡ true)
 granted_some None g t = absurd (true≢false (sym t))
 granted_some (Some h) g t = (h, refl, t)
 

@@ -2,13 +2,14 @@
 use Rattle.registry_tables.proofs.Words.{◌≡◌, ◌⊎◌, ◌∙◌, ◌&&◌, ◌||◌, Bool, true, false, cond, List, [], ◌∷◌, ◌++◌, filter, map, Option, Some, None, is_some, is_none, refl, sym, ap, ap₂, subst}
 use Rattle.registry_tables.proofs.Words.{append_assoc, inl, inr, AllByRecursion, flat_map, list_any, and_parts, map-append, map-map, Shown, Has, all_from, has_filtered, among, at, entries}
 use Rattle.registry_tables.proofs.Words.{first_at, keys, rises, scope_of, Text, text_cmp, is, Status, among_keys, entries_rise, rises_kept, rises_mapped, same_rows, text_key, at-entries, is_self}
-use Rattle.registry_tables.proofs.Words.{is_sym, text_is, is_owner_or_admin, reads, level_in, scope_role, Caller, Operator, User, Anonymous, Level, Role, PackageLevel, filter_twice, map_has}
-use Rattle.registry_tables.proofs.Words.{is_scope, is_own, IsReady, Contents, access_of, stored, IsListedFor, firsts_of, last_at, level_entry, leveled, levels_in, levels_on, listed_name}
+use Rattle.registry_tables.proofs.Words.{is_sym, text_is, is_owner_or_admin, reads, level_in, scope_role, Caller, Operator, User, Anonymous, Level, PackageLevel, filter_twice, map_has}
+use Rattle.registry_tables.proofs.Words.{is_scope, is_own, IsReady, Contents, access_of, stored, firsts_of, last_at, level_entry, leveled, levels_in, levels_on, listed_name}
 use Rattle.registry_tables.proofs.Words.{scopes_levels, unscoped_levels, writable, role_numbered, status_of, package_entry, scope_statuses, schema, ListedPackage, pair_key, list_any-append}
-use Rattle.registry_access.specs.Callers.{role_of}
 use Rattle.registry_access.specs.declared.levels.Level.TheVariants.{Write}
 use Rattle.registry_rules.proofs.AllowedFacts.{scope_is}
 use Rattle.registry_rules.proofs.WithdrawnFacts.{among_passing}
+use Rattle.registry_tables.specs.Rights.{TellLevels, level_by_rights, rate, rated}
+use Rattle.registry_tables.specs.declared.rights.Rights.{Rights}
 use Rattle.registry_tables.proofs.FirstsFacts.{among_firsts}
 use Rattle.registry_tables.proofs.FoundFacts.{entry_at, map_filter, some_at}
 use Rattle.registry_tables.proofs.ParentFacts.{owned_there}
@@ -17,35 +18,38 @@ use Rattle.registry_tables.proofs.SomeFacts.{or_true}
 
 -- ---- the packages of a scope
 
-module _ (c : Contents) (who : Caller) (role : Option Role) (o : Text) (ps : List ListedPackage) (listed : map package_entry ps ≡ scope_statuses c o) where
+-- the rights tell the caller's level on the package
+abbrev IsRated : Contents → Caller → Rights → ListedPackage → Type 0
+IsRated c who r p = level_by_rights r p.name p.status ≡ level_in (access_of c) who p.name
+
+made_if : {A B : Type 0} (f : A → B) (b : Bool) (x : A) (xs : List A) → map f (cond b (x ∷ xs) xs) ≡ cond b (f x ∷ map f xs) (map f xs)
+made_if f true x xs = refl
+made_if f false x xs = refl
+
+rated_on : (c : Contents) (who : Caller) (r : Rights) (ps : List ListedPackage) → AllByRecursion (IsRated c who r) ps → rated r ps ≡ levels_on c who (map listed_name ps)
+rated_on c who r [] h = refl
+rated_on c who r (p ∷ ps) h =
+    made_if (rate r) (reads (level_by_rights r p.name p.status)) p (filter (λ (q : ListedPackage). reads (level_by_rights r q.name q.status)) ps)
+    ∙ (λ i. cond (reads (h.0 i)) (record { name = p.name; level = h.0 i } ∷ rated_on c who r ps h.1 i) (rated_on c who r ps h.1 i))
+    ∙ sym (made_if (leveled c who) (reads (level_in (access_of c) who p.name)) p.name (filter (λ q. reads (level_in (access_of c) who q)) (map listed_name ps)))
+
+module _ (c : Contents) (who : Caller) (o : Text) (ps : List ListedPackage) (listed : map package_entry ps ≡ scope_statuses c o) where
   -- each has its status, and its scope is of the organisation
-  pub listed_right : role ≡ role_of (access_of c) who o → AllByRecursion (IsListedFor c who role) ps
-  listed_right is = all_from (IsListedFor c who role) ps (λ p h.
+  stands : (p : ListedPackage) → Has ps p → (at (access_of c).statuses p.name ≡ Some p.status) × (scope_of p.name ≡ Some o)
+  stands p h =
       let there : Has (scope_statuses c o) (p.name, p.status) = subst (λ (es : List (Text × Status)). Has es (p.name, p.status)) listed (map_has package_entry ps p h) in
-      let kept = has_filtered (λ (e : Text × Status). is_scope o (scope_of e.0)) (entries (access_of c).statuses) (p.name, p.status) there in (
-        entry_at text_key (access_of c).statuses p.name p.status kept.0,
-        is ∙ sym (ap (scope_role (access_of c) who) (scope_is o (scope_of p.name) kept.1)),
-      ))
+      let kept = has_filtered (λ (e : Text × Status). is_scope o (scope_of e.0)) (entries (access_of c).statuses) (p.name, p.status) there in
+      (entry_at text_key (access_of c).statuses p.name p.status kept.0, scope_is o (scope_of p.name) kept.1)
+
+  -- rights that tell the caller's levels give them
+  pub rated_levels : (r : Rights) → TellLevels r c who o → rated r ps ≡ levels_on c who (map listed_name ps)
+  rated_levels r tells = rated_on c who r ps (all_from (IsRated c who r) ps (λ p h. let it = stands p h in tells p.name p.status it.1 it.0))
 
   -- those that the caller reads are those of the scope that they read
   pub scope_levels : levels_on c who (map listed_name ps) ≡ levels_in c who (λ p. is_scope o (scope_of p))
   scope_levels =
       ap (levels_on c who) (sym (map-map (λ (e : Text × Status). e.0) package_entry ps) ∙ ap keys listed ∙ map_filter (λ (e : Text × Status). e.0) (λ p. is_scope o (scope_of p)) (entries (access_of c).statuses))
       ∙ ap (map (leveled c who)) (filter_twice (λ p. is_scope o (scope_of p)) (λ p. reads (level_in (access_of c) who p)) (keys (entries (access_of c).statuses)))
-
--- ---- one package after another
-
-module _ (c : Contents) (who : Caller) (done : List PackageLevel) (p : Text) (level : Level) (rest all : List Text)
-    (so_far : done ++ levels_on c who (p ∷ rest) ≡ levels_on c who all) (is : level ≡ level_in (access_of c) who p) where
-  step : (b : Bool) → reads (level_in (access_of c) who p) ≡ b → done ++ map (leveled c who) (cond b (p ∷ filter (λ q. reads (level_in (access_of c) who q)) rest) (filter (λ q. reads (level_in (access_of c) who q)) rest)) ≡ levels_on c who all
-  step b e = ap (λ b. done ++ map (leveled c who) (cond b (p ∷ filter (λ q. reads (level_in (access_of c) who q)) rest) (filter (λ q. reads (level_in (access_of c) who q)) rest))) (sym e) ∙ so_far
-
-  -- one that the caller reads is taken
-  pub level_taken : reads level ≡ true → (done ++ record { name = p; level = level } ∷ []) ++ levels_on c who rest ≡ levels_on c who all
-  level_taken t = append_assoc done (record { name = p; level = level } ∷ []) (levels_on c who rest)
-      ∙ ap (λ (l : Level). done ++ record { name = p; level = l } ∷ levels_on c who rest) is ∙ step true (sym (ap reads is) ∙ t)
-
--- ---- the level on one package
 
 -- ---- all that are the caller's own
 

@@ -1,3 +1,4 @@
+pub mod AboutScopeFacts
 pub mod AccessFacts
 pub mod AfterScopeFacts
 pub mod ArchiveFacts
@@ -10,6 +11,7 @@ pub mod EffectFacts
 pub mod FirstsFacts
 pub mod FoundFacts
 pub mod GrantFacts
+pub mod GrantedLevelFacts
 pub mod HeldNeedFacts
 pub mod InsideFacts
 pub mod JoinedFacts
@@ -18,6 +20,7 @@ pub mod LevelFacts
 pub mod LinkedFacts
 pub mod LiveFacts
 pub mod MaintainerFacts
+pub mod MaintainedFacts
 pub mod MappedFacts
 pub mod MemberFacts
 pub mod MetaFacts
@@ -33,6 +36,7 @@ pub mod ReadFacts
 pub mod ReadableFacts
 pub mod ReferenceFacts
 pub mod RetiredFacts
+pub mod RightsFacts
 pub mod SchemaFacts
 pub mod ScopeFacts
 pub mod SomeFacts

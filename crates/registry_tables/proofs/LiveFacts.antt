@@ -50,13 +50,6 @@ documents_as_rows = part_seen document (λ r. document (as_release r)) (λ c k x
 pub times_as_rows : (c : Contents) (p : Text) → map (seen published) (of (live_of c) p) ≡ map (seen (λ (r : LiveVersion). published (as_release r))) (of c.versions p)
 times_as_rows = part_seen published (λ r. published (as_release r)) (λ c k x. refl)
 
--- their versions are those of their rows
-pub versions_as_rows : (c : Contents) (p : Text) → keys (of (live_of c) p) ≡ keys (of c.versions p)
-versions_as_rows c p =
-    sym (map-map (λ (e : Text × Unit {0}). e.0) (seen (λ (r : Release). tt)) (of (live_of c) p))
-    ∙ ap keys (part_seen (λ (r : Release). tt) (λ (r : LiveVersion). tt) (λ c k x. refl) c p)
-    ∙ map-map (λ (e : Text × Unit {0}). e.0) (seen (λ (r : LiveVersion). tt)) (of c.versions p)
-
 empty_seen : {X Y : Type 0} (g : X → Y) (es : List (Text × X)) → is_empty (map (seen g) es) ≡ is_empty es
 empty_seen g [] = refl
 empty_seen g (e ∷ es) = refl

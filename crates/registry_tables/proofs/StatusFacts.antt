@@ -76,11 +76,11 @@ not_below Equal = refl
 not_below Greater = refl
 
 -- SQL's >= and < on texts
-above_test : (s t : Text) → is_true (binary (Compare Ge Binary) (Stored s) (Stored t)) ≡ not (is_lt (text_cmp s t))
+pub above_test : (s t : Text) → is_true (binary (Compare Ge Binary) (Stored s) (Stored t)) ≡ not (is_lt (text_cmp s t))
 unfolding binary
 above_test s t = truth_is (is_ge (value_cmp (Stored s) (Stored t))) ∙ not_below (value_cmp (Stored s) (Stored t)) ∙ ap (λ o. not (is_lt o)) (value_cmp-Text s t)
 
-below_test : (s t : Text) → is_true (binary (Compare Lt Binary) (Stored s) (Stored t)) ≡ is_lt (text_cmp s t)
+pub below_test : (s t : Text) → is_true (binary (Compare Lt Binary) (Stored s) (Stored t)) ≡ is_lt (text_cmp s t)
 unfolding binary
 below_test s t = truth_is (is_lt (value_cmp (Stored s) (Stored t))) ∙ ap is_lt (value_cmp-Text s t)
 

@@ -1,14 +1,16 @@
 -- What the statements on versions make and show.
 use Rattle.registry_tables.proofs.Words.{◌≡◌, ℕ, List, [], ◌∷◌, pos, map, is_some, option_map, None, Some, Ok, refl, sym, ap, ◌∙◌, codes, map-map, Int, Stored, Blob, Select, Shown, HasCleanDisk}
-use Rattle.registry_tables.proofs.Words.{column, Term, lit, col, Text, text_in, Wrote, Ready, Leaves, schema, LiveVersion, as_release, contents, live_of, registry_of, stored, at, keys, of, put, seen}
+use Rattle.registry_tables.proofs.Words.{column, Term, lit, col, Text, text_in, Wrote, Ready, Leaves, schema, Contents, LiveVersion, as_release, contents, live_of, registry_of, stored, at, keys, of, put, seen}
 use Rattle.registry_tables.proofs.Words.{has_live, live_versions, published_at, Means, MeansQuery, scan, first_of, by_texts, in_order, insert_values, update_where, insert_puts, insert_meets_none}
 use Rattle.registry_tables.proofs.Words.{update_revises, select_finds, select_lists, select_lists_first, first_listed, text_spelled, with_message, seconds_of, held_spelled, number_spelled, document}
 use Rattle.registry_tables.proofs.Words.{document_spelled, published, row_spelled, time_spelled, version_spelled, ShowsAll, ShowsFirst, ShowsWhether}
+use Rattle.registry_packument.specs.Heads.{time_entry}
+use Rattle.registry_packument.specs.declared.times.VersionTime.{VersionTime}
 use Rattle.sqlite.specs.Listing.{understood}
 use Rattle.sqlite_tied.specs.Compute.{everything}
 use Rattle.registry_tables.specs.Schema as table
 use Rattle.registry_tables.proofs.FoundFacts.{some_found, some_seen}
-use Rattle.registry_tables.proofs.LiveFacts.{document_as_row, documents_as_rows, lives_as_row, lives_as_rows, published_as_row, first_shown, times_as_rows, versions_as_rows}
+use Rattle.registry_tables.proofs.LiveFacts.{document_as_row, documents_as_rows, lives_as_row, lives_as_rows, published_as_row, first_shown, times_as_rows}
 use Rattle.registry_tables.proofs.MappedFacts.{versions_mapped}
 use Rattle.registry_tables.proofs.NumberFacts.{as_seconds}
 
@@ -107,21 +109,9 @@ times_listed p old new rows form call clean =
     let it = select_lists versions_mapped times_text _ _ times_means p time_spelled (λ (r : LiveVersion). published (as_release r)) (λ id vs. ap (λ (n : ℕ). (text_in (column vs 1), n)) (as_seconds (column vs 2))) old new rows form call clean in
     (it.0, it.1 ∙ sym (times_as_rows (stored old) p))
 
-abbrev live_text : List ℕ
-live_text = codes "SELECT version FROM versions WHERE package = ?1 ORDER BY version"
-
-pub live_means : MeansQuery schema live_text (Select (record { lets = []; body = scan 18 (by_texts 0 1 0) (col 1 2 ∷ []) (in_order 0 2) }) (codes "version" ∷ []))
-unfolding understood everything
-live_means = ((refl, (refl, refl)), refl)
-
--- the rows show which versions of the package live
-pub live_listed : (p : Text) (old new : Shown) → ShowsAll live_text (Stored p ∷ []) old new text_spelled (λ c. live_versions (registry_of c) p)
-live_listed p old new rows form call clean =
-    let it = select_lists versions_mapped live_text _ _ live_means p version_spelled (λ (r : LiveVersion). tt) (λ id vs. refl) old new rows form call clean in (
-      it.0,
-      sym (map-map (λ (e : Text × Unit {0}). e.0) version_spelled rows) ∙ ap keys it.1
-          ∙ map-map (λ (e : Text × Unit {0}). e.0) (seen (λ (r : LiveVersion). tt)) (of (stored old).versions p) ∙ sym (versions_as_rows (stored old) p),
-    )
+-- so the versions that live are those of the times
+pub live_of_times : (c : Contents) (p : Text) (times : List VersionTime) → map time_entry times ≡ map (seen published) (of (live_of c) p) → map (λ (t : VersionTime). t.version) times ≡ live_versions (registry_of c) p
+live_of_times c p times is = sym (map-map (λ (e : Text × ℕ). e.0) time_entry times) ∙ ap (map (λ (e : Text × ℕ). e.0)) is ∙ map-map (λ (e : Text × ℕ). e.0) (seen published) (of (live_of c) p)
 
 abbrev first_text : List ℕ
 first_text = codes "SELECT version FROM versions WHERE package = ?1 ORDER BY version LIMIT 1"

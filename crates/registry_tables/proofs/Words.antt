@@ -54,7 +54,7 @@ pub use Rattle.registry_tables.specs.Changes.{IsUntagged, all_stored, row_of, st
 pub use Rattle.registry_tables.specs.Contents.{Archive, Contents, LiveVersion, SpentVersion, access_of, archive_in, as_release, as_withdrawal, bytes_held, contents, grant_in, held_in, live_of, named_in, nothing_in, number_named_in, registry_of, role_in, spent_in, status_in, user_in, version_in, version_in as version_row, with_bytes}
 pub use Rattle.registry_tables.specs.Effects.{HasNoTables, InForm, IsAsBefore, Makes, shown, stored, stored_in}
 pub use Rattle.registry_tables.specs.Fresh.{HasMade, first_tables, fresh, no_contents, schema_after, schema_key, schema_number, with_number}
-pub use Rattle.registry_tables.specs.Levels.{IsListedFor, firsts_of, last_at, level_entry, leveled, levels_in, levels_on, listed_name, scopes_levels, unscoped_levels, writable}
+pub use Rattle.registry_tables.specs.Levels.{firsts_of, last_at, level_entry, leveled, levels_in, levels_on, listed_name, scopes_levels, unscoped_levels, writable}
 pub use Rattle.registry_tables.specs.Needs.{HoldsNeeds, is_needed, names_if_any, names_range, need_key, with_need, with_needs}
 pub use Rattle.registry_tables.specs.Numbers.{grant_number, grant_of, is_level, is_moment, is_role, is_status, role_number, role_of, role_of as role_numbered, seconds_of, status_number, status_of}
 pub use Rattle.registry_tables.specs.Opening.{HasNothing, HasNumber, HasRun, HasUsersAlone, IsMade, Understands, counts_query, first_creation, is_name_of_archives, listing_query, name_archives_alone, number_query}

@@ -44,10 +44,6 @@ unscoped_levels c u = map writable (filter (λ p. is_none (scope_of p)) (firsts_
 abbrev pub scopes_levels : Contents → Caller → List Text → List PackageLevel
 scopes_levels c who os = flat_map (λ o. levels_in c who (λ p. is_scope o (scope_of p))) os
 
--- the package has its status, and this is the caller's role in the organisation of its scope
-abbrev pub IsListedFor : Contents → Caller → Option Role → ListedPackage → Type 0
-IsListedFor c who role p = (at (access_of c).statuses p.name ≡ Some p.status) × (role ≡ scope_role (access_of c) who (scope_of p.name))
-
 abbrev pub listed_name : ListedPackage → Text
 listed_name p = p.name
 

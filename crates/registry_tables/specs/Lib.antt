@@ -15,6 +15,7 @@ pub mod Overviews
 pub mod Queries
 pub mod Ranges
 pub mod ReadMaps
+pub mod Rights
 pub mod Schema
 pub mod Scopes
 pub mod Spelled

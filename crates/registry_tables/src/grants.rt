@@ -1,18 +1,22 @@
 //! The table `grants`: what teams are granted on packages of their organisation's scope.
 
-ghost use Rattle.std.specs.Prelude.{⊤, ◌≡◌, IfOk, is_some, map};
+ghost use Rattle.std.specs.Prelude.{⊤, ◌≡◌, IfOk, Some, is_some, map};
+ghost use Rattle.registry_access.specs.Levels.{level_granted};
 ghost use Rattle.registry_access.specs.declared.grant.Grant.{Grant as Right};
+ghost use Rattle.registry_access.specs.declared.levels.Level.{Level};
 ghost use Rattle.registry_names.specs.Maps.{at, erase, put};
 ghost use Rattle.registry_names.specs.Texts.{Text as Bytes};
 ghost use Rattle.registry_tables.specs.Contents.{access_of};
 ghost use Rattle.registry_tables.specs.Inside.{Finds, Makes};
+ghost use Rattle.registry_tables.specs.Levels.{level_entry};
 ghost use Rattle.registry_tables.specs.Numbers.{grant_number};
+ghost use Rattle.registry_tables.specs.Rights.{AreGrantedLevels, granted_level_spelled};
 ghost use Rattle.registry_tables.specs.Teams.{AreGranted, grant_spelled, granted_entry, granted_spelled, grants_of};
 
 use crate::queries::{has, list, query};
-use registry_access::Grant;
+use registry_access::{Grant, Level};
 use registry_names::{Fault, Ident, Name, Text};
-use registry_packument::Granted;
+use registry_packument::{Granted, PackageLevel};
 use registry_rows::{RowKind, values_of_rows, write};
 use sqlite::{Alter, Error, Row, Transaction, params};
 use std::alloc::Global;
@@ -103,6 +107,25 @@ pub fn load_grants<S: Alter>(
     values_of_rows::<GrantRow>(alloc, &rows)
 }
 
+/// What the teams of an organisation that a user is in are granted, in any order, each as the level
+/// that it gives. A package may occur there more than once.
+pub(crate) fn load_granted_levels<S: Alter>(
+    alloc: Global,
+    tx: &mut Transaction<'_, S>,
+    organisation: &Ident,
+    user: &Ident,
+) -> Result<Vec<PackageLevel>, Fault>
+    ensures { Finds S.Store tx.old tx.new result (λ rows c. AreGrantedLevels c
+        organisation.now user.now (map level_entry rows.items)) }
+{
+    let rows = query(
+        tx,
+        "SELECT grants.package, grants.level FROM team_members, grants WHERE team_members.org = ?1 AND team_members.user = ?2 AND grants.org = ?1 AND grants.team = team_members.team",
+        params![organisation.text(), user.text()],
+    )?;
+    values_of_rows::<LevelRow>(alloc, &rows)
+}
+
 /// What a team is granted, in byte order of the packages.
 pub(crate) fn load_team_grants<S: Alter>(
     alloc: Global,
@@ -140,6 +163,37 @@ impl RowKind for ListedGrant {
             name: Text::from(name),
             grant: grant_of(number)?,
         })
+    }
+}
+
+// A package, and the level that is granted on it.
+struct LevelRow;
+
+impl RowKind for LevelRow {
+    type Value = PackageLevel;
+
+    ghost Seen = { Bytes × Level };
+
+    ghost seen = { level_entry };
+
+    ghost spelled = { granted_level_spelled };
+
+    fn read(row: &Row) -> Result<PackageLevel, Error> {
+        let Granted { name, grant } = ListedGrant::read(row)?;
+        Ok(PackageLevel {
+            name,
+            level: level_of(grant),
+        })
+    }
+}
+
+// The level that a grant gives.
+fn level_of(grant: Grant) -> Level
+    ensures { result ≡ level_granted (Some grant) }
+{
+    match grant {
+        Grant::ReadOnly => Level::Read,
+        Grant::ReadWrite => Level::Write,
     }
 }
 

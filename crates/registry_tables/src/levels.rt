@@ -1,10 +1,6 @@
 //! Packages that a caller reads, each with their level on it.
 
 ghost use Rattle.std.specs.Prelude.{◌≡◌, ◌++◌, IfOk, None, filter, is_none, map, not, true};
-ghost use Rattle.std.specs.List.{AllByRecursion};
-ghost use Rattle.registry_access.specs.Callers.{role_of};
-ghost use Rattle.registry_access.specs.Levels as levels;
-ghost use Rattle.registry_access.specs.Positions.{level_in};
 ghost use Rattle.registry_access.specs.declared.caller.Caller.TheVariants as asker;
 ghost use Rattle.registry_names.specs.Maps.{first_at, rises};
 ghost use Rattle.registry_names.specs.Names.{scope_of};
@@ -13,16 +9,17 @@ ghost use Rattle.registry_rules.specs.Refusals.{is_scope};
 ghost use Rattle.registry_rules.specs.State.{is_own};
 ghost use Rattle.registry_tables.specs.Contents.{access_of};
 ghost use Rattle.registry_tables.specs.Inside.{Finds, Knows};
-ghost use Rattle.registry_tables.specs.Levels.{IsListedFor, last_at, level_entry, levels_in, levels_on, listed_name, scopes_levels, unscoped_levels, writable};
+ghost use Rattle.registry_tables.specs.Levels.{last_at, level_entry, levels_in, scopes_levels, unscoped_levels, writable};
+ghost use Rattle.registry_tables.specs.Rights.{rated};
 ghost use Rattle.registry_tables.specs.Teams.{AreTeamsSound};
 
 use crate::maintainers::load_maintained;
-use crate::members::{load_role, load_user_organisations};
+use crate::members::load_user_organisations;
 use crate::packages::{ListedPackage, load_scope_statuses};
-use crate::standing::{load_granted, maintains};
-use crate::texts::read_back;
-use registry_access::{Caller, Level, Role, Standing, level_of};
-use registry_names::{Fault, Ident, Name, Status, Text};
+use crate::rights::{Rights, load_rights, reads};
+use crate::texts::{OrderedText, read_back};
+use registry_access::{Caller, Level};
+use registry_names::{Fault, Ident, Name, Text};
 use registry_packument::PackageLevel;
 use sqlite::{Alter, Transaction};
 use std::alloc::Global;
@@ -41,8 +38,8 @@ pub fn load_scope_packages<S: Alter>(
         ≡ levels_in c caller.now (λ p. is_scope organisation.now (scope_of p))) }
 {
     let packages = load_scope_statuses(alloc, tx, organisation)?;
-    let role = load_caller_role(tx, caller, organisation)?;
-    with_levels(alloc, tx, caller, role, packages)
+    let rights = load_rights(alloc, tx, caller, organisation)?;
+    with_levels(alloc, &rights, packages)
 }
 
 /// The packages of the caller that they read, in byte order, each with their level on it: those
@@ -168,97 +165,22 @@ fn listed(alloc: Global, levels: BTreeMap<Name, Level>) -> Result<Vec<PackageLev
     Ok(packages)
 }
 
-// The caller's role in an organisation, if they are a member of it.
-fn load_caller_role<S: Alter>(
-    tx: &mut Transaction<'_, S>,
-    caller: &Caller,
-    organisation: &Ident,
-) -> Result<Option<Role>, Fault>
-    ensures { Knows S.Store tx.old tx.new result
-        (λ role c. role ≡ role_of (access_of c) caller.now organisation.now) }
-{
-    match caller {
-        Caller::User(user) => load_role(tx, organisation, user),
-        Caller::Operator | Caller::Anonymous => Ok(None),
-    }
-}
-
-// The packages that the caller reads, each with their level. This is their role in the organisation
-// of each package's scope.
-fn with_levels<S: Alter>(
+// Those of the packages that the caller reads by these rights, each with their level.
+fn with_levels(
     alloc: Global,
-    tx: &mut Transaction<'_, S>,
-    caller: &Caller,
-    role: Option<Role>,
+    rights: &Rights,
     packages: Vec<ListedPackage>,
 ) -> Result<Vec<PackageLevel>, Fault>
-    ensures { Knows S.Store tx.old tx.new result
-        (λ levels c. AreTeamsSound c → AllByRecursion (IsListedFor c caller.now role) packages.items
-        → levels.items ≡ levels_on c caller.now (map listed_name packages.items)) }
+    ensures { IfOk result (λ levels. levels.items ≡ rated rights.now packages.items) }
 {
     let mut levels = Vec::new(alloc);
     for listed in packages {
-        let level = level_on(alloc, tx, caller, role, &listed)?;
+        let name = OrderedText { text: listed.name };
+        let level = rights.level_on(&name, listed.status);
         if reads(level) {
-            levels.push(PackageLevel {
-                name: listed.name,
-                level,
-            })?;
+            let name = name.text;
+            levels.push(PackageLevel { name, level })?;
         }
     }
     Ok(levels)
-}
-
-// Whether this level allows reading a package.
-fn reads(level: Level) -> bool
-    ensures { result ≡ levels.reads level }
-{
-    level >= Level::Read
-}
-
-// The caller's level on a package, where this is their role in the organisation of its scope. An
-// owner or admin writes it, so nothing else is asked of them.
-fn level_on<S: Alter>(
-    alloc: Global,
-    tx: &mut Transaction<'_, S>,
-    caller: &Caller,
-    role: Option<Role>,
-    listed: &ListedPackage,
-) -> Result<Level, Fault>
-    ensures { Knows S.Store tx.old tx.new result
-        (λ level c. AreTeamsSound c → IsListedFor c caller.now role listed.now → level
-        ≡ level_in (access_of c) caller.now listed.now.name) }
-{
-    if matches!(role, Some(Role::Owner | Role::Admin)) {
-        return Ok(Level::Write);
-    }
-    let name = read_back(Name::parse(alloc, listed.name.as_str()))?;
-    load_level(alloc, tx, caller, role, &name, listed.status)
-}
-
-// The same of a package of this name and status.
-fn load_level<S: Alter>(
-    alloc: Global,
-    tx: &mut Transaction<'_, S>,
-    caller: &Caller,
-    role: Option<Role>,
-    name: &Name,
-    status: Status,
-) -> Result<Level, Fault>
-    ensures { Knows S.Store tx.old tx.new result
-        (λ level c. AreTeamsSound c
-        → IsListedFor c caller.now role (record { name = name.now; status = status }) → level
-        ≡ level_in (access_of c) caller.now name.now) }
-{
-    let maintainer = maintains(tx, caller, name)?;
-    let grants = load_granted(alloc, tx, caller, name, role, maintainer)?;
-    // The level doesn't depend on whether the organisation is there.
-    let standing = Standing {
-        organisation: true,
-        role,
-        status: Some(status),
-        maintainer,
-        grants,
-    };
-    Ok(level_of(&standing, caller))
 }

@@ -25,6 +25,7 @@ mod organisations;
 mod packages;
 mod passing;
 mod queries;
+mod rights;
 mod schema;
 mod scopes;
 mod spent;

@@ -1,19 +1,24 @@
 //! The table `owners`: the maintainers of every package.
 
-ghost use Rattle.std.specs.Prelude.{⊤, ◌≡◌, is_some, not};
+ghost use Rattle.std.specs.Prelude.{⊤, ◌≡◌, is_some, map, not};
 ghost use Rattle.std.specs.List.{list_any};
 ghost use Rattle.registry_names.specs.Maps.{at, erase, keys, of, put};
-ghost use Rattle.registry_names.specs.Texts.{is};
+ghost use Rattle.registry_access.specs.declared.levels.Level.{Level};
+ghost use Rattle.registry_names.specs.Texts.{Text as Bytes, is};
 ghost use Rattle.registry_rules.specs.State as spec;
 ghost use Rattle.registry_tables.specs.Changes.{IsFree};
 ghost use Rattle.registry_tables.specs.Contents.{registry_of};
 ghost use Rattle.registry_tables.specs.Inside.{Finds, Makes};
-ghost use Rattle.registry_tables.specs.Levels.{firsts_of};
+ghost use Rattle.registry_tables.specs.Levels.{firsts_of, level_entry};
+ghost use Rattle.registry_tables.specs.Rights.{maintained_about, maintained_spelled};
 
-use crate::queries::{has, texts};
+use crate::packages::scoped;
+use crate::queries::{has, list, texts};
+use registry_access::Level;
 use registry_names::{Fault, Ident, Name, Text};
-use registry_rows::write;
-use sqlite::{Alter, Transaction, params};
+use registry_packument::PackageLevel;
+use registry_rows::{RowKind, write};
+use sqlite::{Alter, Error, Row, Transaction, params};
 use std::alloc::Global;
 
 /// Whether the user is a maintainer of the package.
@@ -72,12 +77,56 @@ pub(crate) fn load_maintained<S: Alter>(
     ensures { Finds S.Store tx.old tx.new result
         (λ packages c. packages.items ≡ firsts_of c.owners user.now) }
 {
-    texts(
+    // No text is below the empty one, and each is below every blob.
+    let above: &[u8] = &[];
+    texts(alloc, tx, MAINTAINED, params![user.text(), "", above])
+}
+
+/// The packages that a user maintains, in byte order: each of an organisation's scope, and those of
+/// scopes that begin like it and go on with `-` or `.`. They write them.
+pub(crate) fn load_scope_maintained<S: Alter>(
+    alloc: Global,
+    tx: &mut Transaction<'_, S>,
+    organisation: &Ident,
+    user: &Ident,
+) -> Result<Vec<PackageLevel>, Fault>
+    ensures { Finds S.Store tx.old tx.new result
+        (λ packages c. map level_entry packages.items
+        ≡ maintained_about c organisation.now user.now) }
+{
+    let first = scoped(alloc, organisation, "")?;
+    let end = scoped(alloc, organisation, "0")?;
+    list::<MaintainedRow, S>(
         alloc,
         tx,
-        "SELECT package FROM owners WHERE user = ?1 ORDER BY package, user",
-        params![user.text()],
+        MAINTAINED,
+        params![user.text(), first.as_str(), end.as_str()],
     )
+}
+
+// What asks for the packages that a user maintains, from a name up to below another.
+const MAINTAINED: &str =
+    "SELECT package FROM owners WHERE user = ?1 AND package >= ?2 AND package < ?3 ORDER BY package, user";
+
+// A package that somebody maintains, and so writes.
+struct MaintainedRow;
+
+impl RowKind for MaintainedRow {
+    type Value = PackageLevel;
+
+    ghost Seen = { Bytes × Level };
+
+    ghost seen = { level_entry };
+
+    ghost spelled = { maintained_spelled };
+
+    fn read(row: &Row) -> Result<PackageLevel, Error> {
+        let name: String = row.get(0)?;
+        Ok(PackageLevel {
+            name: Text::from(name),
+            level: Level::Write,
+        })
+    }
 }
 
 fn maintained_by_another(maintainers: &[Text], user: &str) -> bool

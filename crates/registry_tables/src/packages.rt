@@ -95,8 +95,8 @@ fn load_after_scope<S: Alter>(
     )
 }
 
-// The scope of an organisation, and a text after it.
-fn scoped(alloc: Global, organisation: &Ident, rest: &str) -> Result<Text, AllocError>
+/// The scope of an organisation, and a text after it.
+pub(crate) fn scoped(alloc: Global, organisation: &Ident, rest: &str) -> Result<Text, AllocError>
     ensures { IfOk result (λ text. (text ≡ 64 ∷ (organisation.now ++ rest.now))
         × (is_ident organisation.now ≡ true)) }
 {

@@ -104,8 +104,8 @@ fn load_scope_role<S: Alter>(
     }
 }
 
-/// Whether the caller is a maintainer of the package.
-pub(crate) fn maintains<S: Alter>(
+// Whether the caller is a maintainer of the package.
+fn maintains<S: Alter>(
     tx: &mut Transaction<'_, S>,
     caller: &Caller,
     name: &Name,
@@ -146,9 +146,9 @@ fn counts_maintainer(ask: &Ask<'_>, role: Option<Role>) -> bool
     matches!(*ask, Ask::Owners(_)) || !matches!(role, Some(Role::Owner | Role::Admin))
 }
 
-/// What the caller's teams are granted on the package, where neither their role in the organisation
-/// of its scope nor that they are a maintainer lets them write.
-pub(crate) fn load_granted<S: Alter>(
+// What the caller's teams are granted on the package, where neither their role in the organisation
+// of its scope nor that they are a maintainer lets them write.
+fn load_granted<S: Alter>(
     alloc: Global,
     tx: &mut Transaction<'_, S>,
     caller: &Caller,

@@ -19,7 +19,7 @@ ghost use Rattle.registry_tables.specs.Withdrawals.{with_message};
 use crate::archives::put_archive;
 use crate::moments::MomentRow;
 use crate::needs::put_needs;
-use crate::queries::{find, has, list, texts};
+use crate::queries::{find, has, list};
 use crate::spent::has_withdrawal;
 use crate::texts::read_back;
 use registry_names::{Fault, Moment, Name, Text, Ver};
@@ -71,33 +71,18 @@ pub fn load_live<S: Alter>(
     ensures { Finds S.Store tx.old tx.new result
         (λ live c. map text_of_version live.items ≡ live_versions (registry_of c) name.now) }
 {
-    let texts = load_live_texts(alloc, tx, name)?;
-    all_parsed(alloc, &texts)
+    let times = load_times(alloc, tx, name)?;
+    all_parsed(alloc, &times)
 }
 
-fn load_live_texts<S: Alter>(
-    alloc: Global,
-    tx: &mut Transaction<'_, S>,
-    name: &Name,
-) -> Result<Vec<Text>, Fault>
-    ensures { Finds S.Store tx.old tx.new result
-        (λ live c. live.items ≡ live_versions (registry_of c) name.now) }
-{
-    texts(
-        alloc,
-        tx,
-        "SELECT version FROM versions WHERE package = ?1 ORDER BY version",
-        params![name.text()],
-    )
-}
-
-// The versions of these texts.
-fn all_parsed(alloc: Global, texts: &[Text]) -> Result<Vec<Ver>, Fault>
-    ensures { IfOk result (λ versions. map text_of_version versions.items ≡ texts.now) }
+// The versions of these moments.
+fn all_parsed(alloc: Global, times: &[VersionTime]) -> Result<Vec<Ver>, Fault>
+    ensures { IfOk result (λ versions. map text_of_version versions.items
+        ≡ map (λ t. t.version) times.now) }
 {
     let mut versions = Vec::new(alloc);
-    for text in texts {
-        let version = read_back(Ver::parse(alloc, text.as_str()))?;
+    for time in times {
+        let version = read_back(Ver::parse(alloc, time.version.as_str()))?;
         versions.push(version)?;
     }
     Ok(versions)

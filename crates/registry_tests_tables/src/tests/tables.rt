@@ -391,7 +391,21 @@ team-packages lab devs bob -> @lab/pad=read-only
 maintainer @lab/kit bob
 team-packages lab devs bob -> @lab/kit=read-write @lab/pad=read-only
 team-packages lab docs ann ->
-then rows grants grants grants members meta orgs owners packages packages packages team_members teams users users
+status @lab/bee restricted
+status @lab/cat public
+team lab docs
+team lab core
+grant @lab/bee lab docs read-write
+grant @lab/cat lab docs read-only
+grant @lab/kit lab docs read-only
+team-packages lab docs ann -> @lab/cat=read-only @lab/kit=read-only
+team-packages lab docs NOBODY -> @lab/cat=read-only
+grant @lab/bee lab core read-only
+team-member lab core ann
+team-packages lab docs ann -> @lab/bee=read-write @lab/cat=read-only @lab/kit=read-only
+drop-grant @lab/kit lab devs
+team-packages lab docs ann -> @lab/bee=read-write @lab/cat=read-only
+then rows grants grants grants grants grants grants members meta orgs owners packages packages packages packages packages team_members team_members teams teams teams users users
 
 a grant is a team's
 organisation lab

@@ -1,6 +1,7 @@
 use Rattle.registry_tables.proofs.Words.{◌≡◌, map, take, text_of_version}
+use Rattle.registry_packument.specs.declared.times.VersionTime.{VersionTime}
 use Rattle.registry_tables.proofs.versions.all_parsed.Given as goal
 
--- the texts so far are read
-abbrev pub invariant-loop-text : goal.invariant-loop-text
-invariant-loop-text l = map text_of_version l.versions.items ≡ take l.text-index l.texts
+-- the versions so far are read
+abbrev pub invariant-loop-time : goal.invariant-loop-time
+invariant-loop-time l = map text_of_version l.versions.items ≡ map (λ (t : VersionTime). t.version) (take l.time-index l.times)
