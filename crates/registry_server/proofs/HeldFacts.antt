@@ -1,5 +1,5 @@
 -- How many bodies are read of a crowd, and how much is held.
-use Rattle.std.proofs.Common.{◌≡◌, ◌≢◌, ◌<◌, ◌≤◌, ◌⊎◌, ◌+◌, ◌*◌, ◌++◌, ◌∷◌, ◌∙◌, [], ℕ, zero, suc, Bool, true, false, List, Option, None, Some, All, IsSome, cond, length, map, max, nat_lt, replicate, sum_by, refl, ap, subst, sym, inl, inr, arith, le_trans, length-append, add-mul, suc-mul, mul-le-mul_right, ◌&&◌, not, if◌then◌else◌}
+use Rattle.std.proofs.Common.{◌≡◌, ◌≢◌, ◌<◌, ◌≤◌, ◌⊎◌, ◌+◌, ◌*◌, ◌++◌, ◌∷◌, ◌∙◌, [], ℕ, zero, suc, Bool, true, false, List, Option, None, Some, All, IsSome, cond, length, map, max, nat_lt, replicate, sum_by, refl, ap, subst, sym, inl, inr, arith, le_refl, le_trans, length-append, add-mul, suc-mul, mul-le-mul_right, ◌&&◌, not, if◌then◌else◌}
 use Rattle.std.specs.Prelude.{is_some}
 use Rattle.std.proofs.lemmas.Bool.{and_parts, false≢true, leb-false, ltb-false, ltb-true}
 use Rattle.std.proofs.lemmas.List.{length-replicate}
@@ -8,6 +8,7 @@ use Rattle.std.proofs.lemmas.List.Sums.{sum_by-cons, sum_by-le, sum_by-le-sum_by
 use Rattle.httparse.specs.Grammar.{print_request}
 use Rattle.registry_wire.specs.Inboxes.{piece_limit}
 use Rattle.registry_wire.specs.Reading.{TakenOf}
+use Rattle.registry_wire.specs.Rooms.{room_of}
 use Rattle.registry_wire.specs.Spelling.{IsUnfinished, request_limit}
 use Rattle.registry_wire.specs.declared.inbox.Taken.{Taken}
 use Rattle.registry_wire.specs.declared.inbox.Taken.TheVariants as taken
@@ -17,12 +18,13 @@ use Rattle.registry_service.specs.Turns.{Dialogue}
 use Rattle.registry_server.specs.ConnectionStates.{Pending, TakesNone}
 use Rattle.registry_server.specs.Connections.{Keeps, LeavesLittle, MayReceive, OpenConnection, ReceivesLean, TakesOne, Visits, body_least, has_body, has_body_in}
 use Rattle.registry_server.specs.Phases.{is_late}
-use Rattle.registry_server.specs.Pools.{AllHoldLittle, AllIdleEndsLeaveFew, AllIdleEndsLeaveLittle, ChoosesIf, EndsLeaveFew, EndsLeaveLittle, FewChosen, FinishesLeaveFew, FinishesLeaveLittle, HoldLittle, HoldLittleMore, HoldsLittleMore, HoldsLittleRest, HoldsOneRequest, IdleEndsLeaveFew, IdleEndsLeaveLittle, NewConnectionsLeaveFew, NewConnectionsLeaveLittle, NewPoolHoldsLittle, NewPoolReadsFew, RoundsHoldLittleMore, RoundsLeaveLittle, RoundsReadFew, ServersHoldLittle, UnreadHoldLittle, VisitsAll, VisitsIf, VisitsThere, WakesLeaveFew, WakesLeaveLittle, WhoWaitsHasBegun, added_at_most, after_visit, answered_with, at_place, body_with, chosen, chosen_of, counted_at, emptied, emptied_of, finishing_at, finishing_with, free, has_body_at, has_room, held_at, held_before, held_limit, held_with, idle_in, in_time, is_answered_at, is_crowd, is_held_back, is_to_visit, kept_at, new_at, place_count, read_count, read_together, settled, unless_idle, unread_at, waiting_with, woken}
+use Rattle.registry_server.specs.Pools.{AllHoldLittle, AllIdleEndsLeaveFew, AllIdleEndsLeaveLittle, ChoosesIf, EndsLeaveFew, EndsLeaveLittle, FewChosen, FinishesLeaveFew, FinishesLeaveLittle, HoldLittle, HoldLittleMore, HoldsLittleMore, HoldsLittleRest, HoldsOneRequest, IdleEndsLeaveFew, IdleEndsLeaveLittle, NewConnectionsLeaveFew, NewConnectionsLeaveLittle, NewPoolHoldsLittle, NewPoolReadsFew, RoomHoldsAll, RoundsHoldLittleMore, RoundsLeaveLittle, RoundsReadFew, ServersHoldLittle, UnreadHoldLittle, VisitsAll, VisitsIf, VisitsThere, WakesLeaveFew, WakesLeaveLittle, WhoWaitsHasBegun, added_at_most, after_visit, answered_with, at_place, body_with, chosen, chosen_of, counted_at, emptied, emptied_of, finishing_at, finishing_with, free, has_body_at, has_room, held_at, held_before, held_with, idle_in, in_time, is_answered_at, is_crowd, is_held_back, is_to_visit, kept_at, new_at, place_count, read_count, read_together, room_at, room_before, room_limit, room_of_read, room_with, settled, unless_idle, unread_at, waiting_with, woken}
 use Rattle.registry_server.specs.declared.connection.Visit.{Visit}
 use Rattle.registry_server.specs.declared.connection.Visit.TheVariants.{Again, Rests, Over}
 use Rattle.registry_server.specs.declared.phase.Stage.{Stage}
 use Rattle.registry_server.specs.declared.phase.Stage.TheVariants.{Idle, Begun, Next, Sends, Drains}
 use Rattle.registry_server.specs.declared.pool.Place.{Place}
+use Rattle.registry_wire.proofs.RoomFacts.{held_room, more_room, read_room}
 use Rattle.registry_server.proofs.PoolFacts.{body-begun, body-there, held-back-body}
 
 -- what a turn leaves is no more than what was held
@@ -57,6 +59,34 @@ module _ {S : Type 0} (received sent : S → Option (List ℕ)) {D : Type 0} (an
 waiting-same : {S : Type 0} (now : ℕ) (o : Option (OpenConnection S)) → held_with (waiting_with now o) ≡ held_with o
 waiting-same now None = refl
 waiting-same now (Some c) = refl
+
+-- ---- how much memory what is held may take
+
+waiting-room : {S : Type 0} (now : ℕ) (o : Option (OpenConnection S)) → room_with (waiting_with now o) ≡ room_with o
+waiting-room now None = refl
+waiting-room now (Some c) = refl
+
+-- no more than so many bytes may take, where no more are held
+room-within : {S : Type 0} (n : ℕ) (o : Option (OpenConnection S)) → held_with o ≤ n → room_with o ≤ room_of n
+room-within n None few = omega arith
+room-within n (Some c) few = more_room (length c.state.held) n few
+
+-- and no less than what is held
+held-within : {S : Type 0} (o : Option (OpenConnection S)) → held_with o ≤ room_with o
+held-within None = omega arith
+held-within (Some c) = held_room (length c.state.held)
+
+max-under : (a b c : ℕ) → a ≤ c → max a c ≤ max b c
+max-under a b c less = omega (arith, less)
+
+max-less : (a b c : ℕ) → a ≤ b → max a c ≤ max b c
+max-less a b c less = omega (arith, less)
+
+at-first : (a b : ℕ) → a ≤ a + b
+at-first a b = omega arith
+
+none-under : (b c : ℕ) → max 0 c ≤ max b c
+none-under b c = omega arith
 
 -- ---- sums over the places
 
@@ -318,9 +348,12 @@ module _ {S : Type 0} (received sent : S → Option (List ℕ)) {D : Type 0} (an
       grows-lean c.phase.stage most v.got c.state c.is_over v.read v.due (length d.state.held) v.keeps v.few (omega (arith, turned, left)) v.lean
 
 -- where no body is under way it counts no more
-grows-count : (s : Stage) (most before after : ℕ) → GrowsLittle s most before after → has_body_in s before ≡ false → max after (held_before most) ≤ max before (held_before most)
-grows-count s most before after (inl few) none = omega (arith, few)
-grows-count s most before after (inr more) none = let small = more.0.1 none in omega (arith, small, more.1)
+grows-count : (s : Stage) (most before after : ℕ) → GrowsLittle s most before after → has_body_in s before ≡ false → max (room_of after) (room_before most) ≤ max (room_of before) (room_before most)
+grows-count s most before after (inl few) none = max-less (room_of after) (room_of before) (room_before most) (more_room after before few)
+grows-count s most before after (inr more) none =
+    let small = more.0.1 none in
+    let under : after ≤ held_before most = omega (arith, small, more.1) in
+    max-under (room_of after) (room_of before) (room_before most) (more_room after (held_before most) under)
 
 -- it is one request and one read at most
 grows-request : (s : Stage) (most before after : ℕ) → GrowsLittle s most before after → before ≤ request_limit + most → after ≤ request_limit + most
@@ -333,25 +366,33 @@ counts-less : (was : Bool) (after before least : ℕ) → (was ≡ false → max
 counts-less true after before least less = omega arith
 counts-less false after before least less = less refl
 
-settled-counts : (was large answered : Bool) (held least most : ℕ) → nat_lt body_least held ≡ large → (answered ≡ true → held ≤ most) → body_least ≤ least → most ≤ least
-    → (if was && large && not answered then least else max held least) ≤ (if was then least else max held least)
-settled-counts true true true held least most is little low few = let less = little refl in omega (arith, less, few)
-settled-counts true true false held least most is little low few = omega arith
-settled-counts true false answered held least most is little low few = omega (arith, ltb-false body_least held is, low)
-settled-counts false large answered held least most is little low few = omega arith
+settled-counts : (was large answered : Bool) (held least most room bound : ℕ) → nat_lt body_least held ≡ large → (answered ≡ true → held ≤ most) → body_least ≤ least → most ≤ least → (held ≤ least → room ≤ bound)
+    → (if was && large && not answered then bound else max room bound) ≤ (if was then bound else max room bound)
+settled-counts true true true held least most room bound is little low few takes = let less = little refl in let under = takes (omega (arith, less, few)) in omega (arith, under)
+settled-counts true true false held least most room bound is little low few takes = omega arith
+settled-counts true false answered held least most room bound is little low few takes = let under = takes (omega (arith, ltb-false body_least held is, low)) in omega (arith, under)
+settled-counts false large answered held least most room bound is little low few takes = omega arith
 
 chosen-counts : (was : Bool) (held least : ℕ) → least ≤ (if was then least else max held least)
 chosen-counts true held least = omega arith
 chosen-counts false held least = omega arith
 
--- of a place that comes free, or was taken anew
-freed-counts : (was : Bool) (held least : ℕ) → max 0 least ≤ (if was then least else max held least)
-freed-counts true held least = omega arith
-freed-counts false held least = omega arith
+-- of a place that was taken anew
+taken-counts : (was : Bool) (first held least : ℕ) → first ≤ least → max first least ≤ (if was then least else max held least)
+taken-counts true first held least few = omega (arith, few)
+taken-counts false first held least few = omega (arith, few)
 
 kept-if : {S : Type 0} (b : Bool) (c : OpenConnection S) → held_with (if b then None else Some c) ≤ length c.state.held
 kept-if true c = omega arith
 kept-if false c = omega arith
+
+kept-room-if : {S : Type 0} (b : Bool) (c : OpenConnection S) → room_with (if b then None else Some c) ≤ room_of (length c.state.held)
+kept-room-if true c = omega arith
+kept-room-if false c = omega arith
+
+in-time-room : {S : Type 0} (now : ℕ) (o : Option (OpenConnection S)) → room_with (in_time now o) ≤ room_with o
+in-time-room now None = omega arith
+in-time-room now (Some c) = kept-room-if (is_late c.phase now) c
 
 in-time-held : {S : Type 0} (now : ℕ) (o : Option (OpenConnection S)) → held_with (in_time now o) ≤ held_with o
 in-time-held now None = omega arith
@@ -378,6 +419,10 @@ finishing-held : {S : Type 0} (o : Option (OpenConnection S)) → held_with (fin
 finishing-held None = omega arith
 finishing-held (Some c) = omega arith
 
+finishing-room : {S : Type 0} (o : Option (OpenConnection S)) → room_with (finishing_with o) ≤ room_with o
+finishing-room None = omega arith
+finishing-room (Some c) = omega arith
+
 finishing-little : {S : Type 0} (most : ℕ) (o : Option (OpenConnection S)) → LittleRest most o → LittleRest most (finishing_with o)
 finishing-little most None little = little
 finishing-little most (Some c) little = little
@@ -386,6 +431,10 @@ finishing-little most (Some c) little = little
 left-held : {S : Type 0} (b : Bool) (o : Option (OpenConnection S)) → held_with (if b then None else o) ≤ held_with o
 left-held true o = omega arith
 left-held false o = omega arith
+
+left-room : {S : Type 0} (b : Bool) (o : Option (OpenConnection S)) → room_with (if b then None else o) ≤ room_with o
+left-room true o = omega arith
+left-room false o = omega arith
 
 left-little : {S : Type 0} (most : ℕ) (b : Bool) (o : Option (OpenConnection S)) → LittleRest most o → LittleRest most (if b then None else o)
 left-little most true o little = λ is. absurd (false≢true is)
@@ -397,12 +446,18 @@ above a b c few = omega (arith, few)
 kept-held : {S : Type 0} (now : ℕ) (p : Place S) → held_at (kept_at now p) ≤ held_at p
 kept-held now p = in-time-held now p.connection
 
+kept-room : {S : Type 0} (now : ℕ) (p : Place S) → room_at (kept_at now p) ≤ room_at p
+kept-room now p = in-time-room now p.connection
+
+unless-idle-room : {S : Type 0} (p : Place S) → room_at (unless_idle p) ≤ room_at p
+unless-idle-room p = left-room (is_some (idle_in p)) p.connection
+
 unless-idle-held : {S : Type 0} (p : Place S) → held_at (unless_idle p) ≤ held_at p
 unless-idle-held p = left-held (is_some (idle_in p)) p.connection
 
 chosen-of-counts : {S : Type 0} (most : ℕ) (places : List (Place S)) (next : Option ℕ) → sum_by (counted_at most) (chosen_of places next) ≤ sum_by (counted_at most) places
 chosen-of-counts {S} most places None = omega arith
-chosen-of-counts {S} most places (Some k) = at-sum (counted_at {S = S} most) chosen (λ (p : Place S). chosen-counts p.is_chosen (held_at p) (held_before most)) places k
+chosen-of-counts {S} most places (Some k) = at-sum (counted_at {S = S} most) chosen (λ (p : Place S). chosen-counts p.is_chosen (room_at p) (room_before most)) places k
 
 chosen-of-length : {S : Type 0} (places : List (Place S)) (next : Option ℕ) → length (chosen_of places next) ≡ length places
 chosen-of-length places None = refl
@@ -446,24 +501,24 @@ bounded : (a b limit n m : ℕ) → a ≤ b + n * m → b < limit → a ≤ limi
 bounded a b limit n m few low = omega (arith, few, low)
 
 module _ {S : Type 0} (received sent : S → Option (List ℕ)) (has_none is_full has_more is_ended is_broken : S → Bool) {D : Type 0} (answers : Dialogue D) (over : D → Bool) where
-  after-counts : (most : ℕ) (v : Visit) (p : Place S) (d : OpenConnection S) (before : ℕ) → (p.is_chosen ≡ false → max (length d.state.held) (held_before most) ≤ max before (held_before most))
-      → counted_at most (after_visit v p d) ≤ (if p.is_chosen then held_before most else max before (held_before most))
-  after-counts most Again p d before less = counts-less p.is_chosen (length d.state.held) before (held_before most) less
-  after-counts most Rests p d before less = counts-less p.is_chosen (length d.state.held) before (held_before most) less
-  after-counts most Over p d before less = counts-less p.is_chosen 0 before (held_before most) (λ none. omega arith)
+  after-counts : (most : ℕ) (v : Visit) (p : Place S) (d : OpenConnection S) (before : ℕ) → (p.is_chosen ≡ false → max (room_of (length d.state.held)) (room_before most) ≤ max before (room_before most))
+      → counted_at most (after_visit v p d) ≤ (if p.is_chosen then room_before most else max before (room_before most))
+  after-counts most Again p d before less = counts-less p.is_chosen (room_of (length d.state.held)) before (room_before most) less
+  after-counts most Rests p d before less = counts-less p.is_chosen (room_of (length d.state.held)) before (room_before most) less
+  after-counts most Over p d before less = counts-less p.is_chosen 0 before (room_before most) (λ none. none-under before (room_before most))
 
   there-counts : (now most : ℕ) (p : Place S) (o : Option (OpenConnection S)) (q : Place S) (M N : D) (r r2 : Option (List ℕ)) → p.connection ≡ o → is_held_back true p ≡ false
       → VisitsThere received sent has_none is_full has_more is_ended is_broken answers now most p o q M N r r2 → counted_at most q ≤ counted_at most p
   there-counts now most p None q M N r r2 at is v = subst (λ (x : Place S). counted_at most x ≤ counted_at most p) (sym v.place)
-      (counts-less p.is_chosen 0 (held_at p) (held_before most) (λ none. omega arith))
+      (counts-less p.is_chosen 0 (room_at p) (room_before most) (λ none. none-under (room_at p) (room_before most)))
   there-counts now most p (Some c) q M N r r2 at is v =
       let grows = visit-grows received sent answers now most c v.connection M N r r2 v.visits in
-      let counts = after-counts most v.visit p v.connection (length c.state.held) (λ none. grows-count c.phase.stage most (length c.state.held) (length v.connection.state.held) grows (unchosen-none p c is at none)) in
+      let counts = after-counts most v.visit p v.connection (room_of (length c.state.held)) (λ none. grows-count c.phase.stage most (length c.state.held) (length v.connection.state.held) grows (unchosen-none p c is at none)) in
       subst (λ (x : Place S). counted_at most x ≤ counted_at most p) (sym v.place)
-      (subst (λ (n : ℕ). counted_at most (after_visit v.visit p v.connection) ≤ (if p.is_chosen then held_before most else max n (held_before most))) (sym (ap held_with at)) counts)
+      (subst (λ (n : ℕ). counted_at most (after_visit v.visit p v.connection) ≤ (if p.is_chosen then room_before most else max n (room_before most))) (sym (ap room_with at)) counts)
 
   waits-counts : (now most : ℕ) (p q : Place S) → q ≡ record { connection = waiting_with now p.connection; is_ready = p.is_ready; is_chosen = p.is_chosen } → counted_at most q ≡ counted_at most p
-  waits-counts now most p q is = ap (counted_at most) is ∙ ap (λ (n : ℕ). if p.is_chosen then held_before most else max n (held_before most)) (waiting-same now p.connection)
+  waits-counts now most p q is = ap (counted_at most) is ∙ ap (λ (n : ℕ). if p.is_chosen then room_before most else max n (room_before most)) (waiting-room now p.connection)
 
   -- in a crowd no place counts more
   visited-counts : (b held : Bool) (now most : ℕ) (p q : Place S) (M N : D) (r r2 : Option (List ℕ)) → is_held_back true p ≡ held
@@ -494,25 +549,49 @@ module _ {S : Type 0} (received sent : S → Option (List ℕ)) (has_none is_ful
   all-length paused crowd now most [] (q ∷ qs) M K L N r r1 s s2 v = absurd v
   all-length paused crowd now most (p ∷ ps) [] M K L N r r1 s s2 v = absurd v
 
-  added-step : (most : ℕ) (p q : Place S) (ps qs : List (Place S)) → held_at q ≤ held_at p + most → sum_by (counted_at most) qs ≤ sum_by held_at ps + length ps * added_at_most most
-      → sum_by (counted_at most) (q ∷ qs) ≤ sum_by held_at (p ∷ ps) + suc (length ps) * added_at_most most
-  added-step most p q ps qs few rest =
-      let one : counted_at most q ≤ held_at p + added_at_most most = few-counted q.is_chosen (held_at q) (held_at p) most (held_before most) few in
-      let step = many-step (counted_at most q) (sum_by (counted_at most) qs) (held_at p) (sum_by held_at ps) (length ps) (added_at_most most) one rest in
-      subst (λ (n : ℕ). n ≤ sum_by held_at (p ∷ ps) + suc (length ps) * added_at_most most) (sym (sum_by-cons (counted_at most) q qs))
-      (subst (λ (n : ℕ). counted_at most q + sum_by (counted_at most) qs ≤ n + suc (length ps) * added_at_most most) (sym (sum_by-cons held_at p ps)) step)
+  -- ---- what a visit without a crowd adds
 
-  -- each place counts little more than what was held there
+  after-room : (v : Visit) (p : Place S) (d : OpenConnection S) (n : ℕ) → room_of (length d.state.held) ≤ n → room_at (after_visit v p d) ≤ n
+  after-room Again p d n few = few
+  after-room Rests p d n few = few
+  after-room Over p d n few = omega arith
+
+  there-room : (now most : ℕ) (p : Place S) (o : Option (OpenConnection S)) (q : Place S) (M N : D) (r r2 : Option (List ℕ)) → p.connection ≡ o
+      → VisitsThere received sent has_none is_full has_more is_ended is_broken answers now most p o q M N r r2 → room_at q ≤ room_at p + room_of_read most
+  there-room now most p None q M N r r2 at v = subst (λ (n : ℕ). n ≤ room_at p + room_of_read most) (sym (ap room_at v.place)) (omega arith)
+  there-room now most p (Some c) q M N r r2 at v =
+      let few = visit-few received sent answers now most c v.connection M N r r2 v.visits in
+      let takes = read_room (length c.state.held) (length v.connection.state.held) most few in
+      subst (λ (n : ℕ). n ≤ room_at p + room_of_read most) (sym (ap room_at v.place))
+      (subst (λ (n : ℕ). room_at (after_visit v.visit p v.connection) ≤ n + room_of_read most) (sym (ap room_with at))
+      (after-room v.visit p v.connection (room_of (length c.state.held) + room_of_read most) takes))
+
+  same-room : (most : ℕ) (p q : Place S) → room_at q ≡ room_at p → room_at q ≤ room_at p + room_of_read most
+  same-room most p q same = subst (λ (n : ℕ). n ≤ room_at p + room_of_read most) (sym same) (at-first (room_at p) (room_of_read most))
+
+  visited-room : (b held : Bool) (now most : ℕ) (p q : Place S) (M N : D) (r r2 : Option (List ℕ))
+      → VisitsIf received sent has_none is_full has_more is_ended is_broken answers b held now most p q M N r r2 → room_at q ≤ room_at p + room_of_read most
+  visited-room true true now most p q M N r r2 v = same-room most p q (ap room_at v.place ∙ waiting-room now p.connection)
+  visited-room true false now most p q M N r r2 v = there-room now most p p.connection q M N r r2 refl v
+  visited-room false held now most p q M N r r2 v = same-room most p q (ap room_at v.place)
+
+  added-step : (most : ℕ) (p q : Place S) (ps qs : List (Place S)) → room_at q ≤ room_at p + room_of_read most → sum_by (counted_at most) qs ≤ sum_by room_at ps + length ps * added_at_most most
+      → sum_by (counted_at most) (q ∷ qs) ≤ sum_by room_at (p ∷ ps) + suc (length ps) * added_at_most most
+  added-step most p q ps qs few rest =
+      let one : counted_at most q ≤ room_at p + added_at_most most = few-counted q.is_chosen (room_at q) (room_at p) (room_of_read most) (room_before most) few in
+      let step = many-step (counted_at most q) (sum_by (counted_at most) qs) (room_at p) (sum_by room_at ps) (length ps) (added_at_most most) one rest in
+      subst (λ (n : ℕ). n ≤ sum_by room_at (p ∷ ps) + suc (length ps) * added_at_most most) (sym (sum_by-cons (counted_at most) q qs))
+      (subst (λ (n : ℕ). counted_at most q + sum_by (counted_at most) qs ≤ n + suc (length ps) * added_at_most most) (sym (sum_by-cons room_at p ps)) step)
+
+  -- each place counts little more than what was there
   all-added : (paused crowd : Bool) (now most : ℕ) (ps qs : List (Place S)) (M K L N : D) (r r1 s s2 : Option (List ℕ))
       → VisitsAll received sent has_none is_full has_more is_ended is_broken answers over paused crowd now most ps qs M K L N r r1 s s2
-      → sum_by (counted_at most) qs ≤ sum_by held_at ps + length ps * added_at_most most
+      → sum_by (counted_at most) qs ≤ sum_by room_at ps + length ps * added_at_most most
   all-added paused crowd now most [] [] M K L N r r1 s s2 v = omega arith
   all-added paused crowd now most (p ∷ ps) (q ∷ qs) M K L N r r1 s s2 (inl v) =
-      let few = visited-few received sent has_none is_full has_more is_ended is_broken answers over (is_to_visit paused p && not (over M)) (is_held_back crowd p) crowd now most p q M v.0 r v.1 refl v.2 in
-      added-step most p q ps qs few.few (all-added paused crowd now most ps qs v.0 K L N v.1 r1 s s2 v.3)
+      added-step most p q ps qs (visited-room (is_to_visit paused p && not (over M)) (is_held_back crowd p) now most p q M v.0 r v.1 v.2) (all-added paused crowd now most ps qs v.0 K L N v.1 r1 s s2 v.3)
   all-added paused crowd now most (p ∷ ps) (q ∷ qs) M K L N r r1 s s2 (inr v) =
-      let few = visited-few received sent has_none is_full has_more is_ended is_broken answers over (is_to_visit paused p) (is_held_back crowd p) crowd now most p q L v.1 s v.2 refl v.3.0 in
-      added-step most p q ps qs few.few (all-added paused crowd now most ps qs M K v.1 N r r1 v.2 s2 v.4)
+      added-step most p q ps qs (visited-room (is_to_visit paused p) (is_held_back crowd p) now most p q L v.1 s v.2 v.3.0) (all-added paused crowd now most ps qs M K v.1 N r r1 v.2 s2 v.4)
   all-added paused crowd now most [] (q ∷ qs) M K L N r r1 s s2 v = absurd v
   all-added paused crowd now most (p ∷ ps) [] M K L N r r1 s s2 v = absurd v
 
@@ -577,22 +656,22 @@ module _ {S : Type 0} (received sent : S → Option (List ℕ)) (has_none is_ful
   round-counts : (paused b : Bool) (now most : ℕ) (old looked new : List (Place S)) (M K L N : D) (r r1 s s2 : Option (List ℕ)) → is_crowd old ≡ b
       → ChoosesIf (b && has_room old) (map settled old) looked
       → VisitsAll received sent has_none is_full has_more is_ended is_broken answers over paused b now most looked new M K L N r r1 s s2
-      → length old ≡ place_count → All (HoldsLittleRest most) old → sum_by (counted_at most) old ≤ held_limit + place_count * added_at_most most → sum_by (counted_at most) new ≤ held_limit + place_count * added_at_most most
+      → length old ≡ place_count → All (HoldsLittleRest most) old → sum_by (counted_at most) old ≤ room_limit + place_count * added_at_most most → sum_by (counted_at most) new ≤ room_limit + place_count * added_at_most most
   round-counts paused true now most old looked new M K L N r r1 s s2 is looks v count little h =
       let each = All-weaker (HoldsLittleRest {S = S} most) (λ (p : Place S). counted_at most (settled p) ≤ counted_at most p)
-      (λ (p : Place S) rest. settled-counts p.is_chosen (nat_lt body_least (held_at p)) (is_answered_at p) (held_at p) (held_before most) most refl rest (omega arith) (omega arith)) old little in
+      (λ (p : Place S) rest. settled-counts p.is_chosen (nat_lt body_least (held_at p)) (is_answered_at p) (held_at p) (held_before most) most (room_at p) (room_before most) refl rest (omega arith) (omega arith) (room-within (held_before most) p.connection)) old little in
       let first = map-sum-all (counted_at {S = S} most) (counted_at most) settled old each in
       let second = looked-counts (has_room old) most (map settled old) looked looks in
       let third = all-counts paused now most looked new M K L N r r1 s s2 v in
       le_trans third (le_trans second (le_trans first h))
   round-counts paused false now most old looked new M K L N r r1 s s2 is looks v count little h =
       let added = all-added paused false now most looked new M K L N r r1 s s2 v in
-      let held : sum_by held_at looked ≤ sum_by held_at old =
-      subst (λ (l : List (Place S)). sum_by held_at l ≤ sum_by held_at old) (sym looks) (map-sum (held_at {S = S}) held_at settled (λ (p : Place S). omega arith) old) in
-      let low : sum_by held_at old < held_limit = leb-false held_limit (sum_by held_at old) is in
+      let held : sum_by room_at looked ≤ sum_by room_at old =
+      subst (λ (l : List (Place S)). sum_by room_at l ≤ sum_by room_at old) (sym looks) (map-sum (room_at {S = S}) room_at settled (λ (p : Place S). le_refl (room_at p)) old) in
+      let low : sum_by room_at old < room_limit = leb-false room_limit (sum_by room_at old) is in
       let size : length looked ≡ place_count = ap length looks ∙ map-length settled old ∙ count in
-      subst (λ (n : ℕ). sum_by (counted_at most) new ≤ held_limit + n * added_at_most most) size
-      (bounded (sum_by (counted_at most) new) (sum_by held_at looked) held_limit (length looked) (added_at_most most) added (omega (arith, held, low)))
+      subst (λ (n : ℕ). sum_by (counted_at most) new ≤ room_limit + n * added_at_most most) size
+      (bounded (sum_by (counted_at most) new) (sum_by room_at looked) room_limit (length looked) (added_at_most most) added (omega (arith, held, low)))
 
   pub rounds-leave-little : RoundsLeaveLittle received sent has_none is_full has_more is_ended is_broken answers over
   rounds-leave-little paused now most old new M N r r2 h round =
@@ -625,19 +704,22 @@ at-little most change places k less keeps rests few h = record {
 }
 
 kept-counts : {S : Type 0} (most now : ℕ) (p : Place S) → counted_at most (kept_at now p) ≤ counted_at most p
-kept-counts most now p = counts-less p.is_chosen (held_at (kept_at now p)) (held_at p) (held_before most) (λ none. omega (arith, kept-held now p))
+kept-counts most now p = counts-less p.is_chosen (room_at (kept_at now p)) (room_at p) (room_before most) (λ none. max-less (room_at (kept_at now p)) (room_at p) (room_before most) (kept-room now p))
 
 finishing-counts : {S : Type 0} (most : ℕ) (p : Place S) → counted_at most (finishing_at p) ≤ counted_at most p
-finishing-counts most p = counts-less p.is_chosen (held_at (finishing_at p)) (held_at p) (held_before most) (λ none. omega (arith, finishing-held p.connection))
+finishing-counts most p = counts-less p.is_chosen (room_at (finishing_at p)) (room_at p) (room_before most) (λ none. max-less (room_at (finishing_at p)) (room_at p) (room_before most) (finishing-room p.connection))
 
 unless-idle-counts : {S : Type 0} (most : ℕ) (p : Place S) → counted_at most (unless_idle p) ≤ counted_at most p
-unless-idle-counts most p = counts-less p.is_chosen (held_at (unless_idle p)) (held_at p) (held_before most) (λ none. omega (arith, unless-idle-held p))
+unless-idle-counts most p = counts-less p.is_chosen (room_at (unless_idle p)) (room_at p) (room_before most) (λ none. max-less (room_at (unless_idle p)) (room_at p) (room_before most) (unless-idle-room p))
 
-replicated-count : (S : Type 0) (n most : ℕ) → sum_by (counted_at {S = S} most) (replicate n free) ≤ held_limit + n * added_at_most most
+none-added : (a b : ℕ) → max 0 b ≤ a + b
+none-added a b = omega arith
+
+replicated-count : (S : Type 0) (n most : ℕ) → sum_by (counted_at {S = S} most) (replicate n free) ≤ room_limit + n * added_at_most most
 replicated-count S n most =
-    subst (λ (k : ℕ). sum_by (counted_at {S = S} most) (replicate n free) ≤ held_limit + k * added_at_most most) (length-replicate {A = Place S} n free)
-    (above (sum_by (counted_at {S = S} most) (replicate n free)) held_limit (length (replicate {A = Place S} n free) * added_at_most most)
-    (sum_by-le (counted_at {S = S} most) (added_at_most most) (replicate n free) (All-replicate (λ (p : Place S). counted_at most p ≤ added_at_most most) n free (omega arith))))
+    subst (λ (k : ℕ). sum_by (counted_at {S = S} most) (replicate n free) ≤ room_limit + k * added_at_most most) (length-replicate {A = Place S} n free)
+    (above (sum_by (counted_at {S = S} most) (replicate n free)) room_limit (length (replicate {A = Place S} n free) * added_at_most most)
+    (sum_by-le (counted_at {S = S} most) (added_at_most most) (replicate n free) (All-replicate (λ (p : Place S). counted_at most p ≤ added_at_most most) n free (none-added (room_of_read most) (room_before most)))))
 
 replicated-little : (S : Type 0) (n most : ℕ) → n ≡ place_count → HoldLittle {S = S} most (replicate n free)
 replicated-little S n most size = record {
@@ -645,7 +727,7 @@ replicated-little S n most size = record {
   few = few-of-none S n;
   each = All-replicate (HoldsOneRequest {S = S} most) n free (omega arith);
   rest = All-replicate (HoldsLittleRest {S = S} most) n free (λ is. absurd (false≢true is));
-  counted = subst (λ (k : ℕ). sum_by (counted_at {S = S} most) (replicate n free) ≤ held_limit + k * added_at_most most) size (replicated-count S n most);
+  counted = subst (λ (k : ℕ). sum_by (counted_at {S = S} most) (replicate n free) ≤ room_limit + k * added_at_most most) size (replicated-count S n most);
 }
 
 module _ (S : Type 0) where
@@ -654,14 +736,14 @@ module _ (S : Type 0) where
 
   pub new-connections-leave-little : NewConnectionsLeaveLittle S
   new-connections-leave-little most now socket places k h = at-little most (λ _. new_at now socket) places k
-      (λ (p : Place S). freed-counts p.is_chosen (held_at p) (held_before most)) (λ (p : Place S) few. omega arith) (λ (p : Place S) few is. absurd (false≢true is)) (new-connections-leave-few S now socket places k h.few) h
+      (λ (p : Place S). taken-counts p.is_chosen (room_of 0) (room_at p) (room_before most) (more_room 0 (held_before most) (omega arith))) (λ (p : Place S) few. omega arith) (λ (p : Place S) few is. absurd (false≢true is)) (new-connections-leave-few S now socket places k h.few) h
 
   pub wakes-leave-little : WakesLeaveLittle S
-  wakes-leave-little most places k h = at-little most woken places k (λ (p : Place S). omega arith) (λ (p : Place S) few. few) (λ (p : Place S) few. few) (wakes-leave-few S places k h.few) h
+  wakes-leave-little most places k h = at-little most woken places k (λ (p : Place S). le_refl (counted_at most p)) (λ (p : Place S) few. few) (λ (p : Place S) few. few) (wakes-leave-few S places k h.few) h
 
   emptied-little : (most : ℕ) (old : List (Place S)) (which : Option ℕ) → HoldLittle most old → HoldLittle most (emptied_of old which)
   emptied-little most old None h = h
-  emptied-little most old (Some k) h = at-little most emptied old k (λ (p : Place S). counts-less p.is_chosen 0 (held_at p) (held_before most) (λ none. omega arith))
+  emptied-little most old (Some k) h = at-little most emptied old k (λ (p : Place S). counts-less p.is_chosen 0 (room_at p) (room_before most) (λ none. none-under (room_at p) (room_before most)))
       (λ (p : Place S) few. omega arith) (λ (p : Place S) few is. absurd (false≢true is)) (emptied-few S old (Some k) h.few) h
 
   pub idle-ends-leave-little : IdleEndsLeaveLittle S
@@ -706,7 +788,7 @@ module _ (S : Type 0) where
 
   pub unread-hold-little : UnreadHoldLittle S
   unread-hold-little most places h =
-      le_trans (sum_by-le-sum_by unread_at (counted_at most) places (λ (p : Place S). unread-less p.is_chosen (held_at p) (held_before most))) h.counted
+      le_trans (sum_by-le-sum_by unread_at (counted_at most) places (λ (p : Place S). unread-less p.is_chosen (room_at p) (room_before most))) h.counted
 
   all-less : (was : Bool) (held least R : ℕ) → held ≤ R → held ≤ (if was then least else max held least) + cond was 1 0 * R
   all-less true held least R few = omega (arith, few)
@@ -717,10 +799,13 @@ module _ (S : Type 0) where
 
   pub all-hold-little : AllHoldLittle S
   all-hold-little most places h =
-      let each = All-weaker (HoldsOneRequest {S = S} most) (λ (p : Place S). held_at p ≤ counted_at most p + chosen_count p * (request_limit + most))
-      (λ (p : Place S) few. all-less p.is_chosen (held_at p) (held_before most) (request_limit + most) few) places h.each in
-      together (sum_by held_at places) (sum_by (counted_at most) places) (sum_by chosen_count places) (held_limit + place_count * added_at_most most) (request_limit + most)
-      (weighed held_at (counted_at most) chosen_count (request_limit + most) places each) h.counted h.few
+      let each = All-weaker (HoldsOneRequest {S = S} most) (λ (p : Place S). room_at p ≤ counted_at most p + chosen_count p * room_of (request_limit + most))
+      (λ (p : Place S) few. all-less p.is_chosen (room_at p) (room_before most) (room_of (request_limit + most)) (room-within (request_limit + most) p.connection few)) places h.each in
+      together (sum_by room_at places) (sum_by (counted_at most) places) (sum_by chosen_count places) (room_limit + place_count * added_at_most most) (room_of (request_limit + most))
+      (weighed room_at (counted_at most) chosen_count (room_of (request_limit + most)) places each) h.counted h.few
 
   pub servers-hold-little : ServersHoldLittle S
   servers-hold-little places h = all-hold-little 16_384 places h
+
+  pub room-holds-all : RoomHoldsAll S
+  room-holds-all places = sum_by-le-sum_by held_at room_at places (λ (p : Place S). held-within p.connection)

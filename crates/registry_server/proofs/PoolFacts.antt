@@ -5,8 +5,9 @@ use Rattle.std.proofs.lemmas.Bool.{and_parts, false≢true}
 use Rattle.std.proofs.lemmas.Bool.Decides.{nat_tests}
 use Rattle.std.proofs.lemmas.Option.{slice_get_read}
 use Rattle.std.proofs.lemmas.List.{drop-drop, drop-set-lt, drop_all, take_all}
+use Rattle.std.proofs.lemmas.List.Sums.{sum_by-cons}
 use Rattle.registry_service.specs.Turns.{Dialogue}
-use Rattle.registry_server.specs.Pools.{ChoosesIf, ChoosesNext, EndsIdle, IsEarliestOf, IsFirstOfEarliest, LooksAtBodies, VisitsAt, VisitsIf, VisitsThere, after_visit, at_place, body_with, chosen, command_with, earlier, emptied, has_body_at, has_room, held_at, held_limit, idle_at, idle_in, idle_times, is_busy, is_crowd, is_due, is_held_back, is_to_visit, may_command_at, read_count, read_together, settled, waiting_at, waiting_times, waits_since, waits_since_at, with_connection}
+use Rattle.registry_server.specs.Pools.{ChoosesIf, ChoosesNext, EndsIdle, IsEarliestOf, IsFirstOfEarliest, LooksAtBodies, VisitsAt, VisitsIf, VisitsThere, after_visit, at_place, body_with, chosen, command_with, earlier, emptied, has_body_at, has_room, idle_at, idle_in, idle_times, is_busy, is_crowd, is_due, is_held_back, is_to_visit, may_command_at, read_count, read_together, room_at, room_limit, settled, waiting_at, waiting_times, waits_since, waits_since_at, with_connection}
 use Rattle.registry_server.specs.Connections.{IsDone, IsLost, LeavesLittle, OpenConnection, Visits, has_body, has_body_in, may_command, must_wait}
 use Rattle.registry_server.specs.declared.connection.Visit.{Visit}
 use Rattle.registry_server.specs.declared.connection.Visit.TheVariants.{Again, Rests, Over}
@@ -88,9 +89,9 @@ room-left f n s (x ∷ xs) = ap (λ (a : ℕ). fold (λ (b : ℕ) (y : _). b - f
 no-room : (n s : ℕ) → (n - s == 0) ≡ nat_le n s
 no-room n s = search (arith, nat_tests)
 
--- none is left where they hold as much or more
-pub crowd-of : {S : Type 0} (places : List (Place S)) → (fold (λ (room : ℕ) (p : Place S). room - held_at p) held_limit places == 0) ≡ is_crowd places
-crowd-of places = ap (λ (room : ℕ). room == 0) (room-left held_at held_limit 0 places) ∙ no-room held_limit (sum_by held_at places)
+-- none is left where what they hold may take as much or more
+pub crowd-of : {S : Type 0} (places : List (Place S)) → (fold (λ (room : ℕ) (p : Place S). room - room_at p) room_limit places == 0) ≡ is_crowd places
+crowd-of places = ap (λ (room : ℕ). room == 0) (room-left room_at room_limit 0 places) ∙ no-room room_limit (sum_by room_at places)
 
 some-room : (n s : ℕ) → nat_lt 0 (n - s) ≡ nat_lt s n
 some-room n s = search (arith, nat_tests)
@@ -248,3 +249,12 @@ all-mapped {A = A} f old items i len size past whole is =
     ∙ ap (λ (l : List A). map f (take i old) ++ l) (drop_all i old past)
     ∙ append-nil (map f (take i old))
     ∙ ap (map f) (take_all i old past)
+
+-- ---- a sum over the places that were passed
+
+-- one more place adds what is there
+pub one-more-sum : {A : Type 0} (f : A → ℕ) (xs : List A) (n : ℕ) (p : A) → n < length xs → p ≡ get_or xs n p → sum_by f (take (suc n) xs) ≡ sum_by f (take n xs) + f p
+one-more-sum f [] n p within is = absurd (omega (arith, within))
+one-more-sum f (x ∷ xs) zero p within is = let same = ap f is in omega (arith, sum_by-cons f x [], same)
+one-more-sum f (x ∷ xs) (suc n) p within is =
+    omega (arith, sum_by-cons f x (take (suc n) xs), sum_by-cons f x (take n xs), one-more-sum f xs n p (omega (arith, within)) is)

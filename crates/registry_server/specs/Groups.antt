@@ -2,6 +2,7 @@
 use Rattle.std.specs.Prelude.{◌≡◌, ◌≢◌, ◌≤◌, ◌+◌, ◌++◌, ◌∷◌, ◌⊎◌, ⊤, [], ℕ, Bool, true, false, List, Option, Some, Ok, drop, length, reverse}
 use Rattle.registry_rules.specs.Actions.{is_command}
 use Rattle.registry_rules.specs.declared.request.Request.{Request}
+use Rattle.registry_wire.specs.Rooms.{DropsFreely}
 use Rattle.registry_wire.specs.Spelling.{HasRequest}
 use Rattle.registry_service.specs.Courses.{Gave}
 use Rattle.registry_service.specs.Dialects.{AsksOne}
@@ -94,11 +95,13 @@ IsNotNext number (c ∷ cs) = c.number ≢ number
 
 -- ---- a connection
 
--- the first request that is held is this command's, and asks just one thing of the registry
+-- The first request that is held is this command's, and asks just one thing of the registry. No
+-- memory has to be taken for what follows it.
 pub record IsFirst (speaks : Dialect) (held : List ℕ) (c : Command) : Type 0 where
   pub first : HasRequest held c.wanted (drop c.used held)
   pub within : c.used ≤ length held
   pub one : AsksOne speaks c.wanted
+  pub freely : DropsFreely (length held) c.used
 
 module _ {S : Type 0} (received sent : S → Option (List ℕ)) {D : Type 0} (answers : Dialogue D) where
   -- What was received is held, and a turn may be taken of it: an answer to it makes a visit of the

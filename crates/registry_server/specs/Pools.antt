@@ -1,6 +1,7 @@
 -- Places for connections: which place a new one takes, which are visited, and which end.
-use Rattle.std.specs.Prelude.{◌≡◌, ◌≢◌, ◌<◌, ◌≤◌, ◌+◌, ◌*◌, ◌∷◌, ◌⊎◌, ⊤, [], ℕ, zero, suc, Bool, true, false, List, Option, Some, None, is_none, is_some, All, count_by, length, map, max, nat_le, nat_lt, position, replicate, slice_get, sum_by, MatchOption, ◌&&◌, ◌||◌, not, if◌then◌else◌}
+use Rattle.std.specs.Prelude.{◌≡◌, ◌≢◌, ◌<◌, ◌≤◌, ◌+◌, ◌*◌, ◌/◌, ◌∷◌, ◌⊎◌, ⊤, [], ℕ, zero, suc, Bool, true, false, List, Option, Some, None, is_none, is_some, All, count_by, length, map, max, nat_le, nat_lt, position, replicate, slice_get, sum_by, MatchOption, ◌&&◌, ◌||◌, not, if◌then◌else◌}
 use Rattle.std.specs.List.{list_all, list_any}
+use Rattle.registry_wire.specs.Rooms.{room_of}
 use Rattle.registry_wire.specs.Spelling.{request_limit}
 use Rattle.registry_rules.specs.Actions.{is_command}
 use Rattle.registry_service.specs.Turns.{Answering, AnswersAsBefore, Dialect, Dialogue, Exchange, spoken}
@@ -164,9 +165,9 @@ IsUnderWay p = idle_in p ≡ None
 
 -- ---- which bodies of a crowd are read
 
--- where all connections together hold this many bytes, they are a crowd
-abbrev pub held_limit : ℕ
-held_limit = 67_108_864
+-- where what all connections hold may take this many bytes of memory, they are a crowd
+abbrev pub room_limit : ℕ
+room_limit = 58_720_256
 
 -- at most this many bodies of a crowd are read side by side
 abbrev pub read_together : ℕ
@@ -180,6 +181,14 @@ held_with (Some c) = length c.state.held
 abbrev pub held_at : {S : Type 0} → Place S → ℕ
 held_at p = held_with p.connection
 
+abbrev pub room_with : {S : Type 0} → Option (OpenConnection S) → ℕ
+room_with None = 0
+room_with (Some c) = room_of (length c.state.held)
+
+-- how many bytes of memory what is held at a place may take
+abbrev pub room_at : {S : Type 0} → Place S → ℕ
+room_at p = room_with p.connection
+
 abbrev pub body_with : {S : Type 0} → Option (OpenConnection S) → Bool
 body_with None = false
 body_with (Some c) = has_body c
@@ -188,9 +197,9 @@ body_with (Some c) = has_body c
 abbrev pub has_body_at : {S : Type 0} → Place S → Bool
 has_body_at p = body_with p.connection
 
--- all connections together hold the limit or more
+-- what all connections hold may take as much memory as the limit, or more
 abbrev pub is_crowd : {S : Type 0} → List (Place S) → Bool
-is_crowd places = nat_le held_limit (sum_by held_at places)
+is_crowd places = nat_le room_limit (sum_by room_at places)
 
 abbrev pub answered_with : {S : Type 0} → Option (OpenConnection S) → Bool
 answered_with None = false
@@ -517,14 +526,22 @@ module _ {S : Type 0} (received sent : S → Option (List ℕ)) (has_none is_ful
 abbrev pub held_before : ℕ → ℕ
 held_before most = body_least + most
 
--- What counts for a place: that number where its body is chosen, and otherwise what is held, but at
--- least that number.
+-- how much memory that may take
+abbrev pub room_before : ℕ → ℕ
+room_before most = room_of (held_before most)
+
+-- What counts for a place: that much where its body is chosen, and otherwise what is held may take, but
+-- at least that much.
 abbrev pub counted_at : {S : Type 0} → ℕ → Place S → ℕ
-counted_at most p = if p.is_chosen then held_before most else max (held_at p) (held_before most)
+counted_at most p = if p.is_chosen then room_before most else max (room_at p) (room_before most)
+
+-- how much more memory one more read may take
+abbrev pub room_of_read : ℕ → ℕ
+room_of_read most = most + most / 4 + 1
 
 -- what a round without a crowd may add at a place
 abbrev pub added_at_most : ℕ → ℕ
-added_at_most most = most + held_before most
+added_at_most most = room_of_read most + room_before most
 
 -- at most one request is held there, and one more read
 abbrev pub HoldsOneRequest : {S : Type 0} → ℕ → Place S → Type 0
@@ -535,14 +552,14 @@ abbrev pub HoldsLittleRest : {S : Type 0} → ℕ → Place S → Type 0
 HoldsLittleRest most p = is_answered_at p ≡ true → held_at p ≤ most
 
 -- There are as many places as at first; few bodies are chosen; no connection holds more than one
--- request and one read, nor more than one read where its request was answered and it goes on; and
--- what counts for all places together is at most the limit and what a round may add.
+-- request and one read, nor more than one read where its request was answered and it goes on; and the
+-- memory that counts for all places together is at most the limit and what a round may add.
 pub record HoldLittle {S : Type 0} (most : ℕ) (places : List (Place S)) : Type 0 where
   pub size : length places ≡ place_count
   pub few : FewChosen places
   pub each : All (HoldsOneRequest most) places
   pub rest : All (HoldsLittleRest most) places
-  pub counted : sum_by (counted_at most) places ≤ held_limit + place_count * added_at_most most
+  pub counted : sum_by (counted_at most) places ≤ room_limit + place_count * added_at_most most
 
 -- this holds in a new pool
 abbrev pub NewPoolHoldsLittle : Type 0 → Type 0
@@ -578,23 +595,27 @@ module _ {S : Type 0} (received sent : S → Option (List ℕ)) (has_none is_ful
   RoundsLeaveLittle = (paused : Bool) (now most : ℕ) (old new : List (Place S)) (M N : D) (readings readings2 : Option (List ℕ)) → HoldLittle most old
       → VisitsRound received sent has_none is_full has_more is_ended is_broken answers over paused now most old new M N readings readings2 → HoldLittle most new
 
--- what is held at a place whose body isn't chosen
+-- how much memory what is held at a place may take, where its body isn't chosen
 abbrev pub unread_at : {S : Type 0} → Place S → ℕ
-unread_at p = if p.is_chosen then 0 else held_at p
+unread_at p = if p.is_chosen then 0 else room_at p
 
--- then the connections whose bodies aren't chosen hold no more than this together
+-- then the connections whose bodies aren't chosen take no more memory than this together
 abbrev pub UnreadHoldLittle : Type 0 → Type 0
-UnreadHoldLittle S = (most : ℕ) (places : List (Place S)) → HoldLittle most places → sum_by unread_at places ≤ held_limit + place_count * added_at_most most
+UnreadHoldLittle S = (most : ℕ) (places : List (Place S)) → HoldLittle most places → sum_by unread_at places ≤ room_limit + place_count * added_at_most most
 
--- and all of them hold no more than that, and one request and one read for each body that may be
--- read side by side
+-- and all of them take no more than that, and what one request and one read take for each body that may
+-- be read side by side
 abbrev pub AllHoldLittle : Type 0 → Type 0
 AllHoldLittle S = (most : ℕ) (places : List (Place S)) → HoldLittle most places
-    → sum_by held_at places ≤ held_limit + place_count * added_at_most most + read_together * (request_limit + most)
+    → sum_by room_at places ≤ room_limit + place_count * added_at_most most + read_together * room_of (request_limit + most)
 
--- that is 153 MiB where a read has at most 16,384 bytes, as a server's has
+-- that is 151 MiB where a read has at most 16,384 bytes, as a server's has
 abbrev pub ServersHoldLittle : Type 0 → Type 0
-ServersHoldLittle S = (places : List (Place S)) → HoldLittle 16_384 places → sum_by held_at places ≤ 159_907_840
+ServersHoldLittle S = (places : List (Place S)) → HoldLittle 16_384 places → sum_by room_at places ≤ 157_811_200
+
+-- and no more bytes are held than memory may be taken for
+abbrev pub RoomHoldsAll : Type 0 → Type 0
+RoomHoldsAll S = (places : List (Place S)) → sum_by held_at places ≤ sum_by room_at places
 
 -- ---- which connections a new one ends
 

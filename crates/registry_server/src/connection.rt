@@ -1,6 +1,7 @@
 //! One open connection.
 
-ghost use Rattle.std.specs.Prelude.{◌≡◌, ◌≢◌, [], ℕ, List, Option, None, Some, true, false, IfOk, IsSome, OnOk, OnErr, length};
+ghost use Rattle.std.specs.Prelude.{◌≡◌, ◌≢◌, ◌≤◌, [], ℕ, List, Option, None, Some, true, false, IfOk, IsSome, OnOk, OnErr, length};
+ghost use Rattle.registry_wire.specs.Rooms.{room_of};
 ghost use Rattle.registry_wire.specs.Spelling.{IsUnfinished};
 ghost use Rattle.registry_server.specs.ConnectionStates.{Does, MayTakeTurn, fresh};
 ghost use Rattle.registry_server.specs.Connections.{AnswersOnce, Drops, IsDone, IsLost, LeavesLittle, LeavesRest, Receives, SendsDue, StarvesOnce, Visits, body_since, connected, finishing, has_body, is_answered, may_command, must_wait, stage_after, waiting};
@@ -106,6 +107,13 @@ impl<S: Socket> Connection<S> {
         ensures { result ≡ length self.now.state.held }
     {
         self.state.held_len()
+    }
+
+    /// How many bytes of memory were asked for what is held.
+    pub fn room(&self) -> usize
+        ensures { result ≤ room_of (length self.now.state.held) }
+    {
+        self.state.room()
     }
 
     /// Whether a body is under way.

@@ -1,7 +1,7 @@
 //! Laws of connections. Each is the contract of a function that does nothing.
 
 ghost use Rattle.registry_server.specs.Phases.{BytesGive, EnteredEndsInTime, NeverGiveMore, NewPhasesEndInTime, PaidEndsInTime, ResponseTimePasses, StagesGiveNone, WaitedEndsInTime, WaitsGiveNone};
-ghost use Rattle.registry_server.specs.Pools.{AllHoldLittle, AllIdleEndsLeaveFew, AllIdleEndsLeaveLittle, AllIdleEndsLeaveRest, EndsLeaveFew, EndsLeaveLittle, EndsLeaveRest, FinishesLeaveFew, FinishesLeaveLittle, FinishesLeaveRest, HoldsAskQueries, HoldsKeepCommands, IdleEndsLeaveFew, IdleEndsLeaveLittle, IdleEndsLeaveRest, NewConnectionsLeaveFew, NewConnectionsLeaveLittle, NewConnectionsLeaveRest, NewPoolHoldsLittle, NewPoolReadsFew, NewPoolRests, NewcomersEndIdle, NewcomersLeaveBusy, QueriesAreAnswers, RoundsHoldLittleMore, RoundsLeaveLittle, RoundsReadFew, ServersHoldLittle, StopsEndIdle, StopsLeaveUnderWay, UnreadHoldLittle, VisitsLeaveRest, WakesLeaveFew, WakesLeaveLittle, WakesLeaveRest, WantOfRoomEndsIdle, WhoWaitsHasBegun};
+ghost use Rattle.registry_server.specs.Pools.{AllHoldLittle, AllIdleEndsLeaveFew, AllIdleEndsLeaveLittle, AllIdleEndsLeaveRest, EndsLeaveFew, EndsLeaveLittle, EndsLeaveRest, FinishesLeaveFew, FinishesLeaveLittle, FinishesLeaveRest, HoldsAskQueries, HoldsKeepCommands, IdleEndsLeaveFew, IdleEndsLeaveLittle, IdleEndsLeaveRest, NewConnectionsLeaveFew, NewConnectionsLeaveLittle, NewConnectionsLeaveRest, NewPoolHoldsLittle, NewPoolReadsFew, NewPoolRests, NewcomersEndIdle, NewcomersLeaveBusy, QueriesAreAnswers, RoomHoldsAll, RoundsHoldLittleMore, RoundsLeaveLittle, RoundsReadFew, ServersHoldLittle, StopsEndIdle, StopsLeaveUnderWay, UnreadHoldLittle, VisitsLeaveRest, WakesLeaveFew, WakesLeaveLittle, WakesLeaveRest, WantOfRoomEndsIdle, WhoWaitsHasBegun};
 ghost use Rattle.registry_service.specs.Turns.{spoken};
 ghost use Rattle.registry_server.specs.Worlds.{Begins, Comes, Finishes, Lasts, Sends, Shuts, Starves, TakesTurns, VisitsLead};
 
@@ -95,12 +95,14 @@ pub fn a_crowd_holds_little_more<S: Socket, D: HttpService>()
     ensures waits { WhoWaitsHasBegun S }
 {}
 
-/// All connections together hold little, after any number of rounds with one buffer: as many bytes
-/// as make a crowd; two reads and the bytes of a head for each place; and one request and one read
-/// for each of 16 bodies. What is kept (`HoldLittle`) holds in a new pool, and new connections,
-/// wakes, ends and rounds keep it so. From it follows how much the connections hold whose bodies
-/// aren't chosen (`unread`), how much all of them hold (`all`), and how much that is with reads of
-/// 16,384 bytes, as a server's have (`servers`): 159,907,840 bytes.
+/// What all connections together hold takes little memory, after any number of rounds with one
+/// buffer: as much as makes a crowd; what two reads and the bytes of a head take, for each place; and
+/// what one request and one read take, for each of 16 bodies. What is kept (`HoldLittle`) holds in a
+/// new pool, and new connections, wakes, ends and rounds keep it so. From it follows how much memory
+/// is taken for the connections whose bodies aren't chosen (`unread`), how much for all of them
+/// (`all`), and how much that is with reads of 16,384 bytes, as a server's have (`servers`):
+/// 157,811,200 bytes. No more bytes are held than that (`held`). How much was asked for is `room` of
+/// [`ConnectionPool`](crate::ConnectionPool), and is no more.
 pub fn connections_hold_little<S: Socket, D: HttpService>()
     ensures begins { NewPoolHoldsLittle S }
     ensures comes { NewConnectionsLeaveLittle S }
@@ -113,6 +115,7 @@ pub fn connections_hold_little<S: Socket, D: HttpService>()
     ensures unread { UnreadHoldLittle S }
     ensures all { AllHoldLittle S }
     ensures servers { ServersHoldLittle S }
+    ensures held { RoomHoldsAll S }
 {}
 
 /// While a server is held, its service is asked only queries, however many rounds that takes

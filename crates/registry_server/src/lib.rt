@@ -41,7 +41,7 @@ pub use crate::phase::{
     DRAIN_LIMIT, IDLE_LIMIT, LEAST_RATE, Phase, REQUEST_TIME_LIMIT, RESPONSE_LIMIT, Stage,
     WAIT_LIMIT,
 };
-pub use crate::pool::{CONNECTION_COUNT, ConnectionPool, HELD_LIMIT, READ_TOGETHER};
+pub use crate::pool::{CONNECTION_COUNT, ConnectionPool, READ_TOGETHER, ROOM_LIMIT};
 pub use crate::server::{Ended, Server};
 pub use crate::socket::{Flow, Socket};
 pub use crate::state::{ConnectionState, Progress};

@@ -1,6 +1,6 @@
 //! The open connections, and which of them can go on.
 
-ghost use Rattle.std.specs.Prelude.{◌≡◌, ◌≢◌, ◌&&◌, ℕ, List, Option, None, Some, true, false, IfOk, IsSome, is_none, length, map, not, position, replicate};
+ghost use Rattle.std.specs.Prelude.{◌≡◌, ◌≢◌, ◌≤◌, ◌&&◌, ℕ, List, Option, None, Some, true, false, IfOk, IsSome, is_none, length, map, not, position, replicate, sum_by};
 ghost use Rattle.std.specs.List.{list_all, list_any};
 ghost use Rattle.registry_server.specs.Connections.{IsDone, IsLost, LeavesLittle, Visits, may_command, must_wait};
 ghost use Rattle.registry_server.specs.Groups.{Adds, AnswersNext, AnswersPlace, AnswersPlaces, AreSpelled, AskedEach, IsEmpty, IsStill, SetsAside, VisitsFirst, VisitsOrSetsAside, in_order};
@@ -20,13 +20,14 @@ use crate::socket::Socket;
 use registry_names::Fault;
 use registry_rules::Reply;
 use registry_service::{Clock, HttpService};
+use registry_wire::room_of;
 use std::alloc::{AllocError, Global};
 
 /// The most connections that are open at once.
 pub const CONNECTION_COUNT: usize = 512;
 
-/// Where all connections together hold this many bytes of requests, they are a crowd.
-pub const HELD_LIMIT: usize = 67_108_864;
+/// Where the requests that all connections hold may take this many bytes of memory, they are a crowd.
+pub const ROOM_LIMIT: usize = 58_720_256;
 
 /// At most this many bodies of a crowd are read side by side.
 pub const READ_TOGETHER: usize = 16;
@@ -63,6 +64,26 @@ impl<S: Socket> Place<S> {
     {
         match &self.connection {
             Some(connection) => connection.held_len(),
+            None => 0,
+        }
+    }
+
+    // How many bytes of memory what is held there may take.
+    fn most_room(&self) -> usize
+        ensures { result ≡ spec.room_at self.now }
+    {
+        match &self.connection {
+            Some(connection) => room_of(connection.held_len()),
+            None => 0,
+        }
+    }
+
+    // How many bytes of memory were asked for it.
+    fn room(&self) -> usize
+        ensures { result ≤ spec.room_at self.now }
+    {
+        match &self.connection {
+            Some(connection) => connection.room(),
             None => 0,
         }
     }
@@ -364,11 +385,11 @@ fn visited<S: Socket, D: HttpService, C: Clock>(
 
 /// Places for connections, which are numbers below [`CONNECTION_COUNT`].
 ///
-/// Where all connections together hold [`HELD_LIMIT`] bytes or more, they are a crowd, of which at
-/// most [`READ_TOGETHER`] bodies are read side by side: those that were chosen, until their
-/// requests are answered, or as long as they are held where the connection ends. The others wait. A
-/// choice lasts while there is no crowd, too: so clients that end a crowd and bring it back don't
-/// get a body chosen twice for one request.
+/// Where the requests that all connections hold may take [`ROOM_LIMIT`] bytes of memory or more
+/// ([`room_of`](registry_wire::room_of)), they are a crowd, of which at most [`READ_TOGETHER`] bodies
+/// are read side by side: those that were chosen, until their requests are answered, or as long as
+/// they are held where the connection ends. The others wait. A choice lasts while there is no crowd,
+/// too: so clients that end a crowd and bring it back don't get a body chosen twice for one request.
 #[derive(Drop)]
 pub struct ConnectionPool<S: Socket> {
     places: Vec<Place<S>>,
@@ -392,6 +413,13 @@ impl<S: Socket> ConnectionPool<S> {
             places,
             group: Group::new(alloc)?,
         })
+    }
+
+    /// How many bytes of memory were asked for the requests that all connections hold.
+    pub fn room(&self) -> usize
+        ensures { result ≤ sum_by spec.room_at self.now.places.items }
+    {
+        room_in(&self.places)
     }
 
     /// Whether every place is free.
@@ -717,15 +745,26 @@ fn send_answers<S: Socket, D: HttpService>(
     }
 }
 
-// Whether all connections together hold the limit or more.
+// Whether what all connections hold may take as much memory as the limit, or more.
 fn is_crowd<S: Socket>(places: &[Place<S>]) -> bool
     ensures { result ≡ spec.is_crowd places.now }
 {
     let room = places.iter().fold(
-        HELD_LIMIT,
-        |room, place| room.saturating_sub(place.held_len()),
+        ROOM_LIMIT,
+        |room, place| room.saturating_sub(place.most_room()),
     );
     room == 0
+}
+
+// How many bytes of memory were asked for the requests that are held at all places.
+fn room_in<S: Socket>(places: &[Place<S>]) -> usize
+    ensures { result ≤ sum_by spec.room_at places.now }
+{
+    let mut room: usize = 0;
+    for place in places {
+        room = room.saturating_add(place.room());
+    }
+    room
 }
 
 // Whether fewer bodies are read than may be.

@@ -1,7 +1,8 @@
 //! One connection, apart from its socket.
 
-ghost use Rattle.std.specs.Prelude.{◌≡◌, ◌≤◌, ◌-◌, ◌==◌, ◌++◌, ◌∷◌, ◌↔◌, [], ℕ, length, drop, nat_eq, true, IfOk, IfSome, IsTrue, OnOk, OnErr};
+ghost use Rattle.std.specs.Prelude.{◌≡◌, ◌≤◌, ◌-◌, ◌==◌, ◌++◌, ◌∷◌, ◌↔◌, [], ℕ, length, drop, nat_eq, true, IfOk, IfSome, IsOk, IsTrue, OnOk, OnErr};
 ghost use Rattle.std.specs.List.{starts_with};
+ghost use Rattle.registry_wire.specs.Rooms.{DropsFreely, room_of};
 ghost use Rattle.registry_wire.specs.Spelling.{EndsWith, IsUnfinished, Says};
 ghost use Rattle.registry_service.specs.Courses.{Gave};
 ghost use Rattle.registry_service.specs.Servings.{bytes_of};
@@ -19,7 +20,7 @@ use registry_service::{
     Clock, End, HttpService, REQUESTS_PER_CONNECTION, Service, Turned, is_command, request_of,
     turn_away, turn_starved,
 };
-use registry_wire::{Ending, First, Incoming, Wanted, ending_of};
+use registry_wire::{Ending, First, Incoming, Wanted, drops_freely, ending_of};
 use std::alloc::{AllocError, Global};
 use std::marker::Model;
 
@@ -96,6 +97,13 @@ impl ConnectionState {
         self.held.as_slice().len()
     }
 
+    /// How many bytes of memory were asked for what is held.
+    pub fn room(&self) -> usize
+        ensures { result ≤ room_of (length self.now.held) }
+    {
+        self.held.room()
+    }
+
     /// Whether what is held begins as a query does.
     pub fn begins_query(&self) -> bool
         ensures { result ≡ starts_with nat_eq self.now.held query_start }
@@ -135,7 +143,7 @@ impl ConnectionState {
 
     /// The next turn: the first request is taken where it has come whole, asked at the clock's
     /// moment, and answered by the service. Input that isn't a request is answered, too, and so is
-    /// a lack of memory to read one. After these, after a fault, after the last request and after a
+    /// a lack of memory to read one, or for what follows it. After these, after a fault, after the last request and after a
     /// request that asks for it, the connection ends. `is_over` says that no more bytes come.
     ///
     /// All of the response before is sent, and the connection goes on.
@@ -156,7 +164,9 @@ impl ConnectionState {
         }
         match self.first(alloc) {
             Ok(First::Whole(wanted, used)) => {
-                self.drop_first(alloc, used);
+                if self.drop_first(alloc, used).is_err() {
+                    return self.put(noted(service, turn_starved()));
+                }
                 let turned = self.answered(alloc, service, clock, &wanted);
                 self.put(turned)
             }
@@ -171,7 +181,8 @@ impl ConnectionState {
     }
 
     /// The command that comes first, and what it asks, where it has come whole and may be answered
-    /// together with others. `number` is the place of the connection.
+    /// together with others, and no memory has to be taken once it is answered. `number` is the place
+    /// of the connection.
     pub(crate) fn command<D: HttpService>(
         &mut self,
         alloc: Global,
@@ -195,7 +206,7 @@ impl ConnectionState {
         let Ok(request) = request_of(alloc, &wanted, Moment::clamped(0)) else {
             return None;
         };
-        if !is_command(&request.what) {
+        if !is_command(&request.what) || !drops_freely(self.held_len(), used) {
             return None;
         }
         Some((
@@ -217,11 +228,12 @@ impl ConnectionState {
 
     /// The first request, which takes this many bytes, was answered: the response is to be sent.
     pub(crate) fn answer_first(&mut self, alloc: Global, used: usize, turned: Turned)
-        ensures state { used ≤ length self.old.held
+        ensures state { used ≤ length self.old.held → DropsFreely (length self.old.held) used
             → self.new ≡ pending (drop used self.old.held) (bytes_of turned) (self.old.left - 1) turned.end }
         ensures outgoing { self.new.outgoing ≡ bytes_of turned }
     {
-        self.drop_first(alloc, used.min(self.held_len()));
+        let used = used.min(self.held_len());
+        let _dropped = self.drop_first(alloc, used);
         self.left = self.left.saturating_sub(1);
         let _answered = self.put(turned);
     }
@@ -281,12 +293,14 @@ impl ConnectionState {
         Progress::Answered
     }
 
-    // These bytes are used.
-    fn drop_first(&mut self, alloc: Global, used: usize)
+    // These bytes are used. After an error they are still held.
+    fn drop_first(&mut self, alloc: Global, used: usize) -> Result<(), AllocError>
         requires { used ≤ length self.old.held }
-        ensures { self.new ≡ holding self.old (drop used self.old.held) }
+        ensures ok { OnOk result (self.new ≡ holding self.old (drop used self.old.held)) }
+        ensures err { OnErr result (self.new ≡ self.old) }
+        ensures free { DropsFreely (length self.old.held) used → IsOk result }
     {
-        self.held.drop_first(alloc, used);
+        self.held.drop_first(alloc, used)
     }
 }
 

@@ -7,7 +7,7 @@ use crate::outcome::same;
 use crate::parts::first_of;
 use crate::talk::connections::{FixedTags, Steps};
 use registry_server::{
-    ConnectionPool, Flow, READ_TOGETHER, REQUEST_TIME_LIMIT, Socket, WAIT_LIMIT,
+    CONNECTION_COUNT, ConnectionPool, Flow, READ_TOGETHER, REQUEST_TIME_LIMIT, Socket, WAIT_LIMIT,
 };
 use std::alloc::Global;
 use std::io::Read;
@@ -22,8 +22,12 @@ const READ_LEN: usize = 16_384;
 /// A body has this many reads.
 const WHOLE: usize = 256;
 
-/// Seventeen bodies are a crowd once this many reads of each have come.
-const FRONT: usize = 241;
+/// Seventeen bodies are a crowd once this many reads of each have come: they may take 58,840,009
+/// bytes of memory then, and one read earlier 58,491,849.
+const FRONT: usize = 169;
+
+/// All connections together take at most this many bytes of memory for requests.
+const MOST_ROOM: usize = 157_811_200;
 
 /// The socket of a client that sends `left` reads of a body, after a pause `later` more, and then
 /// nothing. After its answer it sends no more.
@@ -176,6 +180,30 @@ impl Crowd {
         }
     }
 
+    // So many clients that stop once so many reads of their bodies have come, as far as these are read.
+    // The rest comes once they are woken.
+    fn of_stopped(rt: &impl Abort, alloc: Global, count: usize, front: usize) -> Crowd {
+        let mut crowd = Crowd::new(rt, alloc);
+        for number in 0..count {
+            let client = Client::new(front, WHOLE - front);
+            crowd.pool.add(alloc, number, client, 0);
+        }
+        crowd.takes_little(rt, alloc);
+        crowd
+    }
+
+    // Makes rounds while a connection is to be visited. The memory that was asked for stays below the
+    // limit.
+    fn takes_little(&mut self, rt: &impl Abort, alloc: Global) {
+        for _ in 0..10_000 {
+            if !self.pool.is_busy() {
+                return;
+            }
+            self.visit(alloc, 0, 1);
+            same(rt, "in the limit", self.pool.room() <= MOST_ROOM, true);
+        }
+    }
+
     // Makes this many rounds at this time.
     fn visit(&mut self, alloc: Global, now: u64, rounds: usize) {
         let mut buffer = [0; READ_LEN];
@@ -235,20 +263,20 @@ fn a_body_waits_for_six_minutes(rt: HostRuntime) {
     same(&rt, "at its end", crowd.pool.is_empty(), true);
 }
 
-// Eighteen clients begin at 6 s, beside one that began at 0: they are a crowd, and sixteen of them
-// are chosen. At 10 s the first one ends, for a moment there is no crowd, and another body begins.
+// Eighteen clients begin at 6 s, beside one that began at 0: once 150 reads of each have come they are
+// a crowd, and sixteen of them are chosen. At 10 s the first one ends, for a moment there is no crowd, and another body begins.
 // Then the sixteen send more. They were chosen before, so their time doesn't begin anew: it ends at
 // 16 s, and the later body is read.
 #[test]
 fn a_choice_outlasts_a_moment_without_a_crowd(rt: HostRuntime) {
     let alloc = rt.alloc();
     let mut crowd = Crowd::new(&rt, alloc);
-    crowd.pool.add(alloc, 19, Client::new(228, 0), 0);
-    crowd.visit(alloc, 0, 1 + 228);
+    crowd.pool.add(alloc, 19, Client::new(170, 0), 0);
+    crowd.visit(alloc, 0, 1 + 170);
     for number in 0..18 {
-        crowd.pool.add(alloc, number, Client::new(228, 27), 6_000);
+        crowd.pool.add(alloc, number, Client::new(160, 27), 6_000);
     }
-    crowd.visit(alloc, 6_000, 1 + 215 + 40);
+    crowd.visit(alloc, 6_000, 1 + 150 + 40);
     same(&rt, "sixteen are read", crowd.pool.is_busy(), false);
     crowd.pool.end_late(10_000);
     same(&rt, "without a crowd", crowd.pool.is_busy(), true);
@@ -268,6 +296,31 @@ fn a_choice_outlasts_a_moment_without_a_crowd(rt: HostRuntime) {
         &crowd.pool.place(),
         &Some(18),
     );
+}
+
+// Whoever stops where, and goes on: the memory that is asked for their requests stays below what
+// `connections_hold_little` says, and all of them are answered.
+#[test]
+fn bodies_that_go_on_take_little_memory(rt: HostRuntime) {
+    let alloc = rt.alloc();
+    for (count, front) in [(100, 238), (240, 16)] {
+        let mut crowd = Crowd::of_stopped(&rt, alloc, count, front);
+        for _ in 0..count {
+            crowd.wake(count);
+            crowd.takes_little(&rt, alloc);
+        }
+        same(&rt, "all are answered", crowd.pool.is_empty(), true);
+    }
+}
+
+// The same where all places are taken.
+#[test]
+fn bodies_at_all_places_take_little_memory(rt: HostRuntime) {
+    let alloc = rt.alloc();
+    for front in [1, 2, 7, 100] {
+        let mut crowd = Crowd::of_stopped(&rt, alloc, CONNECTION_COUNT, front);
+        crowd.takes_little(&rt, alloc);
+    }
 }
 
 // Where the system has no descriptor left, the connection that has been idle for longest ends, and

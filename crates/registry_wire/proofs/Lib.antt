@@ -10,3 +10,4 @@ pub mod PhraseFacts
 pub mod TagFacts
 pub mod MediaFacts
 pub mod ResponseFacts
+pub mod RoomFacts

@@ -3,6 +3,7 @@ pub mod Asked
 pub mod Spelling
 pub mod Places
 pub mod Knowledge
+pub mod Rooms
 pub mod Parts
 pub mod Inboxes
 pub mod Pieces

@@ -27,6 +27,7 @@ mod media_range;
 mod method;
 mod place;
 mod response;
+mod room;
 mod short_text;
 mod wanted;
 
@@ -37,5 +38,6 @@ pub use crate::incoming::Incoming;
 pub use crate::labels::{Caching, DocumentForm, Labels};
 pub use crate::media_range::accepts_abbreviated;
 pub use crate::response::{ContentKind, Response, write_response};
+pub use crate::room::{LEAST_ROOM, drops_freely, room_of};
 pub use crate::short_text::{SHORT_LIMIT, ShortText};
 pub use crate::wanted::{FieldValue, Wanted};

@@ -242,9 +242,38 @@ fn what_a_request_needs_is_forgotten_with_it(rt: HostRuntime) {
     let line = line_of(&rt, alloc, incoming.as_slice(), &first);
     same(&rt, "a head", line.as_str(), "BadInput(BadBody)");
     let all = incoming.as_slice().len();
-    incoming.drop_first(alloc, all);
+    incoming.drop_first(alloc, all).expect(&rt, "memory");
     incoming.came(KIT.as_bytes()).expect(&rt, "memory");
     let first = incoming.first(alloc).expect(&rt, "memory");
     let line = line_of(&rt, alloc, incoming.as_slice(), &first);
     same(&rt, "the next request", line.as_str(), "Get|/kit||| 21");
+}
+
+// Memory is taken for a quarter more bytes than have come: at least 16,384, and beside a whole request
+// at most 16,384 for the read that ends it. It is given back once the bytes are used.
+#[test]
+fn memory_is_taken_as_bytes_come(rt: HostRuntime) {
+    let alloc = rt.alloc();
+    let mut incoming = Incoming::new(alloc);
+    let bytes = vec![in alloc; 0_u8; 4_227_000].expect(&rt, "memory");
+    let mut last = 0;
+    for (count, room) in [
+        (0, 0),
+        (1, 16_384),
+        (16_384, 16_384),
+        (16_385, 20_481),
+        (20_481, 20_481),
+        (100_000, 125_000),
+        (4_000_000, 4_227_072),
+        (4_227_000, 4_227_072),
+    ] {
+        incoming.came(&bytes[last..count]).expect(&rt, "memory");
+        same(&rt, "as they come", incoming.room(), room);
+        last = count;
+    }
+    for (used, room) in [(1, 4_227_072), (4_126_999, 100_000), (99_999, 1), (1, 1)] {
+        incoming.drop_first(alloc, used).expect(&rt, "memory");
+        same(&rt, "as they are used", incoming.room(), room);
+    }
+    same(&rt, "none is left", incoming.is_empty(), true);
 }

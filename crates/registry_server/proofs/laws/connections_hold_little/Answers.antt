@@ -1,5 +1,5 @@
 use Rattle.registry_service.specs.Turns.{spoken}
-use Rattle.registry_server.proofs.HeldFacts.{all-hold-little, all-idle-ends-leave-little, ends-leave-little, finishes-leave-little, idle-ends-leave-little, new-connections-leave-little, new-pool-holds-little, rounds-leave-little, servers-hold-little, unread-hold-little, wakes-leave-little}
+use Rattle.registry_server.proofs.HeldFacts.{all-hold-little, all-idle-ends-leave-little, ends-leave-little, finishes-leave-little, idle-ends-leave-little, new-connections-leave-little, new-pool-holds-little, room-holds-all, rounds-leave-little, servers-hold-little, unread-hold-little, wakes-leave-little}
 use Rattle.registry_server.proofs.laws.connections_hold_little.Goals as goal
 
 pub returns-clause-begins : goal.returns-clause-begins
@@ -34,3 +34,6 @@ returns-clause-idle g c = all-idle-ends-leave-little g.row.S.Denot
 
 pub returns-clause-finishes : goal.returns-clause-finishes
 returns-clause-finishes g c = finishes-leave-little g.row.S.Denot
+
+pub returns-clause-held : goal.returns-clause-held
+returns-clause-held g c = room-holds-all g.row.S.Denot
