@@ -1,5 +1,5 @@
 -- How many bodies are read of a crowd, and how much is held.
-use Rattle.std.proofs.Common.{◌≡◌, ◌≢◌, ◌<◌, ◌≤◌, ◌⊎◌, ◌+◌, ◌*◌, ◌++◌, ◌∷◌, ◌∙◌, [], ℕ, zero, suc, Bool, true, false, List, Option, None, Some, All, IsSome, cond, length, map, max, nat_lt, replicate, sum_by, refl, ap, subst, sym, inl, inr, arith, le_refl, le_trans, length-append, add-mul, suc-mul, mul-le-mul_right, ◌&&◌, not, if◌then◌else◌}
+use Rattle.std.proofs.Common.{◌≡◌, ◌≢◌, ◌<◌, ◌≤◌, ◌⊎◌, ◌+◌, ◌*◌, ◌++◌, ◌∷◌, ◌∙◌, [], ℕ, zero, suc, Bool, true, false, List, Option, None, Some, All, IsSome, cond, length, map, max, nat_lt, replicate, sum_by, refl, ap, subst, sym, inl, inr, arith, le_trans, length-append, add-mul, suc-mul, mul-le-mul_right, ◌&&◌, not, if◌then◌else◌}
 use Rattle.std.specs.Prelude.{is_some}
 use Rattle.std.proofs.lemmas.Bool.{and_parts, false≢true, leb-false, ltb-false, ltb-true}
 use Rattle.std.proofs.lemmas.List.{length-replicate}
@@ -81,6 +81,9 @@ max-under a b c less = omega (arith, less)
 
 max-less : (a b c : ℕ) → a ≤ b → max a c ≤ max b c
 max-less a b c less = omega (arith, less)
+
+no-more : (a : ℕ) → a ≤ a
+no-more a = omega arith
 
 at-first : (a b : ℕ) → a ≤ a + b
 at-first a b = omega arith
@@ -667,7 +670,7 @@ module _ {S : Type 0} (received sent : S → Option (List ℕ)) (has_none is_ful
   round-counts paused false now most old looked new M K L N r r1 s s2 is looks v count little h =
       let added = all-added paused false now most looked new M K L N r r1 s s2 v in
       let held : sum_by room_at looked ≤ sum_by room_at old =
-      subst (λ (l : List (Place S)). sum_by room_at l ≤ sum_by room_at old) (sym looks) (map-sum (room_at {S = S}) room_at settled (λ (p : Place S). le_refl (room_at p)) old) in
+      subst (λ (l : List (Place S)). sum_by room_at l ≤ sum_by room_at old) (sym looks) (map-sum (room_at {S = S}) room_at settled (λ (p : Place S). no-more (room_at p)) old) in
       let low : sum_by room_at old < room_limit = leb-false room_limit (sum_by room_at old) is in
       let size : length looked ≡ place_count = ap length looks ∙ map-length settled old ∙ count in
       subst (λ (n : ℕ). sum_by (counted_at most) new ≤ room_limit + n * added_at_most most) size
@@ -739,7 +742,7 @@ module _ (S : Type 0) where
       (λ (p : Place S). taken-counts p.is_chosen (room_of 0) (room_at p) (room_before most) (more_room 0 (held_before most) (omega arith))) (λ (p : Place S) few. omega arith) (λ (p : Place S) few is. absurd (false≢true is)) (new-connections-leave-few S now socket places k h.few) h
 
   pub wakes-leave-little : WakesLeaveLittle S
-  wakes-leave-little most places k h = at-little most woken places k (λ (p : Place S). le_refl (counted_at most p)) (λ (p : Place S) few. few) (λ (p : Place S) few. few) (wakes-leave-few S places k h.few) h
+  wakes-leave-little most places k h = at-little most woken places k (λ (p : Place S). no-more (counted_at most p)) (λ (p : Place S) few. few) (λ (p : Place S) few. few) (wakes-leave-few S places k h.few) h
 
   emptied-little : (most : ℕ) (old : List (Place S)) (which : Option ℕ) → HoldLittle most old → HoldLittle most (emptied_of old which)
   emptied-little most old None h = h

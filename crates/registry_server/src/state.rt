@@ -163,13 +163,13 @@ impl ConnectionState {
             return Progress::Closed;
         }
         match self.first(alloc) {
-            Ok(First::Whole(wanted, used)) => {
-                if self.drop_first(alloc, used).is_err() {
-                    return self.put(noted(service, turn_starved()));
+            Ok(First::Whole(wanted, used)) => match self.drop_first(alloc, used) {
+                Ok(()) => {
+                    let turned = self.answered(alloc, service, clock, &wanted);
+                    self.put(turned)
                 }
-                let turned = self.answered(alloc, service, clock, &wanted);
-                self.put(turned)
-            }
+                Err(_) => self.put(noted(service, turn_starved())),
+            },
             Ok(First::Bad(refusal)) => self.put(noted(service, turn_away(refusal))),
             Ok(First::Unfinished) if !is_over => Progress::Waits,
             Ok(First::Unfinished) => match self.ending() {
