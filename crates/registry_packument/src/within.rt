@@ -15,7 +15,7 @@ use crate::packument::{CLOSING, VersionRow};
 use crate::source::VersionSource;
 use crate::stream::counted;
 use registry_names::{Fault, Text};
-use std::alloc::Global;
+use std::alloc::{AllocError, Global};
 
 /// A packument where it has no more bytes than a limit, and otherwise its length.
 #[derive(Drop)]
@@ -26,6 +26,13 @@ pub enum PackumentWithin {
     Longer(u64),
 }
 
+/// A text of no more bytes grows in the heap of the C library.
+const SHORT: usize = 2 << 20;
+
+/// Room for so many bytes the C library takes apart from its heap, where more of them never move,
+/// and where a page takes memory only once it is written (`mallopt(3)`: above 32 MiB).
+const MAPPED: usize = 33 << 20;
+
 // ---- what is gathered
 
 // What is gathered of a packument: its bytes, or their number once they are more than a limit.
@@ -33,6 +40,25 @@ pub enum PackumentWithin {
 enum Gathered {
     Bytes(String),
     Count(u64),
+}
+
+// Room for this text after the bytes. A text that becomes long takes room for a very long one at once,
+// if there is so much memory.
+fn reserve(bytes: &mut String, text: &str)
+    ensures { string_bytes bytes.new ≡ string_bytes bytes.old }
+{
+    let len = bytes.len().saturating_add(text.len());
+    if len > SHORT && bytes.capacity() < MAPPED {
+        let _is_reserved = bytes.reserve_exact(MAPPED.saturating_sub(bytes.len()));
+    }
+}
+
+// Appends the text.
+fn append(bytes: &mut String, text: &str) -> Result<(), AllocError>
+    ensures { OnOk result (string_bytes bytes.new ≡ string_bytes bytes.old ++ text.now) }
+{
+    reserve(bytes, text);
+    bytes.push_str(text)
 }
 
 // These bytes and a text after them, or the number of both where they are more than the limit.
@@ -43,7 +69,7 @@ fn pushed(mut bytes: String, text: &str, limit: u64) -> Result<Gathered, Fault>
 {
     let count = counted(bytes.len() as u64, text)?;
     if count <= limit {
-        bytes.push_str(text)?;
+        append(&mut bytes, text)?;
         Ok(Gathered::Bytes(bytes))
     } else {
         Ok(Gathered::Count(count))
@@ -119,9 +145,9 @@ impl Gathered {
 /// manifest without a message is parsed in this walk alone: [`send_counted`](crate::send_counted)
 /// doesn't parse it again.
 ///
-/// The bytes are gathered in one text, which grows. As soon as they would be more than the limit,
-/// the text is dropped, and the bytes are only counted. Apart from that text and what comes before
-/// the first version, one version is held at a time.
+/// The bytes are gathered in one text, which grows, and has room for more. As soon as they would be
+/// more than the limit, the text is dropped, and the bytes are only counted. Apart from that text
+/// and what comes before the first version, one version is held at a time.
 pub fn packument_within<S: VersionSource>(
     alloc: Global,
     head: &PackHead,
