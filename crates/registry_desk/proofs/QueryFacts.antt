@@ -1,27 +1,12 @@
 -- A query for a packument that is answered as one text: its reply is the machine's, and changes
 -- nothing that is stored.
-use Rattle.registry_desk.proofs.Words.{◌≡◌, ◌∙◌, ℕ, false, List, [], Option, Some, Ok, Err, Result, IfOk, IsTrue, OnOk, refl, sym, ap, subst, subst₂, Shown, HasCleanDisk, Text, Takes, Fault}
+use Rattle.registry_desk.proofs.Words.{◌≡◌, ◌∙◌, false, Some, Ok, Err, IsTrue, refl, sym, ap, Shown, HasCleanDisk, Text, Fault}
 use Rattle.registry_desk.proofs.Words.{is_command, State, Reply, Doc, Action, AbbreviatedPackument, Packument, RevisedPackument, Request, registry_in, answer, live_packument}
 use Rattle.registry_desk.proofs.Words.{AnswersOne, IsAnyPackument, IsFrom, IsMadeOf, IsOrigin, IsShownBy, LeavesAll, ShowsAlone, front_names, asks_packument, text_behind, View, Full, Abbreviated, Revised}
-use Rattle.registry_packument.specs.declared.opener.Sent.{Sent}
-use Rattle.registry_packument.specs.declared.opener.Sent.TheVariants.{Whole}
 use Rattle.registry_desk.specs.declared.sending.Origin.{Origin}
 use Rattle.registry_desk.specs.declared.sending.Origin.TheVariants as origin
 use Rattle.registry_desk.proofs.LivingFacts.{live_shown}
 use Rattle.registry_desk.proofs.SendingFacts.{answers_by, no_command, viewed_from}
-
--- ---- the text
-
--- bytes into which a packument was sent whole, and nothing before it, are its text
-text_taken : (IsText : Text → Type 0) (old : Option (List ℕ)) (new : List ℕ) (sent : Sent) → sent ≡ Whole → old ≡ Some [] → Takes (λ _. []) IsText old (Some new) false sent → IsText new
-text_taken IsText old new sent whole empty takes =
-    let it : Takes (λ _. []) IsText (Some []) (Some new) false Whole = subst₂ (λ (o : Option (List ℕ)) (s : Sent). Takes (λ _. []) IsText o (Some new) false s) empty whole takes in
-    subst IsText (sym (it.1.1.told refl)) it.1.0
-
-pub taken_whole : {E : Type 0} (IsText : Text → Type 0) (old : Option (List ℕ)) (new : List ℕ) (sent : Sent) (result : Result Text E) → OnOk result (sent ≡ Whole)
-    → IfOk result (λ text. text ≡ new) → old ≡ Some [] → Takes (λ _. []) IsText old (Some new) false sent → IfOk result IsText
-taken_whole IsText old new sent (Ok text) whole is empty takes = subst IsText (sym is) (text_taken IsText old new sent whole empty takes)
-taken_whole IsText old new sent (Err fault) whole is empty takes = tt
 
 -- ---- the reply
 

@@ -278,8 +278,8 @@ fn send_rows<R: LiveRows, W: ByteOut, O: Opener>(
     send_counted(alloc, head, &mut walk, len, writer, opener)
 }
 
-/// Sends the packument with this head, which was counted to have this many bytes.
-pub(crate) fn send_again<S: Alter, W: ByteOut, O: Opener>(
+// Sends the packument with this head, which was counted to have this many bytes.
+fn send_again<S: Alter, W: ByteOut, O: Opener>(
     alloc: Global,
     conn: &mut Connection<S>,
     name: &Name,

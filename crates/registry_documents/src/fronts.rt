@@ -1,6 +1,7 @@
 //! Packuments as npm reads them: before their members a revision and the maintainers.
 
 ghost use Rattle.std.specs.Prelude.{◌≡◌, ◌++◌, ◌∷◌, [], drop, string_bytes, IfOk, OnOk};
+ghost use Rattle.std.specs.String.Boundary.{IsSplitPoint};
 ghost use Rattle.json.specs.Print.{quoted};
 ghost use Rattle.serde_json.specs.Data.{array, string};
 ghost use Rattle.serde_json.specs.Written.{comma_if, compact_text};
@@ -31,35 +32,39 @@ pub fn front(alloc: Global, revision: &Revision, maintainers: &[Text]) -> Result
 /// The packument as npm reads it: its text, with the front of its revision and these maintainers in
 /// place of its first brace. The names are in the order in which the registry answers them.
 ///
+/// The text is made in the room of the packument's own, in which its bytes move once.
+///
 /// An error is returned when no memory is left.
-pub fn shown(alloc: Global, packument: &str, maintainers: &[Text]) -> Result<String, AllocError>
-    ensures { IfOk result (λ text. string_bytes text
-        ≡ shown_text packument.now maintainers.now) }
+pub fn shown(alloc: Global, packument: Text, maintainers: &[Text]) -> Result<Text, AllocError>
+    ensures { IfOk result (λ text. text ≡ shown_text packument maintainers.now) }
 {
-    let digest = ContentDigest::of(packument.as_bytes());
+    let digest = ContentDigest::of(packument.as_str().as_bytes());
     let revision = Revision::of(alloc, &digest, maintainers)?;
     let front = front(alloc, &revision, maintainers)?;
-    joined(alloc, front.as_str(), without_brace(packument))
+    with_front(packument, front.as_str())
 }
 
-// The text without the brace that it begins with.
-fn without_brace(text: &str) -> &str
-    ensures { result.now ≡ behind_brace text.now }
+// The text with this front in place of the brace that it begins with. No more room is taken than
+// for both.
+fn with_front(text: Text, front: &str) -> Result<Text, AllocError>
+    ensures { IfOk result (λ shown. shown ≡ front.now ++ behind_brace text) }
+{
+    let brace = brace_len(text.as_str());
+    let mut bytes = text.into_string();
+    bytes.reserve_exact(front.len())?;
+    bytes.replace_range(..brace, front)?;
+    Ok(Text::from(bytes))
+}
+
+// How many bytes the brace has that the text begins with, if it begins with one.
+fn brace_len(text: &str) -> usize
+    ensures place { IsSplitPoint text.now result }
+    ensures rest { drop result text.now ≡ behind_brace text.now }
 {
     match text.strip_prefix('{') {
-        Some(rest) => rest,
-        None => text,
+        Some(_) => 1,
+        None => 0,
     }
-}
-
-// Both texts, in room for exactly their bytes.
-fn joined(alloc: Global, front: &str, rest: &str) -> Result<String, AllocError>
-    ensures { IfOk result (λ text. string_bytes text ≡ front.now ++ rest.now) }
-{
-    let mut text = String::with_capacity(alloc, front.len().saturating_add(rest.len()))?;
-    text.push_str(front)?;
-    text.push_str(rest)?;
-    Ok(text)
 }
 
 // A text in JSON's quotes.
