@@ -1,6 +1,6 @@
 -- What a registry keeps of its answers, and what that has to do with what is stored. `old` and
 -- `new` are what is kept at the entry and at the exit.
-use Rattle.std.specs.Prelude.{◌≡◌, ◌⊎◌, ◌^◌, ℕ, Bool, false, not, if◌then◌else◌, List, [], ◌∷◌, ◌++◌, IfNone, IfSome, IsTrue, Option, None, Some, Ok, Err}
+use Rattle.std.specs.Prelude.{◌≡◌, ◌⊎◌, ◌*◌, ◌^◌, ℕ, Bool, false, not, if◌then◌else◌, List, [], ◌∷◌, ◌++◌, IfNone, IfSome, IsTrue, Option, None, Some, Ok, Err}
 use Rattle.std.specs.List.{list_any}
 use Rattle.sqlite.specs.State.{State as Shown, HasCleanDisk}
 use Rattle.registry_names.specs.Names.{IsName}
@@ -72,9 +72,9 @@ HasAnswers s caches = HasCleanDisk s → IsTrue s.is_open → AreAnswers (stored
 -- the most bytes that the kept texts in a view have together, without the one text that alone has
 -- more
 abbrev pub limit_of : View → ℕ
-limit_of Full = 2 ^ 26
+limit_of Full = 160 * 2 ^ 20
 limit_of Abbreviated = 2 ^ 24
-limit_of Revised = 2 ^ 26
+limit_of Revised = 160 * 2 ^ 20
 
 -- the most that the archives have, likewise
 abbrev pub archive_limit : ℕ

@@ -17,7 +17,7 @@ use std::alloc::{AllocError, Global};
 
 /// The most bytes that the kept texts of full packuments have together, without one text that alone
 /// has more.
-pub(crate) const TEXT_LIMIT: usize = 64 << 20;
+pub(crate) const TEXT_LIMIT: usize = 160 << 20;
 
 /// The most bytes that the kept texts of abbreviated packuments have together, without one text that
 /// alone has more.
@@ -25,7 +25,7 @@ pub(crate) const ABBREVIATED_LIMIT: usize = 16 << 20;
 
 /// The most bytes that the kept texts of packuments as npm reads them have together, without one
 /// text that alone has more.
-pub(crate) const REVISED_LIMIT: usize = 64 << 20;
+pub(crate) const REVISED_LIMIT: usize = 160 << 20;
 
 /// The most bytes that the kept archives have together, without one that alone has more.
 pub(crate) const ARCHIVE_LIMIT: usize = 64 << 20;

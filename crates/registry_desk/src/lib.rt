@@ -10,7 +10,7 @@
 //! The texts of packuments and the archives that were asked for are kept: a text until a change of
 //! a version or a tag of its package, or, as npm reads it, of a maintainer; an archive until its
 //! version is withdrawn. Of each kind those asked for last are kept: full packuments of at most
-//! 64 MiB together, abbreviated ones of 16, those that npm reads of 64, and archives of 64; and
+//! 160 MiB together, abbreviated ones of 16, those that npm reads of 160, and archives of 64; and
 //! beside them one that alone has more.
 #![tactic(auto)]
 
