@@ -1,5 +1,6 @@
 -- Entries that are put into a map one after another, and a map that is made of all of them.
-use Rattle.std.proofs.Common.{◌≡◌, List, [], ◌∷◌, ◌++◌, Option, Some, None, Bool, true, false, cond, Ordering, Less, Equal, Greater, is_eq, true≢false, refl, sym, ap, ◌∙◌, ⊤, ⊥}
+use Rattle.std.proofs.Common.{◌≡◌, List, [], ◌∷◌, ◌++◌, Option, Some, None, Bool, true, false, cond, Ordering, Less, Equal, Greater, is_eq, true≢false, refl, sym, ap, ◌∙◌}
+use Rattle.std.specs.Prelude.{⊤}
 use Rattle.std.proofs.lemmas.Cmp.{tied_itself, tied_back, alike_right}
 use Rattle.std.proofs.lemmas.Option.{none-some}
 use Rattle.std.specs.Cmp.{IsTotalOrder}
@@ -49,10 +50,10 @@ cond_apart true false x y z h = refl
 cond_apart false true x y z h = refl
 cond_apart false false x y z h = refl
 
-module _ {K X : Type 0} {R : K → K → Ordering} (o : IsTotalOrder R) where
-  same_way : (q k : K) → is_eq (R q k) ≡ is_eq (R k q)
-  same_way q k = ap is_eq (o.antisymm q k) ∙ reverse_eq (R k q)
+same_way : {K : Type 0} {R : K → K → Ordering} → IsTotalOrder R → (q k : K) → is_eq (R q k) ≡ is_eq (R k q)
+same_way {R = R} o q k = ap is_eq (o.antisymm q k) ∙ reverse_eq (R k q)
 
+module _ {K X : Type 0} {R : K → K → Ordering} (o : IsTotalOrder R) where
   -- ---- what is found after an entry is put in
 
   module _ (k : K) (v : X) (q : K) where
@@ -60,9 +61,9 @@ module _ {K X : Type 0} {R : K → K → Ordering} (o : IsTotalOrder R) where
         → lookup (is_at (R q)) (insert_entry R es k v) ≡ cond (is_eq (R k q)) (Some v) (lookup (is_at (R q)) es)
         → lookup (is_at (R q)) (match_ordering r ((k, v) ∷ e ∷ es) ((e.0, v) ∷ es) (e ∷ insert_entry R es k v))
         ≡ cond (is_eq (R k q)) (Some v) (cond (is_eq (R q e.0)) (Some e.1) (lookup (is_at (R q)) es))
-    found_at Less e es p later = ap (λ b. cond b (Some v) (cond (is_eq (R q e.0)) (Some e.1) (lookup (is_at (R q)) es))) (same_way q k)
+    found_at Less e es p later = ap (λ b. cond b (Some v) (cond (is_eq (R q e.0)) (Some e.1) (lookup (is_at (R q)) es))) (same_way o q k)
     found_at Equal e es p later =
-        let here : is_eq (R q e.0) ≡ is_eq (R k q) = ap is_eq (sym (alike_right o k e.0 q p)) ∙ same_way q k in
+        let here : is_eq (R q e.0) ≡ is_eq (R k q) = ap is_eq (sym (alike_right o k e.0 q p)) ∙ same_way o q k in
         ap (λ b. cond b (Some v) (lookup (is_at (R q)) es)) here ∙ cond_twice (is_eq (R k q)) (Some v) (Some e.1) (lookup (is_at (R q)) es)
             ∙ ap (λ b. cond (is_eq (R k q)) (Some v) (cond b (Some e.1) (lookup (is_at (R q)) es))) (sym here)
     found_at Greater e es p later =
@@ -71,7 +72,7 @@ module _ {K X : Type 0} {R : K → K → Ordering} (o : IsTotalOrder R) where
         ap (cond (is_eq (R q e.0)) (Some e.1)) later ∙ cond_apart (is_eq (R q e.0)) (is_eq (R k q)) (Some e.1) (Some v) (lookup (is_at (R q)) es) apart
 
     lookup-insert_entry : (es : List (K × X)) → lookup (is_at (R q)) (insert_entry R es k v) ≡ cond (is_eq (R k q)) (Some v) (lookup (is_at (R q)) es)
-    lookup-insert_entry [] = ap (λ b. cond b (Some v) None) (same_way q k)
+    lookup-insert_entry [] = ap (λ b. cond b (Some v) None) (same_way o q k)
     lookup-insert_entry (e ∷ es) = found_at (R k e.0) e es refl (lookup-insert_entry es)
 
   pub lookup-inserted : (xs es : List (K × X)) (f : K → Option X) → ((q : K) → lookup (is_at (R q)) es ≡ f q) → (q : K)
@@ -133,12 +134,12 @@ module _ {K X : Type 0} {R : K → K → Ordering} (o : IsTotalOrder R) where
   here : (e : K × X) (es : List (K × X)) → lookup (is_at (R e.0)) (e ∷ es) ≡ Some e.1
   here e es = ap (λ r. cond (is_eq r) (Some e.1) (lookup (is_at (R e.0)) es)) (tied_itself o e.0)
 
+  under : (q k : K) (es : List (K × X)) → R q k ≡ Less → AllByRecursion (λ y. R k y ≡ Less) (keys_of es) → AllByRecursion (λ y. R q y ≡ Less) (keys_of es)
+  under q k [] p h = h
+  under q k (e ∷ es) p h = (o.trans q k e.0 p h.0, under q k es p h.1)
+
   missed : (q : K) (f : K × X) (fs : List (K × X)) → R q f.0 ≡ Less → AllByRecursion (λ y. R f.0 y ≡ Less) (keys_of fs) → lookup (is_at (R q)) (f ∷ fs) ≡ None
-  missed q f fs p h = ap (λ r. cond (is_eq r) (Some f.1) (lookup (is_at (R q)) fs)) p ∙ none_above q fs (under fs h)
-    where
-    under : (gs : List (K × X)) → AllByRecursion (λ y. R f.0 y ≡ Less) (keys_of gs) → AllByRecursion (λ y. R q y ≡ Less) (keys_of gs)
-    under [] h = h
-    under (g ∷ gs) h = (o.trans q f.0 g.0 p h.0, under gs h.1)
+  missed q f fs p h = ap (λ r. cond (is_eq r) (Some f.1) (lookup (is_at (R q)) fs)) p ∙ none_above q fs (under q f.0 fs p h)
 
   tail_at : (b : Bool) (q : K) (e f : K × X) (es fs : List (K × X)) → is_eq (R q e.0) ≡ b → R e.0 f.0 ≡ Equal
       → AllByRecursion (λ y. R e.0 y ≡ Less) (keys_of es) → AllByRecursion (λ y. R f.0 y ≡ Less) (keys_of fs)
@@ -151,16 +152,19 @@ module _ {K X : Type 0} {R : K → K → Ordering} (o : IsTotalOrder R) where
       let is_f = ap is_eq (sym (alike_right o e.0 f.0 q p)) ∙ is in
       sym (ap (λ b. cond b (Some e.1) (lookup (is_at (R q)) es)) is) ∙ same ∙ ap (λ b. cond b (Some f.1) (lookup (is_at (R q)) fs)) is_f
 
+  alike_at : (r : Ordering) (e f : K × X) (es fs : List (K × X)) → R e.0 f.0 ≡ r
+      → IsStrictlySortedBy R (keys_of (e ∷ es)) → IsStrictlySortedBy R (keys_of (f ∷ fs)) → FindSame (e ∷ es) (f ∷ fs)
+      → (FindSame es fs → AreAlike R es fs) → AreAlike R (e ∷ es) (f ∷ fs)
+  unfolding IsStrictlySortedBy or_else
+  alike_at Less e f es fs p h g same later = absurd (none-some e.1 (sym (missed e.0 f fs p g.0) ∙ sym (same e.0) ∙ here e es))
+  alike_at Greater e f es fs p h g same later = absurd (none-some f.1 (sym (missed f.0 e es (o.antisymm f.0 e.0 ∙ ap ordering_reverse p) h.0) ∙ same f.0 ∙ here f fs))
+  alike_at Equal e f es fs p h g same later =
+      let value : Some e.1 ≡ Some f.1 = sym (here e es) ∙ same e.0 ∙ ap (λ r. cond (is_eq r) (Some f.1) (lookup (is_at (R e.0)) fs)) p in
+      (p, ap (or_else e.1) value, later (λ q. tail_at (is_eq (R q e.0)) q e f es fs refl p h.0 g.0 (same q)))
+
   pub alike_from_lookups : (es fs : List (K × X)) → IsStrictlySortedBy R (keys_of es) → IsStrictlySortedBy R (keys_of fs) → FindSame es fs → AreAlike R es fs
   unfolding IsStrictlySortedBy
   alike_from_lookups [] [] h g same = tt
   alike_from_lookups [] (f ∷ fs) h g same = absurd (none-some f.1 (same f.0 ∙ here f fs))
   alike_from_lookups (e ∷ es) [] h g same = absurd (none-some e.1 (sym (same e.0) ∙ here e es))
-  alike_from_lookups (e ∷ es) (f ∷ fs) h g same = as_one (R e.0 f.0) refl
-    where
-    as_one : (r : Ordering) → R e.0 f.0 ≡ r → AreAlike R (e ∷ es) (f ∷ fs)
-    as_one Less p = absurd (none-some e.1 (sym (missed e.0 f fs p g.0) ∙ sym (same e.0) ∙ here e es))
-    as_one Greater p = absurd (none-some f.1 (sym (missed f.0 e es (o.antisymm f.0 e.0 ∙ ap ordering_reverse p) h.0) ∙ same f.0 ∙ here f fs))
-    as_one Equal p =
-        let value : Some e.1 ≡ Some f.1 = sym (here e es) ∙ same e.0 ∙ ap (λ r. cond (is_eq r) (Some f.1) (lookup (is_at (R e.0)) fs)) p in
-        (p, ap (or_else e.1) value, alike_from_lookups es fs h.1 g.1 (λ q. tail_at (is_eq (R q e.0)) q e f es fs refl p h.0 g.0 (same q)))
+  alike_from_lookups (e ∷ es) (f ∷ fs) h g same = alike_at (R e.0 f.0) e f es fs refl h g same (alike_from_lookups es fs h.1 g.1)

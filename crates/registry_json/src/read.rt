@@ -1,6 +1,8 @@
 //! From a text to its value, in one pass over its tokens.
 
 ghost use Rattle.std.specs.Prelude.{◌≡◌, ◌<◌, ◌≤◌, length, Err, Some, None, IfOk, IfErr, OnOk, IsUtf8};
+ghost use Rattle.std.specs.BTreeMap.{IsFromIterResult};
+ghost use Rattle.std.specs.String.{string_cmp};
 ghost use Rattle.json.specs.Json.{value, items, members};
 ghost use Rattle.serde_json.specs.Data.{no_members, depth as nesting};
 ghost use Rattle.serde_json.specs.Read.{of_json, of_items, of_members, converted, max_depth, read as read_text};
@@ -127,5 +129,15 @@ fn read_object(
         let member = read(alloc, reader, depth)?;
         found.push((key, member))?;
     }
-    Ok(Map::from_iter(alloc, found)?)
+    object_of(alloc, found)
+}
+
+// The members that these are where each is put in after the other. Ones with a key that was put in
+// before take its place.
+fn object_of(alloc: Global, found: Vec<(String, Value)>) -> Result<Map<String, Value>, ReadError>
+    ensures ok { IfOk result (IsFromIterResult string_cmp found.items) }
+    ensures err { IfErr result (λ e. e ≡ ReadError.Memory) }
+{
+    let members = found.into_iter().collect(alloc)?;
+    Ok(members)
 }

@@ -1,4 +1,5 @@
 use Rattle.std.proofs.Common.{◌≡◌, ◌-◌, ◌<◌, [], ◌∷◌, length, Some, None, string_bytes, sym, ap, ap₂, ◌∙◌, arith, rules}
+use Rattle.std.proofs.lemmas.Result.{IfOk-weaker}
 use Rattle.json.specs.Token.{Token}
 use Rattle.json.specs.Json.{parse_map, after_end_array, read_key, items, members, value}
 use Rattle.json.specs.Reads.{token_of}
@@ -189,5 +190,6 @@ read_object-returns-clause-ok t c =
     let p = value c.args.depth in
     let l = c.members in
     let n = l.invariant.0 in
-    let old = put_in l.found.items in
-    l.invariant.2 ∙ members_over p old n l.reader c.next_key.new.self l.invariant.1 (grind arith)
+    let r = c.next_key.new.self in
+    IfOk-weaker c.object_of.result _ _ (λ m h. l.invariant.2 ∙ members_over p (put_in l.found.items) n l.reader r l.invariant.1 (grind arith)
+    ∙ ap (λ ms. Some (ms, r)) (sym (made_at_once l.found.items m h))) c.object_of.ensures.ok

@@ -10,10 +10,10 @@ unfolding lex punctuate
 some_text [] h = h
 some_text (x ∷ xs) h = omega arith
 
-pub returns-in-Err-clause-memory : goal.returns-in-Err-clause-memory
-returns-in-Err-clause-memory c full = some_text c.args.text.now (rw c.in-Ok.ensures.ok at (c.read.ensures.memory (grind arith)))
+pub returns-in_err-value-clause-memory : goal.returns-in_err-value-clause-memory
+returns-in_err-value-clause-memory c full = some_text c.args.text.now (rw c.in_ok-reader.ensures.ok at (c.read.ensures.memory (grind arith)))
 
 pub returns-clause-nests : goal.returns-clause-nests
 returns-clause-nests c =
     let none : c.read.new.reader ≡ [] = search rules in
-    depth-read c.args.text.now _ (whole_read (value 127 (tokens c.args.text.now)) _ (rw (c.in-Ok.ensures.ok, none) at c.in-Ok-read.ensures.ok))
+    depth-read c.args.text.now _ (whole_read (value 127 (tokens c.args.text.now)) _ (rw (c.in_ok-reader.ensures.ok, none) at c.in_ok-value.ensures.ok))
