@@ -1,10 +1,10 @@
 -- Entries that are put into a map one after another, and a map that is made of all of them.
-use Rattle.std.proofs.Common.{◌≡◌, List, [], ◌∷◌, ◌++◌, Option, Some, None, Bool, true, false, cond, Ordering, Less, Equal, Greater, is_eq, true≢false, refl, sym, ap, ◌∙◌}
+use Rattle.std.proofs.Common.{◌≡◌, List, [], ◌∷◌, ◌++◌, map, Option, Some, None, Bool, true, false, cond, Ordering, Less, Equal, Greater, is_eq, true≢false, refl, sym, ap, ◌∙◌}
 use Rattle.std.specs.Prelude.{⊤}
-use Rattle.std.proofs.lemmas.Cmp.{tied_itself, tied_back, alike_right}
+use Rattle.std.proofs.lemmas.Cmp.{tied_itself, alike_right}
 use Rattle.std.proofs.lemmas.Option.{none-some}
 use Rattle.std.specs.Cmp.{IsTotalOrder}
-use Rattle.std.specs.List.{AllByRecursion}
+use Rattle.std.specs.List.{AllByRecursion, filter}
 use Rattle.std.specs.List.Sorted.{IsStrictlySortedBy}
 use Rattle.std.specs.Map.{keys_of, lookup, update, update_all}
 use Rattle.std.specs.Ordering.{match_ordering, ordering_reverse, eq_by_cmp}
@@ -65,7 +65,7 @@ module _ {K X : Type 0} {R : K → K → Ordering} (o : IsTotalOrder R) where
     found_at Equal e es p later =
         let here : is_eq (R q e.0) ≡ is_eq (R k q) = ap is_eq (sym (alike_right o k e.0 q p)) ∙ same_way o q k in
         ap (λ b. cond b (Some v) (lookup (is_at (R q)) es)) here ∙ cond_twice (is_eq (R k q)) (Some v) (Some e.1) (lookup (is_at (R q)) es)
-            ∙ ap (λ b. cond (is_eq (R k q)) (Some v) (cond b (Some e.1) (lookup (is_at (R q)) es))) (sym here)
+        ∙ ap (λ b. cond (is_eq (R k q)) (Some v) (cond b (Some e.1) (lookup (is_at (R q)) es))) (sym here)
     found_at Greater e es p later =
         let apart = λ (b : is_eq (R q e.0) ≡ true) (c : is_eq (R k q) ≡ true).
         true≢false (sym (ap is_eq (sym p ∙ o.congr k q e.0 (equal_from (R k q) c) ∙ equal_from (R q e.0) b))) in
@@ -168,3 +168,41 @@ module _ {K X : Type 0} {R : K → K → Ordering} (o : IsTotalOrder R) where
   alike_from_lookups [] (f ∷ fs) h g same = absurd (none-some f.1 (same f.0 ∙ here f fs))
   alike_from_lookups (e ∷ es) [] h g same = absurd (none-some e.1 (sym (same e.0) ∙ here e es))
   alike_from_lookups (e ∷ es) (f ∷ fs) h g same = alike_at (R e.0 f.0) e f es fs refl h g same (alike_from_lookups es fs h.1 g.1)
+
+-- ---- of the entries that are put in, those of a key decide alone what is found there
+
+update_all-alike : {K X : Type 0} (e : K → K → Bool) (q : K) (ps : List (K × X)) (f g : K → Option X) → f q ≡ g q → update_all e f ps q ≡ update_all e g ps q
+update_all-alike e q [] f g h = h
+update_all-alike e q (p ∷ ps) f g h = update_all-alike e q ps (λ k. update e f p.0 (Some p.1) k) (λ k. update e g p.0 (Some p.1) k) (ap (cond (e p.0 q) (Some p.1)) h)
+
+own_at : {K X : Type 0} (b : Bool) (e : K → K → Bool) (q : K) (p : K × X) (ps : List (K × X)) (f : K → Option X) → e p.0 q ≡ b
+    → ((g : K → Option X) → update_all e g ps q ≡ update_all e g (filter (λ r. e r.0 q) ps) q)
+    → update_all e (λ k. update e f p.0 (Some p.1) k) ps q ≡ update_all e f (cond b (p ∷ filter (λ r. e r.0 q) ps) (filter (λ r. e r.0 q) ps)) q
+own_at true e q p ps f is later = later (λ k. update e f p.0 (Some p.1) k)
+own_at false e q p ps f is later = update_all-alike e q ps (λ k. update e f p.0 (Some p.1) k) f (ap (λ b. cond b (Some p.1) (f q)) is) ∙ later f
+
+pub update_all-own : {K X : Type 0} (e : K → K → Bool) (q : K) (ps : List (K × X)) (f : K → Option X) → update_all e f ps q ≡ update_all e f (filter (λ r. e r.0 q) ps) q
+update_all-own e q [] f = refl
+update_all-own e q (p ∷ ps) f = own_at (e p.0 q) e q p ps f refl (update_all-own e q ps)
+
+-- ---- filters
+
+finer_at : {A : Type 0} (c b : Bool) (P T : A → Bool) (x : A) (xs : List A) → T x ≡ c → P x ≡ b → (P x ≡ true → T x ≡ true)
+    → filter P xs ≡ filter P (filter T xs) → cond b (x ∷ filter P xs) (filter P xs) ≡ filter P (cond c (x ∷ filter T xs) (filter T xs))
+finer_at true true P T x xs t p h later = ap (λ l. x ∷ l) later ∙ sym (ap (λ b. cond b (x ∷ filter P (filter T xs)) (filter P (filter T xs))) p)
+finer_at true false P T x xs t p h later = later ∙ sym (ap (λ b. cond b (x ∷ filter P (filter T xs)) (filter P (filter T xs))) p)
+finer_at false true P T x xs t p h later = absurd (true≢false (sym (h p) ∙ t))
+finer_at false false P T x xs t p h later = later
+
+-- a test that holds of less
+pub filter-finer : {A : Type 0} (P T : A → Bool) → ((x : A) → P x ≡ true → T x ≡ true) → (xs : List A) → filter P xs ≡ filter P (filter T xs)
+filter-finer P T h [] = refl
+filter-finer P T h (x ∷ xs) = finer_at (T x) (P x) P T x xs refl refl (h x) (filter-finer P T h xs)
+
+mapped_at : {A B : Type 0} (b : Bool) (g : A → B) (x : A) (l : List B) (m : List A) → l ≡ map g m → cond b (g x ∷ l) l ≡ map g (cond b (x ∷ m) m)
+mapped_at true g x l m h = ap (λ l. g x ∷ l) h
+mapped_at false g x l m h = h
+
+pub filter-mapped : {A B : Type 0} (P : B → Bool) (g : A → B) (xs : List A) → filter P (map g xs) ≡ map g (filter (λ x. P (g x)) xs)
+filter-mapped P g [] = refl
+filter-mapped P g (x ∷ xs) = mapped_at (P (g x)) g x (filter P (map g xs)) (filter (λ y. P (g y)) xs) (filter-mapped P g xs)

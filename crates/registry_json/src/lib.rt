@@ -3,7 +3,7 @@
 //! A value is one of `serde_json`, and exactly the one that `serde_json` reads. Only the way to it
 //! differs: the members of an object are listed as they come, sorted by their keys once, and put
 //! into the object's map together, where `serde_json` puts each into its place in the map. An object
-//! of many members is read sooner so.
+//! of many members in no order is read many times sooner so.
 #![tactic(auto)]
 
 mod error;

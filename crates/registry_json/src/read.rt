@@ -1,18 +1,20 @@
 //! From a text to its value, in one pass over its tokens.
 
-ghost use Rattle.std.specs.Prelude.{◌≡◌, ◌<◌, ◌≤◌, length, Err, Some, None, IfOk, IfErr, OnOk, IsUtf8};
+ghost use Rattle.std.specs.Prelude.{◌≡◌, ◌<◌, ◌≤◌, length, Err, Some, None, IfOk, IfErr, OnOk, IsUtf8, slice_index};
 ghost use Rattle.std.specs.BTreeMap.{IsFromIterResult};
 ghost use Rattle.std.specs.String.{string_cmp};
 ghost use Rattle.json.specs.Json.{value, items, members};
 ghost use Rattle.serde_json.specs.Data.{no_members, depth as nesting};
 ghost use Rattle.serde_json.specs.Read.{of_json, of_items, of_members, converted, max_depth, read as read_text};
 ghost use Rattle.serde_json.specs.View.{view, items_view, members_view};
+ghost use Rattle.registry_json.specs.Members as spec;
+ghost use Rattle.registry_json.specs.Members.{members_of_all, named, own_named};
 
 use crate::error::ReadError;
 use crate::number::number;
 use json::{Reader, Scratch, Token};
 use serde_json::{Map, Value};
-use std::alloc::Global;
+use std::alloc::{AllocError, Global};
 
 const MAX_DEPTH: usize = 127;
 
@@ -52,7 +54,7 @@ pub fn from_str(alloc: Global, text: &str) -> Result<Value, ReadError>
 
 // The value that comes next, with at most `depth` arrays and objects in one another.
 #[cycle(read)]
-fn read(alloc: Global, reader: &mut Reader<'_>, depth: usize) -> Result<Value, ReadError>
+fn read<'a>(alloc: Global, reader: &mut Reader<'a>, depth: usize) -> Result<Value, ReadError>
     ensures ok { IfOk result
         (λ v. converted of_json (value depth reader.old) ≡ Some (view v, reader.new)) }
     ensures shorter { OnOk result (length reader.new < length reader.old) }
@@ -87,9 +89,9 @@ fn read(alloc: Global, reader: &mut Reader<'_>, depth: usize) -> Result<Value, R
 
 // The items of an array whose bracket has been read.
 #[cycle(read)]
-fn read_items(
+fn read_items<'a>(
     alloc: Global,
-    reader: &mut Reader<'_>,
+    reader: &mut Reader<'a>,
     depth: usize,
 ) -> Result<Vec<Value>, ReadError>
     ensures ok { IfOk result
@@ -109,9 +111,9 @@ fn read_items(
 
 // The members of an object whose brace has been read: of equal keys the last.
 #[cycle(read)]
-fn read_object(
+fn read_object<'a>(
     alloc: Global,
-    reader: &mut Reader<'_>,
+    reader: &mut Reader<'a>,
     depth: usize,
 ) -> Result<Map<String, Value>, ReadError>
     ensures ok { IfOk result
@@ -125,19 +127,73 @@ fn read_object(
 {
     let mut found = Vec::new(alloc);
     'members: while let Some(name) = reader.next_key()? {
-        let key = String::from_str(alloc, name)?;
         let member = read(alloc, reader, depth)?;
-        found.push((key, member))?;
+        found.push((name, member))?;
     }
     object_of(alloc, found)
 }
 
-// The members that these are where each is put in after the other. Ones with a key that was put in
-// before take its place.
-fn object_of(alloc: Global, found: Vec<(String, Value)>) -> Result<Map<String, Value>, ReadError>
-    ensures ok { IfOk result (IsFromIterResult string_cmp found.items) }
+// The object of these members: of equal keys the last. They are sorted by the beginnings of their
+// keys first, which are numbers beside one another in memory, and then all but in order put into the
+// map together.
+fn object_of(alloc: Global, mut found: Vec<(&str, Value)>) -> Result<Map<String, Value>, ReadError>
+    ensures ok { IfOk result (λ m. members_view m.entries ≡ members_of_all (named found.entry.items)) }
     ensures err { IfErr result (λ e. e ≡ ReadError.Memory) }
 {
-    let members = found.into_iter().collect(alloc)?;
-    Ok(members)
+    found.sort_by_cached_key(|member| beginning(member.0.as_bytes()))?;
+    let owned = with_own_keys(alloc, found)?;
+    Ok(map_of(alloc, owned)?)
+}
+
+fn map_of(alloc: Global, owned: Vec<(String, Value)>) -> Result<Map<String, Value>, AllocError>
+    ensures { IfOk result (IsFromIterResult string_cmp owned.items) }
+{
+    owned.into_iter().collect(alloc)
+}
+
+// The same members, with keys of their own.
+fn with_own_keys(
+    alloc: Global,
+    found: Vec<(&str, Value)>,
+) -> Result<Vec<(String, Value)>, AllocError>
+    ensures { IfOk result (λ owned. own_named owned.items ≡ named found.entry.items) }
+{
+    let mut owned = Vec::with_capacity(alloc, found.len())?;
+    for member in found {
+        let (name, value) = member;
+        let key = String::from_str(alloc, name)?;
+        owned.push((key, value))?;
+    }
+    Ok(owned)
+}
+
+// The first 16 bytes of a key as a number, with zeros behind a shorter one.
+#[tactic(auto, unfolding(crate::specs::Members::beginning))]
+fn beginning(key: &[u8]) -> u128
+    ensures { result ≡ spec.beginning key.now }
+{
+    u128::from_be_bytes([
+        byte_at(key, 0),
+        byte_at(key, 1),
+        byte_at(key, 2),
+        byte_at(key, 3),
+        byte_at(key, 4),
+        byte_at(key, 5),
+        byte_at(key, 6),
+        byte_at(key, 7),
+        byte_at(key, 8),
+        byte_at(key, 9),
+        byte_at(key, 10),
+        byte_at(key, 11),
+        byte_at(key, 12),
+        byte_at(key, 13),
+        byte_at(key, 14),
+        byte_at(key, 15),
+    ])
+}
+
+fn byte_at(key: &[u8], place: usize) -> u8
+    ensures { result ≡ slice_index key.now place }
+{
+    if place < key.len() { key[place] } else { 0 }
 }

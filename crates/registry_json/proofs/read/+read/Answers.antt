@@ -1,4 +1,4 @@
-use Rattle.std.proofs.Common.{◌≡◌, ◌-◌, ◌<◌, [], ◌∷◌, length, Some, None, string_bytes, sym, ap, ap₂, ◌∙◌, arith, rules}
+use Rattle.std.proofs.Common.{◌≡◌, ◌-◌, ◌<◌, [], ◌∷◌, length, Some, None, sym, ap, ap₂, ◌∙◌, arith, rules}
 use Rattle.std.proofs.lemmas.Result.{IfOk-weaker}
 use Rattle.json.specs.Token.{Token}
 use Rattle.json.specs.Json.{parse_map, after_end_array, read_key, items, members, value}
@@ -6,10 +6,11 @@ use Rattle.json.specs.Reads.{token_of}
 use Rattle.json.proofs.Grammar.{value_is, value-begin_array, value-begin_object, read_key-shorter}
 use Rattle.serde_json.specs.Data.{null, boolean, number, string, array, object, put}
 use Rattle.serde_json.specs.Read.{of_json, of_items, of_members, converted}
-use Rattle.serde_json.specs.View.{view, number_view, members_view}
+use Rattle.serde_json.specs.View.{view, number_view}
 use Rattle.serde_json.specs.declared.value.Value.{String, Number, Bool, Null, the_lemmas}
 use Rattle.serde_json.proofs.Views.{view-Array, view-Object}
-use Rattle.registry_json.proofs.ObjectFacts.{put_in, put_in-push, made_at_once}
+use Rattle.registry_json.proofs.ObjectFacts.{one_more}
+use Rattle.registry_json.specs.Members.{members_of_all, named}
 use Rattle.registry_json.proofs.ReadingFacts.{converted-array, converted-object, item_read, item_refused, items_over, member_read, member_refused, key_refused, members_over, items_before, items_before-no_items, one_more_item, none_before}
 use Rattle.registry_json.proofs.read.+read.Goals as goal
 
@@ -140,14 +141,14 @@ read_items-returns-clause-ok t c =
 pub read_object-members-init : goal.read_object-members-init
 read_object-members-init t c =
     let all = members (value c.args.depth) (length c.args.reader.now) c.args.reader.now in
-    (length c.args.reader.now, omega arith, ap (λ es. converted (λ ms. of_members ms (put_in es)) all) (sym c.new-found.ensures.items), omega arith)
+    (length c.args.reader.now, omega arith, ap (λ es. converted (λ ms. of_members ms (members_of_all (named es))) all) (sym c.new-found.ensures.items), omega arith)
 
 pub read_object-returns-in_err-name-clause-err : goal.read_object-returns-in_err-name-clause-err
 read_object-returns-in_err-name-clause-err t c refused =
     let p = value c.args.depth in
     let l = c.members in
     let n = l.invariant.0 in
-    let old = put_in l.found.items in
+    let old = members_of_all (named l.found.items) in
     l.invariant.2 ∙ key_refused p old n l.reader c.in_err-name.ensures.value
 
 pub read_object-returns-in_err-member-clause-err : goal.read_object-returns-in_err-member-clause-err
@@ -155,32 +156,31 @@ read_object-returns-in_err-member-clause-err t c refused =
     let p = value c.args.depth in
     let l = c.members in
     let n = l.invariant.0 in
-    let old = put_in l.found.items in
+    let old = members_of_all (named l.found.items) in
     let k = c.in-Some.name.now in
     let s = c.next_key.new.self in
-    let named : read_key l.reader ≡ Some (Some k, s) = grind arith in
-    l.invariant.2 ∙ member_refused p old n k l.reader s named (c.read.ensures.err (grind arith))
+    let keyed : read_key l.reader ≡ Some (Some k, s) = grind arith in
+    l.invariant.2 ∙ member_refused p old n k l.reader s keyed (c.read.ensures.err (grind arith))
 
 pub read_object-members-preserved : goal.read_object-members-preserved
 read_object-members-preserved t c =
     let p = value c.args.depth in
     let l = c.members in
     let n = l.invariant.0 in
-    let old = put_in l.found.items in
+    let old = members_of_all (named l.found.items) in
     let k = c.in-Some.name.now in
     let s = c.next_key.new.self in
-    let named : read_key l.reader ≡ Some (Some k, s) = grind arith in
+    let keyed : read_key l.reader ≡ Some (Some k, s) = grind arith in
     let done = c.in_ok-member.ensures in
     let v = c.in_ok-member.member in
     let r = c.read.new.reader in
-    let less = read_key-shorter l.reader (Some k) s named in
+    let less = read_key-shorter l.reader (Some k) s keyed in
     let lesser = done.shorter in
-    let copied : string_bytes c.in_ok-key.key ≡ k = search rules in
-    let inserted : put_in c.push.new.self.items ≡ put k (view v) old =
-    ap put_in c.in_ok-push.ensures.items ∙ put_in-push l.found.items c.in_ok-key.key v ∙ ap (λ name. put name (view v) old) copied in (
+    let inserted : members_of_all (named c.push.new.self.items) ≡ put k (view v) old =
+    ap (λ xs. members_of_all (named xs)) c.in_ok-push.ensures.items ∙ one_more l.found.items c.in-Some.name v in (
       n - 1,
       omega (arith, l.invariant.1),
-      l.invariant.2 ∙ member_read p old n k l.reader s r (view v) (omega (arith, l.invariant.1)) named done.ok
+      l.invariant.2 ∙ member_read p old n k l.reader s r (view v) (omega (arith, l.invariant.1)) keyed done.ok
           ∙ ap (λ found. converted (λ ms. of_members ms found) (members p (n - 1) r)) (sym inserted),
       omega (arith, l.invariant.3),
     )
@@ -191,5 +191,5 @@ read_object-returns-clause-ok t c =
     let l = c.members in
     let n = l.invariant.0 in
     let r = c.next_key.new.self in
-    IfOk-weaker c.object_of.result _ _ (λ m h. l.invariant.2 ∙ members_over p (put_in l.found.items) n l.reader r l.invariant.1 (grind arith)
-    ∙ ap (λ ms. Some (ms, r)) (sym (made_at_once l.found.items m h))) c.object_of.ensures.ok
+    IfOk-weaker c.object_of.result _ _ (λ m h. l.invariant.2 ∙ members_over p (members_of_all (named l.found.items)) n l.reader r l.invariant.1 (grind arith)
+    ∙ ap (λ ms. Some (ms, r)) (sym h)) c.object_of.ensures.ok

@@ -2,7 +2,7 @@ use Rattle.std.proofs.Common.{◌≡◌, ℕ, ◌+◌, ◌*◌, ◌≤◌, lengt
 use Rattle.json.specs.Json.{items, members, value, parse_map}
 use Rattle.serde_json.specs.Data.{no_members}
 use Rattle.serde_json.specs.Read.{of_items, of_members, converted}
-use Rattle.registry_json.proofs.ObjectFacts.{put_in}
+use Rattle.registry_json.specs.Members.{members_of_all, named}
 use Rattle.registry_json.proofs.ReadingFacts.{items_before}
 use Rattle.registry_json.proofs.read.+read.Given as goal
 
@@ -27,7 +27,7 @@ decreases-read_items-items l = length l.reader
 abbrev pub invariant-read_object-members : goal.invariant-read_object-members
 invariant-read_object-members l =
     (n : ℕ) × (length l.reader ≤ n)
-    × (converted (λ ms. of_members ms no_members) (members (value l.depth) (length l.initial.reader) l.initial.reader) ≡ converted (λ ms. of_members ms (put_in l.found.items)) (members (value l.depth) n l.reader))
+    × (converted (λ ms. of_members ms no_members) (members (value l.depth) (length l.initial.reader) l.initial.reader) ≡ converted (λ ms. of_members ms (members_of_all (named l.found.items))) (members (value l.depth) n l.reader))
     × (length l.reader ≤ length l.initial.reader)
 
 abbrev pub decreases-read_object-members : goal.decreases-read_object-members
