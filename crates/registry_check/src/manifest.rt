@@ -11,6 +11,7 @@ ghost use Rattle.registry_publish.specs.Integrity as integrities;
 ghost use Rattle.registry_publish.specs.Members as members;
 ghost use Rattle.registry_check.specs.Forms as spec;
 
+use registry_json::ReadError;
 use registry_names::Fault;
 use registry_publish::has_float;
 use serde_json::Value;
@@ -20,13 +21,10 @@ use std::alloc::Global;
 fn document(alloc: Global, text: &str) -> Result<Option<Value>, Fault>
     ensures { IfOk result (λ value. option_map (λ v. view v) value ≡ read text.now) }
 {
-    match Value::from_str(alloc, text) {
+    match registry_json::from_str(alloc, text) {
         Ok(value) => Ok(Some(value)),
-        Err(error) => if error.is_memory() {
-            Err(Fault::Memory)
-        } else {
-            Ok(None)
-        },
+        Err(ReadError::NotJson) => Ok(None),
+        Err(ReadError::Memory) => Err(Fault::Memory),
     }
 }
 

@@ -14,6 +14,7 @@ ghost use Rattle.registry_routes.specs.Bodies.{IsString, IsVersionBody, IsWordOf
 ghost use Rattle.registry_routes.specs.Bodies.{StopsDeprecation, StopsVersion};
 
 use registry_access::{Grant, Role};
+use registry_json::ReadError;
 use registry_names::{Fault, Message, Refusal, Status, Stop, Ver};
 use registry_ranges::Selector;
 use serde_json::Value;
@@ -33,13 +34,10 @@ fn json_of(alloc: Global, body: &[u8]) -> Result<Value, Stop>
     ensures ok { IfOk result (λ value. IsJson body.now (view value)) }
     ensures err { IfErr result (IsMemoryOr Refusal.BadBody (spec.IsNoJson body.now)) }
 {
-    match Value::from_slice(alloc, body) {
+    match registry_json::from_slice(alloc, body) {
         Ok(value) => Ok(value),
-        Err(error) => if error.is_memory() {
-            Err(Stop::Fault(Fault::Memory))
-        } else {
-            Err(BAD_BODY)
-        },
+        Err(ReadError::NotJson) => Err(BAD_BODY),
+        Err(ReadError::Memory) => Err(Stop::Fault(Fault::Memory)),
     }
 }
 

@@ -23,6 +23,8 @@ mod errands;
 #[cfg(test)]
 mod guests;
 #[cfg(test)]
+mod json;
+#[cfg(test)]
 mod names;
 #[cfg(test)]
 mod npm;
