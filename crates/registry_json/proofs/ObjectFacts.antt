@@ -64,6 +64,11 @@ pub one_more : (xs : List (Bor (List ℕ) × Value)) (name : Bor (List ℕ)) (v 
     → members_of_all (named (xs ++ (name, v) ∷ [])) ≡ put name.now (view v) (members_of_all (named xs))
 one_more xs name v = put_all-push xs (name, v) no_members
 
+-- the first of the members that are left is put in
+pub one_less : (all rest : List (Bor (List ℕ) × Value)) (m : Bor (List ℕ) × Value) (ms now whole : Members) → all ≡ m ∷ rest → put_all (named all) ms ≡ whole
+    → now ≡ put m.0.now (view m.1) ms → put_all (named rest) now ≡ whole
+one_less all rest m ms now whole split told is = ap (put_all (named rest)) is ∙ sym (ap (λ xs. put_all (named xs) ms) split) ∙ told
+
 -- ---- the order of members with different keys is nothing
 
 abbrev text_cmp : List ℕ → List ℕ → Ordering

@@ -18,6 +18,9 @@ use std::alloc::{AllocError, Global};
 
 const MAX_DEPTH: usize = 127;
 
+// So many members are put into their map one after another, which is as soon done as a sort.
+const FEW: usize = 32;
+
 /// The value of a text in UTF-8, which is the one that `serde_json` reads: its numbers are integers
 /// of 64 bits, or floats where they aren't whole or don't fit, and of the members of an object with
 /// equal keys the last one counts. Arrays and objects nest at most 127 deep.
@@ -133,10 +136,40 @@ fn read_object<'a>(
     object_of(alloc, found)
 }
 
-// The object of these members: of equal keys the last. They are sorted by the beginnings of their
-// keys first, which are numbers beside one another in memory, and then all but in order put into the
-// map together.
-fn object_of(alloc: Global, mut found: Vec<(&str, Value)>) -> Result<Map<String, Value>, ReadError>
+// The object of these members: of equal keys the last.
+fn object_of(alloc: Global, found: Vec<(&str, Value)>) -> Result<Map<String, Value>, ReadError>
+    ensures ok { IfOk result (λ m. members_view m.entries ≡ members_of_all (named found.entry.items)) }
+    ensures err { IfErr result (λ e. e ≡ ReadError.Memory) }
+{
+    if found.len() <= FEW {
+        Ok(object_of_few(alloc, found)?)
+    } else {
+        object_of_many(alloc, found)
+    }
+}
+
+// Each member is put in after the other.
+fn object_of_few(
+    alloc: Global,
+    found: Vec<(&str, Value)>,
+) -> Result<Map<String, Value>, AllocError>
+    ensures { IfOk result (λ m. members_view m.entries ≡ members_of_all (named found.entry.items)) }
+{
+    let mut map = Map::new(alloc);
+    for member in found {
+        let (name, value) = member;
+        let key = String::from_str(alloc, name)?;
+        drop(map.insert(key, value)?);
+    }
+    Ok(map)
+}
+
+// The members are sorted by the beginnings of their keys first, which are numbers beside one another
+// in memory, and then all but in order put into the map together.
+fn object_of_many(
+    alloc: Global,
+    mut found: Vec<(&str, Value)>,
+) -> Result<Map<String, Value>, ReadError>
     ensures ok { IfOk result (λ m. members_view m.entries ≡ members_of_all (named found.entry.items)) }
     ensures err { IfErr result (λ e. e ≡ ReadError.Memory) }
 {

@@ -2,7 +2,7 @@ use Rattle.std.proofs.Common.{ap, ◌∙◌, arith, rules}
 use Rattle.std.proofs.lemmas.List.Sorted.{answers_always}
 use Rattle.registry_json.specs.Members.{members_of_all, beginning}
 use Rattle.registry_json.proofs.ObjectFacts.{made_of_all, sorted_first}
-use Rattle.registry_json.proofs.read.object_of.Goals as goal
+use Rattle.registry_json.proofs.read.object_of_many.Goals as goal
 
 pub returns-clause-ok : goal.returns-clause-ok
 returns-clause-ok c =
