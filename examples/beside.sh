@@ -581,6 +581,17 @@ is_told_from_another() {
 }
 try 'another file at the path of a server is told from its own' is_told_from_another
 
+makes_no_other() {
+    serve "$db" || return 1
+    mv "$db" "$work/moved.db" && mv "$db-wal" "$work/moved.db-wal" || return 1
+    run one "$db" --operator user-add mia
+    is one 3 "has another file open" && [ ! -e "$db" ] || return 1
+    mv "$work/moved.db" "$db" && mv "$work/moved.db-wal" "$db-wal" || return 1
+    run one "$db" --operator user-add mia
+    is_done one
+}
+try 'a command makes no file where one was moved away from a server' makes_no_other
+
 # ---- tokens that are made
 
 db=$work/errands.db

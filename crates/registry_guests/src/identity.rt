@@ -41,8 +41,8 @@ pub(crate) fn is_open_there<R: Files + Alloc>(
     }
 }
 
-/// Whether a server has listened at the file's path that has another file open, which was there before,
-/// and still listens.
+/// Whether a server listens at the file's path that has another file open, which was there before. So
+/// it is, too, where no file is there any more.
 ///
 /// An error is the system's.
 pub fn has_other_file<R: Files + Net + Alloc>(
@@ -51,9 +51,11 @@ pub fn has_other_file<R: Files + Net + Alloc>(
     file: &str,
 ) -> io::Result<bool> {
     let folder = folder_of(rt, alloc, file)?;
-    // What comes of a folder that isn't trusted, an attempt to reach the server tells.
+    // What comes of a folder that isn't trusted, an attempt to reach the server tells. Without a file
+    // nobody is trusted, and nothing is sent.
     match is_trusted(rt, folder.as_str(), file) {
         Ok(true) => {}
+        Err(error) if error.kind() == ErrorKind::NotFound => {}
         _ => return Ok(false),
     }
     if is_open_there(rt, alloc, folder.as_str(), file)? {

@@ -99,6 +99,21 @@ fn a_folder_that_others_may_enter_is_refused(rt: HostRuntime) {
 }
 
 #[test]
+fn a_server_whose_file_was_moved_away_has_another(rt: HostRuntime) {
+    let file = "moved.db";
+    same(&rt, "no folder", has_other(&rt, file), Some(false));
+    lay(&rt, file).expect(&rt, "a file");
+    let server = ServerSide::open(&rt, &rt, file);
+    same(&rt, "its own", has_other(&rt, file), Some(false));
+    fs::remove_file(&rt, file).expect(&rt, "no file");
+    same(&rt, "moved away", has_other(&rt, file), Some(true));
+    let are_removed = are_removed(&rt, &server.listener, file);
+    same(&rt, "its sockets are removed", are_removed, true);
+    same(&rt, "nothing listens", has_other(&rt, file), Some(false));
+    forget(&rt, file);
+}
+
+#[test]
 fn a_folder_of_another_kind_is_refused(rt: HostRuntime) {
     let file = "linked.db";
     lay(&rt, file).expect(&rt, "a file");
