@@ -588,7 +588,8 @@ makes_no_other() {
     is one 3 "has another file open" && [ ! -e "$db" ] || return 1
     mv "$work/moved.db" "$db" && mv "$work/moved.db-wal" "$db-wal" || return 1
     run one "$db" --operator user-add mia
-    is_done one
+    is_done one || return 1
+    stop
 }
 try 'a command makes no file where one was moved away from a server' makes_no_other
 
