@@ -6,9 +6,14 @@ use crate::publication::packument_of;
 use registry_files::{Begins, Ending, Registries, report};
 use registry_names::{BODY_LIMIT, ByteIn, ByteOut, Text, read_whole, write_whole};
 use std::alloc::Global;
+use std::io::IsTerminal;
 
 /// One byte more than a body may have: enough to see that it is too large.
 pub(crate) const MOST_READ: usize = BODY_LIMIT + 1;
+
+/// What a person at a terminal is told who gives no arguments.
+const WAITS: &str =
+    "registry: a publish body is awaited on standard input. `registry --help` lists the commands.\n";
 
 /// Runs the program on the arguments after its name, and returns its exit status. Files are opened from
 /// such a start, which says for proofs alone what they held.
@@ -50,6 +55,7 @@ pub fn program_over<S: Begins, R: Registries, I: ByteIn, O: ByteOut, E: ByteOut>
     errors: &mut E,
 ) -> u8 {
     let done = if arguments.is_empty() {
+        tell_what_is_awaited(rt, errors);
         print_packument(alloc, input, output)
     } else {
         answer_command::<S, _, _, _, _>(rt, alloc, registries, arguments, input, output, errors)
@@ -57,6 +63,13 @@ pub fn program_over<S: Begins, R: Registries, I: ByteIn, O: ByteOut, E: ByteOut>
     match done {
         Ok(status) => status,
         Err(ending) => report(errors, &ending),
+    }
+}
+
+// Tells a person at a terminal what the program waits for.
+fn tell_what_is_awaited<E: ByteOut>(rt: &HostRuntime, errors: &mut E) {
+    if rt.stdin().is_terminal() && rt.stderr().is_terminal() {
+        let _ = write_whole(errors, WAITS.as_bytes());
     }
 }
 
