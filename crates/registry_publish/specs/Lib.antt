@@ -7,6 +7,7 @@ pub mod Integrity
 pub mod Members
 pub mod Needs
 pub mod Reads
+pub mod Spelled
 pub mod Stops
 pub mod Tokens
 pub mod Views

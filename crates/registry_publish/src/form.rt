@@ -10,6 +10,7 @@ ghost use Rattle.registry_publish.specs.Integrity as spec;
 ghost use Rattle.registry_publish.specs.Integrity.{integrity_text};
 ghost use Rattle.registry_publish.specs.Needs.{needs_of};
 ghost use Rattle.registry_publish.specs.Reads.{IsNamed, IsReadBody, StopsTexts};
+ghost use Rattle.registry_publish.specs.Spelled.{Spells};
 ghost use Rattle.registry_publish.specs.Views.{body_view};
 
 use crate::body::{Body, body_of};
@@ -17,6 +18,7 @@ use crate::integrity::{has_integrity, integrity_of};
 use crate::json::document;
 use crate::need::Need;
 use registry_names::{BODY_LIMIT, Name, Refusal, Status, Stop, TagText, Text, Ver};
+use serde_json::Value;
 use std::alloc::Global;
 use std::marker::Model;
 
@@ -121,7 +123,20 @@ impl PublishForm {
             return Err(Stop::Refused(Refusal::TooLarge));
         }
         let value = document(alloc, body)?;
-        let body = body_of(alloc, &value)?;
+        PublishForm::of(alloc, &value)
+    }
+
+    /// The form of a body that has been read to this value: what [`read`](PublishForm::read) says of
+    /// each body that isn't too large and is JSON of the value. So a caller that reads a body for
+    /// itself needn't have it read twice.
+    ///
+    /// The errors of `read` are returned but `TooLarge`.
+    pub fn of(alloc: Global, value: &Value) -> Result<PublishForm, Stop>
+        requires { (b : List ℕ) × Spells b (view value.now) }
+        ensures { (b : List ℕ) → Spells b (view value.now)
+            → MatchResult result (IsFormOf b) (StopsForm b) }
+    {
+        let body = body_of(alloc, value)?;
         form_of(alloc, body)
     }
 

@@ -6,6 +6,7 @@ ghost use Rattle.serde_json.specs.Read.{read, max_depth};
 ghost use Rattle.serde_json.specs.View.{view};
 ghost use Rattle.registry_publish.specs.Stops.{StopsReading};
 
+use registry_json::ReadError;
 use registry_names::{Fault, Refusal, Stop};
 use serde_json::Value;
 use std::alloc::Global;
@@ -17,12 +18,9 @@ pub(crate) fn document(alloc: Global, bytes: &[u8]) -> Result<Value, Stop>
     ensures nests { IfOk result (λ v. depth (view v) ≤ max_depth) }
     ensures err { IfErr result (StopsReading (IsUtf8 bytes.now → read bytes.now ≡ None)) }
 {
-    match Value::from_slice(alloc, bytes) {
+    match registry_json::from_slice(alloc, bytes) {
         Ok(value) => Ok(value),
-        Err(error) => if error.is_memory() {
-            Err(Stop::Fault(Fault::Memory))
-        } else {
-            Err(BAD_BODY)
-        },
+        Err(ReadError::NotJson) => Err(BAD_BODY),
+        Err(ReadError::Memory) => Err(Stop::Fault(Fault::Memory)),
     }
 }

@@ -1,0 +1,4 @@
+pub mod MapFacts
+pub mod ObjectFacts
+pub mod NumberFacts
+pub mod ReadingFacts
