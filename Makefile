@@ -11,7 +11,7 @@ EVERY := 1
 JOBS := 1
 SECONDS := 600
 
-.PHONY: help demo quick run build test check stories stops plants docs fmt npm npm-team front fronts beside log socket kill files older page limits large soak starve fuzz bench compare house copy installs examples kit
+.PHONY: help demo quick run build test check stories stops plants docs fmt npm npm-team front fronts beside log socket kill files older page limits large prices soak starve fuzz bench compare house copy installs examples kit
 
 help:
 	@echo 'Build:'
@@ -43,6 +43,7 @@ help:
 	@echo '  make older    migrates files of older schemas, and kills that at any moment: two minutes'
 	@echo '  make limits   tries the limits of connections, and hostile clients: 5 minutes'
 	@echo '  make large    sends two million bytes of each thing, which must be refused soon'
+	@echo '  make prices   asks each route and command its dearest input, beside a publish of 3.7 MB: 20 minutes'
 	@echo '  make soak     runs a hundred clients for ten minutes: memory and answers must hold'
 	@echo '  make starve   refuses each piece of memory in turn (EVERY=20: every 20th; JOBS=4: four at once)'
 	@echo '  make fuzz     fuzzes it with afl++ for ten minutes (SECONDS=3600: an hour; 0: the examples alone)'
@@ -118,6 +119,9 @@ limits: out/registry
 large: out/registry
 	@tools/measure_large --program out/registry
 
+prices: out/registry
+	@tools/prices --program out/registry
+
 soak: out/registry
 	@tools/soak --program out/registry
 
@@ -148,6 +152,7 @@ installs: out/registry
 test: kit examples
 	@tools/check_listings
 	@tools/check_pages
+	@tools/prices --names > /dev/null
 	@RT_SECONDS=600 tools/gate_times rt ci
 
 quick: kit

@@ -74,7 +74,7 @@ project() {
 required() { (cd "$1" && node -p "require('$2')"); }
 has() { grep -q -- "$1" "$work/out"; }
 wait_for() {
-    for _ in $(seq 1 300); do
+    for _ in $(seq 1 1200); do
         if "$@" > /dev/null 2>&1; then return 0; fi
         sleep 0.1
     done
@@ -110,7 +110,7 @@ serve() {
 # ---- the front, with the ports, the name and the certificate of this try
 
 certificate() {
-    openssl req -x509 -newkey rsa:2048 -nodes -days 1 -subj "/CN=$1" -addext "subjectAltName=DNS:$1" \
+    openssl req -x509 -newkey ec -pkeyopt ec_paramgen_curve:prime256v1 -nodes -days 1 -subj "/CN=$1" -addext "subjectAltName=DNS:$1" \
         -keyout "$work/$2key.pem" -out "$work/$2cert.pem" 2> "$work/out" || give_up "openssl: $(cat "$work/out")"
 }
 
@@ -122,7 +122,7 @@ placed() {
         -e 's|_name registry\.example|_name localhost|' -e "s|registry\.example|localhost:$5|" \
         -e "s|/etc/nginx/registry-|$2/|" -e "s|/var/log/nginx/|$2/|" \
         -e "s|registry\.npmjs\.org|public.example:$public|" -e "s|resolver 127\.0\.0\.53|resolver 127.0.0.1:$stub|" \
-        -e "s|/etc/ssl/certs/ca-certificates\.crt|$authority|" "$top/examples/front/$1"
+        -e "s|/etc/ssl/certs/ca-certificates\.crt|$authority|" -e "s|/var/cache/registry-public|$2/kept|" "$top/examples/front/$1"
 }
 # The whole configuration in a folder, with the number of connections of docs/OPERATIONS.md.
 configure() {
