@@ -11,8 +11,9 @@ FEW, MANY, ROUNDS, LISTS, SINGLE = 1_000, 10_000, 100, 20, 2_000
 BODY, BODIES, STALLED = 4_194_304, 100, 20
 VERSIONS, LONG, READERS = 17, 4_100_000, 40
 
-# Of a body under way so many bytes are sent before its client stops.
+# Of a body under way so many bytes are sent before its client stops: most of it, or a sixteenth.
 FRONT = 3_900_000
+EARLY, MANY_BODIES = 270_000, 240
 
 # What is published in a round has a version of its own.
 ROUND = itertools.count(1)
@@ -194,9 +195,9 @@ class Crowd:
     """Clients that all send the front of a body without a token at the same time, as far as the
     server takes it."""
 
-    def __init__(self, port, count):
+    def __init__(self, port, count, size=FRONT):
         whole = request_of('PUT', '/kit', Publication('kit', '1.0.0', 3_144_000).body.ljust(BODY))
-        front, self.rest = whole[:FRONT], whole[FRONT:]
+        front, self.rest = whole[:size], whole[size:]
         self.clients = [connect(port) for _ in range(count)]
         for one in self.clients:
             one.setblocking(False)
@@ -269,6 +270,20 @@ def bodies_under_way(server):
     return want(most - before < 320 and small < 0.1 and publish < 0.5 and refused >= BODIES - 2, came)
 
 
+def many_bodies_under_way(server):
+    """240 clients without a token that stop once a little more than a sixteenth of a body has come, and
+    then all go on."""
+    before, _ = server.memory()
+    crowd = Crowd(server.port, MANY_BODIES, EARLY)
+    time.sleep(3)
+    after, _ = server.memory()
+    refused = crowd.go_on()
+    crowd.close()
+    _, most = server.memory()
+    return want(most - before < 320 and refused >= MANY_BODIES - 2,
+                f'{figure(after - before)} MB more, {figure(most - before)} at most; {refused} of {MANY_BODIES} are answered')
+
+
 def bodies_that_stall(server):
     """20 clients without a token that stop within a body, and send nothing more. Beside them one
     publishes 100 kB."""
@@ -281,7 +296,7 @@ def bodies_that_stall(server):
 
 
 LARGE = delete_by_nobody, thousand_deletes, depended, depended_growth, own_packages_growth
-ALONE = head_in_bytes, bodies_by_nobody, bodies_under_way, bodies_that_stall
+ALONE = head_in_bytes, bodies_by_nobody, bodies_under_way, many_bodies_under_way, bodies_that_stall
 
 TRIES = [
     Try('delete-by-nobody', 'a withdrawal without a token, among 10,000 packages of seven needs each',
@@ -301,6 +316,8 @@ TRIES = [
         'less than two and a half such packuments more', packument_by_many),
     Try('bodies-under-way', '100 clients without a token that stop within a body of 4 MiB, others beside them, and then all go on',
         'under 320 MB more, a packument and a small publish at once, and all but two are answered', bodies_under_way),
+    Try('many-bodies-under-way', '240 clients without a token that stop after 270,000 bytes of a body of 4 MiB, and then all go on',
+        'under 320 MB more, and all but two are answered', many_bodies_under_way),
     Try('bodies-that-stall', '20 clients without a token that stop within a body of 4 MiB, and a publish of 100 kB beside them',
         'within 15 s', bodies_that_stall),
 ]

@@ -6,18 +6,20 @@ ghost use Rattle.registry_wire.specs.Knowledge.{IsKnown};
 ghost use Rattle.registry_wire.specs.Spelling.{Says, request_limit};
 ghost use Rattle.registry_wire.specs.declared.first.First.TheVariants.{Unfinished};
 
-use crate::first::{First, looked_at};
+use crate::first::{First, HEAD_LIMIT, looked_at};
 use crate::known::{Known, is_unfinished, looked_on};
-use registry_names::Fault;
+use registry_names::{BODY_LIMIT, Fault};
 use std::alloc::{AllocError, Global};
 use std::marker::Model;
 
 /// A buffer of more bytes is given back once no more than these are held in it.
 const KEPT_LIMIT: usize = 16_384;
 
-/// Once this part of a request has come, memory is taken for all of it. So few bytes are copied
-/// while it grows, and nobody gets memory for a body that they only announce.
-const ROOM_PART: usize = 16;
+/// The least memory that is taken where some is.
+const LEAST_ROOM: usize = 16_384;
+
+/// Memory for any request, and for one read of 16,384 bytes.
+const WHOLE_ROOM: usize = HEAD_LIMIT + BODY_LIMIT + 16_384;
 
 /// The bytes that came on a connection and aren't used yet. However few come at once, a head among
 /// them is parsed at most twice before its body, and once more when that is whole: in between each
@@ -65,7 +67,7 @@ impl Incoming {
     pub fn came(&mut self, bytes: &[u8]) -> Result<(), AllocError>
         ensures { self.new ≡ (if is_ok result then self.old ++ bytes.now else self.old) }
     {
-        make_room(&mut self.bytes, self.known);
+        make_room(&mut self.bytes, bytes.len());
         self.bytes.extend_from_slice(bytes)?;
         Ok(())
     }
@@ -101,17 +103,22 @@ impl Incoming {
     }
 }
 
-// Makes room for a whole request, where enough of it has come and there is memory for it.
-fn make_room(bytes: &mut Vec<u8>, known: Known)
+// Makes room for so many more bytes, where there is too little and memory is left.
+fn make_room(bytes: &mut Vec<u8>, more: usize)
     ensures { bytes.new.items ≡ bytes.old.items }
 {
-    let Known::Body(whole) = known else {
-        return;
-    };
-    let len = bytes.len();
-    if whole / ROOM_PART <= len && len < whole {
-        let _made = bytes.reserve_exact(whole - len);
+    let count = bytes.len().saturating_add(more);
+    if count > bytes.capacity() {
+        let _made = bytes.reserve_exact(room_of(count).saturating_sub(bytes.len()));
     }
+}
+
+// How much memory so many bytes take as they come: a quarter more than they are, so that few of them
+// are moved as more come, and nobody gets memory for a body that they only announce. The quarter is no
+// more than a whole request needs.
+fn room_of(count: usize) -> usize {
+    let more = count.saturating_add(count / 4).min(WHOLE_ROOM);
+    LEAST_ROOM.max(count).max(more)
 }
 
 // Drops this many of the first bytes. The others move once, where there are any.
