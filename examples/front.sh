@@ -689,7 +689,10 @@ require("net").createServer((socket) => {
         if (line.includes("no-such-organisation") && /^authorization:/im.test(whole)) { answer(404, "{}"); return; }
         seen += 1;
         if (/\/hang|\/waits/.test(line)) return;
-        if (line.includes("/warm")) setTimeout(() => answer(200, "{}"), 500);
+        if (line.includes("/huge")) {
+            answer(200, "x".repeat(100000000));
+            socket.on("close", () => say("huge is closed"));
+        } else if (line.includes("/warm")) setTimeout(() => answer(200, "{}"), 500);
         else if (line.includes("/whole")) answer(200, "x".repeat(30000000), () => say("taken"));
         else if (line.includes("/dist-tags")) answer(500, "{}");
         else if (seen > 1) socket.destroy();
@@ -704,6 +707,7 @@ node "$work/ending.js" "$ending" "$work/ending.log" 2> "$work/out" &
 stand_ins="$stand_ins $!"
 configure "$work/ending" "127.0.0.1:$ending" "$(nth_port 7)" "$(nth_port 8)"
 begin_front "$work/ending"
+ending_front=$!
 wait_for with_token --fail "$ending_address/first" || give_up "the second front does not answer: $(cat "$work/ending/error.log" "$work/out")"
 
 # It is looked at a minute later.
@@ -748,7 +752,7 @@ setInterval(() => {}, 1000);
 const socket = require("tls").connect({ port, host: "127.0.0.1", rejectUnauthorized: false }, () => {
     const head = "host: localhost\r\nauthorization: Bearer npm_bob_000000001\r\n";
     if (kind === "takes-nothing") {
-        socket.write(`GET /whole HTTP/1.1\r\n${head}\r\n`);
+        socket.write(`GET ${log} HTTP/1.1\r\n${head}\r\n`);
         socket.pause();
         return;
     }
@@ -768,7 +772,7 @@ takes_bodies() {
 }
 try 'of a body nothing is sent on before all has come' takes_bodies
 takes_answers() {
-    node "$work/slow.js" "$(nth_port 8)" takes-nothing > "$work/out" 2>&1 &
+    node "$work/slow.js" "$(nth_port 8)" takes-nothing /whole > "$work/out" 2>&1 &
     taker=$!
     stand_ins="$stand_ins $taker"
     wait_for grep -q '^taken$' "$work/ending.log"
@@ -777,6 +781,29 @@ takes_answers() {
     return $taken
 }
 try 'an answer of 30 MB is taken from the registry, though the client takes nothing' takes_answers
+
+# What lies in nginx's files that have no name any more, in MB.
+held_in_files() {
+    held=0
+    for process in $(cat "/proc/$ending_front/task/"*/children); do
+        for file in "/proc/$process/fd/"*; do
+            case $(readlink "$file") in *deleted*) held=$((held + $(stat -L -c %s "$file"))) ;; esac
+        done
+    done
+    echo $((held / 1000000))
+}
+holds_64() { [ "$(held_in_files)" -ge 60 ]; }
+holds_little() {
+    node "$work/slow.js" "$(nth_port 8)" takes-nothing /huge > "$work/out" 2>&1 &
+    taker=$!
+    stand_ins="$stand_ins $taker"
+    wait_for holds_64 || return 1
+    sleep 2
+    most=$(held_in_files)
+    echo "$most MB" > "$work/out"
+    wait_for grep -q '^huge is closed$' "$work/ending.log" && [ "$most" -le 70 ] && [ "$(held_in_files)" -lt 60 ] && kill "$taker"
+}
+try 'of an answer of 100 MB that a client does not take 64 MiB lie on the disk, and the client is cut off' holds_little
 
 # Hundred requests that are not answered, then one more of the same address and one of another.
 limits_requests() {

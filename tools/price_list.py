@@ -6,7 +6,10 @@ from price_stages import *
 # How many times the yardstick a price may be where no exception says more, and the exceptions: by the name
 # of a price, how many times it may be, and why nobody can be held up by it, or what will end it.
 MOST = 4
-EXCEPTIONS = {}
+EXCEPTIONS = {
+    'command-serve': (30, 'the operator\'s start, before anybody is served: it grows with the file'),
+    'command-restore': (60, 'the operator\'s, without a server: it opens and checks the file'),
+}
 
 
 class Price:
