@@ -15,3 +15,4 @@ pub mod PieceFacts
 pub mod RangeFacts
 pub mod SelectorFacts
 pub mod BindingFacts
+pub mod ManyFacts

@@ -11,3 +11,4 @@ pub mod Tags
 pub mod Selectors
 pub mod SelectorViews
 pub mod Laws
+pub mod Many

@@ -24,7 +24,7 @@ struct Verdict {
     any_is_near: bool,
 }
 
-fn is_release(version: &Ver) -> bool
+pub(crate) fn is_release(version: &Ver) -> bool
     ensures { result ≡ (length version.now.pre == 0) }
 {
     version.as_semver().pre.is_empty()

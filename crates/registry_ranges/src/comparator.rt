@@ -74,7 +74,7 @@ fn is_below(version: &Ver, major: u64, minor: u64, patch: u64) -> bool
         .is_lt()
 }
 
-fn has_numbers(version: &Ver, major: u64, minor: u64, patch: u64) -> bool
+pub(crate) fn has_numbers(version: &Ver, major: u64, minor: u64, patch: u64) -> bool
     ensures { result ≡ spec.has_numbers version.now major minor patch }
 {
     let version = version.as_semver();

@@ -15,6 +15,7 @@ mod component;
 mod condition;
 mod dist_tag;
 pub mod laws;
+mod many;
 mod number;
 mod partial;
 mod prefix;
@@ -28,6 +29,7 @@ mod simple;
 
 pub use crate::binding::binds;
 pub use crate::dist_tag::tag;
+pub use crate::many::binds_any;
 pub use crate::range::Range;
 pub use crate::range_text::is_range;
 pub use crate::selector::Selector;

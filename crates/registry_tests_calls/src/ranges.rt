@@ -2,9 +2,11 @@
 
 use crate::outcome::same;
 use crate::parts::{repeated, version};
-use registry_ranges::{Range, binds, is_range};
+use registry_names::Ver;
+use registry_ranges::{Range, binds, binds_any, is_range};
 use std::alloc::Global;
 use std::process::Abort;
+use std::slice;
 
 /// Whether a range allows a version. `None` where the text isn't a range.
 type Allowed = Option<bool>;
@@ -148,6 +150,8 @@ fn both_say(rt: &impl Abort, alloc: Global, range: &str, text: &str, wanted: All
     same(rt, shows, is_range(range), wanted.is_some());
     same(rt, shows, allowed, wanted);
     same(rt, shows, bound, wanted.unwrap_or(true));
+    let any = binds_any(alloc, range, slice::from_ref(&version)).expect(rt, "memory");
+    same(rt, shows, any, bound);
 }
 
 #[test]
@@ -163,6 +167,58 @@ fn texts_are_no_ranges(rt: HostRuntime) {
         both_say(&rt, rt.alloc(), text, "1.0.0", None);
     }
     both_say(&rt, rt.alloc(), "1\n", "1.0.0", None);
+}
+
+// Each line has a text, and ` => `, whether it binds one of the versions, and the versions.
+const MANY: &str = "^1 => false
+latest => false
+^1 => true 0.9.0 1.2.0 2.0.0
+^1 => true 2.0.0 1.2.0 0.9.0
+^1 => false 0.9.0 2.0.0
+^1 => true 0.9.0 0.9.1 0.9.2 1.0.0
+=1.2.3 => true 1.2.2 1.2.3 1.2.4
+=1.2.3 => false 1.2.2 1.2.4
+>1.2.3 <=1.2.5 => true 1.2.3 1.2.5
+>1.2.3 <=1.2.5 => false 1.2.3 1.2.6
+>=1.2.3 <1.2.5 => true 1.2.2 1.2.3 1.2.5
+>=1.2.3 <1.2.5 => false 1.2.2 1.2.5
+latest => true 1.0.0
+1 || latest => true 2.0.0 3.0.0
+1 || 3 => true 2.0.0 3.1.0
+1 || 3 => false 2.0.0 4.0.0
+1 2 => false 1.0.0 2.0.0
+* => false 1.0.0-a 2.0.0-a
+* => true 1.0.0-a 2.0.0
+>=1.2.3-beta.1 <1.3.0 => true 1.0.0 1.2.3-beta.2 2.0.0
+>=1.2.3-beta.1 <1.3.0 => false 1.2.3-alpha 1.2.4-beta 1.3.0
+>1.2.3-b <1.2.3-d => true 1.2.3-b 1.2.3-c 1.2.3-d
+>1.2.3-b <1.2.3-d => false 1.2.2 1.2.3-b 1.2.3-d 1.2.3
+1.0.0 || 2.0.0-a => true 2.0.0-a 3.0.0
+1.0.0 || 2.0.0-a => false 1.0.0-a 2.0.0-b
+>=1.0.0-b <2.0.0-b => true 1.0.0-c
+>=1.0.0-b <2.0.0-b => true 2.0.0-a
+>=1.0.0-b <2.0.0-b => false 1.0.0-a 1.5.0-a 2.0.0-b 2.0.0
+1.0.0-b || >=0.9.0 <2.0.0 => false 1.0.0-c
+1.0.0-b || >=0.9.0 <2.0.0 => true 1.0.0-c 1.0.0";
+
+#[test]
+fn texts_bind_one_of_many(rt: HostRuntime) {
+    for line in MANY.lines() {
+        any_is_told(&rt, rt.alloc(), line);
+    }
+}
+
+fn any_is_told(rt: &impl Abort, alloc: Global, line: &str) {
+    let (range, told) = line.split_once(" => ").expect(rt, line);
+    let mut words = told.split(' ');
+    let wanted = words.next() == Some("true");
+    let mut versions: Vec<Ver> = Vec::new(alloc);
+    for word in words {
+        versions.push(version(rt, alloc, word)).expect(rt, "memory");
+    }
+    versions.sort_unstable();
+    let bound = binds_any(alloc, range, &versions).expect(rt, "memory");
+    same(rt, line, bound, wanted);
 }
 
 /// A part, how often a range repeats it, and whether 1.0.0 is allowed.
