@@ -4,8 +4,8 @@
 //!
 //! A text is a range exactly where the grammar has it, and a range allows exactly the versions that
 //! the tables say. A range is read in one scan, a selector and a tag in two, in time linear in the
-//! text, with no recursion; asking takes no memory. Whether a text binds one version is decided
-//! while it is read.
+//! text, with no recursion; asking takes no memory. Whether a text binds one version, or one of many,
+//! is decided while it is read.
 #![tactic(auto)]
 
 mod binding;

@@ -153,7 +153,8 @@ fn within_part<'a>(
     requires sorted { IsSorted precedence versions.now }
     requires part { IsPart (part_view part) }
     ensures ok { IfOk result (λ left. left.now
-        ≡ filter (λ v. list_all (spec.holds v) (comparators_of_part (part_view part.entry))) versions.now) }
+        ≡ filter (λ v. list_all (spec.holds v) (comparators_of_part (part_view part.entry)))
+        versions.now) }
     ensures near { OnOk result (KeepsNear near.old.items near.new.items
         (comparators_of_part (part_view part.entry))) }
     ensures err { IfErr result (λ e. e ≡ Fault.Memory) }
@@ -182,10 +183,10 @@ fn any_is_allowed(near: &[Numbers], versions: &[Ver]) -> bool
     versions.iter().any(|version| is_allowed(near, version))
 }
 
-/// Whether the text of a dependency binds one of the versions, which are in order. It is read once,
-/// and each comparator is searched for among the versions, so that n of them cost as many
-/// comparisons as n has digits in binary. Memory is taken for the comparators with a prerelease of one range
-/// at a time.
+/// Whether the text of a dependency binds one of the versions, which are in order of precedence. The
+/// text is read once. Each comparator is searched for among the versions, in as many comparisons as
+/// their number has binary digits. Memory is taken for one comparator at a time, and for three
+/// numbers of each comparator of a range that has a prerelease.
 pub fn binds_any(alloc: Global, text: &str, versions: &[Ver]) -> Result<bool, Fault>
     requires sorted { IsSorted precedence versions.now }
     ensures ok { IfOk result (λ any. any ≡ list_any (texts.binds text.now) versions.now) }
