@@ -138,6 +138,10 @@ finds_of store a b x r it so = record {
   told = λ c h clean. so c (it.told c h clean);
 }
 
+-- an error before any statement
+pub finds_none : {S R E : Type 0} (store : Ghosts S) (a : Transaction S) (e : E) {is_told : R → Contents → Type 0} → Finds store a a (Err e) is_told
+finds_none store a e = record { since = λ start c h since. since; clean = λ clean. clean; ran = tt; holds = λ c h. tt; sees = λ c db h see. tt; told = λ c h clean. tt }
+
 -- one answer after another
 pub found_and : {S R Q E : Type 0} (store : Ghosts S) (a b d : Transaction S) (x : R) (r : Result Q E) {is_told : R → Contents → Type 0} {also : Q → Contents → Type 0}
     → Finds {E = E} store a b (Ok x) is_told → Knows store b d r also → Finds store a d r (λ y c. is_told x c × also y c)

@@ -3,6 +3,7 @@ pub mod Archives
 pub mod Changes
 pub mod Contents
 pub mod Creation
+pub mod Dependents
 pub mod Effects
 pub mod Fresh
 pub mod Inside

@@ -52,7 +52,7 @@ pub use crate::levels::{load_own_packages, load_scope_packages};
 pub use crate::maintainers::{has_other_maintainer, is_maintainer, load_maintainers};
 pub use crate::members::{has_other_owner, load_members, load_role};
 pub use crate::meta::opened;
-pub use crate::needs::{load_dependents, put_needs};
+pub use crate::needs::put_needs;
 pub use crate::numbers::numbers_are_in_range;
 pub use crate::organisations::{has_organisation, load_organisations};
 pub use crate::packages::load_packages;

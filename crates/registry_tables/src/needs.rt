@@ -1,14 +1,18 @@
 //! The table `need_ranges`: what every live version depends on.
 
-ghost use Rattle.std.specs.Prelude.{⊤};
+ghost use Rattle.std.specs.Prelude.{⊤, map};
+ghost use Rattle.registry_names.specs.Texts.{Text as Bytes};
+ghost use Rattle.registry_tables.specs.Dependents.{HaveSame, dependent_entry, dependents_on, ranges_of};
 ghost use Rattle.registry_tables.specs.Inside.{Finds, Makes, MayMake};
-ghost use Rattle.registry_tables.specs.Needs.{AreDependents, with_need, with_needs};
+ghost use Rattle.registry_tables.specs.Needs.{with_need, with_needs};
+ghost use Rattle.registry_tables.specs.Spelled.{tag_spelled};
 
-use crate::queries::texts;
+use crate::queries::query;
+use crate::texts::TextRow;
 use registry_names::{Fault, Name, Text};
 use registry_publish::Need;
-use registry_rows::write;
-use sqlite::{Alter, Transaction, params};
+use registry_rows::{RowKind, values_of_rows, write};
+use sqlite::{Alter, Error, Row, Transaction, params};
 use std::alloc::Global;
 
 /// Puts what a version depends on. A pair of a target and a range that is named twice is put once.
@@ -48,21 +52,70 @@ fn put_need<S: Alter>(
     )
 }
 
-/// The ranges in which live versions of other packages need this one, one for each that needs it.
-///
-/// Where the needs that are stored are those of live manifests, these are all: a version of the
-/// package is needed by another exactly where one of the texts isn't a range, or allows it.
-pub fn load_dependents<S: Alter>(
+/// A live version that needs another package.
+#[derive(PartialEq, Eq, Drop)]
+pub(crate) struct Dependent {
+    package: Text,
+    version: Text,
+}
+
+/// The live versions of other packages that need this one. Each comes once, though it may need the
+/// package in several ranges.
+pub(crate) fn load_dependents<S: Alter>(
     alloc: Global,
     tx: &mut Transaction<'_, S>,
     name: &Name,
-) -> Result<Vec<Text>, Fault>
-    ensures { Finds S.Store tx.old tx.new result (λ texts c. AreDependents texts.items c name.now) }
+) -> Result<Vec<Dependent>, Fault>
+    ensures { Finds S.Store tx.old tx.new result
+        (λ found c. HaveSame (map dependent_entry found.items) (dependents_on c name.now)) }
 {
-    texts(
-        alloc,
+    let rows = query(
         tx,
-        "SELECT range, package, version FROM need_ranges WHERE target = ?1 AND package <> ?1 ORDER BY package, version, target, range",
+        "SELECT package, version FROM need_ranges WHERE target = ?1 AND package <> ?1",
         params![name.text()],
-    )
+    )?;
+    let mut dependents = values_of_rows::<Dependent>(alloc, &rows)?;
+    dependents.dedup();
+    Ok(dependents)
+}
+
+/// The ranges in which one version needs a package.
+pub(crate) fn load_ranges<S: Alter>(
+    alloc: Global,
+    tx: &mut Transaction<'_, S>,
+    name: &Name,
+    dependent: &Dependent,
+) -> Result<Vec<Text>, Fault>
+    ensures { Finds S.Store tx.old tx.new result
+        (λ found c. HaveSame found.items (ranges_of c name.now (dependent_entry dependent.now))) }
+{
+    let rows = query(
+        tx,
+        "SELECT range FROM need_ranges WHERE package = ?1 AND version = ?2 AND target = ?3",
+        params![
+            dependent.package.as_str(),
+            dependent.version.as_str(),
+            name.text()
+        ],
+    )?;
+    values_of_rows::<TextRow>(alloc, &rows)
+}
+
+impl RowKind for Dependent {
+    type Value = Dependent;
+
+    ghost Seen = { Bytes × Bytes };
+
+    ghost seen = { dependent_entry };
+
+    ghost spelled = { tag_spelled };
+
+    fn read(row: &Row) -> Result<Dependent, Error> {
+        let package: String = row.get(0)?;
+        let version: String = row.get(1)?;
+        Ok(Dependent {
+            package: Text::from(package),
+            version: Text::from(version),
+        })
+    }
 }
