@@ -3,14 +3,10 @@ use Rattle.std.specs.Prelude.{◌≡◌, Bool, false, ◌&&◌, List, [], ◌∷
 use Rattle.std.specs.List.{list_any}
 use Rattle.registry_names.specs.Texts.{Text, is}
 use Rattle.registry_names.specs.Maps.{PairMap, at, put}
-use Rattle.registry_names.specs.Versions.{VersionParts}
 use Rattle.registry_publish.specs.Needs.{needs_of}
 use Rattle.registry_publish.specs.declared.need.Need.{Need}
-use Rattle.registry_ranges.specs.Texts.{binds}
 use Rattle.registry_rows.specs.TextKeys.{Texts, TextsMap}
-use Rattle.registry_rules.specs.Withdrawals.{is_depended}
-use Rattle.registry_tables.specs.Contents.{Contents, LiveVersion, registry_of}
-use Rattle.registry_tables.specs.Withdrawals.{ranges_on}
+use Rattle.registry_tables.specs.Contents.{Contents, LiveVersion}
 
 -- ---- how they are stored
 
@@ -45,10 +41,3 @@ is_needed live p v target range = names_if_any target range (option_and_then (λ
 -- the needs that are stored are exactly those of live manifests
 pub record HoldsNeeds (c : Contents) : Type 0 where
   pub stored : (p v target range : Text) → is_some (at c.need_ranges (p, (v, (target, range)))) ≡ is_needed c.versions p v target range
-
--- the texts in which live versions of other packages need this one, one for each need. Where the
--- needs that are stored are those of live manifests, a version is needed exactly where one of the
--- texts binds it
-pub record AreDependents (texts : List Text) (c : Contents) (p : Text) : Type 0 where
-  pub are : texts ≡ ranges_on c p
-  pub depended : HoldsNeeds c → (v : VersionParts) → list_any (λ text. binds text v) texts ≡ is_depended (registry_of c) p v
