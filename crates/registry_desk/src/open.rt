@@ -30,8 +30,7 @@ use registry_tables::{
     are_grants_in_scope, counts_archives_alone, create, numbers_are_in_range, opened,
 };
 use sqlite::{
-    Alter, Connection, File, FileFrom, FileStore, Files, Leftover, Options, Start, Transaction,
-    Unknown,
+    Alter, Connection, FileFrom, FileStore, Files, Leftover, Options, Start, Transaction,
 };
 use sqlite_disk::Disk;
 use sqlite_schema::schema::Schema;
@@ -91,7 +90,7 @@ impl<D: Disk + Drop> Unopened<D> {
     }
 }
 
-impl Registry<FileStore<File>> {
+impl<S: Start> Registry<FileStore<FileFrom<S>>> {
     /// The registry in the file at the path, with its log beside it. A file that isn't there or is
     /// empty becomes a fresh registry, whose pages end in sums, so that a byte changed later is
     /// refused. A registry of an older schema is migrated, with all that it holds. `Database` is
@@ -102,11 +101,16 @@ impl Registry<FileStore<File>> {
     /// another process; its bytes are kept.
     ///
     /// What is said here holds as long as the disk returns what was written to it, and nobody
-    /// else writes the file. A torn write is supposed to leave each byte old or new:
-    /// [`open_from`](Registry::open_from) may suppose less. Its start `Unknown` counts the file as
-    /// empty, so of any other file these clauses say nothing by themselves: those of `open_from`
-    /// say it, for every start.
-    pub fn open(rt: &HostRuntime, path: &str) -> Result<Registry<FileStore<File>>, Fault>
+    /// else writes the file. The `start` represents what the files held and how a crash is read, so
+    /// the clauses hold for whatever they held.
+    pub fn open(
+        rt: &HostRuntime,
+        path: &str,
+        start: S,
+    ) -> Result<Registry<FileStore<FileFrom<S>>>, Fault>
+        ensures found { IfOk result (λ r. HoldsFound (image_at S.Start) (file_state r)) }
+        ensures each { IfOk result (λ r. HoldsEach (image_at S.Start) (file_state r)) }
+        ensures empty { IfOk result (λ r. IsFreshIfEmpty (image_at S.Start) (file_state r)) }
         ensures written { IfOk result (λ r. HoldsAsWritten (file_state r)) }
         ensures served { IfOk result (λ r. HasCleanDisk (file_state r)
             → IsTrue (file_state r).is_open) }
@@ -116,16 +120,13 @@ impl Registry<FileStore<File>> {
         ensures memory { path.now ≡ codes ":memory:" → result ≡ Err Fault.Database }
         ensures uri { IsUri path.now → result ≡ Err Fault.Database }
     {
-        match Registry::open_from(rt, path, Unknown) {
+        match Registry::open_from(rt, path, start) {
             Ok(registry) => Ok(registry),
             Err((fault, _)) => Err(fault),
         }
     }
-}
 
-impl<S: Start> Registry<FileStore<FileFrom<S>>> {
-    /// The same over a `start`, which represents what the files held and how a crash is read. A
-    /// fault hands back what is left of the files, as that of
+    /// The same, but a fault hands back what is left of the files, as that of
     /// [`open_files`](Registry::open_files) does, or `None` where none were opened.
     pub fn open_from(
         rt: &HostRuntime,

@@ -12,6 +12,7 @@ ghost use Rattle.registry_cli.specs.Prints.{done, newline};
 ghost use Rattle.registry_files.specs.Copies.{StaysCommitted};
 ghost use Rattle.registry_files.specs.Lines.{NoneFailed, printed_lines, problem_line};
 
+use crate::begins::Begins;
 use crate::beside::{TRIES, busy, hold_server, is_busy, pause, require_no_other};
 use crate::checking_beside::problems_beside;
 use crate::ending::{Ending, Failure, Obstacle};
@@ -22,7 +23,7 @@ use crate::reporting::obstacle_text;
 use registry_check::{Problem, check};
 use registry_desk::{Registry, Unopened, has_tables};
 use registry_names::{ByteOut, Fault};
-use sqlite::{Alter, Connection, FileStore, Unknown};
+use sqlite::{Alter, Connection, FileStore};
 use sqlite_disk::Disk;
 use std::alloc::Global;
 
@@ -32,14 +33,14 @@ use std::alloc::Global;
 /// Any other file that doesn't open is wrong as a whole. Where a server has the file, a copy is
 /// checked, which is made in the server's folder. A file that isn't there, that another process has,
 /// or that can't be read or copied is a fault.
-pub fn print_check<O: ByteOut, E: ByteOut>(
+pub fn print_check<S: Begins, O: ByteOut, E: ByteOut>(
     rt: &HostRuntime,
     alloc: Global,
     path: &str,
     output: &mut O,
     errors: &mut E,
 ) -> Result<u8, Ending> {
-    match problems_at(rt, alloc, path) {
+    match problems_at::<S>(rt, alloc, path) {
         Ok(problems) => print_problems(alloc, &problems, output, errors),
         Err(Ending::Fault(Failure::Opening(Obstacle::Foreign))) => {
             print_wrong_line(errors, obstacle_text(Obstacle::Foreign));
@@ -72,17 +73,21 @@ fn print_problems<O: ByteOut, E: ByteOut>(
 }
 
 // What is wrong in a file, even if another process has it.
-fn problems_at(rt: &HostRuntime, alloc: Global, path: &str) -> Result<Vec<Problem>, Ending> {
+fn problems_at<S: Begins>(
+    rt: &HostRuntime,
+    alloc: Global,
+    path: &str,
+) -> Result<Vec<Problem>, Ending> {
     require_file(rt, path)?;
     require_no_other(rt, alloc, path)?;
     let _opening = Progress::begin(rt, Work::Opening, path);
     for _ in 0..TRIES {
-        let found = problems_alone(rt, alloc, path);
+        let found = problems_alone::<S>(rt, alloc, path);
         if !is_busy(&found) {
             return found;
         }
         if let Some(held) = hold_server(rt, alloc, path)? {
-            return problems_beside(rt, alloc, path, held);
+            return problems_beside::<S>(rt, alloc, path, held);
         }
         pause(rt);
     }
@@ -90,15 +95,19 @@ fn problems_at(rt: &HostRuntime, alloc: Global, path: &str) -> Result<Vec<Proble
 }
 
 // What is wrong in a file that no other process has.
-fn problems_alone(rt: &HostRuntime, alloc: Global, path: &str) -> Result<Vec<Problem>, Ending> {
-    match Registry::open_from(rt, path, Unknown) {
+fn problems_alone<S: Begins>(
+    rt: &HostRuntime,
+    alloc: Global,
+    path: &str,
+) -> Result<Vec<Problem>, Ending> {
+    match Registry::open_from(rt, path, S::begin()) {
         Ok(registry) => {
             let _checking = Progress::begin(rt, Work::Checking, path);
             problems_in(alloc, registry)
         }
         Err((Fault::Memory, _)) => Err(Ending::from(Fault::Memory)),
         Err((Fault::Database, Some(left))) => problems_left(alloc, left),
-        Err((Fault::Database, None)) => Err(unopened(rt, path)),
+        Err((Fault::Database, None)) => Err(unopened::<S>(rt, path)),
     }
 }
 

@@ -1,5 +1,6 @@
 //! Checking the registry of a server, by a copy of its files.
 
+use crate::begins::Begins;
 use crate::beside::require_held;
 use crate::checking::{problems_in, problems_left};
 use crate::ending::{Ending, Snag};
@@ -10,7 +11,7 @@ use registry_check::Problem;
 use registry_desk::Registry;
 use registry_guests::{Hold, folder_of};
 use registry_names::Fault;
-use sqlite::{File, Files, Options, Unknown};
+use sqlite::{FileFrom, Files, Options};
 use sqlite_disk::Disk;
 use std::alloc::Global;
 use std::fs;
@@ -24,7 +25,7 @@ const SEED: u64 = 1;
 /// The copy lies in the server's folder, which only its owner can enter, and has no name there once
 /// it is open. Only the process that holds the server uses that name, so a file that has it already
 /// was left by a check that was killed.
-pub fn problems_beside(
+pub fn problems_beside<S: Begins>(
     rt: &HostRuntime,
     alloc: Global,
     path: &str,
@@ -35,7 +36,7 @@ pub fn problems_beside(
     let file = format!(in alloc; "{}/check", folder.as_str())?;
     let log = format!(in alloc; "{}/check-wal", folder.as_str())?;
     forget(rt, file.as_str(), log.as_str());
-    let files = files_of_copy(rt, alloc, path, file.as_str(), log.as_str());
+    let files = files_of_copy::<S>(rt, alloc, path, file.as_str(), log.as_str());
     forget(rt, file.as_str(), log.as_str());
     let kept = require_held(&mut held);
     drop(held);
@@ -57,15 +58,15 @@ fn forget(rt: &HostRuntime, file: &str, log: &str) {
 }
 
 // Copies the files of a server that is held, and opens the copy.
-fn files_of_copy(
+fn files_of_copy<S: Begins>(
     rt: &HostRuntime,
     alloc: Global,
     path: &str,
     file: &str,
     log: &str,
-) -> Result<Files<File>, Ending> {
+) -> Result<Files<FileFrom<S>>, Ending> {
     copy_to(rt, alloc, path, file, log)?;
-    match sqlite_std_file::open(rt, file, Unknown) {
+    match sqlite_std_file::open(rt, file, S::begin()) {
         Ok(files) => Ok(files),
         Err(error) => match open_obstacle(error) {
             Some(_) => Err(snag(Snag::Unreadable)),

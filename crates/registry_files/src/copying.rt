@@ -12,6 +12,7 @@ ghost use Rattle.registry_tables.specs.Schema as tables;
 ghost use Rattle.registry_files.specs.Copies.{IsCopy, IsHeld, IsRead, StaysCommitted};
 ghost use Rattle.registry_files.specs.Lines.{lines_of};
 
+use crate::begins::Begins;
 use crate::beside::{TRIES, busy, hold_server, is_busy, pause, require_held, require_no_other};
 use crate::checking::problems_of;
 use crate::ending::{Ending, Failure, Obstacle, Snag};
@@ -44,7 +45,7 @@ const PIECE: usize = 16_384;
 /// name of the copy, or that name and `-wal`, `-part` or `-part-wal` (that file isn't changed);
 /// where the copy can't be written or doesn't open; and where the server went on meanwhile. Then
 /// there is no copy, or a whole one where its folder can't be synced.
-pub fn back_up(
+pub fn back_up<S: Begins>(
     rt: &HostRuntime,
     alloc: Global,
     path: &str,
@@ -56,13 +57,13 @@ pub fn back_up(
     require_no_other(rt, alloc, path)?;
     names.require_free(rt)?;
     let part = new_file(rt, names.part.as_str())?;
-    let made = make_copy(rt, alloc, path, part, &names, checks);
+    let made = make_copy::<S>(rt, alloc, path, part, &names, checks);
     names.forget_part(rt);
     made
 }
 
 // Writes the part, checks that it is whole, and gives it the name of the copy.
-fn make_copy(
+fn make_copy<S: Begins>(
     rt: &HostRuntime,
     alloc: Global,
     path: &str,
@@ -71,9 +72,9 @@ fn make_copy(
     checks: bool,
 ) -> Result<Vec<String>, Ending> {
     let mut part = part;
-    fill(rt, alloc, path, &mut part, names.part_log.as_str())?;
+    fill::<S>(rt, alloc, path, &mut part, names.part_log.as_str())?;
     written(part.sync_all())?;
-    let lines = see_whole(rt, alloc, names.part.as_str(), checks)?;
+    let lines = see_whole::<S>(rt, alloc, names.part.as_str(), checks)?;
     written(part.sync_all())?;
     names.give_name(rt)?;
     Ok(lines)
@@ -81,7 +82,7 @@ fn make_copy(
 
 // Writes the registry in a file to the part. Only if a server has the file does the part have a
 // log.
-fn fill(
+fn fill<S: Begins>(
     rt: &HostRuntime,
     alloc: Global,
     path: &str,
@@ -90,7 +91,7 @@ fn fill(
 ) -> Result<(), Ending> {
     let _opening = Progress::begin(rt, Work::Opening, path);
     for _ in 0..TRIES {
-        let done = copy_alone(rt, path, part);
+        let done = copy_alone::<S>(rt, path, part);
         if !is_busy(&done) {
             return done;
         }
@@ -120,8 +121,8 @@ fn copy_beside(
 }
 
 // Copies the registry in a file that no other process has.
-fn copy_alone(rt: &HostRuntime, path: &str, target: &mut File) -> Result<(), Ending> {
-    match open_once(rt, path) {
+fn copy_alone<S: Begins>(rt: &HostRuntime, path: &str, target: &mut File) -> Result<(), Ending> {
+    match open_once::<S>(rt, path) {
         Ok(registry) => {
             let progress = Progress::begin(rt, Work::Copying, path);
             copy_registry(registry, &mut Shown::new(target, progress))
@@ -210,13 +211,13 @@ fn write_disk<D: Disk, W: Write>(disk: &mut D, output: &mut W) -> io::Result<()>
 
 // Opens the copy as a registry, and closes it again, which copies its log into it. Returns a line for
 // each thing that is wrong in it, if that is asked for.
-fn see_whole(
+fn see_whole<S: Begins>(
     rt: &HostRuntime,
     alloc: Global,
     copy: &str,
     checks: bool,
 ) -> Result<Vec<String>, Ending> {
-    match open(rt, copy) {
+    match open::<S>(rt, copy) {
         Ok(registry) => {
             let (_files, lines) = see_inside(rt, alloc, copy, registry, checks)?;
             Ok(lines)

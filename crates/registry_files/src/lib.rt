@@ -3,6 +3,7 @@
 #![tactic(auto)]
 
 mod asking;
+mod begins;
 mod beside;
 mod checking;
 mod checking_beside;
@@ -19,6 +20,7 @@ mod restoring;
 mod stopping;
 
 pub use crate::asking::{Answer, Question, answer_to};
+pub use crate::begins::Begins;
 pub use crate::beside::{print_sent, print_sent_token};
 pub use crate::checking::print_check;
 pub use crate::copying::{back_up, write_copy};

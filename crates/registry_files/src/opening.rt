@@ -4,10 +4,13 @@ ghost use Rattle.std.specs.Prelude.{IfOk, IsTrue};
 ghost use Rattle.sqlite.specs.Closing.{IsCopied};
 ghost use Rattle.sqlite.specs.Files.{file_state};
 ghost use Rattle.sqlite.specs.Held.{state};
+ghost use Rattle.sqlite_wal.specs.Files.{image_at};
 ghost use Rattle.sqlite_wal.specs.Reads.{AreClean};
+ghost use Rattle.registry_desk.specs.Opened.{HoldsEach, HoldsFound, IsFreshIfEmpty};
 ghost use Rattle.registry_desk.specs.Resting.{Rests};
 ghost use Rattle.registry_files.specs.Copies.{IsOlder};
 
+use crate::begins::Begins;
 use crate::beside::{TRIES, busy, is_busy, pause};
 use crate::ending::{Ending, Failure, Obstacle};
 use crate::progress::{Progress, Work};
@@ -15,7 +18,7 @@ use registry_desk::{Registry, SCHEMA, Unopened};
 use registry_migration::older_schema;
 use registry_names::Fault;
 use sqlite::types::ValueRef;
-use sqlite::{Alter, Connection, Error, ErrorCode, File, FileStore, Files, Unknown};
+use sqlite::{Alter, Connection, Error, ErrorCode, FileFrom, FileStore, Files};
 use sqlite_disk::{Disk, Tally};
 use sqlite_std_file::OpenError;
 use std::alloc::Global;
@@ -23,24 +26,38 @@ use std::fs;
 use std::io::ErrorKind;
 
 /// Opens the registry in the file at the path, and shows a line on a terminal meanwhile.
-pub fn open(rt: &HostRuntime, path: &str) -> Result<Registry<FileStore<File>>, Ending> {
+pub fn open<S: Begins>(
+    rt: &HostRuntime,
+    path: &str,
+) -> Result<Registry<FileStore<FileFrom<S>>>, Ending>
+    ensures found { IfOk result (λ r. HoldsFound (image_at S.Start) (file_state r)) }
+    ensures each { IfOk result (λ r. HoldsEach (image_at S.Start) (file_state r)) }
+    ensures empty { IfOk result (λ r. IsFreshIfEmpty (image_at S.Start) (file_state r)) }
+{
     let _opening = Progress::begin(rt, Work::Opening, path);
-    open_once(rt, path)
+    open_once::<S>(rt, path)
 }
 
 /// Opens the registry in the file at the path, and shows nothing.
-pub fn open_once(rt: &HostRuntime, path: &str) -> Result<Registry<FileStore<File>>, Ending> {
-    match Registry::open(rt, path) {
+pub fn open_once<S: Begins>(
+    rt: &HostRuntime,
+    path: &str,
+) -> Result<Registry<FileStore<FileFrom<S>>>, Ending>
+    ensures found { IfOk result (λ r. HoldsFound (image_at S.Start) (file_state r)) }
+    ensures each { IfOk result (λ r. HoldsEach (image_at S.Start) (file_state r)) }
+    ensures empty { IfOk result (λ r. IsFreshIfEmpty (image_at S.Start) (file_state r)) }
+{
+    match Registry::open(rt, path, S::begin()) {
         Ok(registry) => Ok(registry),
         Err(Fault::Memory) => Err(Ending::from(Fault::Memory)),
-        Err(Fault::Database) => Err(unopened(rt, path)),
+        Err(Fault::Database) => Err(unopened::<S>(rt, path)),
     }
 }
 
 /// Why the file at the path wasn't opened. Where it opens now, another process had it.
-pub fn unopened(rt: &HostRuntime, path: &str) -> Ending {
+pub fn unopened<S: Begins>(rt: &HostRuntime, path: &str) -> Ending {
     let seen = seen_obstacle(rt, path);
-    let obstacle = match Registry::open(rt, path) {
+    let obstacle = match Registry::open(rt, path, S::begin()) {
         Ok(_registry) => Obstacle::Busy,
         Err(_) => seen,
     };
@@ -49,10 +66,17 @@ pub fn unopened(rt: &HostRuntime, path: &str) -> Ending {
 
 /// The registry in the file at the path. Where another process has the file, it is tried again, for
 /// five seconds.
-pub fn open_soon(rt: &HostRuntime, path: &str) -> Result<Registry<FileStore<File>>, Ending> {
+pub fn open_soon<S: Begins>(
+    rt: &HostRuntime,
+    path: &str,
+) -> Result<Registry<FileStore<FileFrom<S>>>, Ending>
+    ensures found { IfOk result (λ r. HoldsFound (image_at S.Start) (file_state r)) }
+    ensures each { IfOk result (λ r. HoldsEach (image_at S.Start) (file_state r)) }
+    ensures empty { IfOk result (λ r. IsFreshIfEmpty (image_at S.Start) (file_state r)) }
+{
     let _opening = Progress::begin(rt, Work::Opening, path);
     for _ in 0..TRIES {
-        let opened = open_once(rt, path);
+        let opened = open_once::<S>(rt, path);
         if !is_busy(&opened) {
             return opened;
         }
@@ -73,9 +97,9 @@ pub fn require_file(rt: &HostRuntime, path: &str) -> Result<(), Ending> {
 
 /// Whether another process has the registry's file at the path. Nothing of the file is read. It is
 /// a fault if no file is there, or an empty one.
-pub fn is_taken(rt: &HostRuntime, path: &str) -> Result<bool, Ending> {
+pub fn is_taken<S: Begins>(rt: &HostRuntime, path: &str) -> Result<bool, Ending> {
     require_file(rt, path)?;
-    match sqlite_std_file::open(rt, path, Unknown) {
+    match sqlite_std_file::open(rt, path, S::begin()) {
         Ok(_files) => Ok(false),
         Err(error) => match open_obstacle(error) {
             Some(Obstacle::Busy) => Ok(true),

@@ -8,6 +8,7 @@ ghost use Rattle.registry_desk.specs.Adopted.{CanBeAdopted};
 ghost use Rattle.registry_tables.specs.Schema as tables;
 ghost use Rattle.registry_files.specs.Copies.{HoldsSeen, IsRestored};
 
+use crate::begins::Begins;
 use crate::beside::require_no_server;
 use crate::copying::{close_copy, see_inside};
 use crate::ending::{Ending, Failure, Obstacle, Snag};
@@ -17,7 +18,7 @@ use crate::parts::Names;
 use crate::progress::{Progress, Work};
 use registry_desk::{Registry, Unopened, has_tables};
 use registry_names::Fault;
-use sqlite::{Alter, Connection, FileStore, Files, Options, Unknown};
+use sqlite::{Alter, Connection, FileStore, Files, Options};
 use sqlite_disk::Disk;
 use sqlite_std_file::OpenError;
 use std::alloc::Global;
@@ -40,20 +41,20 @@ const SEED: u64 = 1;
 /// there, or holds no registry; where it is to be checked and has an older schema, or its schema is
 /// newer; and where the file can't be written. Then there is no file, or a whole one where its folder
 /// can't be synced.
-pub fn restore(
+pub fn restore<S: Begins>(
     rt: &HostRuntime,
     alloc: Global,
     path: &str,
     copy: &str,
     checks: bool,
 ) -> Result<Vec<String>, Ending> {
-    match restore_to(rt, alloc, path, copy, checks) {
+    match restore_to::<S>(rt, alloc, path, copy, checks) {
         Err(Ending::Fault(Failure::Backup(snag))) => Err(Ending::Fault(Failure::Restore(snag))),
         done => done,
     }
 }
 
-fn restore_to(
+fn restore_to<S: Begins>(
     rt: &HostRuntime,
     alloc: Global,
     path: &str,
@@ -65,7 +66,7 @@ fn restore_to(
     names.require_free(rt)?;
     require_no_server(rt, alloc, path)?;
     let part = new_file(rt, names.part.as_str())?;
-    let made = make_file(rt, alloc, copy, part, &names, checks);
+    let made = make_file::<S>(rt, alloc, copy, part, &names, checks);
     names.forget_part(rt);
     made
 }
@@ -80,7 +81,7 @@ fn require_copy(rt: &HostRuntime, copy: &str) -> Result<(), Ending> {
 }
 
 // Writes the part and looks into it. Where nothing is wrong it gets the name of the file.
-fn make_file(
+fn make_file<S: Begins>(
     rt: &HostRuntime,
     alloc: Global,
     copy: &str,
@@ -89,9 +90,9 @@ fn make_file(
     checks: bool,
 ) -> Result<Vec<String>, Ending> {
     let mut part = part;
-    fill(rt, alloc, copy, &mut part, names.part_log.as_str())?;
+    fill::<S>(rt, alloc, copy, &mut part, names.part_log.as_str())?;
     written(part.sync_all())?;
-    let lines = see_whole(rt, alloc, names.part.as_str(), checks)?;
+    let lines = see_whole::<S>(rt, alloc, names.part.as_str(), checks)?;
     if lines.is_empty() {
         put_in_place(rt, &part, names, lines)
     } else {
@@ -116,7 +117,7 @@ fn put_in_place(
 
 // Writes the copy to the part. A process that opens the copy makes a log beside it, if none is there:
 // so without a log nobody has the copy.
-fn fill(
+fn fill<S: Begins>(
     rt: &HostRuntime,
     alloc: Global,
     copy: &str,
@@ -125,7 +126,7 @@ fn fill(
 ) -> Result<(), Ending> {
     let log = of_copy(log_of(rt, alloc, copy))?;
     if has_file(rt, log.as_str())? {
-        return fill_locked(rt, alloc, copy, part, part_log);
+        return fill_locked::<S>(rt, alloc, copy, part, part_log);
     }
     of_copy(copy_bytes(rt, copy, part))?;
     if has_file(rt, log.as_str())? {
@@ -146,14 +147,14 @@ fn has_file(rt: &HostRuntime, path: &str) -> Result<bool, Ending> {
 }
 
 // Writes the copy and its log to the part and its log. No other process can open the copy meanwhile.
-fn fill_locked(
+fn fill_locked<S: Begins>(
     rt: &HostRuntime,
     alloc: Global,
     copy: &str,
     part: &mut File,
     part_log: &str,
 ) -> Result<(), Ending> {
-    let files = match sqlite_std_file::open(rt, copy, Unknown) {
+    let files = match sqlite_std_file::open(rt, copy, S::begin()) {
         Ok(files) => files,
         Err(error) => {
             return Err(match open_obstacle(error) {
@@ -191,13 +192,13 @@ fn snag_of(obstacle: Obstacle) -> Snag {
 
 // Opens the part as a registry, and closes it again, which copies its log into it. Returns a line for
 // each thing that is wrong in it, if that is asked for.
-fn see_whole(
+fn see_whole<S: Begins>(
     rt: &HostRuntime,
     alloc: Global,
     part: &str,
     checks: bool,
 ) -> Result<Vec<String>, Ending> {
-    match sqlite_std_file::open(rt, part, Unknown) {
+    match sqlite_std_file::open(rt, part, S::begin()) {
         Ok(files) => {
             let (_files, lines) = settle_copy(rt, alloc, part, files, checks)?;
             Ok(lines)

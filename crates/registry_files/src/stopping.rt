@@ -1,5 +1,6 @@
 //! Ending the server that has a registry's file.
 
+use crate::begins::Begins;
 use crate::beside::{TRIES, busy, end_server, pause};
 use crate::ending::{Ending, Failure, Trouble};
 use crate::opening::is_taken;
@@ -11,12 +12,12 @@ use std::alloc::Global;
 ///
 /// A fault is returned where the file isn't there, or no process has it: then nobody was asked to
 /// end.
-pub fn stop(rt: &HostRuntime, alloc: Global, path: &str) -> Result<(), Ending> {
+pub fn stop<S: Begins>(rt: &HostRuntime, alloc: Global, path: &str) -> Result<(), Ending> {
     for _ in 0..TRIES {
         if end_server(rt, alloc, path)? {
             return Ok(());
         }
-        if !is_taken(rt, path)? {
+        if !is_taken::<S>(rt, path)? {
             return Err(Ending::Fault(Failure::Server(Trouble::NoServer)));
         }
         pause(rt);

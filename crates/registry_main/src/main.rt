@@ -6,6 +6,7 @@
 use registry_files::{Ending, report};
 use registry_names::{Fault, FromRead, Text, ToWrite};
 use registry_program::program;
+use sqlite::Unknown;
 use std::alloc::AllocError;
 use std::env;
 use std::io::ErrorKind;
@@ -20,7 +21,7 @@ fn main(rt: HostRuntime) -> ExitCode {
     let mut output = ToWrite::new(rt.stdout());
     let mut errors = ToWrite::new(rt.stderr());
     let status = match given(&rt) {
-        Ok(arguments) => program(
+        Ok(arguments) => program::<Unknown, _, _, _>(
             &rt,
             rt.alloc(),
             &arguments,

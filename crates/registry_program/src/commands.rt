@@ -8,7 +8,9 @@ use crate::moment::read_moment;
 use crate::run::MOST_READ;
 use crate::serving::serve;
 use registry_cli::{Line, Usage, action_of, errand_of, line, print_reply};
-use registry_files::{Answer, Ending, Failure, Question, Registries, answer_to, print_sent};
+use registry_files::{
+    Answer, Begins, Ending, Failure, Question, Registries, answer_to, print_sent,
+};
 use registry_names::{ByteIn, ByteOut, Fault, FromRead, Moment, ReadStop, Text, read_whole};
 use registry_rules::Request;
 use std::alloc::Global;
@@ -25,7 +27,7 @@ const MOST_OF_TOKEN: usize = 130;
 /// token on the input; and then the texts in their order. The registry is asked last, or the server
 /// that has its file. Arguments that ask to serve are answered once the last connection has ended.
 /// Arguments that mean no line may name an errand.
-pub fn answer_command<R: Registries, I: ByteIn, O: ByteOut, E: ByteOut>(
+pub fn answer_command<S: Begins, R: Registries, I: ByteIn, O: ByteOut, E: ByteOut>(
     rt: &HostRuntime,
     alloc: Global,
     registries: &mut R,
@@ -35,14 +37,16 @@ pub fn answer_command<R: Registries, I: ByteIn, O: ByteOut, E: ByteOut>(
     errors: &mut E,
 ) -> Result<u8, Ending> {
     match line(alloc, arguments) {
-        Ok(line) => answer_line(
+        Ok(line) => answer_line::<S, _, _, _, _>(
             rt, alloc, registries, &line, arguments, input, output, errors,
         ),
-        Err(usage) => answer_errand(rt, alloc, registries, arguments, usage, output, errors),
+        Err(usage) => answer_errand::<S, _, _, _>(
+            rt, alloc, registries, arguments, usage, output, errors,
+        ),
     }
 }
 
-fn answer_line<R: Registries, I: ByteIn, O: ByteOut, E: ByteOut>(
+fn answer_line<S: Begins, R: Registries, I: ByteIn, O: ByteOut, E: ByteOut>(
     rt: &HostRuntime,
     alloc: Global,
     registries: &mut R,
@@ -55,7 +59,7 @@ fn answer_line<R: Registries, I: ByteIn, O: ByteOut, E: ByteOut>(
     requires whole { IsWhole line.now.what }
 {
     if line.asks_to_serve() {
-        return serve(rt, alloc, line, output, errors);
+        return serve::<S, _, _>(rt, alloc, line, output, errors);
     }
     let given = given_to(rt, alloc, line, input)?;
     print_answer(
@@ -64,7 +68,7 @@ fn answer_line<R: Registries, I: ByteIn, O: ByteOut, E: ByteOut>(
 }
 
 // Arguments that mean no line, and the message for them where they name no errand.
-fn answer_errand<R: Registries, O: ByteOut, E: ByteOut>(
+fn answer_errand<S: Begins, R: Registries, O: ByteOut, E: ByteOut>(
     rt: &HostRuntime,
     alloc: Global,
     registries: &mut R,
@@ -74,7 +78,7 @@ fn answer_errand<R: Registries, O: ByteOut, E: ByteOut>(
     errors: &mut E,
 ) -> Result<u8, Ending> {
     match errand_of(alloc, arguments) {
-        Ok(Some(errand)) => run_errand(rt, alloc, registries, errand, output, errors),
+        Ok(Some(errand)) => run_errand::<S, _, _, _>(rt, alloc, registries, errand, output, errors),
         Ok(None) => Err(Ending::from(usage)),
         Err(usage) => Err(Ending::from(usage)),
     }

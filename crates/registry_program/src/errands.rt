@@ -4,8 +4,8 @@ use crate::commands::{ask_line, given_alone};
 use crate::serving::serve_beside;
 use registry_cli::{Errand, NewToken, TOKEN_BYTES, print_token, token_of};
 use registry_files::{
-    Answer, DONE, Ending, Failure, Registries, back_up, print_check, print_done, print_sent_token,
-    print_wrong, restore, stop,
+    Answer, Begins, DONE, Ending, Failure, Registries, back_up, print_check, print_done,
+    print_sent_token, print_wrong, restore, stop,
 };
 use registry_names::{ByteOut, Text};
 use std::alloc::Global;
@@ -17,7 +17,7 @@ const CHECKED: &str = "{\"ok\":true,\"checked\":true}\n";
 /// Runs an errand, prints its result, and gives the exit status. All but a token always concern the
 /// file at the path, whatever `registries` are. Where a server has the
 /// file, the server is asked to add a token, and held while its files are copied.
-pub fn run_errand<R: Registries, O: ByteOut, E: ByteOut>(
+pub fn run_errand<S: Begins, R: Registries, O: ByteOut, E: ByteOut>(
     rt: &HostRuntime,
     alloc: Global,
     registries: &mut R,
@@ -27,20 +27,20 @@ pub fn run_errand<R: Registries, O: ByteOut, E: ByteOut>(
 ) -> Result<u8, Ending> {
     match errand {
         Errand::TokenNew(new) => make_token(rt, alloc, registries, new, output, errors),
-        Errand::Check { db } => print_check(rt, alloc, db.as_str(), output, errors),
+        Errand::Check { db } => print_check::<S, _, _>(rt, alloc, db.as_str(), output, errors),
         Errand::Backup { db, copy, checks } => {
-            let wrong = back_up(rt, alloc, db.as_str(), copy.as_str(), checks)?;
+            let wrong = back_up::<S>(rt, alloc, db.as_str(), copy.as_str(), checks)?;
             print_wrong(&wrong, done_of(checks), output, errors)
         }
         Errand::Restore { db, copy, checks } => {
-            let wrong = restore(rt, alloc, db.as_str(), copy.as_str(), checks)?;
+            let wrong = restore::<S>(rt, alloc, db.as_str(), copy.as_str(), checks)?;
             print_wrong(&wrong, done_of(checks), output, errors)
         }
         Errand::Stop { db } => {
-            stop(rt, alloc, db.as_str())?;
+            stop::<S>(rt, alloc, db.as_str())?;
             print_done(DONE, output)
         }
-        Errand::Serve(serving) => serve_beside(rt, alloc, &serving, output, errors),
+        Errand::Serve(serving) => serve_beside::<S, _, _>(rt, alloc, &serving, output, errors),
     }
 }
 

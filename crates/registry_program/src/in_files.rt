@@ -1,7 +1,7 @@
 //! Registries in files.
 
 use registry_desk::Registry;
-use registry_files::{Ending, Registries, open_once};
+use registry_files::{Begins, Ending, Registries, open_once};
 use registry_http::RegistryService;
 use registry_names::Fault;
 use registry_rules::{Reply, Request};
@@ -9,12 +9,23 @@ use registry_service::Service;
 use sqlite::{Alter, FileStore};
 use sqlite_disk::Disk;
 use std::alloc::Global;
+use std::marker::PhantomData;
 
-/// Registries in files. Each request opens the file at its path, and lets go of it.
+/// Registries in files, which are opened from such a start. Each request opens the file at its path,
+/// and lets go of it.
 #[derive(Drop)]
-pub struct InFiles;
+pub struct InFiles<S: Begins> {
+    start: PhantomData<S>,
+}
 
-impl Registries for InFiles {
+impl<S: Begins> InFiles<S> {
+    /// The registries in the files of the machine.
+    pub fn new() -> InFiles<S> {
+        InFiles { start: PhantomData }
+    }
+}
+
+impl<S: Begins> Registries for InFiles<S> {
     /// The file is made where there is none.
     fn reply(
         &mut self,
@@ -23,7 +34,7 @@ impl Registries for InFiles {
         path: &str,
         request: &Request,
     ) -> Result<Reply, Ending> {
-        match open_once(rt, path) {
+        match open_once::<S>(rt, path) {
             Ok(registry) => reply_in(alloc, registry, request),
             Err(ending) => Err(ending),
         }

@@ -4,7 +4,7 @@ use crate::logging::{is_allowed, log_at};
 use crate::moment::read_moment;
 use registry_cli::{Line, Serving};
 use registry_desk::Registry;
-use registry_files::{Blockage, Ending, Failure, close_files, open_soon};
+use registry_files::{Begins, Blockage, Ending, Failure, close_files, open_soon};
 use registry_guests::CommandListener;
 use registry_http::RegistryService;
 use registry_log::{LineSink, Log, LogClock, LoggedService};
@@ -99,14 +99,14 @@ struct Bound<'a> {
 /// server are answered, too, and one of them may end it: its log is then copied into its file, and
 /// that command is told last. A registry that a fault of its disk has shut is a fault, and so is a
 /// log that can't be copied.
-pub fn serve<O: ByteOut, E: ByteOut>(
+pub fn serve<S: Begins, O: ByteOut, E: ByteOut>(
     rt: &HostRuntime,
     alloc: Global,
     line: &Line,
     output: &mut O,
     errors: &mut E,
 ) -> Result<u8, Ending> {
-    serve_as(rt, alloc, ServeOptions::of(line), output, errors)
+    serve_as::<S, _, _>(rt, alloc, ServeOptions::of(line), output, errors)
 }
 
 /// Serves as [`serve`] does, at a Unix socket, or at the port of the line, or at both, and keeps a
@@ -118,17 +118,17 @@ pub fn serve<O: ByteOut, E: ByteOut>(
 /// The log has a line for each request, one for the beginning and one for the end. A log that can't
 /// be written stops nothing. One of the registry's own files, or something that isn't a file, is
 /// `Wrong`.
-pub fn serve_beside<O: ByteOut, E: ByteOut>(
+pub fn serve_beside<S: Begins, O: ByteOut, E: ByteOut>(
     rt: &HostRuntime,
     alloc: Global,
     serving: &Serving,
     output: &mut O,
     errors: &mut E,
 ) -> Result<u8, Ending> {
-    serve_as(rt, alloc, ServeOptions::beside(serving), output, errors)
+    serve_as::<S, _, _>(rt, alloc, ServeOptions::beside(serving), output, errors)
 }
 
-fn serve_as<O: ByteOut, E: ByteOut>(
+fn serve_as<S: Begins, O: ByteOut, E: ByteOut>(
     rt: &HostRuntime,
     alloc: Global,
     options: Option<ServeOptions<'_>>,
@@ -139,7 +139,7 @@ fn serve_as<O: ByteOut, E: ByteOut>(
         return Err(Ending::Wrong(NO_NUMBER));
     };
     let log = log_at(rt, alloc, options.log, options.path)?;
-    serve_with_commands(rt, alloc, options, log, output, errors)
+    serve_with_commands::<S, _, _, _, _>(rt, alloc, options, log, output, errors)
 }
 
 // Makes the C library keep the room of one request for the next. Otherwise it gives memory at the
@@ -152,7 +152,7 @@ fn keep_room(alloc: Global) {
 
 // Serves beside a listener of commands. It keeps the connection that asked for the end until it is
 // dropped: at the end of this function.
-fn serve_with_commands<K: LogClock + Drop, W: LineSink + Drop, O: ByteOut, E: ByteOut>(
+fn serve_with_commands<S: Begins, K: LogClock + Drop, W: LineSink + Drop, O: ByteOut, E: ByteOut>(
     rt: &HostRuntime,
     alloc: Global,
     options: ServeOptions<'_>,
@@ -163,7 +163,7 @@ fn serve_with_commands<K: LogClock + Drop, W: LineSink + Drop, O: ByteOut, E: By
     let mut listener = CommandListener::closed(alloc)?;
     let (server, file) = listen(rt, alloc, options)?;
     let bound = Bound { server, options };
-    let ended = serve_file(rt, alloc, bound, log, &mut listener, output, errors);
+    let ended = serve_file::<S, _, _, _, _>(rt, alloc, bound, log, &mut listener, output, errors);
     if let Some(file) = file {
         let _ = file.remove(rt);
     }
@@ -207,7 +207,7 @@ fn no_socket(error: io::Error) -> Ending {
 }
 
 // Opens the file, and serves its registry. A command may have the file for a moment.
-fn serve_file<K: LogClock + Drop, W: LineSink + Drop, O: ByteOut, E: ByteOut>(
+fn serve_file<S: Begins, K: LogClock + Drop, W: LineSink + Drop, O: ByteOut, E: ByteOut>(
     rt: &HostRuntime,
     alloc: Global,
     bound: Bound<'_>,
@@ -216,7 +216,7 @@ fn serve_file<K: LogClock + Drop, W: LineSink + Drop, O: ByteOut, E: ByteOut>(
     output: &mut O,
     errors: &mut E,
 ) -> Result<Ended, Ending> {
-    match open_soon(rt, bound.options.path) {
+    match open_soon::<S>(rt, bound.options.path) {
         Ok(registry) => {
             keep_room(alloc);
             serve_registry(rt, alloc, bound, log, registry, listener, output, errors)

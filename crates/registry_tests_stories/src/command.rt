@@ -6,6 +6,7 @@ use crate::piece::file_bytes;
 use crate::registry::StoryRegistry;
 use registry_names::{FromRead, Text, ToWrite};
 use registry_program::program_over;
+use sqlite::Unknown;
 use std::alloc::{AllocError, Global};
 
 /// Everything that a call with these arguments prints: standard output, then standard error, and
@@ -57,7 +58,7 @@ fn called(
 ) -> Result<String, AllocError> {
     let mut output = Vec::new(alloc);
     let mut errors = Vec::new(alloc);
-    let status = program_over(
+    let status = program_over::<Unknown, _, _, _, _>(
         rt,
         alloc,
         registry,

@@ -9,7 +9,7 @@ use registry_http::RegistryService;
 use registry_names::{Fault, Moment};
 use registry_server::{ConnectionState, Progress};
 use registry_service::{End, HttpService, REQUESTS_PER_CONNECTION};
-use sqlite::Alter;
+use sqlite::{Alter, Unknown};
 use std::alloc::{AllocError, Global};
 
 /// Where more bytes than this come in pieces, the pieces are large.
@@ -48,7 +48,7 @@ pub fn answered(
             let exchange = Exchange::new(alloc, at);
             Ok(exchange.carry(alloc, service, asked, pace)?)
         }
-        StoryRegistry::InFile => match Registry::open(rt, DB) {
+        StoryRegistry::InFile => match Registry::open(rt, DB, Unknown) {
             Ok(registry) => Ok(answered_in(alloc, registry, at, asked, pace)?),
             Err(_) => Err(failed_with(alloc, "the registry's file can't be opened")),
         },

@@ -7,7 +7,7 @@ use registry_http::RegistryService;
 use registry_names::Fault;
 use registry_program::{InFiles, reply_of};
 use registry_rules::{Reply, Request};
-use sqlite::MemStore;
+use sqlite::{MemStore, Unknown};
 use std::alloc::Global;
 
 /// The file of the registry that command lines ask where they name no other.
@@ -44,7 +44,7 @@ impl Registries for StoryRegistry {
     ) -> Result<Reply, Ending> {
         match self {
             StoryRegistry::InMemory(service) if path == DB => reply_of(alloc, service, request),
-            _ => InFiles.reply(rt, alloc, path, request),
+            _ => InFiles::<Unknown>::new().reply(rt, alloc, path, request),
         }
     }
 }

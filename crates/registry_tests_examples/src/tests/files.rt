@@ -7,7 +7,7 @@ use crate::tests::in_files::released;
 use crate::tests::lies::{ADD_ANN, FOLDER, LOG, Lies, PATH, lay};
 use crate::tests::program::{DONE, Left, end, leaves};
 use registry_desk::Registry;
-use sqlite::FileStore;
+use sqlite::{FileStore, Unknown};
 use sqlite_disk::Disk;
 use std::os::unix::fs::PermissionsExt;
 use std::process::Abort;
@@ -125,7 +125,7 @@ fn databases_of_others_are_kept(rt: HostRuntime) {
 #[test]
 fn a_registry_is_its_owners_alone_and_held_by_one(rt: HostRuntime) {
     lay(&rt, &rt, Lies::Registry);
-    match Registry::open(&rt, PATH) {
+    match Registry::open(&rt, PATH, Unknown) {
         Ok(held) => is_held(&rt, &rt, held),
         Err(_) => panic!(rt; "the registry doesn't open"),
     }

@@ -12,6 +12,7 @@ use crate::outcome::same;
 use registry_files::{Ending, Failure, report};
 use registry_names::{FromRead, Text, ToWrite};
 use registry_program::program;
+use sqlite::Unknown;
 use std::alloc::Global;
 use std::io::{ErrorKind, Read, Write};
 use std::process::Abort;
@@ -121,7 +122,7 @@ fn call(rt: &HostRuntime, ends: &impl Abort, line: &str, failing: Failing) -> Ca
         is_full: matches!(failing, Failing::Output),
     };
     let mut errors = Vec::new(rt.alloc());
-    let status = program(
+    let status = program::<Unknown, _, _, _>(
         rt,
         rt.alloc(),
         &words(ends, rt.alloc(), line),

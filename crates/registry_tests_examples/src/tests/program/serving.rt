@@ -4,6 +4,7 @@ use super::{begin, end, text_of, words};
 use crate::outcome::same;
 use registry_names::{FromRead, ToWrite};
 use registry_program::program;
+use sqlite::Unknown;
 use std::io;
 use std::io::{Read, Write};
 use std::net::{Ipv4Addr, Net, OpenListener, OpenStream, Shutdown, SocketAddr};
@@ -94,7 +95,7 @@ fn is_served<R: Net>(rt: &HostRuntime, ends: &impl Abort, db: &str, caller: &mut
     let line = format!(in rt.alloc(); "--db {db} serve --port {port} --connections 1");
     let line = line.expect(ends, "memory");
     let mut errors = Vec::new(rt.alloc());
-    let status = program(
+    let status = program::<Unknown, _, _, _>(
         rt,
         rt.alloc(),
         &words(ends, rt.alloc(), line.as_str()),

@@ -1,10 +1,13 @@
 use Rattle.registry_desk.proofs.OpenedFacts.{no_error}
-use Rattle.registry_desk.proofs.open.Registry+FileStore+File.open.Goals as goal
+use Rattle.registry_desk.proofs.open.Registry+FileStore+FileFrom+S.open.Goals as goal
 
 pub returns-in-Ok : goal.returns-in-Ok
-returns-in-Ok c =
+returns-in-Ok g c =
     let it = c.in-Ok.ensures in
     record {
+      found = it.found;
+      each = it.each;
+      empty = it.empty;
       written = it.written;
       served = it.served;
       durable = it.durable;
