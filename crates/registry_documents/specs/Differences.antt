@@ -4,7 +4,7 @@ use Rattle.std.specs.List.{list_all, list_any}
 use Rattle.serde_json.specs.Data.{Data, Members, no_members, member}
 use Rattle.serde_json.specs.Find.{get, as_object, as_str}
 use Rattle.registry_names.specs.Texts.{Text}
-use Rattle.registry_documents.specs.Documents.{versions_in}
+use Rattle.registry_documents.specs.Documents.{has, names_in, versions_in}
 use Rattle.registry_documents.specs.Tags.{are_left}
 use Rattle.registry_documents.specs.Values.{all_members, both, keys_in, members_in, same, same_but, same_found, within}
 use Rattle.registry_documents.specs.declared.asked.Asked.{Asked}
@@ -107,6 +107,21 @@ says_no_other w d = unwrap_or (option_map (λ ms. members_in Maintainers ms d) (
 -- what w asks for, whose maintainers have these names, where d and these maintainers are there
 abbrev pub asked_of_owners : Data → Data → List Text → List Text → Option Asked
 asked_of_owners w d present names = if says_no_other w d then owners_asked (besides present names) (besides names present) else None
+
+-- of a document that says nothing but maintainers
+abbrev pub is_owners_key : Text → Data → Bool
+is_owners_key k d = bytes_eq k (codes "_id") || bytes_eq k (codes "_rev") || bytes_eq k (codes "maintainers")
+
+abbrev pub says_owners_alone : Data → Bool
+says_owners_alone w = unwrap_or (option_map (all_members is_owners_key) (as_object w)) false
+
+-- the document's maintainers are those that there are
+abbrev pub names_owners : Data → List Text → Bool
+names_owners w present = unwrap_or (option_map (same_names present) (names_in w)) false
+
+-- w says that there are the maintainers who are there, and nothing else
+abbrev pub repeats_owners : Data → List Text → Bool
+repeats_owners w present = has (codes "maintainers") w && says_owners_alone w && names_owners w present
 
 -- ---- documents of whole packages
 

@@ -9,9 +9,12 @@ use Rattle.registry_documents.specs.declared.document.Document.{Document}
 use Rattle.registry_documents.specs.declared.document.Kind.{Kind}
 use Rattle.registry_documents.specs.declared.document.Kind.TheVariants.{Publication, Package, Maintainers, Other}
 
--- the JSON value that a document is
+-- the JSON value that a document is, and how many bytes it had as it came
 abbrev pub value_of : Document → Data
 value_of d = view d.value
+
+abbrev pub size_of : Document → ℕ
+size_of d = d.size
 
 -- the bytes are JSON of an object, which has this value
 abbrev pub IsDocumentOf : List ℕ → Data → Type 0

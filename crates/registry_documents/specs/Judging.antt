@@ -1,5 +1,5 @@
 -- What a document asks for, and why it is refused.
-use Rattle.std.specs.Prelude.{◌≡◌, ⊤, Bool, true, false, List, Option, Some, None, option_and_then, unwrap_or, Result, Ok, Err}
+use Rattle.std.specs.Prelude.{◌≡◌, ◌||◌, ◌*◌, ⊤, ℕ, Bool, true, false, List, length, nat_le, Option, Some, None, option_and_then, unwrap_or, Result, Ok, Err, if◌then◌else◌}
 use Rattle.serde_json.specs.Data.{Data, no_members}
 use Rattle.serde_json.specs.Read.{read}
 use Rattle.registry_names.specs.Texts.{Text}
@@ -8,7 +8,7 @@ use Rattle.registry_names.specs.declared.refusal.Refusal.TheVariants.{BadBody, S
 use Rattle.registry_names.specs.declared.stop.Stop.{Stop}
 use Rattle.registry_names.specs.declared.stop.Stop.TheVariants.{Refused, Fault as Faulted}
 use Rattle.registry_names.specs.declared.stop.Fault.TheVariants.{Memory, Database}
-use Rattle.registry_documents.specs.Differences.{asked_of_owners, asked_of_package}
+use Rattle.registry_documents.specs.Differences.{asked_of_owners, asked_of_package, repeats_owners}
 use Rattle.registry_documents.specs.Documents.{is_of, kind_of, names_in, versions_in}
 use Rattle.registry_documents.specs.Tags.{AreVersions}
 use Rattle.registry_documents.specs.declared.asked.Asked.{Asked}
@@ -51,9 +51,30 @@ answer_of false asked = answer_late asked
 abbrev pub judged : Data → Option Text → Data → List Text → Text → Result Asked Refusal
 judged w path d present revision = answer_of (is_of revision path w) (asked_in w d present)
 
--- the text is JSON of a packument, of which this is answered to the document w
-abbrev pub IsJudged : Data → Option Text → Text → List Text → Text → Result Asked Refusal → Type 0
-IsJudged w path packument present revision answer = (d : Data) × (read packument ≡ Some d) × (judged w path d present revision ≡ answer)
+-- What says all that is there is about as long: only addresses of archives may be shorter. So a document
+-- that has fewer than half as many bytes as the packument doesn't say what is there
+abbrev pub may_repeat : ℕ → Text → Bool
+may_repeat size packument = nat_le (length packument) (2 * size)
+
+-- a document of these bytes is compared with the packument: one of the present revision is, and another
+-- one where it may say what is there
+abbrev pub is_compared : Bool → ℕ → Text → Bool
+is_compared is_present size packument = is_present || may_repeat size packument
+
+-- What is answered to a document that isn't compared: one that says nothing but the maintainers who are
+-- there says what is there, and any other is of another state
+abbrev pub uncompared : Data → List Text → Result Asked Refusal
+uncompared w present = if repeats_owners w present then Ok AlreadySo else Err Stale
+
+-- what is answered to the document w: where it is compared, the text is JSON of a packument, and this is
+-- the judgement
+abbrev pub Judges : Bool → Data → Option Text → Text → List Text → Text → Result Asked Refusal → Type 0
+Judges true w path packument present revision answer = (d : Data) × (read packument ≡ Some d) × (judged w path d present revision ≡ answer)
+Judges false w path packument present revision answer = uncompared w present ≡ answer
+
+-- this is answered to the document w, which has so many bytes
+abbrev pub IsJudged : Data → ℕ → Option Text → Text → List Text → Text → Result Asked Refusal → Type 0
+IsJudged w size path packument present revision answer = Judges (is_compared (is_of revision path w) size packument) w path packument present revision answer
 
 -- the keys of `versions`, if that is an object, are versions
 abbrev pub HasVersions : Data → Type 0
@@ -64,7 +85,7 @@ abbrev pub IsNoPackument : Text → Type 0
 IsNoPackument text = (d : Data) → read text ≡ Some d → ¬ (HasVersions d)
 
 -- why nothing is asked: a refusal, or a fault
-abbrev pub StopsJudging : Data → Option Text → Text → List Text → Text → Stop → Type 0
-StopsJudging w path packument present revision (Refused r) = IsJudged w path packument present revision (Err r)
-StopsJudging w path packument present revision (Faulted Memory) = ⊤
-StopsJudging w path packument present revision (Faulted Database) = IsNoPackument packument
+abbrev pub StopsJudging : Data → ℕ → Option Text → Text → List Text → Text → Stop → Type 0
+StopsJudging w size path packument present revision (Refused r) = IsJudged w size path packument present revision (Err r)
+StopsJudging w size path packument present revision (Faulted Memory) = ⊤
+StopsJudging w size path packument present revision (Faulted Database) = IsNoPackument packument

@@ -1,12 +1,13 @@
 //! Documents as they come.
 
-ghost use Rattle.std.specs.Prelude.{◌≡◌, Some, None, true, IfOk, IfErr, IsUtf8, bytes_eq, option_map, option_and_then, unwrap_or};
+ghost use Rattle.std.specs.Prelude.{◌≡◌, Some, None, true, IfOk, IfErr, IsUtf8, bytes_eq, length, option_map, option_and_then, unwrap_or};
 ghost use Rattle.serde_json.specs.Find.{get, as_str};
 ghost use Rattle.serde_json.specs.Read.{read};
 ghost use Rattle.serde_json.specs.View.{view};
 ghost use Rattle.registry_names.specs.Faults.{IsMemoryOr};
 ghost use Rattle.registry_documents.specs.Documents as spec;
-ghost use Rattle.registry_documents.specs.Documents.{IsDocumentOf, IsNoDocument, kind_of, value_of};
+ghost use Rattle.registry_documents.specs.Documents.{IsDocumentOf, IsNoDocument, kind_of, size_of, value_of};
+ghost use Rattle.registry_documents.specs.Judging.{may_repeat};
 
 use registry_names::{Fault, Refusal, Stop};
 use serde_json::Value;
@@ -28,10 +29,12 @@ pub enum Kind {
     Other,
 }
 
-/// A document that npm sent. Contracts see its value (`value_of`).
+/// A document that npm sent. Contracts see its value (`value_of`), and how many bytes it had
+/// (`size_of`).
 #[derive(Drop)]
 pub struct Document {
     value: Value,
+    size: usize,
 }
 
 impl Document {
@@ -41,13 +44,17 @@ impl Document {
     /// `BadBody` is returned only for another body, and `Memory` when no memory is left.
     pub fn read(alloc: Global, body: &[u8]) -> Result<Document, Stop>
         ensures ok { IfOk result (λ d. IsDocumentOf body.now (value_of d)) }
+        ensures size { IfOk result (λ d. size_of d ≡ length body.now) }
         ensures err { IfErr result (IsMemoryOr Refusal.BadBody (IsNoDocument body.now)) }
     {
         let value = json_of(alloc, body)?;
         if !value.is_object() {
             return Err(BAD_BODY);
         }
-        Ok(Document { value })
+        Ok(Document {
+            value,
+            size: body.len(),
+        })
     }
 
     /// What the document is about.
@@ -74,6 +81,13 @@ impl Document {
         has_text(&self.value, "_rev", revision) && is_named(path, revision)
     }
 
+    // Whether the document may say all that a packument of these bytes says.
+    pub(crate) fn may_repeat(&self, packument: &str) -> bool
+        ensures { result ≡ may_repeat (size_of self.now) packument.now }
+    {
+        packument.len().div_ceil(2) <= self.size
+    }
+
     pub(crate) fn value(&self) -> &Value
         ensures { view result.now ≡ value_of self.now }
     {
@@ -95,7 +109,7 @@ fn json_of(alloc: Global, body: &[u8]) -> Result<Value, Stop>
     }
 }
 
-fn has(value: &Value, key: &str) -> bool
+pub(crate) fn has(value: &Value, key: &str) -> bool
     ensures { result ≡ spec.has key.now (view value.now) }
 {
     value.get(key).is_some()

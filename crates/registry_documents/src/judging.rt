@@ -1,10 +1,11 @@
 //! Judging of documents.
 
-ghost use Rattle.std.specs.Prelude.{◌≡◌, Some, Ok, IfOk, IfErr, option_map};
+ghost use Rattle.std.specs.Prelude.{◌≡◌, Some, Ok, Err, IfOk, IfErr, option_map};
+ghost use Rattle.registry_names.specs.Faults.{IsMemoryOr};
 ghost use Rattle.serde_json.specs.Data.{Data};
 ghost use Rattle.serde_json.specs.Read.{read};
 ghost use Rattle.serde_json.specs.View.{view};
-ghost use Rattle.registry_documents.specs.Documents.{value_of};
+ghost use Rattle.registry_documents.specs.Documents.{size_of, value_of};
 ghost use Rattle.registry_documents.specs.Judging as spec;
 ghost use Rattle.registry_documents.specs.Judging.{HasVersions, IsJudged, StopsJudging};
 ghost use Rattle.registry_documents.specs.Tags.{FaultsReading};
@@ -12,13 +13,15 @@ ghost use Rattle.registry_documents.specs.Tags.{FaultsReading};
 use crate::asked::Asked;
 use crate::document::{Document, Kind};
 use crate::names::names_in;
-use crate::owners::asked_of_owners;
+use crate::owners::{asked_of_owners, repeats_owners};
 use crate::package::asked_of_package;
 use crate::revision::Revision;
 use crate::versions::versions_in;
 use registry_names::{Fault, Refusal, Stop, Text};
 use serde_json::Value;
 use std::alloc::Global;
+
+const STALE: Stop = Stop::Refused(Refusal::Stale);
 
 /// What there is of a package, as the registry answers it to every reader.
 #[derive(Clone, Copy)]
@@ -50,6 +53,9 @@ pub struct Present<'a> {
 /// maintainer's `email`; and the order of keys and of maintainers. Numbers are the same where they
 /// are the same integers of 64 bits. An integer beyond 2^53, which npm sends back rounded, differs.
 ///
+/// A document of another revision that has fewer than half as many bytes as the packument isn't compared
+/// with it: it says what there is only where it says nothing but maintainers, and these are there.
+///
 /// - `Stale` is returned exactly where the document, or the path, doesn't say the present revision,
 ///   and the document doesn't say what there is.
 /// - `BadBody` is returned exactly where they say it, and the document asks for none of these, or
@@ -57,26 +63,51 @@ pub struct Present<'a> {
 /// - `Memory` is returned when no memory is left, and `Database` only where the packument isn't
 ///   JSON, or a key of its `versions` isn't a version.
 ///
-/// The time is that of sorting the document's members by key, and for maintainers the product of
-/// how many are named and how many there are.
+/// The time is that of reading the packument and of sorting the document's members by key, and for
+/// maintainers the product of how many are named and how many there are. Where the document isn't
+/// compared, it is that of comparing two revisions.
 pub fn judge(
     alloc: Global,
     document: &Document,
     path: Option<&str>,
     present: Present<'_>,
 ) -> Result<Asked, Stop>
-    ensures ok { IfOk result (λ asked. IsJudged (value_of document.now) (option_map (λ t. t.now) path.entry)
-        present.entry.packument.now present.entry.maintainers.now present.entry.revision.now (Ok asked)) }
-    ensures err { IfErr result (StopsJudging (value_of document.now) (option_map (λ t. t.now) path.entry)
-        present.entry.packument.now present.entry.maintainers.now present.entry.revision.now) }
+    ensures ok { IfOk result (λ asked. IsJudged (value_of document.now) (size_of document.now)
+        (option_map (λ t. t.now) path.entry) present.entry.packument.now present.entry.maintainers.now
+        present.entry.revision.now (Ok asked)) }
+    ensures err { IfErr result (StopsJudging (value_of document.now) (size_of document.now)
+        (option_map (λ t. t.now) path.entry) present.entry.packument.now present.entry.maintainers.now
+        present.entry.revision.now) }
 {
+    let is_present = document.is_of(present.revision.text(), path);
+    if !is_compared(is_present, document, present.packument) {
+        return uncompared(alloc, document, present.maintainers);
+    }
     let packument = packument_of(alloc, present.packument)?;
     let asked = asked_in(alloc, document, &packument, present.maintainers)?;
-    let is_present = document.is_of(present.revision.text(), path);
     match answer_of(is_present, asked) {
         Ok(asked) => Ok(asked),
         Err(refusal) => Err(Stop::Refused(refusal)),
     }
+}
+
+// What is answered to a document that isn't compared with the packument.
+fn uncompared(alloc: Global, document: &Document, maintainers: &[Text]) -> Result<Asked, Stop>
+    ensures ok { IfOk result (λ asked. spec.uncompared (value_of document.now) maintainers.now ≡ Ok asked) }
+    ensures err { IfErr result (IsMemoryOr Refusal.Stale
+        (spec.uncompared (value_of document.now) maintainers.now ≡ Err Refusal.Stale)) }
+{
+    if repeats_owners(alloc, document.value(), maintainers)? {
+        return Ok(Asked::AlreadySo);
+    }
+    Err(STALE)
+}
+
+// Whether the document is compared with the packument.
+fn is_compared(is_present: bool, document: &Document, packument: &str) -> bool
+    ensures { result ≡ spec.is_compared is_present (size_of document.now) packument.now }
+{
+    is_present || document.may_repeat(packument)
 }
 
 // The packument that a text is.

@@ -86,3 +86,16 @@ pub(crate) fn besides(
     }
     Ok(more)
 }
+
+/// Whether nobody is named who isn't a maintainer, and nobody is left out.
+pub(crate) fn same_names(
+    alloc: Global,
+    maintainers: &[Text],
+    names: &[Text],
+) -> Result<bool, AllocError>
+    ensures { IfOk result (λ b. b ≡ differences.same_names maintainers.now names.now) }
+{
+    let more = besides(alloc, maintainers, names)?;
+    let less = besides(alloc, names, maintainers)?;
+    Ok(more.is_empty() && less.is_empty())
+}

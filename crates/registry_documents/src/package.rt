@@ -7,7 +7,7 @@ ghost use Rattle.registry_documents.specs.Differences as spec;
 ghost use Rattle.registry_documents.specs.Tags.{AreVersions, FaultsReading};
 
 use crate::asked::Asked;
-use crate::names::besides;
+use crate::names::same_names;
 use crate::news::News;
 use crate::tags::has_tags_without;
 use crate::value::{Part, is, same_but, same_found, within};
@@ -15,15 +15,6 @@ use crate::versions::{adds_none, all_say, are_same, lost, news};
 use registry_names::{Fault, Text};
 use serde_json::{Map, Value};
 use std::alloc::{AllocError, Global};
-
-// Whether nobody is named who isn't a maintainer, and nobody is left out.
-fn same_names(alloc: Global, maintainers: &[Text], names: &[Text]) -> Result<bool, AllocError>
-    ensures { IfOk result (λ b. b ≡ spec.same_names maintainers.now names.now) }
-{
-    let more = besides(alloc, maintainers, names)?;
-    let less = besides(alloc, names, maintainers)?;
-    Ok(more.is_empty() && less.is_empty())
-}
 
 // Whether the document says what there is, beside tags, messages and missing versions.
 fn says_the_same(

@@ -1,22 +1,20 @@
 -- Why a turn asks on behalf of its caller or of nobody.
 use Rattle.std.proofs.Common.{◌≡◌, ◌∷◌, ◌⊎◌, [], ℕ, Bool, true, false, List, Option, Some, None, Ok, Err, is_some, length, refl, sym, subst, inl, inr}
 use Rattle.registry_access.specs.Levels as levels
+use Rattle.registry_access.specs.declared.role.Role.{Role}
 use Rattle.registry_names.specs.Names.{scope_of}
 use Rattle.registry_names.specs.Texts.{Text}
-use Rattle.registry_names.specs.declared.refusal.Refusal.{Refusal}
 use Rattle.registry_names.specs.declared.refusal.Refusal.TheVariants.{BadBody, BadName, NotFound, NotServed, Stale}
 use Rattle.registry_names.specs.declared.stop.Fault.TheVariants.{Database}
-use Rattle.registry_names.specs.declared.stop.Stop.{Stop}
-use Rattle.registry_names.specs.declared.stop.Stop.TheVariants.{Refused as Refuses, Fault as Faulted}
 use Rattle.registry_packument.specs.declared.list.Member.{Member}
 use Rattle.registry_packument.specs.declared.list.PackageLevel.{PackageLevel}
 use Rattle.registry_routes.specs.NpmRoutes.{NpmRoute, npm_route_of}
 use Rattle.registry_routes.specs.Routes.{Route, Values, route_of}
 use Rattle.registry_routes.specs.declared.npm_endpoint.NpmEndpoint.{NpmEndpoint}
 use Rattle.registry_routes.specs.declared.npm_endpoint.NpmEndpoint.TheVariants as by
-use Rattle.registry_rules.specs.declared.reply.Reply.TheVariants.{Refused}
+use Rattle.registry_rules.specs.declared.reply.Reply.TheVariants.{Doc, Refused}
 use Rattle.registry_rules.specs.declared.request.Action.{Action}
-use Rattle.registry_rules.specs.declared.request.Action.TheVariants.{AbbreviatedPackument, Maintainers, Members, MyPackages, OrgSet, OwnerAdd, Packument, RevisedPackument, Tags, TeamMembers, TeamPackages, Teams, WhoAmI}
+use Rattle.registry_rules.specs.declared.request.Action.TheVariants.{AbbreviatedPackument, Deprecate, Maintainers, Members, MyPackages, OrgSet, OwnerAdd, Packument, Publish, RevisedPackument, Tags, TeamMembers, TeamPackages, Teams, WhoAmI}
 use Rattle.registry_rules.specs.declared.request.Credential.{Credential}
 use Rattle.registry_rules.specs.declared.request.Credential.TheVariants.{Anonymous}
 use Rattle.registry_rules.specs.declared.request.Request.{Request}
@@ -33,10 +31,9 @@ use Rattle.registry_npm.specs.Forms.{empty_text, grants_form, membership_form, n
 use Rattle.registry_npm.specs.Laws.{AreAskedFor, AsksForCaller}
 use Rattle.registry_documents.specs.declared.asked.Asked.{Asked}
 use Rattle.registry_documents.specs.declared.asked.Asked.TheVariants.{AlreadySo, Deprecation as Deprecates, Withdrawal, OwnerAdd as AddsOwner, OwnerRemove as RemovesOwner}
-use Rattle.serde_json.specs.Data.{Data}
-use Rattle.registry_npm.specs.Packages.{asks_for, asks_late, asks_names, does, for_document, for_names, fulfils, is_gone, judged, judges, late, leads_claim, leads_document, leads_stopped, named_by, no_version, other_of, Purpose, reads_claim, reads_document, reads_owner, reads_revision, reads_versions, reads_withdrawn, serves, serves_user, shows_answer, shows_packument, stale, tries, tries_right, unless_nobody, with_names, withdrawn}
-use Rattle.registry_npm.specs.Leading.{Leads, asks, by_caller, document_of, either, ends, in_form, is_stop, or_memory, reading, request, shown_as, shows, unless_stopped}
-use Rattle.registry_npm.specs.Npm.{asks_caller, asks_first, asks_role, asks_size, follows, is_npms, is_user, leads, not_served, npm, shows_public, asks_by}
+use Rattle.registry_npm.specs.Packages.{Purpose, Put, asks_late, asks_names, claimed, does, for_document, for_names, fulfils, is_gone, judged, judges, late, leads_document, leads_put, named_by, no_version, other_of, path_of, published, puts, reads_document, reads_owner, reads_put, reads_revision, reads_versions, reads_withdrawn, refused_of, serves, serves_writer, shows_answer, shows_packument, stale, tries, unless_nobody, with_names, withdrawn}
+use Rattle.registry_npm.specs.Leading.{Leads, asks, by_caller, by_user, document_of, either, ends, in_form, is_stop, or_memory, reading, request, shown_as, shows, unless_stopped}
+use Rattle.registry_npm.specs.Npm.{asks_by, asks_caller, asks_command, asks_first, asks_role, follows, is_npms, is_user, leads, not_served, npm, shows_public}
 
 -- ---- what is asked for the caller
 
@@ -107,6 +104,13 @@ by-follows w at _ c = by-ends w at c
 by-first : (w : Wanted) (at : ℕ) (e : NpmEndpoint) (v : Values) → By w at (asks_first e v w at)
 by-first w at e v = by-reading w at (reads_first e v w.body) _ (λ what _. by-caller_asks w at (λ who. what) (λ who. follows e) (λ who is. by-follows w at e))
 
+-- a user calls
+by-user : (w : Wanted) (at : ℕ) (refused : Outcome → Leads) (next : Credential → Leads) → ((c : Outcome) → By w at (refused c)) → ((who : Credential) → reads_caller w.authorization (Ok who) → By w at (next who)) → By w at (by_user refused w at next)
+by-user w at refused next g f = by-caller_asks w at (λ who. WhoAmI) (λ who c. either (is_stop c) (refused c) (next who)) (λ who is c. by-either w at (is_stop c) (refused c) (next who) (g c) (f who is))
+
+by-command : (w : Wanted) (at : ℕ) (e : NpmEndpoint) (v : Values) → By w at (asks_command e v w at)
+by-command w at e v = by-user w at ends _ (by-ends w at) (λ who is. by-reading w at (reads_first e v w.body) _ (λ what _. by-asks w at (request at who what) ends (refl, inl is) (by-ends w at)))
+
 -- ---- packages
 
 by-tries : (w : Wanted) (at : ℕ) (r : Request) (next : Outcome → Leads) → IsFor w at r → ((c : Outcome) → By w at (next c)) → By w at (tries r next)
@@ -122,26 +126,26 @@ by-late w at (Some named) c = by-stale w at c
 by-asks_late : (w : Wanted) (at : ℕ) (path : Option Text) (who : Credential) (what : Action) → reads_caller w.authorization (Ok who) → By w at (asks_late path at who what)
 by-asks_late w at path who what is = by-asks w at (request at who what) (late path) (refl, inl is) (by-late w at path)
 
-by-right : (w : Wanted) (at : ℕ) (path : Option Text) (p : Text) (who : Credential) → reads_caller w.authorization (Ok who) → By w at (tries_right path p at who)
-by-right w at path p who is = by-reading w at (reads_versions no_version []) _ (λ d _. by-asks_late w at path who _ is)
-
 by-nobody : (w : Wanted) (at : ℕ) (c : Outcome) → By w at (unless_nobody c)
 by-nobody w at c = by-either w at (is_gone c) _ _ (by-ends w at (Ok (Refused BadName))) (by-ends w at c)
 
-by-does : (w : Wanted) (at : ℕ) (path : Option Text) (p : Text) (who : Credential) (asked : Asked) → reads_caller w.authorization (Ok who) → By w at (does path p at who asked)
-by-does w at path p who AlreadySo is = by-right w at path p who is
-by-does w at path p who (Deprecates selector message) is = by-reading w at (reads_versions selector message) _ (λ d _. by-asks_late w at path who _ is)
-by-does w at path p who (Withdrawal version) is = by-either w at (is_some path) _ _ (by-reading w at (reads_withdrawn version) _ (λ v _. by-asks_late w at path who _ is)) (by-ends w at (Ok (Refused BadBody)))
-by-does w at path p who (AddsOwner user) is = by-either w at (is_some path) _ _ (by-reading w at (reads_owner user) _ (λ u _. by-asks w at (request at who (OwnerAdd p u)) unless_nobody (refl, inl is) (by-nobody w at))) (by-ends w at (Ok (Refused BadBody)))
-by-does w at path p who (RemovesOwner user) is = by-either w at (is_some path) _ _ (by-reading w at (reads_owner user) _ (λ u _. by-asks_late w at path who _ is)) (by-ends w at (Ok (Refused BadBody)))
+by-does : (w : Wanted) (at : ℕ) (path : Option Text) (p : Text) (who : Credential) (tried : Outcome) (asked : Asked) → reads_caller w.authorization (Ok who) → By w at (does path p at who tried asked)
+by-does w at path p who tried AlreadySo is = by-ends w at tried
+by-does w at path p who tried (Deprecates selector message) is = by-reading w at (reads_versions selector message) _ (λ d _. by-asks_late w at path who _ is)
+by-does w at path p who tried (Withdrawal version) is = by-either w at (is_some path) _ _ (by-reading w at (reads_withdrawn version) _ (λ v _. by-asks_late w at path who _ is)) (by-ends w at (Ok (Refused BadBody)))
+by-does w at path p who tried (AddsOwner user) is = by-either w at (is_some path) _ _ (by-reading w at (reads_owner user) _ (λ u _. by-asks w at (request at who (OwnerAdd p u)) unless_nobody (refl, inl is) (by-nobody w at))) (by-ends w at (Ok (Refused BadBody)))
+by-does w at path p who tried (RemovesOwner user) is = by-either w at (is_some path) _ _ (by-reading w at (reads_owner user) _ (λ u _. by-asks_late w at path who _ is)) (by-ends w at (Ok (Refused BadBody)))
 
-by-fulfils : (w : Wanted) (at : ℕ) (purpose : Purpose) (p : Text) (who : Credential) (text : Text) (names : List Text) → reads_caller w.authorization (Ok who) → By w at (fulfils purpose p at who text names)
-by-fulfils w at (judged path d) p who text names is = by-or_memory w at _ (by-reading w at (judges d path text names) _ (λ asked _. by-does w at path p who asked is))
-by-fulfils w at (withdrawn named) p who text names is = by-or_memory w at _ (by-either w at _ _ _ (by-asks_late w at (Some named) who _ is) (by-ends w at (Ok (Refused Stale))))
+by-fulfils : (w : Wanted) (at : ℕ) (purpose : Purpose) (p : Text) (who : Credential) (tried : Outcome) (text : Text) (names : List Text) → reads_caller w.authorization (Ok who) → By w at (fulfils purpose p at who tried text names)
+by-fulfils w at (judged path d size) p who tried text names is = by-or_memory w at _ (by-reading w at (judges d size path text names) _ (λ asked _. by-does w at path p who tried asked is))
+by-fulfils w at (withdrawn named) p who tried text names is = by-or_memory w at _ (by-either w at _ _ _ (by-asks_late w at (Some named) who _ is) (by-ends w at (Ok (Refused Stale))))
 
-by-other : (w : Wanted) (at : ℕ) (purpose : Purpose) (p : Text) (who : Credential) (c : Outcome) → reads_caller w.authorization (Ok who) → By w at (other_of purpose p at who c)
-by-other w at (judged path d) p who c is = by-late w at path c
-by-other w at (withdrawn named) p who c is = by-either w at (is_gone c) _ _ (by-or_memory w at _ (by-right w at (Some named) p who is)) (by-ends w at c)
+by-refused : (w : Wanted) (at : ℕ) (purpose : Purpose) (tried c : Outcome) → By w at (refused_of purpose tried c)
+by-refused w at (judged path d size) tried c = by-late w at path c
+by-refused w at (withdrawn named) tried c = by-either w at (is_gone c) _ _ (by-ends w at tried) (by-ends w at c)
+
+by-other : (w : Wanted) (at : ℕ) (purpose : Purpose) (tried c : Outcome) → By w at (other_of purpose tried c)
+by-other w at purpose tried c = by-either w at (is_stop c) _ _ (by-refused w at purpose tried c) (by-ends w at (Err Database))
 
 by-for_names : (w : Wanted) (at : ℕ) (next : List Text → Leads) (names : Option (List Text)) → ((ns : List Text) → By w at (next ns)) → By w at (for_names next names)
 by-for_names w at next None f = by-ends w at (Err Database)
@@ -154,27 +158,21 @@ by-for_document w at next other (Some text) f g = f text
 by-named : (w : Wanted) (at : ℕ) (other : Outcome → Leads) (next : List Text → Leads) (c : Outcome) → By w at (other c) → ((ns : List Text) → By w at (next ns)) → By w at (named_by other next c)
 by-named w at other next c g f = by-for_document w at (with_names next) (other c) (document_of c) (λ text. by-or_memory w at _ (by-for_names w at next (names_in text) f)) g
 
-by-asks_names : (w : Wanted) (at : ℕ) (purpose : Purpose) (p : Text) (who : Credential) (next : List Text → Leads) → reads_caller w.authorization (Ok who) → ((ns : List Text) → By w at (next ns))
-    → By w at (asks_names p at who (other_of purpose p at who) next)
-by-asks_names w at purpose p who next is f = by-either w at (is_some (scope_of p)) _ _ (f []) (by-tries w at (request at who (Maintainers p)) _ (refl, inl is) (λ c. by-named w at (other_of purpose p at who) next c (by-other w at purpose p who c is) f))
+by-asks_names : (w : Wanted) (at : ℕ) (purpose : Purpose) (tried : Outcome) (p : Text) (who : Credential) (next : List Text → Leads) → reads_caller w.authorization (Ok who) → ((ns : List Text) → By w at (next ns))
+    → By w at (asks_names p at who (other_of purpose tried) next)
+by-asks_names w at purpose tried p who next is f = by-either w at (is_some (scope_of p)) _ _ (f []) (by-tries w at (request at who (Maintainers p)) _ (refl, inl is) (λ c. by-named w at (other_of purpose tried) next c (by-other w at purpose tried c) f))
 
-by-serves : (w : Wanted) (at : ℕ) (purpose : Purpose) (p : Text) (who : Credential) → reads_caller w.authorization (Ok who) → By w at (serves purpose p at who)
-by-serves w at purpose p who is = by-tries w at (request at who (Packument p)) _ (refl, inl is)
-    (λ c. by-for_document w at _ (other_of purpose p at who c) (document_of c) (λ text. by-asks_names w at purpose p who _ is (λ names. by-fulfils w at purpose p who text names is)) (by-other w at purpose p who c is))
+by-serves : (w : Wanted) (at : ℕ) (purpose : Purpose) (p : Text) (who : Credential) (tried : Outcome) → reads_caller w.authorization (Ok who) → By w at (serves purpose p at who tried)
+by-serves w at purpose p who tried is = by-tries w at (request at who (Packument p)) _ (refl, inl is)
+    (λ c. by-for_document w at _ (other_of purpose tried c) (document_of c) (λ text. by-asks_names w at purpose tried p who _ is (λ names. by-fulfils w at purpose p who tried text names is)) (by-other w at purpose tried c))
 
-by-serves_user : (w : Wanted) (at : ℕ) (purpose : Purpose) (p : Text) (who : Credential) → reads_caller w.authorization (Ok who) → By w at (serves_user purpose p at who)
-by-serves_user w at purpose p who is = by-asks w at (request at who WhoAmI) _ (refl, inl is) (λ c. by-either w at (is_stop c) _ _ (by-other w at purpose p who c is) (by-serves w at purpose p who is))
+by-writer : (w : Wanted) (at : ℕ) (purpose : Purpose) (p : Text) (who : Credential) → reads_caller w.authorization (Ok who) → By w at (serves_writer purpose p at who)
+by-writer w at purpose p who is = by-or_memory w at _ (by-reading w at (reads_versions no_version []) _ (λ d _. by-asks w at (request at who (Deprecate p d.selector d.message)) _ (refl, inl is)
+    (λ c. by-either w at (is_stop c) _ _ (by-late w at (path_of purpose) c) (by-serves w at purpose p who c is))))
 
-by-asks_for : (w : Wanted) (at : ℕ) (purpose : Purpose) (p : Text) → By w at (asks_for purpose p w at)
-by-asks_for w at purpose p = by-reading w at (reads_caller w.authorization) _ (λ who is. by-serves_user w at purpose p who is)
-
-by-claim : (w : Wanted) (at : ℕ) (v : Values) (r : Refusal) (d : Option Data) → By w at (leads_claim v w at r d)
-by-claim w at v r None = by-ends w at (Ok (Refused r))
-by-claim w at v r (Some d) = by-reading w at (one reads_name v) _ (λ p _. by-asks_for w at (judged None d) p)
-
-by-stopped : (w : Wanted) (at : ℕ) (v : Values) (s : Stop) → By w at (leads_stopped v w at s)
-by-stopped w at v (Faulted fault) = by-ends w at (Err fault)
-by-stopped w at v (Refuses r) = by-reading w at (reads_claim w.body) _ (λ d _. by-claim w at v r d)
+by-puts : (w : Wanted) (at : ℕ) (p body : Text) (who : Credential) (put : Put) → reads_caller w.authorization (Ok who) → By w at (puts p body at who put)
+by-puts w at p body who (published form) is = by-asks w at (request at who (Publish form)) ends (refl, inl is) (by-ends w at)
+by-puts w at p body who (claimed d) is = by-writer w at (judged None d (length body)) p who is
 
 -- a request in form is asked for its caller
 request-for : (route : Option Route) (w : Wanted) (at : ℕ) (r : Request) → reads_routed route w at (Ok r) → IsFor w at r
@@ -186,8 +184,8 @@ pub routed-at : (w : Wanted) (at : ℕ) (r : Request) → reads_request w at (Ok
 routed-at w at r is = (request-for (route_of w.method w.target) w at r is).0
 
 by-document : (w : Wanted) (at : ℕ) (v : Values) → By w at (leads_document v w at)
-by-document w at v es o (inl (r, is, h)) = by-asks w at r ends (request-for (route_of w.method w.target) w at r is) (by-ends w at) es o h
-by-document w at v es o (inr (s, is, h)) = by-stopped w at v s es o h
+by-document w at v es o (inl (r, is, same)) = rw same (request-for (route_of w.method w.target) w at r is, tt)
+by-document w at v es o (inr h) = by-user w at ends (leads_put v w.body at) (by-ends w at) (λ who is. by-reading w at (one reads_name v) _ (λ p _. by-reading w at (reads_put p w.body) _ (λ put _. by-puts w at p w.body who put is))) es o h
 
 -- ---- collaborators
 
@@ -219,6 +217,10 @@ by-scope : (w : Wanted) (at : ℕ) (p : Text) (who : Credential) (o : Option Tex
 by-scope w at p who None c is = by-shown w at writers_form c
 by-scope w at p who (Some o) c is = by-unless w at (asks_all p at who o) c (by-all w at p o who is)
 
+by-role : (w : Wanted) (at : ℕ) (o u : Text) (role : Role) (who : Credential) → reads_caller w.authorization (Ok who) → By w at (asks_role o u role at who)
+by-role w at o u role who is = by-asks w at (request at who (Members o)) _ (refl, inl is) (λ c. by-for_document w at _ (ends c) (document_of c) (λ text. by-or_memory w at _ (by-form w at _ (membership_form o u role text)
+    (λ shown. by-asks w at (request at who (OrgSet o u role)) _ (refl, inl is) (λ e. by-unless w at (ends (Ok (Doc shown))) e (by-ends w at (Ok (Doc shown))))))) (by-ends w at c))
+
 -- ---- all routes
 
 by-answer : (w : Wanted) (at : ℕ) (what : Action) → By w at (shows_answer what w at)
@@ -230,12 +232,19 @@ by-packument w at p = by-either w at (accepts_abbreviated w.accept) _ _ (by-answ
 by-leads : (w : Wanted) (at : ℕ) (e : NpmEndpoint) (v : Values) → By w at (leads e v w at)
 by-leads w at by.Packument v = by-reading w at (one reads_name v) _ (λ p _. by-packument w at p)
 by-leads w at by.Document v = by-document w at v
-by-leads w at by.Revised v = by-reading w at (one reads_name v) _ (λ p _. by-reading w at (reads_revision v.second) _ (λ named _. by-reading w at (reads_document w.body) _ (λ d _. by-asks_for w at (judged (Some named) d) p)))
-by-leads w at by.Unpublish v = by-reading w at (one reads_name v) _ (λ p _. by-reading w at (reads_revision v.second) _ (λ named _. by-asks_for w at (withdrawn named) p))
+by-leads w at by.Revised v = by-user w at stale _ (by-stale w at) (λ who is. by-reading w at (one reads_name v) _ (λ p _. by-reading w at (reads_revision v.second) _ (λ named _. by-reading w at (reads_document w.body) _ (λ d _. by-writer w at (judged (Some named) d (length w.body)) p who is))))
+by-leads w at by.Unpublish v = by-user w at stale _ (by-stale w at) (λ who is. by-reading w at (one reads_name v) _ (λ p _. by-reading w at (reads_revision v.second) _ (λ named _. by-writer w at (withdrawn named) p who is)))
 by-leads w at by.Visibility v = by-reading w at (one reads_name v) _ (λ p _. by-reading w at (reads_caller w.authorization) _ (λ who is. by-asks w at (request at Anonymous (Tags p)) _ (refl, inr refl) (λ c. by-caller w at p who c is)))
 by-leads w at by.Collaborators v = by-reading w at (one reads_name v) _ (λ p _. by-caller_asks w at (λ who. Maintainers p) _ (λ who is c. by-scope w at p who (scope_of p) c is))
 by-leads w at by.UserPackages v = by-reading w at (one reads_ident v) _ (λ u _. by-caller_asks w at (λ who. WhoAmI) _ (λ who is c. by-unless w at _ c (by-or_memory w at _ (by-either w at (is_user u c) _ _ (by-asks w at (request at who MyPackages) ends (refl, inl is) (by-ends w at)) (by-ends w at (Ok (Refused NotFound)))))))
-by-leads w at by.OrgSet v = by-reading w at (reads_member v w.body) _ (λ m _. by-reading w at (reads_caller w.authorization) _ (λ who is. by-or_memory w at (asks_role m.0 m.1 m.2 at who) (by-asks w at (request at who (OrgSet m.0 m.1 m.2)) _ (refl, inl is) (λ c. by-unless w at (asks_size m.0 m.1 m.2 who at) c (by-asks w at (request at who (Members m.0)) _ (refl, inl is) (by-shown w at (membership_form m.0 m.1 m.2)))))))
+by-leads w at by.OrgSet v = by-user w at ends _ (by-ends w at) (λ who is. by-reading w at (reads_member v w.body) _ (λ m _. by-or_memory w at _ (by-role w at m.0 m.1 m.2 who is)))
+by-leads w at by.OrgRemove v = by-command w at by.OrgRemove v
+by-leads w at by.TeamCreate v = by-command w at by.TeamCreate v
+by-leads w at by.TeamAdd v = by-command w at by.TeamAdd v
+by-leads w at by.TeamRemove v = by-command w at by.TeamRemove v
+by-leads w at by.Grant v = by-command w at by.Grant v
+by-leads w at by.Revoke v = by-command w at by.Revoke v
+by-leads w at by.SetAccess v = by-command w at by.SetAccess v
 by-leads w at by.Teams v = by-reading w at (one reads_ident v) _ (λ o _. by-caller_asks w at (λ who. Teams o) _ (λ who is. by-shown w at (teams_form o)))
 by-leads w at by.User v = by-reading w at (one reads_user v) _ (λ u _. by-caller_asks w at (λ who. WhoAmI) _ (λ who is c. by-unless w at (shows (user_text u)) c (by-shows w at (user_text u))))
 by-leads w at by.Ping v = by-shows w at empty_text

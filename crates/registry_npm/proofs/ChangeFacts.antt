@@ -1,12 +1,11 @@
 -- Why a turn on a document asks for the one thing in which it differs from what was read in that turn.
-use Rattle.std.proofs.Common.{◌≡◌, ◌∷◌, ◌++◌, ◌⊎◌, ◌∙◌, [], ℕ, Bool, true, false, List, Option, Some, None, Ok, Err, is_some, option_and_then, if◌then◌else◌, arith, refl, sym, ap, subst, inl, inr}
+use Rattle.std.proofs.Common.{◌≡◌, ◌∷◌, ◌++◌, ◌⊎◌, ◌∙◌, [], ℕ, Bool, true, false, List, Option, Some, None, Result, Ok, Err, is_some, option_and_then, if◌then◌else◌, length, refl, sym, ap, subst, inl, inr}
 use Rattle.std.proofs.lemmas.Bool.{cases_Bool, false≢true}
-use Rattle.std.proofs.lemmas.Fmt.{decimal_digit}
 use Rattle.serde_json.specs.Data.{Data, Members}
 use Rattle.serde_json.specs.Read.{read}
-use Rattle.registry_documents.specs.Differences.{asked_of_owners, asked_of_package, besides, change_asked, has_tags_without, lost, messages_asked, news, owners_asked, same_names, same_tags, says_no_other, says_the_same}
+use Rattle.registry_documents.specs.Differences.{asked_of_owners, asked_of_package, besides, change_asked, has_tags_without, lost, messages_asked, news, owners_asked, repeats_owners, same_names, same_tags, says_no_other, says_the_same}
 use Rattle.registry_documents.specs.Documents.{is_of, kind_of, names_in as maintainers_in, versions_in}
-use Rattle.registry_documents.specs.Judging.{answer_of, asked_by, asked_in}
+use Rattle.registry_documents.specs.Judging.{Judges, answer_of, asked_by, asked_in}
 use Rattle.registry_documents.specs.Laws.{IsDeprecation, IsWithdrawal}
 use Rattle.registry_documents.specs.declared.asked.Asked.{Asked}
 use Rattle.registry_documents.specs.declared.asked.Asked.TheVariants.{AlreadySo, Deprecation as Deprecates, Withdrawal, OwnerAdd as AddsOwner, OwnerRemove as RemovesOwner}
@@ -16,73 +15,36 @@ use Rattle.registry_documents.proofs.LawFacts.{a_deprecation, a_withdrawal, adde
 use Rattle.registry_documents.specs.Revisions.{revision}
 use Rattle.registry_names.specs.Names.{scope_of}
 use Rattle.registry_names.specs.Texts.{Text}
-use Rattle.registry_names.specs.Versions.{VersionParts, text_of_version}
+use Rattle.registry_names.specs.Versions.{text_of_version}
 use Rattle.registry_names.specs.declared.refusal.Refusal.{Refusal}
 use Rattle.registry_names.specs.declared.refusal.Refusal.TheVariants.{BadBody, BadName, Stale}
+use Rattle.registry_names.specs.declared.stop.Fault.TheVariants.{Database}
 use Rattle.registry_names.specs.declared.stop.Stop.{Stop}
 use Rattle.registry_names.specs.declared.stop.Stop.TheVariants.{Refused as Refuses, Fault as Faulted}
-use Rattle.registry_ranges.specs.Laws.{IsInForm}
-use Rattle.registry_ranges.specs.Selectors.{Condition, HasConditions, compared, conditions_of, set_selects}
-use Rattle.registry_ranges.specs.Values.{IsRangeOf, Ranges, simple}
-use Rattle.registry_ranges.specs.Prefixes.{full}
-use Rattle.registry_ranges.specs.Comparators.{below, holds}
-use Rattle.registry_ranges.specs.Grammar.{simples, three}
-use Rattle.registry_ranges.specs.declared.component.Component.TheVariants.{Number}
-use Rattle.registry_ranges.specs.declared.simple.Operator.TheVariants.{Less}
-use Rattle.registry_ranges.proofs.ReadingFacts.{unambiguous}
-use Rattle.registry_ranges.proofs.BelowFacts.{numbers-decide}
-use Rattle.registry_ranges.proofs.OrderFacts.{lt-none}
+use Rattle.registry_ranges.specs.Selectors.{Condition}
 use Rattle.registry_routes.specs.NpmRoutes.{NpmRoute, npm_route_of}
 use Rattle.registry_routes.specs.Routes.{Values}
 use Rattle.registry_routes.specs.declared.npm_endpoint.NpmEndpoint.{NpmEndpoint}
 use Rattle.registry_routes.specs.declared.npm_endpoint.NpmEndpoint.TheVariants as by
 use Rattle.registry_rules.specs.Actions.{is_command}
-use Rattle.registry_rules.specs.declared.reply.Reply.{Reply}
-use Rattle.registry_rules.specs.declared.reply.Reply.TheVariants.{Created, Done, Count, Doc, Bytes, Refused}
+use Rattle.registry_rules.specs.declared.reply.Reply.TheVariants.{Created, Done, Count, Doc, Bytes, Refused as Refuse}
 use Rattle.registry_rules.specs.declared.request.Action.{Action}
 use Rattle.registry_rules.specs.declared.request.Action.TheVariants.{Deprecate, Maintainers, OwnerAdd, OwnerRemove, Packument, WhoAmI, Withdraw}
 use Rattle.registry_rules.specs.declared.request.Credential.{Credential}
 use Rattle.registry_rules.specs.declared.request.Request.{Request}
-use Rattle.registry_service.specs.Dialects.{AreQueries}
 use Rattle.registry_service.specs.HttpAnswers.{Outcome}
 use Rattle.registry_service.specs.Readings.{Reading, one, reads_name}
-use Rattle.registry_service.specs.Requests.{reads_request}
-use Rattle.registry_service.specs.Turns.{AsksByRoute, Exchange, exchange}
-use Rattle.registry_service.specs.Callers.{reads_caller}
+use Rattle.registry_service.specs.Turns.{AsksByRoute, Exchange, exchange, stopped}
 use Rattle.registry_wire.specs.declared.wanted.Wanted.{Wanted}
-use Rattle.registry_npm.specs.Changes.{Answers, AreCompared, AreNamed, AreRead, ChangesOneThing, DocumentsChangeOneThing, IsAbout, IsOneThing, IsSent, SelectNothing}
+use Rattle.registry_npm.specs.Changes.{Answers, AreCompared, AreNamed, AreRead, ChangesOneThing, DocumentsChangeOneThing, IsAbout, IsRefused, IsSent, IsSo, Makes, SaysWhatIsThere}
 use Rattle.registry_npm.specs.Forms.{names_in}
-use Rattle.registry_npm.specs.Leading.{Leads, asks, document_of, either, ends, is_stop, or_memory, reading, request}
+use Rattle.registry_npm.specs.Leading.{Leads, asks, by_user, document_of, either, ends, is_stop, or_memory, reading, request}
 use Rattle.registry_npm.specs.Npm.{is_npms, leads, asks_by}
-use Rattle.registry_npm.specs.Packages.{asks_for, asks_names, does, for_document, for_names, is_gone, judged, judged_by, judges, late, leads_claim, leads_claimed, leads_document, leads_stopped, named_by, no_version, other_of, reads_claim, reads_document, reads_owner, reads_revision, reads_versions, reads_withdrawn, serves, serves_user, unless_nobody, with_names}
-use Rattle.registry_npm.proofs.DeterminedFacts.{same-claim, same-document, same-name}
-
--- ---- no version is selected
-
-no_version-is_range : IsRangeOf no_version (simple Less (full 0 0 0 (48 ∷ [])) ∷ [], [])
-no_version-is_range = (
-  record {
-    first = record { before = 0; range = simples (record { operator = Less; gap = 0; v = false; partial = three (Number 0) (Number 0) (Number 0) (48 ∷ []) [] }) []; after = 0 };
-    others = [];
-  },
-  ((((omega arith, omega arith, omega arith, refl, refl), λ e. refl), tt), tt),
-  rw (decimal_digit 0 (omega arith)) refl,
-  refl,
-)
-
-none-below : (v : VersionParts) → IsInForm v → holds v (below 0 0 0) ≡ false
-none-below v form = sym (numbers-decide v 0 0 0 form) ∙ lt-none v.major v.minor v.patch
-
-abbrev one-below : List (List Condition)
-one-below = (compared (below 0 0 0) ∷ []) ∷ []
-
-pub selects-nothing : (conditions : List (List Condition)) → HasConditions no_version conditions → SelectNothing conditions
-selects-nothing conditions (r, is, same) v form =
-    let whole : r ≡ (simple Less (full 0 0 0 (48 ∷ [])) ∷ [], []) = unambiguous no_version r _ is no_version-is_range in
-    let known : ◌≡◌ {A = Option (List (List Condition))} (Some one-below) (Some conditions) = subst (λ (x : Ranges). conditions_of x ≡ Some conditions) whole same in
-    let named : one-below ≡ conditions = cc in
-    let none : set_selects v one-below ≡ false = rw (none-below v form) refl in
-    subst (λ (x : List (List Condition)). set_selects v x ≡ false) named none
+use Rattle.registry_npm.specs.Packages.{Put, asks_names, claimed, does, for_document, for_names, is_gone, judged, judged_by, judges, late, leads_claim, leads_document, leads_put, named_by, other_of, published, publishes, puts, reads_document, reads_owner, reads_put, reads_revision, reads_versions, reads_withdrawn, serves, serves_writer, stale, unless_nobody, with_names}
+use Rattle.registry_npm.specs.Laws.{AreHarmless, IsHarmless, SelectNothing}
+use Rattle.registry_npm.proofs.DeterminedFacts.{same-document, same-name, same-value}
+use Rattle.registry_npm.proofs.LawFacts.{gone-stops, harmless-asked}
+use Rattle.registry_npm.proofs.TrialFacts.{selects-nothing}
 
 -- ---- what a document asks for, by its kind
 
@@ -185,18 +147,6 @@ answer-asked false (Some (RemovesOwner u)) asked h = absurd (cc)
 
 -- ---- what is answered
 
-not_found-refuses : (reply : Reply) → is_gone (Ok reply) ≡ true → is_stop (Ok reply) ≡ true
-not_found-refuses Created h = absurd (false≢true h)
-not_found-refuses Done h = absurd (false≢true h)
-not_found-refuses (Count n) h = absurd (false≢true h)
-not_found-refuses (Doc t) h = absurd (false≢true h)
-not_found-refuses (Bytes b) h = absurd (false≢true h)
-not_found-refuses (Refused r) h = refl
-
-gone-stops : (c : Outcome) → is_gone c ≡ true → is_stop c ≡ true
-gone-stops (Ok reply) h = not_found-refuses reply h
-gone-stops (Err fault) h = refl
-
 -- nothing more is asked, and this is answered of the outcome
 abbrev Last : (Outcome → Leads) → Type 0
 Last next = (c : Outcome) (es : List Exchange) (o : Outcome) → next c es o → (es ≡ []) × Answers c o
@@ -204,10 +154,10 @@ Last next = (c : Outcome) (es : List Exchange) (o : Outcome) → next c es o →
 last-ends : Last ends
 last-ends c es o h = (h.0, (λ e. h.1, λ e. ap is_stop h.1 ∙ e))
 
-last-either : (refusal : Refusal) (c : Outcome) (es : List Exchange) (o : Outcome) → either (is_gone c) (ends (Ok (Refused refusal))) (ends c) es o → (es ≡ []) × Answers c o
+last-either : (refusal : Refusal) (c : Outcome) (es : List Exchange) (o : Outcome) → either (is_gone c) (ends (Ok (Refuse refusal))) (ends c) es o → (es ≡ []) × Answers c o
 last-either refusal c es o h = elim (cases_Bool (is_gone c)) [
   | inl y ↦
-      let there : ends (Ok (Refused refusal)) es o = rw y at h in
+      let there : ends (Ok (Refuse refusal)) es o = rw y at h in
       (there.0, (λ e. absurd (false≢true (sym e ∙ gone-stops c y)), λ e. ap is_stop there.1))
   | inr n ↦ let there : ends c es o = rw n at h in last-ends c es o there
 ]
@@ -228,7 +178,21 @@ last-asked r next (e ∷ es) o last h =
 
 -- ---- the end of a turn
 
-module _ (path : Option Text) (d : Data) (p : Text) (at : ℕ) (who : Credential) (text : Text) (names : List Text) where
+stopped-stops : (s : Stop) → is_stop (stopped s) ≡ true
+stopped-stops (Refuses r) = refl
+stopped-stops (Faulted fault) = refl
+
+-- nothing more is asked, and an error is answered
+abbrev Refused : List Exchange → Outcome → Type 0
+Refused es o = (es ≡ []) × (is_stop o ≡ true)
+
+refused-ends : (c : Outcome) (es : List Exchange) (o : Outcome) → is_stop c ≡ true → ends c es o → Refused es o
+refused-ends c es o stops h = (h.0, ap is_stop h.1 ∙ stops)
+
+refused-late : (path : Option Text) (c : Outcome) (es : List Exchange) (o : Outcome) → is_stop c ≡ true → late path c es o → Refused es o
+refused-late path c es o stops h = let x = last-late path c es o h in (x.0, x.1.1 stops)
+
+module _ (path : Option Text) (d : Data) (size : ℕ) (p : Text) (at : ℕ) (who : Credential) (tried : Outcome) (text : Text) (names : List Text) where
   -- a command for the one thing in which the document differs
   record Ends (es : List Exchange) (o : Outcome) : Type 0 where
     packument : Data
@@ -237,71 +201,97 @@ module _ (path : Option Text) (d : Data) (p : Text) (at : ℕ) (who : Credential
     outcome : Outcome
     asked : es ≡ exchange (request at who what) outcome ∷ []
     is_about : IsAbout p what
-    is_one_thing : IsOneThing path d text packument names what
+    is_present : is_of (revision text names) path d ≡ true
+    makes : Makes d packument names what
     answers : Answers outcome o
 
-  abbrev Ending : List Exchange → Outcome → Type 0
-  Ending es o = (es ≡ []) ⊎ Ends es o
+  -- it says what is there, and the answer is what the trial came to
+  record Repeats (es : List Exchange) (o : Outcome) : Type 0 where
+    is_so : IsSo d text names
+    nothing : es ≡ []
+    answer : o ≡ tried
 
-  ending : (m : Data) → read text ≡ Some m → (what : Action) (next : Outcome → Leads) (es : List Exchange) (o : Outcome) → Last next → IsAbout p what → IsOneThing path d text m names what
+  abbrev Ending : List Exchange → Outcome → Type 0
+  Ending es o = Refused es o ⊎ Repeats es o ⊎ Ends es o
+
+  ending : (m : Data) → read text ≡ Some m → (what : Action) (next : Outcome → Leads) (es : List Exchange) (o : Outcome) → Last next → IsAbout p what → is_of (revision text names) path d ≡ true → Makes d m names what
       → asks (request at who what) next es o → Ending es o
-  ending m is what next es o last about thing h =
+  ending m is what next es o last about now makes h =
       let x = last-asked (request at who what) next es o last h in
-      inr (record { packument = m; is_packument = is; what = what; outcome = x.0; asked = x.1; is_about = about; is_one_thing = thing; answers = x.2 })
+      inr (inr (record { packument = m; is_packument = is; what = what; outcome = x.0; asked = x.1; is_about = about; is_present = now; makes = makes; answers = x.2 }))
 
   read-ending : {A : Type 0} (reads : Reading A) (next : A → Leads) (es : List Exchange) (o : Outcome) → ((a : A) → reads (Ok a) → next a es o → Ending es o) → reading reads next es o → Ending es o
   unfolding reading
   read-ending reads next es o f (inl (a, r, h)) = f a r h
-  read-ending reads next es o f (inr (s, r, h)) = inl h.0
+  read-ending reads next es o f (inr (s, r, h)) = inl (refused-ends (stopped s) es o (stopped-stops s) h)
 
-  either-ending : (b : Bool) (fst : Leads) (c : Outcome) (es : List Exchange) (o : Outcome) → (fst es o → Ending es o) → either b fst (ends c) es o → Ending es o
-  either-ending true fst c es o f h = f h
-  either-ending false fst c es o f h = inl h.0
+  either-ending : (b : Bool) (fst : Leads) (c : Outcome) (es : List Exchange) (o : Outcome) → is_stop c ≡ true → (fst es o → Ending es o) → either b fst (ends c) es o → Ending es o
+  either-ending true fst c es o stops f h = f h
+  either-ending false fst c es o stops f h = inl (refused-ends c es o stops h)
 
   abbrev present : Bool
   present = is_of (revision text names) path d
 
   -- what a judged document asks for
-  does-ending : (m : Data) (asked : Asked) (es : List Exchange) (o : Outcome) → read text ≡ Some m → asked_in d m names ≡ Some asked → (present ≡ true) ⊎ (asked ≡ AlreadySo) → does path p at who asked es o → Ending es o
-  does-ending m AlreadySo es o is so now h = read-ending (reads_versions no_version []) _ es o (λ v r k.
-      ending m is (Deprecate p v.selector v.message) (late path) es o (last-late path) refl (inr (so, selects-nothing v.selector r.2)) k) h
+  does-ending : (m : Data) (asked : Asked) (es : List Exchange) (o : Outcome) → read text ≡ Some m → asked_in d m names ≡ Some asked → (present ≡ true) ⊎ (asked ≡ AlreadySo) → does path p at who tried asked es o → Ending es o
+  does-ending m AlreadySo es o is so now h = inr (inl (record { is_so = inl (m, is, so); nothing = h.0; answer = h.1 }))
   does-ending m (Deprecates s message) es o is so (inr e) h = absurd (cc)
   does-ending m (Deprecates s message) es o is so (inl now) h = read-ending (reads_versions s message) _ es o (λ v r k.
       let it = by-deprecation (kind_of d) d m names s message so in
       let there : IsDeprecation d m it.0 names it.1 s v.message = rw (r.0) it.3 in
-      ending m is (Deprecate p v.selector v.message) (late path) es o (last-late path) refl (inl (now, (it.0, it.1, s, it.2, r.2, there))) k) h
+      ending m is (Deprecate p v.selector v.message) (late path) es o (last-late path) refl now (it.0, it.1, s, it.2, r.2, there) k) h
   does-ending m (Withdrawal t) es o is so (inr e) h = absurd (cc)
-  does-ending m (Withdrawal t) es o is so (inl now) h = either-ending (is_some path) _ (Ok (Refused BadBody)) es o (λ g. read-ending (reads_withdrawn t) _ es o (λ v r k.
+  does-ending m (Withdrawal t) es o is so (inl now) h = either-ending (is_some path) _ (Ok (Refuse BadBody)) es o refl (λ g. read-ending (reads_withdrawn t) _ es o (λ v r k.
       let it = by-withdrawal (kind_of d) d m names t so in
       let there : IsWithdrawal d m it.0 names it.1 (text_of_version v) = rw (← r.0) it.3 in
-      ending m is (Withdraw p v) (late path) es o (last-late path) refl (inl (now, (it.0, it.1, it.2, there))) k) g) h
+      ending m is (Withdraw p v) (late path) es o (last-late path) refl now (it.0, it.1, it.2, there) k) g) h
   does-ending m (AddsOwner u) es o is so (inr e) h = absurd (cc)
-  does-ending m (AddsOwner u) es o is so (inl now) h = either-ending (is_some path) _ (Ok (Refused BadBody)) es o (λ g. read-ending (reads_owner u) _ es o (λ v r k.
+  does-ending m (AddsOwner u) es o is so (inl now) h = either-ending (is_some path) _ (Ok (Refuse BadBody)) es o refl (λ g. read-ending (reads_owner u) _ es o (λ v r k.
       let it = by-owner (kind_of d) d m names (AddsOwner u) refl so in
       let parts = added (besides names it.0) (besides it.0 names) u it.3 in
       let there : besides names it.0 ≡ v ∷ [] = rw r.0 parts.0 in
-      ending m is (OwnerAdd p v) unless_nobody es o last-nobody refl (inl (now, (it.0, (it.1, it.2), there, parts.1))) k) g) h
+      ending m is (OwnerAdd p v) unless_nobody es o last-nobody refl now (it.0, (it.1, it.2), there, parts.1) k) g) h
   does-ending m (RemovesOwner u) es o is so (inr e) h = absurd (cc)
-  does-ending m (RemovesOwner u) es o is so (inl now) h = either-ending (is_some path) _ (Ok (Refused BadBody)) es o (λ g. read-ending (reads_owner u) _ es o (λ v r k.
+  does-ending m (RemovesOwner u) es o is so (inl now) h = either-ending (is_some path) _ (Ok (Refuse BadBody)) es o refl (λ g. read-ending (reads_owner u) _ es o (λ v r k.
       let it = by-owner (kind_of d) d m names (RemovesOwner u) refl so in
       let parts = removed (besides names it.0) (besides it.0 names) u it.3 in
       let there : besides it.0 names ≡ v ∷ [] = rw r.0 parts.1 in
-      ending m is (OwnerRemove p v) (late path) es o (last-late path) refl (inl (now, (it.0, (it.1, it.2), parts.0, there))) k) g) h
+      ending m is (OwnerRemove p v) (late path) es o (last-late path) refl now (it.0, (it.1, it.2), parts.0, there) k) g) h
 
-  judged-ending : (es : List Exchange) (o : Outcome) → judged_by p path d at who text names es o → Ending es o
-  unfolding or_memory
-  judged-ending es o (inr h) = inl h.0
-  judged-ending es o (inl h) = read-ending (judges d path text names) _ es o (λ asked r k.
+  -- where it wasn't compared
+  uncompared-ending : (b : Bool) (asked : Asked) (es : List Exchange) (o : Outcome) → repeats_owners d names ≡ b → ◌≡◌ {A = Result Asked Refusal} (if b then Ok AlreadySo else Err Stale) (Ok asked) → does path p at who tried asked es o → Ending es o
+  uncompared-ending true asked es o so r h =
+      let same : AlreadySo ≡ asked = cc in
+      let there : ends tried es o = rw (← same) at h in
+      inr (inl (record { is_so = inr so; nothing = there.0; answer = there.1 }))
+  uncompared-ending false asked es o so r h = absurd (cc)
+
+  -- where it was
+  judges-ending : (b : Bool) (asked : Asked) (es : List Exchange) (o : Outcome) → Judges b d path text names (revision text names) (Ok asked) → does path p at who tried asked es o → Ending es o
+  judges-ending true asked es o r h =
       let x = answer-asked present (asked_in d r.0 names) asked r.2 in
-      does-ending r.0 asked es o r.1 x.0 x.1 k) h
+      does-ending r.0 asked es o r.1 x.0 x.1 h
+  judges-ending false asked es o r h = uncompared-ending (repeats_owners d names) asked es o refl r h
+
+  judged-ending : (es : List Exchange) (o : Outcome) → judged_by p path d size at who tried text names es o → Ending es o
+  unfolding or_memory
+  judged-ending es o (inr h) = inl (h.0, ap is_stop h.1)
+  judged-ending es o (inl h) = read-ending (judges d size path text names) _ es o (λ asked r k. judges-ending _ asked es o r k) h
 
 -- ---- the whole turn
 
 abbrev Turn : Option Text → Data → Text → ℕ → List Exchange → Outcome → Type 0
-Turn path d p at es o = AreQueries es ⊎ ChangesOneThing path d p at es o
+Turn path d p at es o = IsRefused es o ⊎ SaysWhatIsThere d p at es o ⊎ ChangesOneThing path d p at es o
 
-no-queries : (es : List Exchange) → es ≡ [] → AreQueries es
-no-queries es e = rw e tt
+no-harm : (es : List Exchange) → es ≡ [] → AreHarmless es
+no-harm es e = rw e tt
+
+-- nothing more is asked, after what can't change anything
+after-refused : (e : Exchange) (es : List Exchange) (o : Outcome) → IsHarmless e → IsRefused es o → IsRefused (e ∷ es) o
+after-refused e es o is h = ((is, h.0), h.1)
+
+at-end : (es : List Exchange) (o : Outcome) → Refused es o → IsRefused es o
+at-end es o h = (no-harm es h.0, h.1)
 
 exchange-is : (e : Exchange) (r : Request) (c : Outcome) → e.asked ≡ r → e.outcome ≡ c → e ≡ exchange r c
 exchange-is e r c a b = rw (← a, ← b) refl
@@ -312,161 +302,240 @@ document-is (Ok Created) t h = absurd (cc)
 document-is (Ok Done) t h = absurd (cc)
 document-is (Ok (Count n)) t h = absurd (cc)
 document-is (Ok (Bytes b)) t h = absurd (cc)
-document-is (Ok (Refused r)) t h = absurd (cc)
+document-is (Ok (Refuse r)) t h = absurd (cc)
 document-is (Ok (Doc u)) t h = let same : u ≡ t = cc in ap (λ (x : Text). Ok (Doc x)) same
 
-late-nothing : (path : Option Text) (c : Outcome) (es : List Exchange) (o : Outcome) → late path c es o → es ≡ []
-late-nothing path c es o h = (last-late path c es o h).0
+-- a query is harmless
+query : (e : Exchange) (r : Request) → e.asked ≡ r → is_command r.what ≡ false → IsHarmless e
+query e r same is = harmless-asked e r same (inl is)
 
-append-nothing : (es : List Exchange) → es ++ [] ≡ es
-append-nothing [] = refl
-append-nothing (e ∷ es) = ap (λ (x : List Exchange). e ∷ x) (append-nothing es)
+module _ (path : Option Text) (d : Data) (size : ℕ) (p : Text) (at : ℕ) (who : Credential) where
+  -- what was asked before the packument: who calls, and a trial of their right
+  record AreFirst (tried : Outcome) (first second : Exchange) : Type 0 where
+    is_first : first.asked ≡ request at who WhoAmI
+    selector : List (List Condition)
+    message : Text
+    selects_nothing : SelectNothing selector
+    is_second : second ≡ exchange (request at who (Deprecate p selector message)) tried
+    is_writer : is_stop tried ≡ false
 
--- a request that is no command
-query : (e : Exchange) (r : Request) → e.asked ≡ r → is_command r.what ≡ false → is_command e.asked.what ≡ false
-query e r same is = ap (λ (q : Request). is_command q.what) same ∙ is
+  first-harmless : (tried : Outcome) (first second : Exchange) → AreFirst tried first second → IsHarmless first × IsHarmless second
+  first-harmless tried first second are = (
+    query first (request at who WhoAmI) are.is_first refl,
+    harmless-asked second (request at who (Deprecate p are.selector are.message)) (ap (λ (e : Exchange). e.asked) are.is_second) (inr are.selects_nothing),
+  )
 
-module _ (path : Option Text) (d : Data) (p : Text) (at : ℕ) (who : Credential) where
-  abbrev other : Outcome → Leads
-  other = other_of (judged path d) p at who
+  -- what follows them
+  with-first : (tried : Outcome) (first second : Exchange) (es : List Exchange) (o : Outcome) → AreFirst tried first second → IsRefused es o → IsRefused (first ∷ second ∷ es) o
+  with-first tried first second es o are h =
+      let x = first-harmless tried first second are in
+      after-refused first (second ∷ es) o x.0 (after-refused second es o x.1 h)
+
+  abbrev other : Outcome → Outcome → Leads
+  other = other_of (judged path d size)
+
+  -- something else than a document comes
+  other-ends : (tried c : Outcome) (es : List Exchange) (o : Outcome) → other tried c es o → Refused es o
+  other-ends tried c es o h = elim (cases_Bool (is_stop c)) [
+    | inl y ↦ let there : late path c es o = rw y at h in refused-late path c es o y there
+    | inr n ↦ let there : ends (Err Database) es o = rw n at h in (there.0, ap is_stop there.1)
+  ]
+
+  all-read : (tried : Outcome) (text : Text) (names : List Text) (first second third : Exchange) (named : List Exchange) → AreFirst tried first second → third ≡ exchange (request at who (Packument p)) (Ok (Doc text)) → AreNamed at who p names named
+      → AreRead at who p text names tried (first ∷ second ∷ third ∷ named)
+  all-read tried text names first second third named are is-third is = record {
+    caller = first.outcome;
+    selector = are.selector;
+    message = are.message;
+    selects_nothing = are.selects_nothing;
+    is_writer = are.is_writer;
+    named = named;
+    are_named = is;
+    asked = rw (is-third, are.is_second) (ap (λ (x : Exchange). x ∷ exchange (request at who (Deprecate p are.selector are.message)) tried ∷ exchange (request at who (Packument p)) (Ok (Doc text)) ∷ named) (exchange-is first (request at who WhoAmI) first.outcome are.is_first refl));
+  }
+
+  append-nothing : (es : List Exchange) → es ++ [] ≡ es
+  append-nothing [] = refl
+  append-nothing (e ∷ es) = ap (λ (x : List Exchange). e ∷ x) (append-nothing es)
+
+  append-harmless : (before es : List Exchange) → AreHarmless before → AreHarmless es → AreHarmless (before ++ es)
+  append-harmless [] es h k = k
+  append-harmless (e ∷ before) es h k = (h.0, append-harmless before es h.1 k)
 
   -- after what was read a command comes, or nothing
-  closes : (text : Text) (names : List Text) (reads es : List Exchange) (o : Outcome) → AreRead at who p text names reads → AreQueries reads → Ending path d p at who text names es o → Turn path d p at (reads ++ es) o
-  closes text names reads es o are queries (inl none) = inl (rw none (rw (append-nothing reads) queries))
-  closes text names reads es o are queries (inr e) = inr (record {
+  closes : (tried : Outcome) (text : Text) (names : List Text) (reads es : List Exchange) (o : Outcome) → AreRead at who p text names tried reads → AreHarmless reads → Ending path d size p at who tried text names es o → Turn path d p at (reads ++ es) o
+  closes tried text names reads es o are harmless (inl h) = inl (append-harmless reads es harmless (no-harm es h.0), h.1)
+  closes tried text names reads es o are harmless (inr (inl e)) = inr (inl (record {
+    who = who;
+    text = text;
+    names = names;
+    are_read = rw (e.nothing, e.answer) (rw (append-nothing reads) are);
+    is_so = e.is_so;
+  }))
+  closes tried text names reads es o are harmless (inr (inr e)) = inr (inr (record {
     who = who;
     text = text;
     names = names;
     packument = e.packument;
     is_packument = e.is_packument;
+    tried = tried;
     what = e.what;
     outcome = e.outcome;
     reads = reads;
     are_read = are;
     asked = ap (λ (x : List Exchange). reads ++ x) e.asked;
     is_about = e.is_about;
-    is_one_thing = e.is_one_thing;
+    is_present = e.is_present;
+    makes = e.makes;
     answers = e.answers;
-  })
+  }))
 
-  -- the first two of a turn: who the caller is, and the packument
-  record AreFirst (text : Text) (first second : Exchange) : Type 0 where
-    is_first : first ≡ exchange (request at who WhoAmI) first.outcome
-    is_second : second ≡ exchange (request at who (Packument p)) (Ok (Doc text))
+  -- the three that are asked of any package
+  three-harmless : (tried : Outcome) (text : Text) (first second third : Exchange) (es : List Exchange) → AreFirst tried first second → third ≡ exchange (request at who (Packument p)) (Ok (Doc text)) → AreHarmless es → AreHarmless (first ∷ second ∷ third ∷ es)
+  three-harmless tried text first second third es are is-third h =
+      let x = first-harmless tried first second are in
+      (x.0, (x.1, (query third (request at who (Packument p)) (ap (λ (e : Exchange). e.asked) is-third) refl, h)))
 
-  first-queries : (text : Text) (first second : Exchange) (es : List Exchange) → AreFirst text first second → AreQueries es → AreQueries (first ∷ second ∷ es)
-  first-queries text first second es are q = (ap (λ (e : Exchange). is_command e.asked.what) are.is_first, (ap (λ (e : Exchange). is_command e.asked.what) are.is_second, q))
+  three-refused : (tried : Outcome) (text : Text) (first second third : Exchange) (es : List Exchange) (o : Outcome) → AreFirst tried first second → third ≡ exchange (request at who (Packument p)) (Ok (Doc text)) → IsRefused es o → Turn path d p at (first ∷ second ∷ third ∷ es) o
+  three-refused tried text first second third es o are is-third h = inl (three-harmless tried text first second third es are is-third h.0, h.1)
 
-  first-read : (text : Text) (names : List Text) (first second : Exchange) (named : List Exchange) → AreFirst text first second → AreNamed at who p names named → AreRead at who p text names (first ∷ second ∷ named)
-  first-read text names first second named are is = (first.outcome, named, is, rw (are.is_second) (ap (λ (x : Exchange). x ∷ exchange (request at who (Packument p)) (Ok (Doc text)) ∷ named) are.is_first))
-
-  for-names_turn : (text : Text) (first second third : Exchange) (t : Text) (names : Option (List Text)) (es : List Exchange) (o : Outcome) → AreFirst text first second → is_some (scope_of p) ≡ false
-      → third ≡ exchange (request at who (Maintainers p)) (Ok (Doc t)) → names_in t ≡ names → for_names (judged_by p path d at who text) names es o → Turn path d p at (first ∷ second ∷ third ∷ es) o
-  for-names_turn text first second third t None es o are plain is-third named h = inl (first-queries text first second (third ∷ es) are (ap (λ (e : Exchange). is_command e.asked.what) is-third, no-queries es h.0))
-  for-names_turn text first second third t (Some names) es o are plain is-third named h =
-      closes text names (first ∷ second ∷ third ∷ []) es o (first-read text names first second (third ∷ []) are (inr (t, plain, named, ap (λ (e : Exchange). e ∷ []) is-third)))
-      (first-queries text first second (third ∷ []) are (ap (λ (e : Exchange). is_command e.asked.what) is-third, tt)) (judged-ending path d p at who text names es o h)
+  for-names_turn : (tried : Outcome) (text : Text) (first second third fourth : Exchange) (t : Text) (names : Option (List Text)) (es : List Exchange) (o : Outcome) → AreFirst tried first second → third ≡ exchange (request at who (Packument p)) (Ok (Doc text)) → is_some (scope_of p) ≡ false
+      → fourth ≡ exchange (request at who (Maintainers p)) (Ok (Doc t)) → names_in t ≡ names → for_names (judged_by p path d size at who tried text) names es o → Turn path d p at (first ∷ second ∷ third ∷ fourth ∷ es) o
+  for-names_turn tried text first second third fourth t None es o are is-third plain is-fourth named h =
+      three-refused tried text first second third (fourth ∷ es) o are is-third (after-refused fourth es o (query fourth (request at who (Maintainers p)) (ap (λ (e : Exchange). e.asked) is-fourth) refl) (no-harm es h.0, ap is_stop h.1))
+  for-names_turn tried text first second third fourth t (Some names) es o are is-third plain is-fourth named h =
+      closes tried text names (first ∷ second ∷ third ∷ fourth ∷ []) es o (all-read tried text names first second third (fourth ∷ []) are is-third (inr (t, plain, named, ap (λ (e : Exchange). e ∷ []) is-fourth)))
+      (three-harmless tried text first second third (fourth ∷ []) are is-third (query fourth (request at who (Maintainers p)) (ap (λ (e : Exchange). e.asked) is-fourth) refl, tt)) (judged-ending path d size p at who tried text names es o h)
 
   -- the maintainers were asked for
-  third-turn : (text : Text) (first second third : Exchange) (t : Option Text) (es : List Exchange) (o : Outcome) → AreFirst text first second → is_some (scope_of p) ≡ false
-      → third.asked ≡ request at who (Maintainers p) → document_of third.outcome ≡ t → for_document (with_names (judged_by p path d at who text)) (other third.outcome) t es o → Turn path d p at (first ∷ second ∷ third ∷ es) o
+  fourth-turn : (tried : Outcome) (text : Text) (first second third fourth : Exchange) (t : Option Text) (es : List Exchange) (o : Outcome) → AreFirst tried first second → third ≡ exchange (request at who (Packument p)) (Ok (Doc text)) → is_some (scope_of p) ≡ false
+      → fourth.asked ≡ request at who (Maintainers p) → document_of fourth.outcome ≡ t → for_document (with_names (judged_by p path d size at who tried text)) (other tried fourth.outcome) t es o → Turn path d p at (first ∷ second ∷ third ∷ fourth ∷ es) o
   unfolding or_memory
-  third-turn text first second third None es o are plain is shown h = inl (first-queries text first second (third ∷ es) are (query third (request at who (Maintainers p)) is refl, no-queries es (late-nothing path third.outcome es o h)))
-  third-turn text first second third (Some t) es o are plain is shown (inr h) = inl (first-queries text first second (third ∷ es) are (query third (request at who (Maintainers p)) is refl, no-queries es h.0))
-  third-turn text first second third (Some t) es o are plain is shown (inl h) =
-      for-names_turn text first second third t (names_in t) es o are plain (exchange-is third (request at who (Maintainers p)) (Ok (Doc t)) is (document-is third.outcome t shown)) refl h
+  fourth-turn tried text first second third fourth None es o are is-third plain is shown h = three-refused tried text first second third (fourth ∷ es) o are is-third (after-refused fourth es o (query fourth (request at who (Maintainers p)) is refl) (at-end es o (other-ends tried fourth.outcome es o h)))
+  fourth-turn tried text first second third fourth (Some t) es o are is-third plain is shown (inr h) = three-refused tried text first second third (fourth ∷ es) o are is-third (after-refused fourth es o (query fourth (request at who (Maintainers p)) is refl) (no-harm es h.0, ap is_stop h.1))
+  fourth-turn tried text first second third fourth (Some t) es o are is-third plain is shown (inl h) =
+      for-names_turn tried text first second third fourth t (names_in t) es o are is-third plain (exchange-is fourth (request at who (Maintainers p)) (Ok (Doc t)) is (document-is fourth.outcome t shown)) refl h
 
-  asked-turn : (text : Text) (first second : Exchange) (es : List Exchange) (o : Outcome) → AreFirst text first second → is_some (scope_of p) ≡ false
-      → or_memory (asks (request at who (Maintainers p)) (named_by other (judged_by p path d at who text))) es o → Turn path d p at (first ∷ second ∷ es) o
+  asked-turn : (tried : Outcome) (text : Text) (first second third : Exchange) (es : List Exchange) (o : Outcome) → AreFirst tried first second → third ≡ exchange (request at who (Packument p)) (Ok (Doc text)) → is_some (scope_of p) ≡ false
+      → or_memory (asks (request at who (Maintainers p)) (named_by (other tried) (judged_by p path d size at who tried text))) es o → Turn path d p at (first ∷ second ∷ third ∷ es) o
   unfolding or_memory asks
-  asked-turn text first second es o are plain (inr h) = inl (first-queries text first second es are (no-queries es h.0))
-  asked-turn text first second [] o are plain (inl h) = absurd h
-  asked-turn text first second (third ∷ es) o are plain (inl h) = third-turn text first second third (document_of third.outcome) es o are plain h.0 refl h.1
+  asked-turn tried text first second third es o are is-third plain (inr h) = three-refused tried text first second third es o are is-third (no-harm es h.0, ap is_stop h.1)
+  asked-turn tried text first second third [] o are is-third plain (inl h) = absurd h
+  asked-turn tried text first second third (fourth ∷ es) o are is-third plain (inl h) = fourth-turn tried text first second third fourth (document_of fourth.outcome) es o are is-third plain h.0 refl h.1
 
   -- the packument is there
-  text-turn : (text : Text) (first second : Exchange) (es : List Exchange) (o : Outcome) → AreFirst text first second → asks_names p at who other (judged_by p path d at who text) es o → Turn path d p at (first ∷ second ∷ es) o
-  text-turn text first second es o are h = elim (cases_Bool (is_some (scope_of p))) [
+  text-turn : (tried : Outcome) (text : Text) (first second third : Exchange) (es : List Exchange) (o : Outcome) → AreFirst tried first second → third ≡ exchange (request at who (Packument p)) (Ok (Doc text)) → asks_names p at who (other tried) (judged_by p path d size at who tried text) es o → Turn path d p at (first ∷ second ∷ third ∷ es) o
+  text-turn tried text first second third es o are is-third h = elim (cases_Bool (is_some (scope_of p))) [
     | inl scoped ↦
-        let there : judged_by p path d at who text [] es o = rw scoped at h in
-        closes text [] (first ∷ second ∷ []) es o (first-read text [] first second [] are (inl (scoped, refl, refl))) (first-queries text first second [] are tt) (judged-ending path d p at who text [] es o there)
+        let there : judged_by p path d size at who tried text [] es o = rw scoped at h in
+        closes tried text [] (first ∷ second ∷ third ∷ []) es o (all-read tried text [] first second third [] are is-third (inl (scoped, refl, refl))) (three-harmless tried text first second third [] are is-third tt) (judged-ending path d size p at who tried text [] es o there)
     | inr plain ↦
-        let there : or_memory (asks (request at who (Maintainers p)) (named_by other (judged_by p path d at who text))) es o = rw plain at h in
-        asked-turn text first second es o are plain there
+        let there : or_memory (asks (request at who (Maintainers p)) (named_by (other tried) (judged_by p path d size at who tried text))) es o = rw plain at h in
+        asked-turn tried text first second third es o are is-third plain there
   ]
 
-  second-turn : (first second : Exchange) (t : Option Text) (es : List Exchange) (o : Outcome) → first.asked ≡ request at who WhoAmI → second.asked ≡ request at who (Packument p) → document_of second.outcome ≡ t
-      → for_document (λ text. asks_names p at who other (judged_by p path d at who text)) (other second.outcome) t es o → Turn path d p at (first ∷ second ∷ es) o
-  second-turn first second None es o is-first is-second shown h = inl (query first (request at who WhoAmI) is-first refl, (query second (request at who (Packument p)) is-second refl, no-queries es (late-nothing path second.outcome es o h)))
-  second-turn first second (Some text) es o is-first is-second shown h =
-      text-turn text first second es o (record { is_first = exchange-is first (request at who WhoAmI) first.outcome is-first refl; is_second = exchange-is second (request at who (Packument p)) (Ok (Doc text)) is-second (document-is second.outcome text shown) }) h
+  third-turn : (tried : Outcome) (first second third : Exchange) (t : Option Text) (es : List Exchange) (o : Outcome) → AreFirst tried first second → third.asked ≡ request at who (Packument p) → document_of third.outcome ≡ t
+      → for_document (λ text. asks_names p at who (other tried) (judged_by p path d size at who tried text)) (other tried third.outcome) t es o → Turn path d p at (first ∷ second ∷ third ∷ es) o
+  third-turn tried first second third None es o are is-third shown h = inl (with-first tried first second (third ∷ es) o are (after-refused third es o (query third (request at who (Packument p)) is-third refl) (at-end es o (other-ends tried third.outcome es o h))))
+  third-turn tried first second third (Some text) es o are is-third shown h =
+      text-turn tried text first second third es o are (exchange-is third (request at who (Packument p)) (Ok (Doc text)) is-third (document-is third.outcome text shown)) h
 
-  serves-turn : (first : Exchange) (es : List Exchange) (o : Outcome) → first.asked ≡ request at who WhoAmI → serves (judged path d) p at who es o → Turn path d p at (first ∷ es) o
+  serves-turn : (tried : Outcome) (first second : Exchange) (es : List Exchange) (o : Outcome) → AreFirst tried first second → serves (judged path d size) p at who tried es o → Turn path d p at (first ∷ second ∷ es) o
   unfolding or_memory asks
-  serves-turn first es o is (inr h) = inl (query first (request at who WhoAmI) is refl, no-queries es h.0)
-  serves-turn first [] o is (inl h) = absurd h
-  serves-turn first (second ∷ es) o is (inl h) = second-turn first second (document_of second.outcome) es o is h.0 refl h.1
+  serves-turn tried first second es o are (inr h) = inl (with-first tried first second es o are (no-harm es h.0, ap is_stop h.1))
+  serves-turn tried first second [] o are (inl h) = absurd h
+  serves-turn tried first second (third ∷ es) o are (inl h) = third-turn tried first second third (document_of third.outcome) es o are h.0 refl h.1
 
-  user-turn : (es : List Exchange) (o : Outcome) → serves_user (judged path d) p at who es o → Turn path d p at es o
-  unfolding asks
-  user-turn [] o h = absurd h
-  user-turn (first ∷ es) o h = elim (cases_Bool (is_stop first.outcome)) [
-    | inl y ↦ let there : late path first.outcome es o = rw y at h.1 in inl (query first (request at who WhoAmI) h.0 refl, no-queries es (late-nothing path first.outcome es o there))
-    | inr n ↦ let there : serves (judged path d) p at who es o = rw n at h.1 in serves-turn first es o h.0 there
+  -- the right was tried
+  tried-turn : (first second : Exchange) (conditions : List (List Condition)) (message : Text) (es : List Exchange) (o : Outcome) → first.asked ≡ request at who WhoAmI → SelectNothing conditions → second.asked ≡ request at who (Deprecate p conditions message)
+      → either (is_stop second.outcome) (late path second.outcome) (serves (judged path d size) p at who second.outcome) es o → Turn path d p at (first ∷ second ∷ es) o
+  tried-turn first second conditions message es o is-first none is-second h = elim (cases_Bool (is_stop second.outcome)) [
+    | inl y ↦
+        let there : late path second.outcome es o = rw y at h in
+        inl (after-refused first (second ∷ es) o (query first (request at who WhoAmI) is-first refl) (after-refused second es o (harmless-asked second (request at who (Deprecate p conditions message)) is-second (inr none)) (at-end es o (refused-late path second.outcome es o y there))))
+    | inr n ↦
+        let there : serves (judged path d size) p at who second.outcome es o = rw n at h in
+        serves-turn second.outcome first second es o (record {
+          is_first = is-first;
+          selector = conditions;
+          message = message;
+          selects_nothing = none;
+          is_second = exchange-is second (request at who (Deprecate p conditions message)) second.outcome is-second refl;
+          is_writer = n;
+        }) there
   ]
 
--- what isn't in form asks for nothing
-turn-reading : {A : Type 0} (path : Option Text) (d : Data) (p : Text) (at : ℕ) (reads : Reading A) (next : A → Leads) (es : List Exchange) (o : Outcome) → ((a : A) → reads (Ok a) → next a es o → Turn path d p at es o) → reading reads next es o → Turn path d p at es o
-unfolding reading
-turn-reading path d p at reads next es o f (inl (a, r, h)) = f a r h
-turn-reading path d p at reads next es o f (inr (s, r, h)) = inl (no-queries es h.0)
+  -- a trial, after who calls was asked
+  asks-turn : (first : Exchange) (conditions : List (List Condition)) (message : Text) (es : List Exchange) (o : Outcome) → first.asked ≡ request at who WhoAmI → SelectNothing conditions
+      → asks (request at who (Deprecate p conditions message)) (λ c. either (is_stop c) (late path c) (serves (judged path d size) p at who c)) es o → Turn path d p at (first ∷ es) o
+  unfolding asks
+  asks-turn first conditions message [] o is-first none h = absurd h
+  asks-turn first conditions message (second ∷ es) o is-first none h = tried-turn first second conditions message es o is-first none h.0 h.1
 
-for-turn : (path : Option Text) (d : Data) (p : Text) (w : Wanted) (at : ℕ) (es : List Exchange) (o : Outcome) → asks_for (judged path d) p w at es o → Turn path d p at es o
-for-turn path d p w at es o h = turn-reading path d p at (reads_caller w.authorization) _ es o (λ who r k. user-turn path d p at who es o k) h
+  refused-first : (first : Exchange) (es : List Exchange) (o : Outcome) → first.asked ≡ request at who WhoAmI → IsRefused es o → Turn path d p at (first ∷ es) o
+  refused-first first es o is-first h = inl (after-refused first es o (query first (request at who WhoAmI) is-first refl) h)
+
+  writer-turn : (first : Exchange) (es : List Exchange) (o : Outcome) → first.asked ≡ request at who WhoAmI → serves_writer (judged path d size) p at who es o → Turn path d p at (first ∷ es) o
+  unfolding or_memory reading
+  writer-turn first es o is-first (inr h) = refused-first first es o is-first (no-harm es h.0, ap is_stop h.1)
+  writer-turn first es o is-first (inl (inl (v, r, h))) = asks-turn first v.selector v.message es o is-first (selects-nothing v.selector r.2) h
+  writer-turn first es o is-first (inl (inr (s, r, h))) = refused-first first es o is-first (at-end es o (refused-ends (stopped s) es o (stopped-stops s) h))
+
+-- what isn't in form is refused
+turn-reading : {A : Type 0} (path : Option Text) (d : Data) (p : Text) (at : ℕ) (who : Credential) (first : Exchange) (reads : Reading A) (next : A → Leads) (es : List Exchange) (o : Outcome) → first.asked ≡ request at who WhoAmI → ((a : A) → reads (Ok a) → next a es o → Turn path d p at (first ∷ es) o) → reading reads next es o → Turn path d p at (first ∷ es) o
+unfolding reading
+turn-reading path d p at who first reads next es o is-first f (inl (a, r, h)) = f a r h
+turn-reading path d p at who first reads next es o is-first f (inr (s, r, h)) = inl (after-refused first es o (query first (request at who WhoAmI) is-first refl) (at-end es o (refused-ends (stopped s) es o (stopped-stops s) h)))
+
+-- a user calls, or nobody
+user-turn : (refused : Outcome → Leads) (next : Credential → Leads) (path : Option Text) (d : Data) (p : Text) (w : Wanted) (at : ℕ) (es : List Exchange) (o : Outcome)
+    → ((c : Outcome) (later : List Exchange) → is_stop c ≡ true → refused c later o → Refused later o)
+    → ((who : Credential) (first : Exchange) (later : List Exchange) → first.asked ≡ request at who WhoAmI → next who later o → Turn path d p at (first ∷ later) o) → by_user refused w at next es o → Turn path d p at es o
+unfolding reading asks
+user-turn refused next path d p w at es o g f (inr (s, r, h)) = inl (at-end es o (refused-ends (stopped s) es o (stopped-stops s) h))
+user-turn refused next path d p w at [] o g f (inl (who, r, h)) = absurd h
+user-turn refused next path d p w at (first ∷ es) o g f (inl (who, r, h)) = elim (cases_Bool (is_stop first.outcome)) [
+  | inl y ↦ let there : refused first.outcome es o = rw y at h.1 in inl (after-refused first es o (query first (request at who WhoAmI) h.0 refl) (at-end es o (g first.outcome es y there)))
+  | inr n ↦ let there : next who es o = rw n at h.1 in f who first es h.0 there
+]
 
 -- ---- the routes
 
 revised-turn : (v : Values) (w : Wanted) (at : ℕ) (es : List Exchange) (o : Outcome) (path : Option Text) (d : Data) (p : Text) → IsSent by.Revised v w.body path d → one reads_name v (Ok p)
     → leads by.Revised v w at es o → Turn path d p at es o
-revised-turn v w at es o path d p sent named h = turn-reading path d p at (one reads_name v) _ es o (λ q r k. turn-reading path d p at (reads_revision v.second) _ es o (λ t u l. turn-reading path d p at (reads_document w.body) _ es o (λ c x m.
+revised-turn v w at es o path d p sent named h = user-turn stale (leads_claim v w.body at) path d p w at es o (λ c later stops k. refused-late (Some []) c later o stops k) (λ who first later is-first k.
+    turn-reading path d p at who first (one reads_name v) _ later o is-first (λ q r l. turn-reading path d p at who first (reads_revision v.second) _ later o is-first (λ t u m. turn-reading path d p at who first (reads_document w.body) _ later o is-first (λ c x n.
     let same-p : q ≡ p = same-name v q p r named in
     let same-d : c ≡ d = same-document w.body c d x sent.0 in
-    let same-path : Some t ≡ path = ap (λ (y : Text). Some y) u ∙ sym sent.1 in
-    let there : asks_for (judged path d) p w at es o = rw (← same-path, ← same-d, ← same-p) m in
-    for-turn path d p w at es o there) l) k) h
+    let same-path : Some t ≡ path = ap (λ (y : Text). Some y) u.0 ∙ sym sent.1 in
+    let there : serves_writer (judged path d (length w.body)) p at who later o = rw (← same-path, ← same-d, ← same-p) n in
+    writer-turn path d (length w.body) p at who first later o is-first there) m) l) k) h
 
 abbrev Sent : Option Text → Data → Text → Wanted → ℕ → List Exchange → Outcome → Type 0
-Sent path d p w at es o = AreQueries es ⊎ ChangesOneThing path d p at es o ⊎ ((asked : Request) × reads_request w at (Ok asked) × (es ≡ exchange asked o ∷ []))
+Sent path d p w at es o = IsRefused es o ⊎ SaysWhatIsThere d p at es o ⊎ ChangesOneThing path d p at es o ⊎ publishes w at es o
 
 sent-turn : (path : Option Text) (d : Data) (p : Text) (w : Wanted) (at : ℕ) (es : List Exchange) (o : Outcome) → Turn path d p at es o → Sent path d p w at es o
 sent-turn path d p w at es o (inl h) = inl h
-sent-turn path d p w at es o (inr h) = inr (inl h)
+sent-turn path d p w at es o (inr (inl h)) = inr (inl h)
+sent-turn path d p w at es o (inr (inr h)) = inr (inr (inl h))
 
-published : (r : Request) (es : List Exchange) (o : Outcome) → asks r ends es o → es ≡ exchange r o ∷ []
-unfolding asks
-published r [] o h = absurd h
-published r (e ∷ es) o (same, (none, is)) = rw none (ap (λ (x : Exchange). x ∷ []) (exchange-is e r o same (sym is)))
-
-claimed-turn : (v : Values) (w : Wanted) (at : ℕ) (es : List Exchange) (o : Outcome) (path : Option Text) (d c : Data) (p : Text) → path ≡ None → c ≡ d → one reads_name v (Ok p) → leads_claimed v w at c es o → Turn path d p at es o
-claimed-turn v w at es o path d c p none same named h = turn-reading path d p at (one reads_name v) _ es o (λ q r k.
-    let same-p : q ≡ p = same-name v q p r named in
-    let there : asks_for (judged path d) p w at es o = rw (none, ← same, ← same-p) k in
-    for-turn path d p w at es o there) h
-
-claim-turn : (v : Values) (w : Wanted) (at : ℕ) (refusal : Refusal) (es : List Exchange) (o : Outcome) (path : Option Text) (d : Data) (p : Text) (c : Option Data) → path ≡ None → c ≡ Some d → one reads_name v (Ok p)
-    → leads_claim v w at refusal c es o → Turn path d p at es o
-claim-turn v w at refusal es o path d p None none same named h = absurd (cc)
-claim-turn v w at refusal es o path d p (Some c) none same named h = let there : c ≡ d = cc in claimed-turn v w at es o path d c p none there named h
-
-stopped-turn : (v : Values) (w : Wanted) (at : ℕ) (s : Stop) (es : List Exchange) (o : Outcome) (path : Option Text) (d : Data) (p : Text) → IsSent by.Document v w.body path d → one reads_name v (Ok p)
-    → leads_stopped v w at s es o → Turn path d p at es o
-stopped-turn v w at (Faulted fault) es o path d p sent named h = inl (no-queries es h.0)
-stopped-turn v w at (Refuses r) es o path d p sent named h = turn-reading path d p at (reads_claim w.body) _ es o (λ c x k.
-    claim-turn v w at r es o path d p c sent.2 (same-claim w.body c (Some d) x (sent.0, sent.1)) named k) h
+-- what is put is a claim
+put-turn : (v : Values) (w : Wanted) (at : ℕ) (who : Credential) (first : Exchange) (es : List Exchange) (o : Outcome) (path : Option Text) (d : Data) (p : Text) (put : Put) → IsSent by.Document v w.body path d → first.asked ≡ request at who WhoAmI
+    → reads_put p w.body (Ok put) → puts p w.body at who put es o → Turn path d p at (first ∷ es) o
+put-turn v w at who first es o path d p (published form) sent is-first r h = absurd (sent.1 (ap kind_of (same-value w.body d r.0.0 sent.0 r.0.1) ∙ r.0.2))
+put-turn v w at who first es o path d p (claimed c) sent is-first r h =
+    let same-d : c ≡ d = same-value w.body c d r.0 sent.0 in
+    let there : serves_writer (judged path d (length w.body)) p at who es o = rw (sent.2, ← same-d) h in
+    writer-turn path d (length w.body) p at who first es o is-first there
 
 document-turn : (v : Values) (w : Wanted) (at : ℕ) (es : List Exchange) (o : Outcome) (path : Option Text) (d : Data) (p : Text) → IsSent by.Document v w.body path d → one reads_name v (Ok p)
     → leads_document v w at es o → Sent path d p w at es o
-document-turn v w at es o path d p sent named (inl (r, is, h)) = inr (inr (r, is, published r es o h))
-document-turn v w at es o path d p sent named (inr (s, is, h)) = sent-turn path d p w at es o (stopped-turn v w at s es o path d p sent named h)
+document-turn v w at es o path d p sent named (inl h) = inr (inr (inr h))
+document-turn v w at es o path d p sent named (inr h) = sent-turn path d p w at es o (user-turn ends (leads_put v w.body at) path d p w at es o (λ c later stops k. refused-ends c later o stops k) (λ who first later is-first k.
+    turn-reading path d p at who first (one reads_name v) _ later o is-first (λ q r l.
+    let same-p : q ≡ p = same-name v q p r named in
+    let there : reading (reads_put p w.body) (puts p w.body at who) later o = rw (← same-p) l in
+    turn-reading path d p at who first (reads_put p w.body) _ later o is-first (λ put x m. put-turn v w at who first later o path d p put sent is-first x m) there) k) h)
 
 sent-by : (e : NpmEndpoint) (v : Values) (w : Wanted) (at : ℕ) (es : List Exchange) (o : Outcome) (path : Option Text) (d : Data) (p : Text) → IsSent e v w.body path d → one reads_name v (Ok p)
     → either (is_npms e w.body) (leads e v w at) (AsksByRoute w at) es o → Sent path d p w at es o

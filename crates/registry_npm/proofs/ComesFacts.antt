@@ -4,26 +4,27 @@ use Rattle.std.specs.Prelude.{IfOk, MatchResult}
 use Rattle.registry_names.specs.declared.stop.Fault.{Fault}
 use Rattle.registry_names.specs.declared.stop.Fault.TheVariants.{Database, Memory}
 use Rattle.registry_names.specs.declared.stop.Stop.{Stop}
-use Rattle.registry_names.specs.declared.stop.Stop.TheVariants.{Fault as Faulted}
 use Rattle.registry_names.specs.Texts.{Text}
 use Rattle.registry_rules.specs.declared.reply.Reply.TheVariants.{Doc}
-use Rattle.registry_rules.specs.declared.request.Action.TheVariants.{Members, Teams}
+use Rattle.registry_rules.specs.declared.request.Action.TheVariants.{Teams}
 use Rattle.registry_rules.specs.declared.request.Request.{Request}
 use Rattle.registry_service.specs.HttpAnswers.{Outcome}
 use Rattle.registry_service.specs.Readings.{Reading}
 use Rattle.registry_service.specs.Turns.{Answering, exchange, stopped}
-use Rattle.registry_npm.specs.Packages.{for_document, for_names, leads_document}
-use Rattle.registry_routes.specs.Routes.{Values}
-use Rattle.registry_service.specs.Requests.{reads_request}
+use Rattle.registry_rules.specs.declared.request.Action.TheVariants.{WhoAmI}
+use Rattle.registry_rules.specs.declared.request.Credential.{Credential}
+use Rattle.registry_service.specs.Callers.{reads_caller}
 use Rattle.registry_wire.specs.declared.wanted.Wanted.{Wanted}
-use Rattle.registry_npm.specs.Leading.{Comes, Leads, asks, document_of, either, ends, is_stop, or_memory, reading, unless_stopped}
+use Rattle.registry_npm.specs.Callers.{who_of}
+use Rattle.registry_npm.specs.Collaborators.{for_form}
+use Rattle.registry_npm.specs.Leading.{Comes, Leads, asks, by_user, document_of, either, ends, is_stop, or_memory, reading, request, unless_stopped}
+use Rattle.registry_npm.specs.Packages.{for_document, for_names}
+use Rattle.registry_npm.specs.Users.{IsStranger, IsUser, refused_by}
+use Rattle.registry_npm.specs.declared.caller.Caller.{Caller}
 
 -- the organisation that an action names
 pub same-teams : (a b : Text) → Teams a ≡ Teams b → a ≡ b
 same-teams a b e = cc e
-
-pub same-members : (a b : Text) → Members a ≡ Members b → a ≡ b
-same-members a b e = cc e
 
 module _ {D : Type 0} (answers : Answering D) where
   -- what is read, before what no memory may be left for
@@ -31,15 +32,6 @@ module _ {D : Type 0} (answers : Answering D) where
   unfolding or_memory reading
   comes-judged M N reads next a o r (es, inl h, later) = (es, inl (inl (a, r, h)), later)
   comes-judged M N reads next a o r (es, inr h, later) = (es, inr h, later)
-
-  -- a publication
-  pub comes-published : (M N : D) (v : Values) (w : Wanted) (at : ℕ) (r : Request) (o : Outcome) → reads_request w at (Ok r) → answers M r o N → Comes answers M (leads_document v w at) o N
-  unfolding asks
-  comes-published M N v w at r o is a = (exchange r o ∷ [], inl (r, is, (refl, (refl, refl))), (N, a, refl))
-
-  -- a fault where a request is read
-  pub comes-faulted : (M : D) (v : Values) (w : Wanted) (at : ℕ) (fault : Fault) → reads_request w at (Err (Faulted fault)) → Comes answers M (leads_document v w at) (Err fault) M
-  comes-faulted M v w at fault is = ([], inr (Faulted fault, is, (refl, refl)), refl)
 
   -- the second of two
   pub comes-unless : (M : D) (b : Bool) (fst : Leads) (c : Outcome) → b ≡ false → Comes answers M (or_memory (either b fst (ends c))) c M
@@ -113,3 +105,23 @@ module _ {D : Type 0} (answers : Answering D) where
       → Comes answers M (or_memory (either b this other)) o N
   comes-tested M N b (Ok x) this other o e h = comes-or M N (either b this other) o (rw (← e) h)
   comes-tested M N b (Err f) this other o e h = rw (h.0, h.1) (comes-starved M (either b this other))
+
+  -- what is in form, before what memory may be lacking for
+  pub comes-formed : {A : Type 0} (M N : D) (next : A → Leads) (form : Option A) (a : A) (o : Outcome) → form ≡ Some a → Comes answers M (next a) o N → Comes answers M (or_memory (for_form next form)) o N
+  unfolding or_memory
+  comes-formed M N next form a o e (es, h, later) = (es, inl (rw e h), later)
+
+  pub comes-formless : {A : Type 0} (M : D) (next : A → Leads) (form : Option A) → form ≡ None → Comes answers M (or_memory (for_form next form)) (Err Database) M
+  unfolding or_memory
+  comes-formless M next form e = ([], inl (rw e (refl, refl)), refl)
+
+  -- a user calls, or who is none
+  module _ (w : Wanted) (at : ℕ) (is_revised : Bool) (next : Credential → Leads) where
+    pub comes-user : (M K N : D) (who : Caller) (o : Outcome) → IsUser answers w at M who K → Comes answers K (next (who_of who)) o N → Comes answers M (by_user (refused_by is_revised) w at next) o N
+    comes-user M K N who o (is, (c, on, a)) h =
+        comes-read M N (reads_caller w.authorization) _ (who_of who) o is (comes-asked M K N (request at (who_of who) WhoAmI) (request at (who_of who) WhoAmI) c _ o refl a (comes-or_else K N (is_stop c) _ (next (who_of who)) o on h))
+
+    pub comes-stranger : (M N : D) (o : Outcome) → IsStranger answers w at is_revised M o N → Comes answers M (by_user (refused_by is_revised) w at next) o N
+    comes-stranger M N o (inl (s, is, same, left)) = rw left (comes-stopped M (reads_caller w.authorization) _ s o is same)
+    comes-stranger M N o (inr (who, c, is, stops, a, answered)) =
+        comes-read M N (reads_caller w.authorization) _ (who_of who) o is (comes-asked M N N (request at (who_of who) WhoAmI) (request at (who_of who) WhoAmI) c _ o refl a (comes-either N N (is_stop c) (refused_by is_revised c) _ o stops (comes-alone N (refused_by is_revised c) o answered)))

@@ -1,7 +1,6 @@
 -- Why the laws of npm's dialect hold.
-use Rattle.std.proofs.Common.{◌≡◌, ◌≤◌, ◌+◌, ◌∷◌, ◌⊎◌, [], ℕ, Bool, true, false, List, Option, Some, None, Ok, Err, length, option_map, is_some, refl, sym, ap, subst, ◌≢◌, ◌∙◌, inl, inr, arith}
-use Rattle.std.specs.Prelude.{if◌then◌else◌}
-use Rattle.std.proofs.lemmas.Bool.{cases_Bool}
+use Rattle.std.proofs.Common.{◌≡◌, ◌∷◌, ◌⊎◌, [], ℕ, Bool, true, false, List, Option, Some, None, Ok, Err, length, option_map, is_some, refl, sym, ap, subst, ◌≢◌, ◌∙◌, inl, inr}
+use Rattle.std.proofs.lemmas.Bool.{cases_Bool, false≢true}
 use Rattle.registry_access.specs.Levels as levels
 use Rattle.registry_access.specs.declared.role.Role.{Role}
 use Rattle.registry_names.specs.Names.{scope_of}
@@ -13,7 +12,7 @@ use Rattle.registry_names.specs.declared.refusal.Refusal.TheVariants.{BadBody, B
 use Rattle.registry_names.specs.declared.stop.Fault.{Fault}
 use Rattle.registry_names.specs.declared.stop.Fault.TheVariants.{Database, Memory}
 use Rattle.registry_names.specs.declared.stop.Stop.{Stop}
-use Rattle.registry_names.specs.declared.stop.Stop.TheVariants.{Refused as Refuses, Fault as Faulted}
+use Rattle.registry_names.specs.declared.stop.Stop.TheVariants.{Refused as Refuses}
 use Rattle.registry_packument.specs.declared.list.Member.{Member}
 use Rattle.registry_packument.specs.declared.list.PackageLevel.{PackageLevel}
 use Rattle.registry_routes.specs.NpmLaws.{TablesMeet, endpoint_of, met}
@@ -22,14 +21,15 @@ use Rattle.registry_routes.specs.Routes.{Route, Values, route_of}
 use Rattle.registry_routes.specs.declared.npm_endpoint.NpmEndpoint.{NpmEndpoint}
 use Rattle.registry_routes.specs.declared.npm_endpoint.NpmEndpoint.TheVariants as by
 use Rattle.registry_rules.specs.Actions.{is_command}
-use Rattle.registry_rules.specs.declared.reply.Reply.TheVariants.{Refused}
+use Rattle.registry_rules.specs.declared.reply.Reply.{Reply}
+use Rattle.registry_rules.specs.declared.reply.Reply.TheVariants.{Bytes, Count, Created, Doc, Done, Refused}
 use Rattle.registry_rules.specs.declared.request.Action.{Action}
-use Rattle.registry_rules.specs.declared.request.Action.TheVariants.{AbbreviatedPackument, Maintainers, Members, MyPackages, OrgSet, OwnerAdd, Packument, RevisedPackument, Tags, TeamMembers, TeamPackages, Teams, VersionDoc, WhoAmI}
-use Rattle.registry_rules.specs.declared.request.Asked.TheVariants.{Exact}
+use Rattle.registry_rules.specs.declared.request.Action.TheVariants.{AbbreviatedPackument, Archive, Deprecate, Maintainers, Members, MyPackages, OrgSet, OwnerAdd, Packument, Publish, RevisedPackument, Tags, TeamMembers, TeamPackages, Teams, WhoAmI}
 use Rattle.registry_rules.specs.declared.request.Credential.{Credential}
 use Rattle.registry_rules.specs.declared.request.Credential.TheVariants.{Anonymous}
 use Rattle.registry_rules.specs.declared.request.Request.{Request}
 use Rattle.registry_service.specs.Callers.{reads_caller}
+use Rattle.registry_service.specs.Dialects.{AreQueries}
 use Rattle.registry_service.specs.HttpAnswers.{Outcome}
 use Rattle.registry_service.specs.Bodies.{reads_file}
 use Rattle.registry_service.specs.Readings.{Reading, gives, one, reads_ident, reads_name, then}
@@ -43,13 +43,14 @@ use Rattle.registry_npm.specs.Asked.{reads_first, reads_member, reads_user}
 use Rattle.registry_npm.specs.Bodies.{begins_object}
 use Rattle.registry_npm.specs.Collaborators.{asks_all, asks_scope, asks_teams, for_form, for_left, left_after, level_said, levels_in, members_in, most_bytes, shows_writers, taking, teams_in}
 use Rattle.registry_npm.specs.Forms.{empty_text, grants_form, membership_form, names_in, profile_form, teams_form, user_text, writers_form}
-use Rattle.registry_npm.specs.Laws.{FaultsEnd, FilesAreGone, IsGone, NamesFile, NpmIsApart, OneCommand, OthersStay, StopAtFaults, StopsAtFault, command_count, commands, is_file_drop, is_npms_by, is_of_package, is_package}
+use Rattle.registry_npm.specs.Laws.{AreHarmless, ComesLast, CommandComesLast, FaultsEnd, FilesAreGone, IsGone, IsHarmless, NamesFile, NpmIsApart, OthersStay, StopAtFaults, StopsAtFault, is_file_drop, is_npms_by, is_of_package, is_package}
 use Rattle.registry_documents.specs.declared.asked.Asked.{Asked}
 use Rattle.registry_documents.specs.declared.asked.Asked.TheVariants.{AlreadySo, Deprecation as Deprecates, Withdrawal, OwnerAdd as AddsOwner, OwnerRemove as RemovesOwner}
-use Rattle.serde_json.specs.Data.{Data}
-use Rattle.registry_npm.specs.Packages.{asks_for, asks_late, asks_names, does, for_document, for_names, fulfils, is_gone, judged, judges, late, leads_claim, leads_document, leads_stopped, named_by, no_version, other_of, Purpose, reads_claim, reads_document, reads_owner, reads_revision, reads_versions, reads_withdrawn, serves, serves_user, shows_answer, shows_packument, stale, tries, tries_right, unless_nobody, with_names, withdrawn}
-use Rattle.registry_npm.specs.Leading.{Leads, asks, by_caller, document_of, either, ends, in_form, is_stop, or_memory, reading, request, shown_as, shows, unless_stopped}
-use Rattle.registry_npm.specs.Npm.{asks_caller, asks_first, asks_own, asks_role, asks_size, follows, is_npms, is_user, leads, not_served, npm, sets_member, shows_own, shows_public, shows_teams, shows_user, shows_visibility, asks_by}
+use Rattle.registry_npm.specs.Packages.{Purpose, Put, asks_late, asks_names, claimed, does, for_document, for_names, fulfils, is_gone, judged, judges, late, leads_document, leads_put, named_by, no_version, other_of, path_of, published, puts, reads_document, reads_owner, reads_put, reads_revision, reads_versions, reads_withdrawn, refused_of, serves, serves_writer, shows_answer, shows_packument, stale, tries, tries_right, unless_nobody, with_names, withdrawn}
+use Rattle.registry_npm.specs.Queries.{Queries, gave, q-first, q-leads, q-not_served}
+use Rattle.registry_npm.specs.Leading.{Leads, asks, by_caller, by_user, document_of, either, ends, in_form, is_stop, or_memory, reading, request, shown_as, shows, unless_stopped}
+use Rattle.registry_npm.specs.Npm.{asks_by, asks_caller, asks_command, asks_first, asks_own, asks_role, follows, is_npms, is_user, leads, not_served, npm, shows_own, shows_public, shows_teams, shows_user, shows_visibility}
+use Rattle.registry_npm.proofs.TrialFacts.{selects-nothing}
 
 -- ---- of either
 
@@ -74,225 +75,248 @@ stays-by (Some r) w at es o e = either-no (is_npms r.endpoint w.body) (leads r.e
 pub others-stay : OthersStay
 others-stay w at es o e = stays-by (npm_route_of w.method w.target) w at es o e
 
--- ---- how many commands
+-- ---- the command comes last
 
-abbrev Few : ℕ → Leads → Type 0
-Few n leading = (es : List Exchange) (o : Outcome) → leading es o → commands es ≤ n
+abbrev Quiet : Leads → Type 0
+Quiet leading = (es : List Exchange) (o : Outcome) → leading es o → AreHarmless es
 
-few-ends : (n : ℕ) (c : Outcome) → Few n (ends c)
-few-ends n c es o h = rw h.0 (omega arith)
+abbrev Last : Leads → Type 0
+Last leading = (es : List Exchange) (o : Outcome) → leading es o → AreHarmless es ⊎ ComesLast es o
 
-few-shows : (n : ℕ) (t : Text) → Few n (shows t)
-few-shows n t es o h = rw h.0 (omega arith)
+quiet-nothing : (es : List Exchange) → es ≡ [] → AreHarmless es
+quiet-nothing es e = rw e tt
 
-abbrev cost : Action → ℕ
-cost what = if is_command what then 1 else 0
+quiet-ends : (c : Outcome) → Quiet (ends c)
+quiet-ends c es o h = quiet-nothing es h.0
 
-cost-one : (what : Action) → cost what ≤ 1
-cost-one what = elim (cases_Bool (is_command what)) [
-  | inl y ↦ rw y (omega arith)
-  | inr n ↦ rw n (omega arith)
+last-quiet : (leading : Leads) → Quiet leading → Last leading
+last-quiet leading f es o h = inl (f es o h)
+
+last-ends : (c : Outcome) → Last (ends c)
+last-ends c es o h = inl (quiet-ends c es o h)
+
+-- queries are harmless
+pub queries-harmless : (es : List Exchange) → AreQueries es → AreHarmless es
+queries-harmless [] h = tt
+queries-harmless (e ∷ es) h = (inl h.0, queries-harmless es h.1)
+
+last-queries : (leading : Leads) → Queries leading → Last leading
+last-queries leading f es o h = inl (queries-harmless es (f es o h))
+
+pub harmless-asked : (e : Exchange) (r : Request) → e.asked ≡ r → IsHarmless (exchange r e.outcome) → IsHarmless e
+harmless-asked e r same h = subst (λ (q : Request). IsHarmless (exchange q e.outcome)) (sym same) h
+
+-- ---- what is answered of the last outcome
+
+not_found-refuses : (reply : Reply) → is_gone (Ok reply) ≡ true → is_stop (Ok reply) ≡ true
+not_found-refuses Created h = absurd (false≢true h)
+not_found-refuses Done h = absurd (false≢true h)
+not_found-refuses (Count n) h = absurd (false≢true h)
+not_found-refuses (Doc t) h = absurd (false≢true h)
+not_found-refuses (Bytes b) h = absurd (false≢true h)
+not_found-refuses (Refused r) h = refl
+
+pub gone-stops : (c : Outcome) → is_gone c ≡ true → is_stop c ≡ true
+gone-stops (Ok reply) h = not_found-refuses reply h
+gone-stops (Err fault) h = refl
+
+-- nothing more is asked, and what isn't refused isn't answered by an error
+abbrev Answered : (Outcome → Leads) → Type 0
+Answered next = (c : Outcome) (es : List Exchange) (o : Outcome) → next c es o → (es ≡ []) × (is_stop c ≡ false → is_stop o ≡ false)
+
+answered-ends : Answered ends
+answered-ends c es o h = (h.0, λ e. ap is_stop h.1 ∙ e)
+
+answered-gone : (refusal : Refusal) (c : Outcome) (es : List Exchange) (o : Outcome) → either (is_gone c) (ends (Ok (Refused refusal))) (ends c) es o → (es ≡ []) × (is_stop c ≡ false → is_stop o ≡ false)
+answered-gone refusal c es o h = elim (cases_Bool (is_gone c)) [
+  | inl y ↦ let there : ends (Ok (Refused refusal)) es o = rw y at h in (there.0, λ e. absurd (false≢true (sym e ∙ gone-stops c y)))
+  | inr n ↦ let there : ends c es o = rw n at h in answered-ends c es o there
 ]
 
-few-asks : (k n : ℕ) (r : Request) (next : Outcome → Leads) → cost r.what ≤ k → ((c : Outcome) → Few n (next c)) → Few (k + n) (asks r next)
+answered-late : (path : Option Text) → Answered (late path)
+answered-late None c es o h = answered-ends c es o h
+answered-late (Some named) c es o h = answered-gone Stale c es o h
+
+answered-nobody : Answered unless_nobody
+answered-nobody c es o h = answered-gone BadName c es o h
+
+answered-shown : (text : Text) → Answered (unless_stopped (ends (Ok (Doc text))))
+answered-shown text c es o h = elim (cases_Bool (is_stop c)) [
+  | inl y ↦ let there : ends c es o = rw y at h in (there.0, λ e. absurd (false≢true (sym e ∙ y)))
+  | inr n ↦ let there : ends (Ok (Doc text)) es o = rw n at h in (there.0, λ e. ap is_stop there.1)
+]
+
+-- ---- of turns
+
+last-asks : (r : Request) (next : Outcome → Leads) → Answered next → Last (asks r next)
 unfolding asks
-few-asks k n r next low f [] o h = absurd h
-few-asks k n r next low f (e ∷ es) o h =
-    let same : command_count e ≡ cost r.what = ap (λ (q : Request). cost q.what) h.0 in
-    let later : commands es ≤ n = f e.outcome es o h.1 in
-    omega (arith, same, later, low)
+last-asks r next f [] o h = absurd h
+last-asks r next f (e ∷ es) o h =
+    let x = f e.outcome es o h.1 in
+    inr (record { before = []; last = e; are_harmless = tt; asked = ap (λ (rest : List Exchange). e ∷ rest) x.0; done = x.1 })
 
-few-reading : {A : Type 0} (n : ℕ) (reads : Reading A) (next : A → Leads) → ((a : A) → reads (Ok a) → Few n (next a)) → Few n (reading reads next)
+-- what follows something harmless
+after-harmless : (e : Exchange) (es : List Exchange) (o : Outcome) → IsHarmless e → AreHarmless es ⊎ ComesLast es o → AreHarmless (e ∷ es) ⊎ ComesLast (e ∷ es) o
+after-harmless e es o is (inl h) = inl (is, h)
+after-harmless e es o is (inr h) = inr (record { before = e ∷ h.before; last = h.last; are_harmless = (is, h.are_harmless); asked = ap (λ (rest : List Exchange). e ∷ rest) h.asked; done = h.done })
+
+last-then : (r : Request) (next : Outcome → Leads) → ((c : Outcome) → IsHarmless (exchange r c)) → ((c : Outcome) → Last (next c)) → Last (asks r next)
+unfolding asks
+last-then r next is f [] o h = absurd h
+last-then r next is f (e ∷ es) o h = after-harmless e es o (harmless-asked e r h.0 (is e.outcome)) (f e.outcome es o h.1)
+
+last-reading : {A : Type 0} (reads : Reading A) (next : A → Leads) → ((a : A) → reads (Ok a) → Last (next a)) → Last (reading reads next)
 unfolding reading
-few-reading n reads next f es o (inl (a, r, h)) = f a r es o h
-few-reading n reads next f es o (inr (s, r, h)) = rw h.0 (omega arith)
+last-reading reads next f es o (inl (a, r, h)) = f a r es o h
+last-reading reads next f es o (inr (s, r, h)) = inl (quiet-nothing es h.0)
 
-few-unless : (n : ℕ) (next : Leads) (c : Outcome) → Few n next → Few n (unless_stopped next c)
-few-unless n next c f = either-of (Few n) (is_stop c) (ends c) next (few-ends n c) f
-
-few-or_memory : (n : ℕ) (leading : Leads) → Few n leading → Few n (or_memory leading)
+last-or_memory : (leading : Leads) → Last leading → Last (or_memory leading)
 unfolding or_memory
-few-or_memory n leading f es o (inl h) = f es o h
-few-or_memory n leading f es o (inr h) = rw h.0 (omega arith)
+last-or_memory leading f es o (inl h) = f es o h
+last-or_memory leading f es o (inr h) = inl (quiet-nothing es h.0)
 
-few-in_form : (form : Text → Option Text) (t : Option Text) (c : Outcome) → Few 0 (in_form form t c)
-few-in_form form None c = few-ends 0 c
-few-in_form form (Some t) c = few-shows 0 _
+last-document : (next : Text → Leads) (other : Leads) (t : Option Text) → ((text : Text) → Last (next text)) → Last other → Last (for_document next other t)
+last-document next other None f g = g
+last-document next other (Some text) f g = f text
 
-few-shown : (form : Text → Option Text) (c : Outcome) → Few 0 (shown_as form c)
-few-shown form c = few-in_form form (document_of c) c
+last-form : {A : Type 0} (next : A → Leads) (a : Option A) → ((x : A) → Last (next x)) → Last (for_form next a)
+last-form next None f = last-ends (Err Database)
+last-form next (Some x) f = f x
 
-few-caller : (p : Text) (at : ℕ) (who : Credential) (c : Outcome) → Few 1 (asks_caller p at who c)
-few-caller p at who (Err fault) = few-ends 1 (Err fault)
-few-caller p at who (Ok told) = few-asks 1 0 (request at who (Tags p)) _ (omega arith) (λ c. few-unless 0 (shows_public told) c (few-shows 0 _))
+last-user : (refused : Outcome → Leads) (w : Wanted) (at : ℕ) (next : Credential → Leads) → ((c : Outcome) → Last (refused c)) → ((who : Credential) → Last (next who)) → Last (by_user refused w at next)
+last-user refused w at next g f = last-reading (reads_caller w.authorization) _ (λ who _. last-then (request at who WhoAmI) _ (λ c. inl refl) (λ c. either-of Last (is_stop c) (refused c) (next who) (g c) (f who)))
 
-few-not_served : (c : Outcome) → Few 0 (not_served c)
-few-not_served c = few-unless 0 (ends (Ok (Refused NotServed))) c (few-ends 0 (Ok (Refused NotServed)))
+last-stale : (c : Outcome) → Last (stale c)
+last-stale c = either-of Last (is_gone c) _ _ (last-ends (Ok (Refused Stale))) (last-ends c)
 
-few-visibility : (p : Text) (w : Wanted) (at : ℕ) → Few 1 (shows_visibility p w at)
-few-visibility p w at = few-reading 1 (reads_caller w.authorization) _ (λ who _. few-asks 0 1 (request at Anonymous (Tags p)) _ (omega arith) (few-caller p at who))
+last-late : (path : Option Text) (c : Outcome) → Last (late path c)
+last-late None c = last-ends c
+last-late (Some named) c = last-stale c
 
-few-tries : (n : ℕ) (r : Request) (next : Outcome → Leads) → cost r.what ≤ 0 → ((c : Outcome) → Few n (next c)) → Few n (tries r next)
-few-tries n r next low f = few-or_memory n (asks r next) (λ es o h. let le = few-asks 0 n r next low f es o h in omega (arith, le))
+-- ---- one's own requests
 
-few-form : {A : Type 0} (next : A → Leads) (a : Option A) → ((x : A) → Few 0 (next x)) → Few 0 (for_form next a)
-few-form next None f = few-ends 0 (Err Database)
-few-form next (Some x) f = f x
+last-first : (e : NpmEndpoint) (v : Values) (w : Wanted) (at : ℕ) → Answered (follows e) → Last (asks_first e v w at)
+last-first e v w at f = last-reading (reads_first e v w.body) _ (λ what _. last-reading (reads_caller w.authorization) _ (λ who _. last-asks (request at who what) (follows e) f))
 
-few-left : (next : ℕ → Leads) (rest : Option ℕ) → ((n : ℕ) → Few 0 (next n)) → Few 0 (for_left next rest)
-few-left next None f = few-ends 0 (Ok (Refused NotServed))
-few-left next (Some n) f = f n
+last-command : (e : NpmEndpoint) (v : Values) (w : Wanted) (at : ℕ) → Last (asks_command e v w at)
+last-command e v w at = last-user ends w at _ last-ends (λ who. last-reading (reads_first e v w.body) _ (λ what _. last-asks (request at who what) ends answered-ends))
 
-few-text : (next : Text → Leads) (other : Leads) (t : Option Text) → ((text : Text) → Few 0 (next text)) → Few 0 other → Few 0 (for_document next other t)
-few-text next other None f g = g
-few-text next other (Some text) f g = f text
+last-role : (o u : Text) (role : Role) (at : ℕ) (who : Credential) → Last (asks_role o u role at who)
+last-role o u role at who = last-then (request at who (Members o)) _ (λ c. inl refl) (λ c. last-document _ (ends c) (document_of c) (λ text. last-or_memory _ (last-form _ (membership_form o u role text)
+    (λ shown. last-asks (request at who (OrgSet o u role)) _ (answered-shown shown)))) (last-ends c))
 
-few-taking : {A : Type 0} (left : ℕ) (form : Text → Option A) (next : A → ℕ → Leads) (c : Outcome) → ((x : A) (n : ℕ) → Few 0 (next x n)) → Few 0 (taking left form next c)
-unfolding taking
-few-taking left form next c f = few-text _ (ends c) (document_of c) (λ text. few-left _ (left_after left (length text)) (λ n. few-or_memory 0 _ (few-form _ (form text) (λ x. f x n)))) (few-ends 0 c)
+last-member : (v : Values) (w : Wanted) (at : ℕ) → Last (leads by.OrgSet v w at)
+last-member v w at = last-user ends w at _ last-ends (λ who. last-reading (reads_member v w.body) _ (λ m _. last-or_memory _ (last-role m.0 m.1 m.2 at who)))
 
-module _ (p o : Text) (at : ℕ) (who : Credential) (members : List Member) where
-  few-each : (ts : List Text) (left : ℕ) (granted : List PackageLevel) → Few 0 (asks_teams p o at who members ts left granted)
-  few-each [] left granted = few-shows 0 _
-  few-each (t ∷ ts) left granted = few-tries 0 (request at who (TeamPackages o t)) _ (omega arith) (λ c. few-taking left levels_in _ c (λ rows rest.
-      either-of (Few 0) (levels.reads (level_said p rows)) _ _
-      (few-tries 0 (request at who (TeamMembers o t)) _ (omega arith) (λ d. few-taking rest names_in _ d (λ users least. few-each ts least _)))
-      (few-each ts rest granted)))
+-- ---- packages
 
-few-all : (p : Text) (at : ℕ) (who : Credential) (o : Text) → Few 0 (asks_all p at who o)
-few-all p at who o = few-tries 0 (request at who (Members o)) _ (omega arith) (λ c. few-taking most_bytes members_in _ c (λ members left.
-    few-tries 0 (request at who (Teams o)) _ (omega arith) (λ d. few-taking left teams_in _ d (λ teams rest. few-each p o at who members teams rest []))))
+last-asks_late : (path : Option Text) (at : ℕ) (who : Credential) (what : Action) → Last (asks_late path at who what)
+last-asks_late path at who what = last-asks (request at who what) (late path) (answered-late path)
 
-few-scope : (p : Text) (at : ℕ) (who : Credential) (o : Option Text) (c : Outcome) → Few 0 (asks_scope p at who o c)
-few-scope p at who None c = few-shown writers_form c
-few-scope p at who (Some o) c = few-unless 0 (asks_all p at who o) c (few-all p at who o)
+last-does : (path : Option Text) (p : Text) (at : ℕ) (who : Credential) (tried : Outcome) (asked : Asked) → Last (does path p at who tried asked)
+last-does path p at who tried AlreadySo = last-ends tried
+last-does path p at who tried (Deprecates selector message) = last-reading (reads_versions selector message) _ (λ d _. last-asks_late path at who _)
+last-does path p at who tried (Withdrawal version) = either-of Last (is_some path) _ _ (last-reading (reads_withdrawn version) _ (λ v _. last-asks_late path at who _)) (last-ends (Ok (Refused BadBody)))
+last-does path p at who tried (AddsOwner user) = either-of Last (is_some path) _ _ (last-reading (reads_owner user) _ (λ u _. last-asks (request at who (OwnerAdd p u)) unless_nobody answered-nobody)) (last-ends (Ok (Refused BadBody)))
+last-does path p at who tried (RemovesOwner user) = either-of Last (is_some path) _ _ (last-reading (reads_owner user) _ (λ u _. last-asks_late path at who _)) (last-ends (Ok (Refused BadBody)))
 
-few-writers : (p : Text) (w : Wanted) (at : ℕ) → Few 1 (shows_writers p w at)
-few-writers p w at = few-reading 1 (reads_caller w.authorization) _ (λ who _. few-asks 1 0 (request at who (Maintainers p)) _ (omega arith) (few-scope p at who (scope_of p)))
+last-fulfils : (purpose : Purpose) (p : Text) (at : ℕ) (who : Credential) (tried : Outcome) (text : Text) (names : List Text) → Last (fulfils purpose p at who tried text names)
+last-fulfils (judged path d size) p at who tried text names = last-or_memory _ (last-reading (judges d size path text names) _ (λ asked _. last-does path p at who tried asked))
+last-fulfils (withdrawn named) p at who tried text names = last-or_memory _ (either-of Last _ _ _ (last-asks_late (Some named) at who _) (last-ends (Ok (Refused Stale))))
 
-few-teams : (o : Text) (w : Wanted) (at : ℕ) → Few 1 (shows_teams o w at)
-few-teams o w at = few-reading 1 (reads_caller w.authorization) _ (λ who _. few-asks 1 0 (request at who (Teams o)) _ (omega arith) (few-shown (teams_form o)))
+last-refused : (purpose : Purpose) (tried c : Outcome) → Last (refused_of purpose tried c)
+last-refused (judged path d size) tried c = last-late path c
+last-refused (withdrawn named) tried c = either-of Last (is_gone c) _ _ (last-ends tried) (last-ends c)
 
-few-member : (o u : Text) (role : Role) (w : Wanted) (at : ℕ) → Few 1 (sets_member o u role w at)
-few-member o u role w at = few-reading 1 (reads_caller w.authorization) _ (λ who _. few-or_memory 1 (asks_role o u role at who) (few-asks 1 0 (request at who (OrgSet o u role)) _ (omega arith)
-    (λ c. few-unless 0 (asks_size o u role who at) c (few-asks 0 0 (request at who (Members o)) _ (omega arith) (few-shown (membership_form o u role))))))
+last-other : (purpose : Purpose) (tried c : Outcome) → Last (other_of purpose tried c)
+last-other purpose tried c = either-of Last (is_stop c) _ _ (last-refused purpose tried c) (last-ends (Err Database))
 
-few-user : (u : Text) (w : Wanted) (at : ℕ) → Few 1 (shows_user u w at)
-few-user u w at = few-reading 1 (reads_caller w.authorization) _ (λ who _. few-asks 1 0 (request at who WhoAmI) _ (omega arith) (λ c. few-unless 0 (shows (user_text u)) c (few-shows 0 (user_text u))))
+last-for_names : (next : List Text → Leads) (names : Option (List Text)) → ((ns : List Text) → Last (next ns)) → Last (for_names next names)
+last-for_names next None f = last-ends (Err Database)
+last-for_names next (Some ns) f = f ns
 
-few-asks_own : (u : Text) (at : ℕ) (who : Credential) (c : Outcome) → Few 0 (asks_own u at who c)
-few-asks_own u at who c = few-unless 0 _ c (few-or_memory 0 _ (either-of (Few 0) (is_user u c) _ _ (few-asks 0 0 (request at who MyPackages) ends (omega arith) (few-ends 0)) (few-ends 0 (Ok (Refused NotFound)))))
+last-tries : (r : Request) (next : Outcome → Leads) → ((c : Outcome) → IsHarmless (exchange r c)) → ((c : Outcome) → Last (next c)) → Last (tries r next)
+last-tries r next is f = last-or_memory (asks r next) (last-then r next is f)
 
-few-own : (u : Text) (w : Wanted) (at : ℕ) → Few 1 (shows_own u w at)
-few-own u w at = few-reading 1 (reads_caller w.authorization) _ (λ who _. few-asks 1 0 (request at who WhoAmI) _ (omega arith) (few-asks_own u at who))
+last-named : (purpose : Purpose) (tried : Outcome) (next : List Text → Leads) (c : Outcome) → ((ns : List Text) → Last (next ns)) → Last (named_by (other_of purpose tried) next c)
+last-named purpose tried next c f = last-document (with_names next) (other_of purpose tried c) (document_of c) (λ text. last-or_memory _ (last-for_names next (names_in text) f)) (last-other purpose tried c)
 
-few-follows : (e : NpmEndpoint) (c : Outcome) → Few 0 (follows e c)
-few-follows by.FileDrop c = few-not_served c
-few-follows by.ScopedFileDrop c = few-not_served c
-few-follows by.TeamPackages c = few-shown grants_form c
-few-follows by.Profile c = few-shown profile_form c
-few-follows _ c = few-ends 0 c
+last-asks_names : (purpose : Purpose) (tried : Outcome) (p : Text) (at : ℕ) (who : Credential) (next : List Text → Leads) → ((ns : List Text) → Last (next ns)) → Last (asks_names p at who (other_of purpose tried) next)
+last-asks_names purpose tried p at who next f = either-of Last (is_some (scope_of p)) _ _ (f []) (last-tries (request at who (Maintainers p)) _ (λ c. inl refl) (λ c. last-named purpose tried next c f))
 
-few-first : (e : NpmEndpoint) (v : Values) (w : Wanted) (at : ℕ) → Few 1 (asks_first e v w at)
-few-first e v w at = few-reading 1 (reads_first e v w.body) _ (λ what _. few-reading 1 (reads_caller w.authorization) _ (λ who _. few-asks 1 0 (request at who what) (follows e) (cost-one what) (few-follows e)))
+last-serves : (purpose : Purpose) (p : Text) (at : ℕ) (who : Credential) (tried : Outcome) → Last (serves purpose p at who tried)
+last-serves purpose p at who tried = last-tries (request at who (Packument p)) _ (λ c. inl refl)
+    (λ c. last-document _ (other_of purpose tried c) (document_of c) (λ text. last-asks_names purpose tried p at who _ (last-fulfils purpose p at who tried text)) (last-other purpose tried c))
 
-few-stale : (n : ℕ) (c : Outcome) → Few n (stale c)
-few-stale n c = either-of (Few n) (is_gone c) _ _ (few-ends n (Ok (Refused Stale))) (few-ends n c)
+last-right : (path : Option Text) (p : Text) (at : ℕ) (who : Credential) (next : Outcome → Leads) → ((c : Outcome) → Last (next c)) → Last (tries_right path p at who next)
+last-right path p at who next f = last-reading (reads_versions no_version []) _ (λ d r. last-then (request at who (Deprecate p d.selector d.message)) _ (λ c. inr (selects-nothing d.selector r.2))
+    (λ c. either-of Last (is_stop c) _ _ (last-late path c) (f c)))
 
-few-late : (n : ℕ) (path : Option Text) (c : Outcome) → Few n (late path c)
-few-late n None c = few-ends n c
-few-late n (Some named) c = few-stale n c
+last-writer : (purpose : Purpose) (p : Text) (at : ℕ) (who : Credential) → Last (serves_writer purpose p at who)
+last-writer purpose p at who = last-or_memory _ (last-right (path_of purpose) p at who _ (last-serves purpose p at who))
 
-few-asks_late : (path : Option Text) (at : ℕ) (who : Credential) (what : Action) → Few 1 (asks_late path at who what)
-few-asks_late path at who what = few-asks 1 0 (request at who what) (late path) (cost-one what) (few-late 0 path)
+last-puts : (p body : Text) (at : ℕ) (who : Credential) (put : Put) → Last (puts p body at who put)
+last-puts p body at who (published form) = last-asks (request at who (Publish form)) ends answered-ends
+last-puts p body at who (claimed d) = last-writer (judged None d (length body)) p at who
 
-few-right : (path : Option Text) (p : Text) (at : ℕ) (who : Credential) → Few 1 (tries_right path p at who)
-few-right path p at who = few-reading 1 (reads_versions no_version []) _ (λ d _. few-asks_late path at who _)
+last-one : (r : Request) (es : List Exchange) (o : Outcome) → es ≡ exchange r o ∷ [] → AreHarmless es ⊎ ComesLast es o
+last-one r es o same = inr (record { before = []; last = exchange r o; are_harmless = tt; asked = same; done = λ e. e })
 
-few-nobody : (c : Outcome) → Few 0 (unless_nobody c)
-few-nobody c = either-of (Few 0) (is_gone c) _ _ (few-ends 0 (Ok (Refused BadName))) (few-ends 0 c)
+last-document_put : (v : Values) (w : Wanted) (at : ℕ) → Last (leads_document v w at)
+last-document_put v w at es o (inl (r, is, same)) = last-one r es o same
+last-document_put v w at es o (inr h) = last-user ends w at (leads_put v w.body at) last-ends (λ who. last-reading (one reads_name v) _ (λ p _. last-reading (reads_put p w.body) _ (λ put _. last-puts p w.body at who put))) es o h
 
-few-does : (path : Option Text) (p : Text) (at : ℕ) (who : Credential) (asked : Asked) → Few 1 (does path p at who asked)
-few-does path p at who AlreadySo = few-right path p at who
-few-does path p at who (Deprecates selector message) = few-reading 1 (reads_versions selector message) _ (λ d _. few-asks_late path at who _)
-few-does path p at who (Withdrawal version) = either-of (Few 1) (is_some path) _ _ (few-reading 1 (reads_withdrawn version) _ (λ v _. few-asks_late path at who _)) (few-ends 1 (Ok (Refused BadBody)))
-few-does path p at who (AddsOwner user) = either-of (Few 1) (is_some path) _ _ (few-reading 1 (reads_owner user) _ (λ u _. few-asks 1 0 (request at who (OwnerAdd p u)) unless_nobody (omega arith) few-nobody)) (few-ends 1 (Ok (Refused BadBody)))
-few-does path p at who (RemovesOwner user) = either-of (Few 1) (is_some path) _ _ (few-reading 1 (reads_owner user) _ (λ u _. few-asks_late path at who _)) (few-ends 1 (Ok (Refused BadBody)))
+last-revised : (v : Values) (w : Wanted) (at : ℕ) → Last (leads by.Revised v w at)
+last-revised v w at = last-user stale w at _ last-stale (λ who. last-reading (one reads_name v) _ (λ p _. last-reading (reads_revision v.second) _ (λ named _. last-reading (reads_document w.body) _ (λ d _. last-writer (judged (Some named) d (length w.body)) p at who))))
 
-few-fulfils : (purpose : Purpose) (p : Text) (at : ℕ) (who : Credential) (text : Text) (names : List Text) → Few 1 (fulfils purpose p at who text names)
-few-fulfils (judged path d) p at who text names = few-or_memory 1 _ (few-reading 1 (judges d path text names) _ (λ asked _. few-does path p at who asked))
-few-fulfils (withdrawn named) p at who text names = few-or_memory 1 _ (either-of (Few 1) _ _ _ (few-asks_late (Some named) at who _) (few-ends 1 (Ok (Refused Stale))))
+last-unpublish : (v : Values) (w : Wanted) (at : ℕ) → Last (leads by.Unpublish v w at)
+last-unpublish v w at = last-user stale w at _ last-stale (λ who. last-reading (one reads_name v) _ (λ p _. last-reading (reads_revision v.second) _ (λ named _. last-writer (withdrawn named) p at who)))
 
-few-other : (purpose : Purpose) (p : Text) (at : ℕ) (who : Credential) (c : Outcome) → Few 1 (other_of purpose p at who c)
-few-other (judged path d) p at who c = few-late 1 path c
-few-other (withdrawn named) p at who c = either-of (Few 1) (is_gone c) _ _ (few-or_memory 1 _ (few-right (Some named) p at who)) (few-ends 1 c)
+-- ---- all routes
 
-few-for_names : (next : List Text → Leads) (names : Option (List Text)) → ((ns : List Text) → Few 1 (next ns)) → Few 1 (for_names next names)
-few-for_names next None f = few-ends 1 (Err Database)
-few-for_names next (Some ns) f = f ns
+last-file : (e : NpmEndpoint) (v : Values) (w : Wanted) (at : ℕ) → ((what : Action) → reads_first e v w.body (Ok what) → is_command what ≡ false) → ((c : Outcome) → Queries (follows e c)) → Last (asks_first e v w at)
+last-file e v w at is f = last-queries (asks_first e v w at) (q-first e v w at is f)
 
-few-for_document : (next : Text → Leads) (other : Leads) (t : Option Text) → ((text : Text) → Few 1 (next text)) → Few 1 other → Few 1 (for_document next other t)
-few-for_document next other None f g = g
-few-for_document next other (Some text) f g = f text
+last-leads : (e : NpmEndpoint) (v : Values) (w : Wanted) (at : ℕ) → Last (leads e v w at)
+last-leads by.Packument v w at = last-queries _ (q-leads by.Packument v w at refl refl)
+last-leads by.Document v w at = last-document_put v w at
+last-leads by.Revised v w at = last-revised v w at
+last-leads by.Unpublish v w at = last-unpublish v w at
+last-leads by.FileDrop v w at = last-file by.FileDrop v w at (λ what x. gave what _ x.2.2 refl) q-not_served
+last-leads by.ScopedFileDrop v w at = last-file by.ScopedFileDrop v w at (λ what x. gave what _ x.2.2 refl) q-not_served
+last-leads by.Visibility v w at = last-queries _ (q-leads by.Visibility v w at refl refl)
+last-leads by.SetAccess v w at = last-command by.SetAccess v w at
+last-leads by.Collaborators v w at = last-queries _ (q-leads by.Collaborators v w at refl refl)
+last-leads by.OrgPackages v w at = last-queries _ (q-leads by.OrgPackages v w at refl refl)
+last-leads by.UserPackages v w at = last-queries _ (q-leads by.UserPackages v w at refl refl)
+last-leads by.Members v w at = last-queries _ (q-leads by.Members v w at refl refl)
+last-leads by.OrgSet v w at = last-member v w at
+last-leads by.OrgRemove v w at = last-command by.OrgRemove v w at
+last-leads by.Teams v w at = last-queries _ (q-leads by.Teams v w at refl refl)
+last-leads by.TeamCreate v w at = last-command by.TeamCreate v w at
+last-leads by.TeamMembers v w at = last-queries _ (q-leads by.TeamMembers v w at refl refl)
+last-leads by.TeamAdd v w at = last-command by.TeamAdd v w at
+last-leads by.TeamRemove v w at = last-command by.TeamRemove v w at
+last-leads by.TeamPackages v w at = last-queries _ (q-leads by.TeamPackages v w at refl refl)
+last-leads by.Grant v w at = last-command by.Grant v w at
+last-leads by.Revoke v w at = last-command by.Revoke v w at
+last-leads by.WhoAmI v w at = last-queries _ (q-leads by.WhoAmI v w at refl refl)
+last-leads by.Profile v w at = last-queries _ (q-leads by.Profile v w at refl refl)
+last-leads by.User v w at = last-queries _ (q-leads by.User v w at refl refl)
+last-leads by.Logout v w at = last-first by.Logout v w at answered-ends
+last-leads by.Ping v w at = last-queries _ (q-leads by.Ping v w at refl refl)
+last-leads by.NotServed v w at = last-ends (Ok (Refused NotServed))
 
-few-named : (other : Outcome → Leads) (next : List Text → Leads) (c : Outcome) → Few 1 (other c) → ((ns : List Text) → Few 1 (next ns)) → Few 1 (named_by other next c)
-few-named other next c g f = few-for_document (with_names next) (other c) (document_of c) (λ text. few-or_memory 1 _ (few-for_names next (names_in text) f)) g
+last-profile : (w : Wanted) (at : ℕ) → Last (AsksByRoute w at)
+last-profile w at es o (inl (r, is, same)) = last-one r es o same
+last-profile w at es o (inr (s, is, none, same)) = inl (quiet-nothing es none)
 
-few-asks_names : (purpose : Purpose) (p : Text) (at : ℕ) (who : Credential) (next : List Text → Leads) → ((ns : List Text) → Few 1 (next ns)) → Few 1 (asks_names p at who (other_of purpose p at who) next)
-few-asks_names purpose p at who next f = either-of (Few 1) (is_some (scope_of p)) _ _ (f []) (few-tries 1 (request at who (Maintainers p)) _ (omega arith) (λ c. few-named (other_of purpose p at who) next c (few-other purpose p at who c) f))
+last-by : (r : Option NpmRoute) (w : Wanted) (at : ℕ) → Last (asks_by r w at)
+last-by None w at = last-profile w at
+last-by (Some r) w at = either-of Last (is_npms r.endpoint w.body) (leads r.endpoint r.values w at) (AsksByRoute w at) (last-leads r.endpoint r.values w at) (last-profile w at)
 
-few-serves : (purpose : Purpose) (p : Text) (at : ℕ) (who : Credential) → Few 1 (serves purpose p at who)
-few-serves purpose p at who = few-tries 1 (request at who (Packument p)) _ (omega arith)
-    (λ c. few-for_document _ (other_of purpose p at who c) (document_of c) (λ text. few-asks_names purpose p at who _ (few-fulfils purpose p at who text)) (few-other purpose p at who c))
-
-few-serves_user : (purpose : Purpose) (p : Text) (at : ℕ) (who : Credential) → Few 1 (serves_user purpose p at who)
-few-serves_user purpose p at who = few-asks 0 1 (request at who WhoAmI) _ (omega arith) (λ c. either-of (Few 1) (is_stop c) _ _ (few-other purpose p at who c) (few-serves purpose p at who))
-
-few-asks_for : (purpose : Purpose) (p : Text) (w : Wanted) (at : ℕ) → Few 1 (asks_for purpose p w at)
-few-asks_for purpose p w at = few-reading 1 (reads_caller w.authorization) _ (λ who _. few-serves_user purpose p at who)
-
-few-claim : (v : Values) (w : Wanted) (at : ℕ) (r : Refusal) (d : Option Data) → Few 1 (leads_claim v w at r d)
-few-claim v w at r None = few-ends 1 (Ok (Refused r))
-few-claim v w at r (Some d) = few-reading 1 (one reads_name v) _ (λ p _. few-asks_for (judged None d) p w at)
-
-few-stopped : (v : Values) (w : Wanted) (at : ℕ) (s : Stop) → Few 1 (leads_stopped v w at s)
-few-stopped v w at (Faulted fault) = few-ends 1 (Err fault)
-few-stopped v w at (Refuses r) = few-reading 1 (reads_claim w.body) _ (λ d _. few-claim v w at r d)
-
-few-document : (v : Values) (w : Wanted) (at : ℕ) → Few 1 (leads_document v w at)
-few-document v w at es o (inl (r, is, h)) = few-asks 1 0 r ends (cost-one r.what) (few-ends 0) es o h
-few-document v w at es o (inr (s, is, h)) = few-stopped v w at s es o h
-
-few-packument : (p : Text) (w : Wanted) (at : ℕ) → Few 1 (shows_packument p w at)
-few-packument p w at = either-of (Few 1) (accepts_abbreviated w.accept) _ _
-    (few-reading 1 (reads_caller w.authorization) _ (λ who _. few-asks 0 1 (request at who (AbbreviatedPackument p)) ends (omega arith) (few-ends 1)))
-    (few-reading 1 (reads_caller w.authorization) _ (λ who _. few-asks 0 1 (request at who (RevisedPackument p)) ends (omega arith) (few-ends 1)))
-
-few-leads : (e : NpmEndpoint) (v : Values) (w : Wanted) (at : ℕ) → Few 1 (leads e v w at)
-few-leads by.Packument v w at = few-reading 1 (one reads_name v) _ (λ p _. few-packument p w at)
-few-leads by.Document v w at = few-document v w at
-few-leads by.Revised v w at = few-reading 1 (one reads_name v) _ (λ p _. few-reading 1 (reads_revision v.second) _ (λ named _. few-reading 1 (reads_document w.body) _ (λ d _. few-asks_for (judged (Some named) d) p w at)))
-few-leads by.Unpublish v w at = few-reading 1 (one reads_name v) _ (λ p _. few-reading 1 (reads_revision v.second) _ (λ named _. few-asks_for (withdrawn named) p w at))
-few-leads by.Visibility v w at = few-reading 1 (one reads_name v) (λ p. shows_visibility p w at) (λ p _. few-visibility p w at)
-few-leads by.Collaborators v w at = few-reading 1 (one reads_name v) (λ p. shows_writers p w at) (λ p _. few-writers p w at)
-few-leads by.UserPackages v w at = few-reading 1 (one reads_ident v) (λ u. shows_own u w at) (λ u _. few-own u w at)
-few-leads by.OrgSet v w at = few-reading 1 (reads_member v w.body) (λ m. sets_member m.0 m.1 m.2 w at) (λ m _. few-member m.0 m.1 m.2 w at)
-few-leads by.Teams v w at = few-reading 1 (one reads_ident v) (λ o. shows_teams o w at) (λ o _. few-teams o w at)
-few-leads by.User v w at = few-reading 1 (one reads_user v) (λ u. shows_user u w at) (λ u _. few-user u w at)
-few-leads by.Ping v w at = few-shows 1 empty_text
-few-leads by.NotServed v w at = few-ends 1 (Ok (Refused NotServed))
-few-leads e v w at = few-first e v w at
-
-few-profile : (w : Wanted) (at : ℕ) → Few 1 (AsksByRoute w at)
-few-profile w at es o (inl (r, is, same)) = rw same (let one = cost-one r.what in omega (arith, one))
-few-profile w at es o (inr (s, is, none, same)) = rw none (omega arith)
-
-few-by : (r : Option NpmRoute) (w : Wanted) (at : ℕ) → Few 1 (asks_by r w at)
-few-by None w at = few-profile w at
-few-by (Some r) w at = either-of (Few 1) (is_npms r.endpoint w.body) (leads r.endpoint r.values w at) (AsksByRoute w at) (few-leads r.endpoint r.values w at) (few-profile w at)
-
-pub one-command : OneCommand npm
-one-command w at es o h = few-by (npm_route_of w.method w.target) w at es o h
+pub command-comes_last : CommandComesLast npm
+command-comes_last w at es o h = last-by (npm_route_of w.method w.target) w at es o h
 
 -- ---- a fault is the last
 
@@ -402,9 +426,24 @@ stops-writers p w at = stops-reading (reads_caller w.authorization) _ (λ who _.
 stops-teams : (o : Text) (w : Wanted) (at : ℕ) → Stops (shows_teams o w at)
 stops-teams o w at = stops-reading (reads_caller w.authorization) _ (λ who _. stops-asks (request at who (Teams o)) _ (stops-shown (teams_form o)))
 
-stops-member : (o u : Text) (role : Role) (w : Wanted) (at : ℕ) → Stops (sets_member o u role w at)
-stops-member o u role w at = stops-reading (reads_caller w.authorization) _ (λ who _. stops-or_memory (asks_role o u role at who) (stops-asks (request at who (OrgSet o u role)) _
-    (stops-unless (asks_size o u role who at) (stops-asks (request at who (Members o)) _ (stops-shown (membership_form o u role))))))
+stops-user_first : (refused : Outcome → Leads) (w : Wanted) (at : ℕ) (next : Credential → Leads) → Stops-after refused → ((who : Credential) → Stops (next who)) → Stops (by_user refused w at next)
+stops-user_first refused w at next s f = stops-reading (reads_caller w.authorization) _ (λ who _. stops-asks (request at who WhoAmI) _ (record {
+  later = λ c. either-of Stops (is_stop c) (refused c) (next who) (s.later c) (f who);
+  at_fault = λ f es o h. s.at_fault f es o h;
+}))
+
+stops-role : (o u : Text) (role : Role) (at : ℕ) (who : Credential) → Stops (asks_role o u role at who)
+stops-role o u role at who = stops-asks (request at who (Members o)) _ (record {
+  later = λ c. stops-text _ (ends c) (document_of c) (λ text. stops-or_memory _ (stops-form _ (membership_form o u role text)
+      (λ shown. stops-asks (request at who (OrgSet o u role)) _ (stops-unless _ (stops-ended (Ok (Doc shown))))))) (stops-ended c);
+  at_fault = λ f es o h. h;
+})
+
+stops-member : (v : Values) (w : Wanted) (at : ℕ) → Stops (leads by.OrgSet v w at)
+stops-member v w at = stops-user_first ends w at _ stops-ends (λ who. stops-reading (reads_member v w.body) _ (λ m _. stops-or_memory _ (stops-role m.0 m.1 m.2 at who)))
+
+stops-command : (e : NpmEndpoint) (v : Values) (w : Wanted) (at : ℕ) → Stops (asks_command e v w at)
+stops-command e v w at = stops-user_first ends w at _ stops-ends (λ who. stops-reading (reads_first e v w.body) _ (λ what _. stops-asks (request at who what) ends stops-ends))
 
 stops-user : (u : Text) (w : Wanted) (at : ℕ) → Stops (shows_user u w at)
 stops-user u w at = stops-reading (reads_caller w.authorization) _ (λ who _. stops-asks (request at who WhoAmI) _ (stops-unless (shows (user_text u)) (stops-shows (user_text u))))
@@ -439,26 +478,29 @@ stops-late (Some named) = stops-stale
 stops-asks_late : (path : Option Text) (at : ℕ) (who : Credential) (what : Action) → Stops (asks_late path at who what)
 stops-asks_late path at who what = stops-asks (request at who what) (late path) (stops-late path)
 
-stops-right : (path : Option Text) (p : Text) (at : ℕ) (who : Credential) → Stops (tries_right path p at who)
-stops-right path p at who = stops-reading (reads_versions no_version []) _ (λ d _. stops-asks_late path at who _)
-
 stops-nobody : Stops-after unless_nobody
 stops-nobody = record { later = λ c. either-of Stops (is_gone c) _ _ (stops-ended (Ok (Refused BadName))) (stops-ended c); at_fault = λ f es o h. h }
 
-stops-does : (path : Option Text) (p : Text) (at : ℕ) (who : Credential) (asked : Asked) → Stops (does path p at who asked)
-stops-does path p at who AlreadySo = stops-right path p at who
-stops-does path p at who (Deprecates selector message) = stops-reading (reads_versions selector message) _ (λ d _. stops-asks_late path at who _)
-stops-does path p at who (Withdrawal version) = either-of Stops (is_some path) _ _ (stops-reading (reads_withdrawn version) _ (λ v _. stops-asks_late path at who _)) (stops-ended (Ok (Refused BadBody)))
-stops-does path p at who (AddsOwner user) = either-of Stops (is_some path) _ _ (stops-reading (reads_owner user) _ (λ u _. stops-asks (request at who (OwnerAdd p u)) unless_nobody stops-nobody)) (stops-ended (Ok (Refused BadBody)))
-stops-does path p at who (RemovesOwner user) = either-of Stops (is_some path) _ _ (stops-reading (reads_owner user) _ (λ u _. stops-asks_late path at who _)) (stops-ended (Ok (Refused BadBody)))
+stops-does : (path : Option Text) (p : Text) (at : ℕ) (who : Credential) (tried : Outcome) (asked : Asked) → Stops (does path p at who tried asked)
+stops-does path p at who tried AlreadySo = stops-ended tried
+stops-does path p at who tried (Deprecates selector message) = stops-reading (reads_versions selector message) _ (λ d _. stops-asks_late path at who _)
+stops-does path p at who tried (Withdrawal version) = either-of Stops (is_some path) _ _ (stops-reading (reads_withdrawn version) _ (λ v _. stops-asks_late path at who _)) (stops-ended (Ok (Refused BadBody)))
+stops-does path p at who tried (AddsOwner user) = either-of Stops (is_some path) _ _ (stops-reading (reads_owner user) _ (λ u _. stops-asks (request at who (OwnerAdd p u)) unless_nobody stops-nobody)) (stops-ended (Ok (Refused BadBody)))
+stops-does path p at who tried (RemovesOwner user) = either-of Stops (is_some path) _ _ (stops-reading (reads_owner user) _ (λ u _. stops-asks_late path at who _)) (stops-ended (Ok (Refused BadBody)))
 
-stops-fulfils : (purpose : Purpose) (p : Text) (at : ℕ) (who : Credential) (text : Text) (names : List Text) → Stops (fulfils purpose p at who text names)
-stops-fulfils (judged path d) p at who text names = stops-or_memory _ (stops-reading (judges d path text names) _ (λ asked _. stops-does path p at who asked))
-stops-fulfils (withdrawn named) p at who text names = stops-or_memory _ (either-of Stops _ _ _ (stops-asks_late (Some named) at who _) (stops-ended (Ok (Refused Stale))))
+stops-fulfils : (purpose : Purpose) (p : Text) (at : ℕ) (who : Credential) (tried : Outcome) (text : Text) (names : List Text) → Stops (fulfils purpose p at who tried text names)
+stops-fulfils (judged path d size) p at who tried text names = stops-or_memory _ (stops-reading (judges d size path text names) _ (λ asked _. stops-does path p at who tried asked))
+stops-fulfils (withdrawn named) p at who tried text names = stops-or_memory _ (either-of Stops _ _ _ (stops-asks_late (Some named) at who _) (stops-ended (Ok (Refused Stale))))
 
-stops-other : (purpose : Purpose) (p : Text) (at : ℕ) (who : Credential) → Stops-after (other_of purpose p at who)
-stops-other (judged path d) p at who = record { later = (stops-late path).later; at_fault = (stops-late path).at_fault }
-stops-other (withdrawn named) p at who = record { later = λ c. either-of Stops (is_gone c) _ _ (stops-or_memory _ (stops-right (Some named) p at who)) (stops-ended c); at_fault = λ f es o h. h }
+stops-refused : (purpose : Purpose) (tried : Outcome) → Stops-after (refused_of purpose tried)
+stops-refused (judged path d size) tried = record { later = (stops-late path).later; at_fault = (stops-late path).at_fault }
+stops-refused (withdrawn named) tried = record { later = λ c. either-of Stops (is_gone c) _ _ (stops-ended tried) (stops-ended c); at_fault = λ f es o h. h }
+
+stops-other : (purpose : Purpose) (tried : Outcome) → Stops-after (other_of purpose tried)
+stops-other purpose tried = record {
+  later = λ c. either-of Stops (is_stop c) _ _ ((stops-refused purpose tried).later c) (stops-ended (Err Database));
+  at_fault = λ f es o h. (stops-refused purpose tried).at_fault f es o h;
+}
 
 stops-for_names : (next : List Text → Leads) (names : Option (List Text)) → ((ns : List Text) → Stops (next ns)) → Stops (for_names next names)
 stops-for_names next None f = stops-ended (Err Database)
@@ -474,35 +516,41 @@ stops-named other next s f = record {
   at_fault = λ f es o h. s.at_fault f es o h;
 }
 
-stops-asks_names : (purpose : Purpose) (p : Text) (at : ℕ) (who : Credential) (next : List Text → Leads) → ((ns : List Text) → Stops (next ns)) → Stops (asks_names p at who (other_of purpose p at who) next)
-stops-asks_names purpose p at who next f = either-of Stops (is_some (scope_of p)) _ _ (f []) (stops-tries (request at who (Maintainers p)) _ (stops-named (other_of purpose p at who) next (stops-other purpose p at who) f))
+stops-asks_names : (purpose : Purpose) (tried : Outcome) (p : Text) (at : ℕ) (who : Credential) (next : List Text → Leads) → ((ns : List Text) → Stops (next ns)) → Stops (asks_names p at who (other_of purpose tried) next)
+stops-asks_names purpose tried p at who next f = either-of Stops (is_some (scope_of p)) _ _ (f []) (stops-tries (request at who (Maintainers p)) _ (stops-named (other_of purpose tried) next (stops-other purpose tried) f))
 
-stops-serves : (purpose : Purpose) (p : Text) (at : ℕ) (who : Credential) → Stops (serves purpose p at who)
-stops-serves purpose p at who = stops-tries (request at who (Packument p)) _ (record {
-  later = λ c. stops-for_document _ (other_of purpose p at who c) (document_of c) (λ text. stops-asks_names purpose p at who _ (stops-fulfils purpose p at who text)) ((stops-other purpose p at who).later c);
-  at_fault = λ f es o h. (stops-other purpose p at who).at_fault f es o h;
+stops-serves : (purpose : Purpose) (p : Text) (at : ℕ) (who : Credential) (tried : Outcome) → Stops (serves purpose p at who tried)
+stops-serves purpose p at who tried = stops-tries (request at who (Packument p)) _ (record {
+  later = λ c. stops-for_document _ (other_of purpose tried c) (document_of c) (λ text. stops-asks_names purpose tried p at who _ (stops-fulfils purpose p at who tried text)) ((stops-other purpose tried).later c);
+  at_fault = λ f es o h. (stops-other purpose tried).at_fault f es o h;
 })
 
-stops-serves_user : (purpose : Purpose) (p : Text) (at : ℕ) (who : Credential) → Stops (serves_user purpose p at who)
-stops-serves_user purpose p at who = stops-asks (request at who WhoAmI) _ (record {
-  later = λ c. either-of Stops (is_stop c) _ _ ((stops-other purpose p at who).later c) (stops-serves purpose p at who);
-  at_fault = λ f es o h. (stops-other purpose p at who).at_fault f es o h;
-})
+stops-right : (path : Option Text) (p : Text) (at : ℕ) (who : Credential) (next : Outcome → Leads) → ((c : Outcome) → Stops (next c)) → Stops (tries_right path p at who next)
+stops-right path p at who next f = stops-reading (reads_versions no_version []) _ (λ d _. stops-asks (request at who (Deprecate p d.selector d.message)) _ (record {
+  later = λ c. either-of Stops (is_stop c) _ _ ((stops-late path).later c) (f c);
+  at_fault = λ f es o h. (stops-late path).at_fault f es o h;
+}))
 
-stops-asks_for : (purpose : Purpose) (p : Text) (w : Wanted) (at : ℕ) → Stops (asks_for purpose p w at)
-stops-asks_for purpose p w at = stops-reading (reads_caller w.authorization) _ (λ who _. stops-serves_user purpose p at who)
+stops-writer : (purpose : Purpose) (p : Text) (at : ℕ) (who : Credential) → Stops (serves_writer purpose p at who)
+stops-writer purpose p at who = stops-or_memory _ (stops-right (path_of purpose) p at who _ (stops-serves purpose p at who))
 
-stops-claim : (v : Values) (w : Wanted) (at : ℕ) (r : Refusal) (d : Option Data) → Stops (leads_claim v w at r d)
-stops-claim v w at r None = stops-ended (Ok (Refused r))
-stops-claim v w at r (Some d) = stops-reading (one reads_name v) _ (λ p _. stops-asks_for (judged None d) p w at)
+stops-puts : (p body : Text) (at : ℕ) (who : Credential) (put : Put) → Stops (puts p body at who put)
+stops-puts p body at who (published form) = stops-asks (request at who (Publish form)) ends stops-ends
+stops-puts p body at who (claimed d) = stops-writer (judged None d (length body)) p at who
 
-stops-stopped : (v : Values) (w : Wanted) (at : ℕ) (s : Stop) → Stops (leads_stopped v w at s)
-stops-stopped v w at (Faulted fault) = stops-ended (Err fault)
-stops-stopped v w at (Refuses r) = stops-reading (reads_claim w.body) _ (λ d _. stops-claim v w at r d)
+stops-once : (r : Request) (c : Outcome) → StopAtFaults (exchange r c ∷ []) c
+stops-once r (Ok reply) = (tt, tt)
+stops-once r (Err fault) = ((refl, refl), tt)
 
 stops-document : (v : Values) (w : Wanted) (at : ℕ) → Stops (leads_document v w at)
-stops-document v w at es o (inl (r, is, h)) = stops-asks r ends stops-ends es o h
-stops-document v w at es o (inr (s, is, h)) = stops-stopped v w at s es o h
+stops-document v w at es o (inl (r, is, same)) = rw same (stops-once r o)
+stops-document v w at es o (inr h) = stops-user_first ends w at (leads_put v w.body at) stops-ends (λ who. stops-reading (one reads_name v) _ (λ p _. stops-reading (reads_put p w.body) _ (λ put _. stops-puts p w.body at who put))) es o h
+
+stops-revised : (v : Values) (w : Wanted) (at : ℕ) → Stops (leads by.Revised v w at)
+stops-revised v w at = stops-user_first stale w at _ stops-stale (λ who. stops-reading (one reads_name v) _ (λ p _. stops-reading (reads_revision v.second) _ (λ named _. stops-reading (reads_document w.body) _ (λ d _. stops-writer (judged (Some named) d (length w.body)) p at who))))
+
+stops-unpublish : (v : Values) (w : Wanted) (at : ℕ) → Stops (leads by.Unpublish v w at)
+stops-unpublish v w at = stops-user_first stale w at _ stops-stale (λ who. stops-reading (one reads_name v) _ (λ p _. stops-reading (reads_revision v.second) _ (λ named _. stops-writer (withdrawn named) p at who)))
 
 stops-answer : (what : Action) (w : Wanted) (at : ℕ) → Stops (shows_answer what w at)
 stops-answer what w at = stops-reading (reads_caller w.authorization) _ (λ who _. stops-asks (request at who what) ends stops-ends)
@@ -513,21 +561,24 @@ stops-packument p w at = either-of Stops (accepts_abbreviated w.accept) _ _ (sto
 stops-leads : (e : NpmEndpoint) (v : Values) (w : Wanted) (at : ℕ) → Stops (leads e v w at)
 stops-leads by.Packument v w at = stops-reading (one reads_name v) _ (λ p _. stops-packument p w at)
 stops-leads by.Document v w at = stops-document v w at
-stops-leads by.Revised v w at = stops-reading (one reads_name v) _ (λ p _. stops-reading (reads_revision v.second) _ (λ named _. stops-reading (reads_document w.body) _ (λ d _. stops-asks_for (judged (Some named) d) p w at)))
-stops-leads by.Unpublish v w at = stops-reading (one reads_name v) _ (λ p _. stops-reading (reads_revision v.second) _ (λ named _. stops-asks_for (withdrawn named) p w at))
+stops-leads by.Revised v w at = stops-revised v w at
+stops-leads by.Unpublish v w at = stops-unpublish v w at
 stops-leads by.Visibility v w at = stops-reading (one reads_name v) (λ p. shows_visibility p w at) (λ p _. stops-visibility p w at)
 stops-leads by.Collaborators v w at = stops-reading (one reads_name v) (λ p. shows_writers p w at) (λ p _. stops-writers p w at)
 stops-leads by.UserPackages v w at = stops-reading (one reads_ident v) (λ u. shows_own u w at) (λ u _. stops-own u w at)
-stops-leads by.OrgSet v w at = stops-reading (reads_member v w.body) (λ m. sets_member m.0 m.1 m.2 w at) (λ m _. stops-member m.0 m.1 m.2 w at)
+stops-leads by.OrgSet v w at = stops-member v w at
+stops-leads by.OrgRemove v w at = stops-command by.OrgRemove v w at
+stops-leads by.TeamCreate v w at = stops-command by.TeamCreate v w at
+stops-leads by.TeamAdd v w at = stops-command by.TeamAdd v w at
+stops-leads by.TeamRemove v w at = stops-command by.TeamRemove v w at
+stops-leads by.Grant v w at = stops-command by.Grant v w at
+stops-leads by.Revoke v w at = stops-command by.Revoke v w at
+stops-leads by.SetAccess v w at = stops-command by.SetAccess v w at
 stops-leads by.Teams v w at = stops-reading (one reads_ident v) (λ o. shows_teams o w at) (λ o _. stops-teams o w at)
 stops-leads by.User v w at = stops-reading (one reads_user v) (λ u. shows_user u w at) (λ u _. stops-user u w at)
 stops-leads by.Ping v w at = stops-shows empty_text
 stops-leads by.NotServed v w at = stops-ended (Ok (Refused NotServed))
 stops-leads e v w at = stops-first e v w at
-
-stops-once : (r : Request) (c : Outcome) → StopAtFaults (exchange r c ∷ []) c
-stops-once r (Ok reply) = (tt, tt)
-stops-once r (Err fault) = ((refl, refl), tt)
 
 stops-profile : (w : Wanted) (at : ℕ) → Stops (AsksByRoute w at)
 stops-profile w at es o (inl (r, is, same)) = rw same (stops-once r o)
@@ -613,7 +664,7 @@ module _ (v : Values) (written : Text) where
   Names p version = one reads_name v (Ok p) × reads_file p written (Ok version)
 
   abbrev reads : Reading Action
-  reads = (then) (one reads_name v) (λ p. (then) (reads_file p written) (λ version. gives (VersionDoc p (Exact version))))
+  reads = (then) (one reads_name v) (λ p. (then) (reads_file p written) (λ version. gives (Archive p version)))
 
   came-stop : (s : Stop) → reads (Err s) → stopped s ≡ Ok (Refused NotFound) → (p : Text) (version : VersionParts) → ¬ (Names p version)
   came-stop s (inl h) e p version is = name-found v s h e
@@ -624,7 +675,7 @@ module _ (v : Values) (written : Text) where
       → (p : Text) × (version : VersionParts) × Names p version × IsGone at p version es
   unfolding reading
   came-action w at es what (p, named, (version, found, given)) (inl (who, r, h)) =
-      let same : what ≡ VersionDoc p (Exact version) = cc in
+      let same : what ≡ Archive p version = cc in
       (p, version, (named, found), (who, rw (← same) (came-asks (request at who what) es h)))
   came-action w at es what (p, named, (version, found, given)) (inr (s, r, h)) = absurd (caller-found w.authorization s r (sym h.1))
 

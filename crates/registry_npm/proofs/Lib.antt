@@ -1,3 +1,4 @@
+pub mod AsciiFacts
 pub mod CallerFacts
 pub mod CallFacts
 pub mod ChangeFacts
@@ -9,9 +10,12 @@ pub mod LabelFacts
 pub mod LawFacts
 pub mod NeverFacts
 pub mod OneFacts
+pub mod PublishFacts
 pub mod RightFacts
 pub mod ServiceFacts
 pub mod ShownFacts
+pub mod StrangerFacts
 pub mod TagFacts
+pub mod TrialFacts
 pub mod TurnFacts
 pub mod UserFacts

@@ -1,5 +1,5 @@
 -- Why nothing that is sent under a revision is answered by 404.
-use Rattle.std.proofs.Common.{◌≡◌, ◌∷◌, [], ℕ, Bool, true, false, List, Option, Some, None, Ok, Err, is_some, refl, ap, ◌∙◌, inl, inr}
+use Rattle.std.proofs.Common.{◌≡◌, ◌∷◌, [], ℕ, Bool, true, false, List, Option, Some, None, Result, Ok, Err, if◌then◌else◌, is_some, length, refl, sym, ap, ◌∙◌, inl, inr}
 use Rattle.std.proofs.lemmas.Bool.{cases_Bool}
 use Rattle.registry_names.specs.Names.{scope_of}
 use Rattle.registry_names.specs.Texts.{Text}
@@ -14,7 +14,7 @@ use Rattle.registry_routes.specs.declared.npm_endpoint.NpmEndpoint.{NpmEndpoint}
 use Rattle.registry_routes.specs.declared.npm_endpoint.NpmEndpoint.TheVariants as by
 use Rattle.registry_rules.specs.declared.reply.Reply.TheVariants.{Refused}
 use Rattle.registry_rules.specs.declared.request.Action.{Action}
-use Rattle.registry_rules.specs.declared.request.Action.TheVariants.{Maintainers, OwnerAdd, Packument, WhoAmI}
+use Rattle.registry_rules.specs.declared.request.Action.TheVariants.{Deprecate, Maintainers, OwnerAdd, Packument, WhoAmI}
 use Rattle.registry_rules.specs.declared.request.Credential.{Credential}
 use Rattle.registry_rules.specs.declared.request.Request.{Request}
 use Rattle.registry_service.specs.Callers.{reads_caller}
@@ -27,11 +27,13 @@ use Rattle.registry_npm.specs.Laws.{NeverNotFound, is_revised}
 use Rattle.registry_documents.specs.declared.asked.Asked.{Asked}
 use Rattle.registry_documents.specs.declared.asked.Asked.TheVariants.{AlreadySo, Deprecation as Deprecates, Withdrawal, OwnerAdd as AddsOwner, OwnerRemove as RemovesOwner}
 use Rattle.serde_json.specs.Data.{Data}
-use Rattle.registry_npm.specs.Packages.{Purpose, asks_late, asks_names, does, for_document, for_names, fulfils, is_gone, judged, judges, no_version, other_of, reads_document, reads_owner, reads_revision, reads_versions, reads_withdrawn, serves, serves_user, stale, tries_right, withdrawn}
-use Rattle.registry_npm.specs.Leading.{Leads, asks, document_of, either, ends, is_stop, or_memory, reading, request}
+use Rattle.registry_npm.specs.Packages.{Purpose, asks_late, asks_names, does, for_document, for_names, fulfils, is_gone, judged, judges, late, no_version, other_of, reads_document, reads_owner, reads_revision, reads_versions, reads_withdrawn, refused_of, serves, serves_writer, stale, tries_right, withdrawn}
+use Rattle.registry_npm.specs.Leading.{Leads, asks, by_user, document_of, either, ends, is_stop, or_memory, reading, request}
 use Rattle.registry_npm.specs.Npm.{is_npms, leads, asks_by}
 use Rattle.std.proofs.lemmas.Bool.{false≢true}
-use Rattle.registry_documents.specs.Judging.{answer_of}
+use Rattle.registry_documents.specs.Differences.{repeats_owners}
+use Rattle.registry_documents.specs.Judging.{Judges, answer_of}
+use Rattle.registry_npm.proofs.LawFacts.{gone-stops}
 use Rattle.registry_routes.specs.Written.{StopsDecoding}
 use Rattle.registry_wire.specs.declared.wanted.FieldValue.{FieldValue}
 use Rattle.registry_wire.specs.declared.wanted.FieldValue.TheVariants.{Absent, Once, Repeated}
@@ -113,17 +115,22 @@ bad-answer false (Some (Withdrawal version)) r e = let same : Stale ≡ r = cc i
 bad-answer false (Some (AddsOwner user)) r e = let same : Stale ≡ r = cc in rw (← same) refl
 bad-answer false (Some (RemovesOwner user)) r e = let same : Stale ≡ r = cc in rw (← same) refl
 
-bad-judged : (d : Data) (path : Option Text) (text : Text) (names : List Text) (s : Stop) → judges d path text names (Err s) → is_gone (stopped s) ≡ false
-bad-judged d path text names (Refuses r) (present, is, e) = bad-answer _ _ r e
-bad-judged d path text names (Faulted fault) h = refl
+bad-uncompared : (b : Bool) (r : Refusal) → ◌≡◌ {A = Result Asked Refusal} (if b then Ok AlreadySo else Err Stale) (Err r) → is_gone (stopped (Refuses r)) ≡ false
+bad-uncompared true r e = absurd (cc)
+bad-uncompared false r e = let same : Stale ≡ r = cc in rw (← same) refl
+
+bad-judgement : (b : Bool) (d : Data) (path : Option Text) (text : Text) (names : List Text) (rev : Text) (r : Refusal) → Judges b d path text names rev (Err r) → is_gone (stopped (Refuses r)) ≡ false
+bad-judgement true d path text names rev r (present, is, e) = bad-answer _ _ r e
+bad-judgement false d path text names rev r e = bad-uncompared (repeats_owners d names) r e
+
+bad-judged : (d : Data) (size : ℕ) (path : Option Text) (text : Text) (names : List Text) (s : Stop) → judges d size path text names (Err s) → is_gone (stopped s) ≡ false
+bad-judged d size path text names (Refuses r) h = bad-judgement _ d path text names _ r h
+bad-judged d size path text names (Faulted fault) h = refl
 
 -- ---- what is asked under a revision
 
 never-asks_late : (named : Text) (at : ℕ) (who : Credential) (what : Action) → Never (asks_late (Some named) at who what)
 never-asks_late named at who what = never-asks (request at who what) _ never-stale
-
-never-right : (named : Text) (p : Text) (at : ℕ) (who : Credential) → Never (tries_right (Some named) p at who)
-never-right named p at who = never-reading (reads_versions no_version []) _ (bad-versions no_version []) (λ d. never-asks_late named at who _)
 
 never-unless : (c d : Outcome) → is_gone d ≡ false → Never (either (is_gone c) (ends d) (ends c))
 never-unless c d e es o h = elim (cases_Bool (is_gone c)) [
@@ -131,18 +138,25 @@ never-unless c d e es o h = elim (cases_Bool (is_gone c)) [
   | inr n ↦ let same : ends c es o = rw n at h in rw same.1 n
 ]
 
-never-does : (named : Text) (p : Text) (at : ℕ) (who : Credential) (asked : Asked) → Never (does (Some named) p at who asked)
-never-does named p at who AlreadySo = never-right named p at who
-never-does named p at who (Deprecates selector message) = never-reading (reads_versions selector message) _ (bad-versions selector message) (λ d. never-asks_late named at who _)
-never-does named p at who (Withdrawal version) = never-reading (reads_withdrawn version) _ (bad-withdrawn version) (λ v. never-asks_late named at who _)
-never-does named p at who (AddsOwner user) = never-reading (reads_owner user) _ (bad-owner user) (λ u. never-asks (request at who (OwnerAdd p u)) _ (λ c. never-unless c (Ok (Refused BadName)) refl))
-never-does named p at who (RemovesOwner user) = never-reading (reads_owner user) _ (bad-owner user) (λ u. never-asks_late named at who _)
+-- what isn't refused was found
+found-on : (c : Outcome) → is_stop c ≡ false → is_gone c ≡ false
+found-on c on = elim (cases_Bool (is_gone c)) [
+  | inl y ↦ absurd (false≢true (sym on ∙ gone-stops c y))
+  | inr n ↦ n
+]
 
-never-judged : (named : Text) (d : Data) (p : Text) (at : ℕ) (who : Credential) (text : Text) (names : List Text) → Never (fulfils (judged (Some named) d) p at who text names)
-never-judged named d p at who text names = never-or_memory _ (never-reading (judges d (Some named) text names) _ (bad-judged d (Some named) text names) (never-does named p at who))
+never-does : (named : Text) (p : Text) (at : ℕ) (who : Credential) (tried : Outcome) (asked : Asked) → is_gone tried ≡ false → Never (does (Some named) p at who tried asked)
+never-does named p at who tried AlreadySo there = never-ends tried there
+never-does named p at who tried (Deprecates selector message) there = never-reading (reads_versions selector message) _ (bad-versions selector message) (λ d. never-asks_late named at who _)
+never-does named p at who tried (Withdrawal version) there = never-reading (reads_withdrawn version) _ (bad-withdrawn version) (λ v. never-asks_late named at who _)
+never-does named p at who tried (AddsOwner user) there = never-reading (reads_owner user) _ (bad-owner user) (λ u. never-asks (request at who (OwnerAdd p u)) _ (λ c. never-unless c (Ok (Refused BadName)) refl))
+never-does named p at who tried (RemovesOwner user) there = never-reading (reads_owner user) _ (bad-owner user) (λ u. never-asks_late named at who _)
 
-never-withdrawn : (named : Text) (p : Text) (at : ℕ) (who : Credential) (text : Text) (names : List Text) → Never (fulfils (withdrawn named) p at who text names)
-never-withdrawn named p at who text names = never-or_memory _ (never-either _ _ _ (never-asks_late named at who _) (never-ends (Ok (Refused Stale)) refl))
+never-judged : (named : Text) (d : Data) (size : ℕ) (p : Text) (at : ℕ) (who : Credential) (tried : Outcome) (text : Text) (names : List Text) → is_gone tried ≡ false → Never (fulfils (judged (Some named) d size) p at who tried text names)
+never-judged named d size p at who tried text names there = never-or_memory _ (never-reading (judges d size (Some named) text names) _ (bad-judged d size (Some named) text names) (λ asked. never-does named p at who tried asked there))
+
+never-withdrawn : (named : Text) (p : Text) (at : ℕ) (who : Credential) (tried : Outcome) (text : Text) (names : List Text) → Never (fulfils (withdrawn named) p at who tried text names)
+never-withdrawn named p at who tried text names = never-or_memory _ (never-either _ _ _ (never-asks_late named at who _) (never-ends (Ok (Refused Stale)) refl))
 
 never-for_names : (next : List Text → Leads) (names : Option (List Text)) → ((ns : List Text) → Never (next ns)) → Never (for_names next names)
 never-for_names next None f = never-ends (Err Database) refl
@@ -152,31 +166,48 @@ never-for_document : (next : Text → Leads) (other : Leads) (t : Option Text) �
 never-for_document next other None f g = g
 never-for_document next other (Some text) f g = f text
 
-never-gone : (named : Text) (p : Text) (at : ℕ) (who : Credential) (c : Outcome) → Never (other_of (withdrawn named) p at who c)
-never-gone named p at who c es o h = elim (cases_Bool (is_gone c)) [
-  | inl y ↦ let tried : or_memory (tries_right (Some named) p at who) es o = rw y at h in never-or_memory _ (never-right named p at who) es o tried
-  | inr n ↦ let same : ends c es o = rw n at h in rw same.1 n
+-- what isn't found, after a trial that was
+never-gone : (tried c : Outcome) → is_gone tried ≡ false → Never (either (is_gone c) (ends tried) (ends c))
+never-gone tried c there = never-unless c tried there
+
+-- a purpose under a revision, after a trial of the right that wasn't refused
+module _ (purpose : Purpose) (refused : (tried c : Outcome) → is_gone tried ≡ false → Never (refused_of purpose tried c)) (goes : (p : Text) (at : ℕ) (who : Credential) (tried : Outcome) (text : Text) (names : List Text) → is_gone tried ≡ false → Never (fulfils purpose p at who tried text names)) where
+  never-other : (tried c : Outcome) → is_gone tried ≡ false → Never (other_of purpose tried c)
+  never-other tried c there = never-either (is_stop c) _ _ (refused tried c there) (never-ends (Err Database) refl)
+
+  never-asks_names : (p : Text) (at : ℕ) (who : Credential) (tried : Outcome) (text : Text) → is_gone tried ≡ false → Never (asks_names p at who (other_of purpose tried) (fulfils purpose p at who tried text))
+  never-asks_names p at who tried text there = never-either (is_some (scope_of p)) _ _ (goes p at who tried text [] there) (never-or_memory _ (never-asks (request at who (Maintainers p)) _
+      (λ c. never-for_document _ (other_of purpose tried c) (document_of c) (λ t. never-or_memory _ (never-for_names _ (names_in t) (λ names. goes p at who tried text names there))) (never-other tried c there))))
+
+  never-serves : (p : Text) (at : ℕ) (who : Credential) (tried : Outcome) → is_gone tried ≡ false → Never (serves purpose p at who tried)
+  never-serves p at who tried there = never-or_memory _ (never-asks (request at who (Packument p)) _
+      (λ c. never-for_document _ (other_of purpose tried c) (document_of c) (λ text. never-asks_names p at who tried text there) (never-other tried c there)))
+
+-- what follows a trial that is refused, or isn't
+never-tried : (named : Text) (next : Outcome → Leads) → ((tried : Outcome) → is_gone tried ≡ false → Never (next tried)) → (c : Outcome) → Never (either (is_stop c) (late (Some named) c) (next c))
+never-tried named next f c es o h = elim (cases_Bool (is_stop c)) [
+  | inl y ↦ let there : stale c es o = rw y at h in never-stale c es o there
+  | inr n ↦ let there : next c es o = rw n at h in f c (found-on c n) es o there
 ]
 
-module _ (purpose : Purpose) (other : (p : Text) (at : ℕ) (who : Credential) (c : Outcome) → Never (other_of purpose p at who c)) (goes : (p : Text) (at : ℕ) (who : Credential) (text : Text) (names : List Text) → Never (fulfils purpose p at who text names)) where
-  never-asks_names : (p : Text) (at : ℕ) (who : Credential) (text : Text) → Never (asks_names p at who (other_of purpose p at who) (fulfils purpose p at who text))
-  never-asks_names p at who text = never-either (is_some (scope_of p)) _ _ (goes p at who text []) (never-or_memory _ (never-asks (request at who (Maintainers p)) _
-      (λ c. never-for_document _ (other_of purpose p at who c) (document_of c) (λ t. never-or_memory _ (never-for_names _ (names_in t) (goes p at who text))) (other p at who c))))
+never-right : (named p : Text) (at : ℕ) (who : Credential) (next : Outcome → Leads) → ((tried : Outcome) → is_gone tried ≡ false → Never (next tried)) → Never (tries_right (Some named) p at who next)
+never-right named p at who next f = never-reading (reads_versions no_version []) _ (bad-versions no_version []) (λ d. never-asks (request at who (Deprecate p d.selector d.message)) _ (never-tried named next f))
 
-  never-serves : (p : Text) (at : ℕ) (who : Credential) → Never (serves purpose p at who)
-  never-serves p at who = never-or_memory _ (never-asks (request at who (Packument p)) _
-      (λ c. never-for_document _ (other_of purpose p at who c) (document_of c) (λ text. never-asks_names p at who text) (other p at who c)))
+never-claim : (named : Text) (d : Data) (size : ℕ) (p : Text) (at : ℕ) (who : Credential) → Never (serves_writer (judged (Some named) d size) p at who)
+never-claim named d size p at who = never-or_memory _ (never-right named p at who _ (never-serves (judged (Some named) d size) (λ tried c there. never-stale c) (never-judged named d size) p at who))
 
-  never-serves_user : (p : Text) (at : ℕ) (who : Credential) → Never (serves_user purpose p at who)
-  never-serves_user p at who = never-asks (request at who WhoAmI) _ (λ c. never-either (is_stop c) _ _ (other p at who c) (never-serves p at who))
+never-withdrawal : (named p : Text) (at : ℕ) (who : Credential) → Never (serves_writer (withdrawn named) p at who)
+never-withdrawal named p at who = never-or_memory _ (never-right named p at who _ (never-serves (withdrawn named) never-gone (λ q when whose tried text names there. never-withdrawn named q when whose tried text names) p at who))
+
+never-user : (w : Wanted) (at : ℕ) (next : Credential → Leads) → ((who : Credential) → Never (next who)) → Never (by_user stale w at next)
+never-user w at next f = never-reading (reads_caller w.authorization) _ (bad-caller w.authorization) (λ who. never-asks (request at who WhoAmI) _ (λ c. never-either (is_stop c) _ _ (never-stale c) (f who)))
 
 never-revised : (v : Values) (w : Wanted) (at : ℕ) → Never (leads by.Revised v w at)
-never-revised v w at = never-reading (one reads_name v) _ (bad-name v) (λ p. never-reading (reads_revision v.second) _ (bad-decoding v.second) (λ named. never-reading (reads_document w.body) _ (bad-document w.body)
-    (λ d. never-reading (reads_caller w.authorization) _ (bad-caller w.authorization) (λ who. never-serves_user (judged (Some named) d) (λ q when whose. never-stale) (never-judged named d) p at who))))
+never-revised v w at = never-user w at _ (λ who. never-reading (one reads_name v) _ (bad-name v) (λ p. never-reading (reads_revision v.second) _ (bad-decoding v.second) (λ named. never-reading (reads_document w.body) _ (bad-document w.body)
+    (λ d. never-claim named d (length w.body) p at who))))
 
 never-unpublish : (v : Values) (w : Wanted) (at : ℕ) → Never (leads by.Unpublish v w at)
-never-unpublish v w at = never-reading (one reads_name v) _ (bad-name v) (λ p. never-reading (reads_revision v.second) _ (bad-decoding v.second)
-    (λ named. never-reading (reads_caller w.authorization) _ (bad-caller w.authorization) (λ who. never-serves_user (withdrawn named) (never-gone named) (never-withdrawn named) p at who)))
+never-unpublish v w at = never-user w at _ (λ who. never-reading (one reads_name v) _ (bad-name v) (λ p. never-reading (reads_revision v.second) _ (bad-decoding v.second) (λ named. never-withdrawal named p at who)))
 
 never-by : (e : NpmEndpoint) (v : Values) (w : Wanted) (at : ℕ) (es : List Exchange) (o : Outcome) → is_revised e ≡ true → either (is_npms e w.body) (leads e v w at) (AsksByRoute w at) es o → is_gone o ≡ false
 never-by by.Revised v w at es o d h = never-revised v w at es o h

@@ -1,5 +1,5 @@
 -- Which requests ask just the command that they spell.
-use Rattle.std.proofs.Common.{◌≡◌, ◌∷◌, ◌∙◌, [], ℕ, Bool, true, false, List, Option, Some, None, Ok, Err, refl, sym, ap, inl}
+use Rattle.std.proofs.Common.{◌≡◌, ◌∷◌, ◌∙◌, [], ℕ, true, false, List, Option, Some, Ok, Err, refl, inl}
 use Rattle.std.proofs.lemmas.Bool.{false≢true}
 use Rattle.registry_routes.specs.NpmRoutes.{NpmRoute, npm_route_of}
 use Rattle.registry_routes.specs.Routes.{Values}
@@ -14,12 +14,11 @@ use Rattle.registry_rules.specs.declared.request.Request.{Request}
 use Rattle.registry_service.specs.Dialects.{AsksOne}
 use Rattle.registry_service.specs.HttpAnswers.{Outcome}
 use Rattle.registry_service.specs.Requests.{reads_request}
-use Rattle.registry_service.specs.Turns.{Exchange, exchange}
+use Rattle.registry_service.specs.Turns.{exchange}
 use Rattle.registry_wire.specs.Responses.{no_labels}
 use Rattle.registry_wire.specs.declared.wanted.Wanted.{Wanted}
 use Rattle.registry_npm.specs.Labels.{archive_labels, other_labels}
 use Rattle.registry_npm.specs.Laws.{is_npms_by}
-use Rattle.registry_npm.specs.Leading.{asks, ends}
 use Rattle.registry_npm.specs.Npm.{asks_by, labels_by, npm}
 use Rattle.registry_npm.specs.Packages.{leads_document}
 use Rattle.registry_npm.proofs.LabelFacts.{kept-by}
@@ -56,8 +55,7 @@ other-one route w found other = found-one route w found (λ at r o reads command
 
 -- a document that is a publication
 puts-one : (v : Values) (w : Wanted) (at : ℕ) (r : Request) (o : Outcome) → reads_request w at (Ok r) → leads_document v w at (exchange r o ∷ []) o
-unfolding asks
-puts-one v w at r o reads = inl (r, reads, (refl, (refl, refl)))
+puts-one v w at r o reads = inl (r, reads, refl)
 
 document-by : (e : NpmEndpoint) (v : Values) (w : Wanted) → e ≡ by.Document → AsksOneBy (Some (record { endpoint = e; values = v })) w
 document-by e v w is = rw is (λ at r o reads command. (puts-one v w at r o reads, refl))

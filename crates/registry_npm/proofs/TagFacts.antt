@@ -1,5 +1,5 @@
 -- The entity tags of packuments and archives.
-use Rattle.std.proofs.Common.{◌≡◌, ◌<◌, ◌∙◌, ◌+◌, ◌-◌, ◌/◌, ◌%◌, ◌^◌, zero, suc, ℕ, Bool, true, List, [], ◌∷◌, ◌++◌, length, codes, arith, append_assoc, refl, sym, ap, inl, inr, Some, None, drop, take, if◌then◌else◌}
+use Rattle.std.proofs.Common.{◌≡◌, ◌<◌, ◌∙◌, ◌/◌, ◌%◌, ◌^◌, zero, suc, ℕ, Bool, true, List, [], ◌∷◌, ◌++◌, length, codes, arith, append_assoc, refl, ap, inl, inr, Some, None, drop, take, if◌then◌else◌}
 use Rattle.std.specs.Prelude.{◌&&◌, nat_lt, slice_index}
 use Rattle.std.specs.List.{list_all}
 use Rattle.std.specs.Int.{byte_at, bytes_high_first, to_be_bytes, w32}

@@ -11,8 +11,7 @@ use Rattle.registry_routes.specs.Written.{StopsValue, text_of}
 use Rattle.registry_routes.specs.declared.npm_endpoint.NpmEndpoint.{NpmEndpoint}
 use Rattle.registry_routes.specs.declared.npm_endpoint.NpmEndpoint.TheVariants as by
 use Rattle.registry_rules.specs.declared.request.Action.{Action}
-use Rattle.registry_rules.specs.declared.request.Action.TheVariants.{TokenRemove, OrgRemove, TeamCreate, TeamAdd, TeamRemove, Grant, Revoke, SetAccess, VersionDoc, Members, TeamMembers, TeamPackages, WhoAmI, OrgPackages}
-use Rattle.registry_rules.specs.declared.request.Asked.TheVariants.{Exact}
+use Rattle.registry_rules.specs.declared.request.Action.TheVariants.{Archive, TokenRemove, OrgRemove, TeamCreate, TeamAdd, TeamRemove, Grant, Revoke, SetAccess, Members, TeamMembers, TeamPackages, WhoAmI, OrgPackages}
 use Rattle.registry_service.specs.Bodies.{reads_file}
 use Rattle.registry_service.specs.Readings.{Reading, gives, one, reads_ident, reads_name, refuses, then, two}
 use Rattle.registry_npm.specs.Bodies.{reads_access, reads_granted, reads_ident_at, reads_json, reads_name_at, reads_user_role}
@@ -47,10 +46,11 @@ reads_user written (Err stop) = StopsValue written BadName (λ t. (name : Text) 
 abbrev pub reads_member : Values → Text → Reading (Text × Text × Role)
 reads_member v body = then (one reads_ident v) (λ o. then (reads_json body) (λ d. then (reads_user_role d) (λ m. gives (o, m.0, m.1))))
 
--- The values of the path, in their order, then the members of the body, and the action that they make
+-- The values of the path, in their order, then the members of the body, and the action that they make.
+-- Whether a version lives is asked by its archive, since its document has to be read as JSON
 abbrev pub reads_first : NpmEndpoint → Values → Text → Reading Action
-reads_first by.FileDrop v body = then (one reads_name v) (λ p. then (reads_file p v.second) (λ version. gives (VersionDoc p (Exact version))))
-reads_first by.ScopedFileDrop v body = then (one reads_name v) (λ p. then (reads_file p v.third) (λ version. gives (VersionDoc p (Exact version))))
+reads_first by.FileDrop v body = then (one reads_name v) (λ p. then (reads_file p v.second) (λ version. gives (Archive p version)))
+reads_first by.ScopedFileDrop v body = then (one reads_name v) (λ p. then (reads_file p v.third) (λ version. gives (Archive p version)))
 reads_first by.SetAccess v body = then (one reads_name v) (λ p. then (reads_json body) (λ d. then (reads_access d) (λ status. gives (SetAccess p status))))
 reads_first by.OrgPackages v body = then (one reads_ident v) (λ o. gives (OrgPackages o))
 reads_first by.Members v body = then (one reads_ident v) (λ o. gives (Members o))

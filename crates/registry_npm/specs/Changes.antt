@@ -2,7 +2,7 @@
 use Rattle.std.specs.Prelude.{◌≡◌, ◌≢◌, ◌⊎◌, ◌++◌, ◌∷◌, [], ℕ, true, false, is_some, List, Option, Some, None, Ok}
 use Rattle.serde_json.specs.Data.{Data, Members}
 use Rattle.serde_json.specs.Read.{read}
-use Rattle.registry_documents.specs.Differences.{besides, says_no_other}
+use Rattle.registry_documents.specs.Differences.{besides, repeats_owners, says_no_other}
 use Rattle.registry_documents.specs.Documents.{IsDocumentOf, is_of, kind_of, names_in as maintainers_in, versions_in}
 use Rattle.registry_documents.specs.Judging.{asked_in}
 use Rattle.registry_documents.specs.Laws.{IsDeprecation, IsWithdrawal}
@@ -10,9 +10,8 @@ use Rattle.registry_documents.specs.declared.asked.Asked.TheVariants.{AlreadySo}
 use Rattle.registry_documents.specs.declared.document.Kind.TheVariants.{Publication}
 use Rattle.registry_names.specs.Names.{scope_of}
 use Rattle.registry_names.specs.Texts.{Text}
-use Rattle.registry_names.specs.Versions.{VersionParts, text_of_version}
-use Rattle.registry_ranges.specs.Laws.{IsInForm}
-use Rattle.registry_ranges.specs.Selectors.{Condition, HasConditions, set_selects}
+use Rattle.registry_names.specs.Versions.{text_of_version}
+use Rattle.registry_ranges.specs.Selectors.{Condition, HasConditions}
 use Rattle.registry_routes.specs.NpmRoutes.{NpmRoute, npm_route_of}
 use Rattle.registry_routes.specs.Routes.{Values}
 use Rattle.registry_routes.specs.Written.{text_of}
@@ -22,16 +21,15 @@ use Rattle.registry_rules.specs.declared.reply.Reply.TheVariants.{Doc}
 use Rattle.registry_rules.specs.declared.request.Action.{Action}
 use Rattle.registry_rules.specs.declared.request.Action.TheVariants.{Deprecate, Maintainers, OwnerAdd, OwnerRemove, Packument, WhoAmI, Withdraw}
 use Rattle.registry_rules.specs.declared.request.Credential.{Credential}
-use Rattle.registry_rules.specs.declared.request.Request.{Request}
-use Rattle.registry_service.specs.Dialects.{AreQueries}
 use Rattle.registry_service.specs.HttpAnswers.{Outcome}
 use Rattle.registry_service.specs.Readings.{one, reads_name}
-use Rattle.registry_service.specs.Requests.{reads_request}
 use Rattle.registry_service.specs.Turns.{Exchange, exchange}
 use Rattle.registry_wire.specs.declared.wanted.Wanted.{Wanted}
 use Rattle.registry_npm.specs.Forms.{names_in}
+use Rattle.registry_npm.specs.Laws.{AreHarmless, SelectNothing}
 use Rattle.registry_npm.specs.Leading.{is_stop, request}
 use Rattle.registry_npm.specs.Npm.{npm}
+use Rattle.registry_npm.specs.Packages.{publishes}
 use Rattle.registry_documents.specs.Revisions.{revision}
 
 -- ---- what was sent, and what was read
@@ -47,10 +45,17 @@ abbrev pub AreNamed : ℕ → Credential → Text → List Text → List Exchang
 AreNamed at who p names es = ((is_some (scope_of p) ≡ true) × (names ≡ []) × (es ≡ []))
     ⊎ ((text : Text) × (is_some (scope_of p) ≡ false) × (names_in text ≡ Some names) × (es ≡ exchange (request at who (Maintainers p)) (Ok (Doc text)) ∷ []))
 
--- who the caller is, the packument of the package, and its maintainers were asked for, in this order
-abbrev pub AreRead : ℕ → Credential → Text → Text → List Text → List Exchange → Type 0
-AreRead at who p text names es = (caller : Outcome) × (named : List Exchange) × AreNamed at who p names named
-    × (es ≡ exchange (request at who WhoAmI) caller ∷ exchange (request at who (Packument p)) (Ok (Doc text)) ∷ named)
+-- Who the caller is, whether they may write the package, what its packument is, and who maintains it, were
+-- asked for, in this order. The trial of the right was a deprecation of no version, and came to this
+pub record AreRead (at : ℕ) (who : Credential) (p text : Text) (names : List Text) (tried : Outcome) (es : List Exchange) : Type 0 where
+  pub caller : Outcome
+  pub selector : List (List Condition)
+  pub message : Text
+  pub selects_nothing : SelectNothing selector
+  pub is_writer : is_stop tried ≡ false
+  pub named : List Exchange
+  pub are_named : AreNamed at who p names named
+  pub asked : es ≡ exchange (request at who WhoAmI) caller ∷ exchange (request at who (Deprecate p selector message)) tried ∷ exchange (request at who (Packument p)) (Ok (Doc text)) ∷ named
 
 -- ---- the one thing
 
@@ -82,44 +87,49 @@ IsAbout p (OwnerAdd q u) = q ≡ p
 IsAbout p (OwnerRemove q u) = q ≡ p
 IsAbout p _ = ⊥
 
--- the conditions select no version
-abbrev pub SelectNothing : List (List Condition) → Type 0
-SelectNothing conditions = (v : VersionParts) → IsInForm v → set_selects v conditions ≡ false
-
--- a deprecation of no version
-abbrev pub ChangesNothing : Action → Type 0
-ChangesNothing (Deprecate p conditions message) = SelectNothing conditions
-ChangesNothing _ = ⊥
-
--- A document of the present revision, and the command that makes the one thing in which it differs; or a
--- document of any revision that differs in nothing, and a command that changes nothing
-abbrev pub IsOneThing : Option Text → Data → Text → Data → List Text → Action → Type 0
-IsOneThing path d text m names what = ((is_of (revision text names) path d ≡ true) × Makes d m names what) ⊎ ((asked_in d m names ≡ Some AlreadySo) × ChangesNothing what)
-
 -- an outcome is answered as it is, unless it is a refusal or a fault: then so is the answer
 abbrev pub Answers : Outcome → Outcome → Type 0
 Answers c o = (is_stop c ≡ false → o ≡ c) × (is_stop c ≡ true → is_stop o ≡ true)
 
--- The last that a turn asks is a command, for the one thing in which the document differs from what was
--- read in that turn, and its outcome is the answer
+-- the document is refused, and nothing was asked that can change the registry
+abbrev pub IsRefused : List Exchange → Outcome → Type 0
+IsRefused es o = AreHarmless es × (is_stop o ≡ true)
+
+-- the document differs in nothing from the packument and the maintainers, or says nothing but these
+abbrev pub IsSo : Data → Text → List Text → Type 0
+IsSo d text names = ((m : Data) × (read text ≡ Some m) × (asked_in d m names ≡ Some AlreadySo)) ⊎ (repeats_owners d names ≡ true)
+
+-- The document says what was read in the turn. Only that was asked, for one who may write the package, and
+-- the trial of their right is the answer
+pub record SaysWhatIsThere (d : Data) (p : Text) (at : ℕ) (es : List Exchange) (o : Outcome) : Type 0 where
+  pub who : Credential
+  pub text : Text
+  pub names : List Text
+  pub are_read : AreRead at who p text names o es
+  pub is_so : IsSo d text names
+
+-- The last that a turn asks is a command, for the one thing in which a document of the present revision
+-- differs from what was read in that turn, and its outcome is the answer
 pub record ChangesOneThing (path : Option Text) (d : Data) (p : Text) (at : ℕ) (es : List Exchange) (o : Outcome) : Type 0 where
   pub who : Credential
   pub text : Text
   pub names : List Text
   pub packument : Data
   pub is_packument : read text ≡ Some packument
+  pub tried : Outcome
   pub what : Action
   pub outcome : Outcome
   pub reads : List Exchange
-  pub are_read : AreRead at who p text names reads
+  pub are_read : AreRead at who p text names tried reads
   pub asked : es ≡ reads ++ exchange (request at who what) outcome ∷ []
   pub is_about : IsAbout p what
-  pub is_one_thing : IsOneThing path d text packument names what
+  pub is_present : is_of (revision text names) path d ≡ true
+  pub makes : Makes d packument names what
   pub answers : Answers outcome o
 
--- A turn on a document asks for no command, or for the one thing in which the document differs from what
--- was read in that turn. What is also a publication in form is one
+-- A document is refused and changes nothing, or it says what is there, or a turn on it asks for the one thing
+-- in which it differs from what was read in that turn. What is also a publication in form is one
 abbrev pub DocumentsChangeOneThing : Type 0
 DocumentsChangeOneThing = (w : Wanted) (at : ℕ) (es : List Exchange) (o : Outcome) (r : NpmRoute) (path : Option Text) (d : Data) (p : Text)
     → npm_route_of w.method w.target ≡ Some r → IsSent r.endpoint r.values w.body path d → one reads_name r.values (Ok p)
-    → npm.asks w at es o → AreQueries es ⊎ ChangesOneThing path d p at es o ⊎ ((asked : Request) × reads_request w at (Ok asked) × (es ≡ exchange asked o ∷ []))
+    → npm.asks w at es o → IsRefused es o ⊎ SaysWhatIsThere d p at es o ⊎ ChangesOneThing path d p at es o ⊎ publishes w at es o

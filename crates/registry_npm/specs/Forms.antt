@@ -1,7 +1,7 @@
 -- Documents in the forms that npm reads, made of those that the registry answers.
-use Rattle.std.specs.Prelude.{ℕ, suc, Bool, List, [], ◌∷◌, ◌++◌, map, codes, decimal, Option, Some, None, option_map, option_and_then}
+use Rattle.std.specs.Prelude.{ℕ, suc, Bool, if◌then◌else◌, is_some, List, [], ◌∷◌, ◌++◌, map, codes, decimal, Option, Some, None, option_map, option_and_then}
 use Rattle.json.specs.Print.{quoted}
-use Rattle.serde_json.specs.Data.{Items, Members, boolean, item, member, no_items, no_members, object}
+use Rattle.serde_json.specs.Data.{Data, Items, Members, boolean, item, member, no_items, no_members, object}
 use Rattle.serde_json.specs.Find.{as_array, as_object, as_str, get}
 use Rattle.serde_json.specs.Read.{read}
 use Rattle.serde_json.specs.Written.{compact_text}
@@ -48,8 +48,12 @@ abbrev pub size_of : Members → ℕ
 size_of no_members = 0
 size_of (member k d ms) = suc (size_of ms)
 
-abbrev pub size_in : Text → Option ℕ
-size_in text = option_map size_of (option_and_then as_object (read text))
+-- how many members an object has, once it has one with this key
+abbrev pub size_with : Text → Data → Members → ℕ
+size_with k d ms = if is_some (get k d) then size_of ms else suc (size_of ms)
+
+abbrev pub size_in : Text → Text → Option ℕ
+size_in k text = option_and_then (λ d. option_map (size_with k d) (as_object d)) (read text)
 
 -- the name of the caller
 abbrev pub username_in : Text → Option Text
@@ -107,12 +111,12 @@ org_text o size = codes "{\"name\":" ++ (quoted o ++ (codes ",\"size\":" ++ (dec
 abbrev pub member_of : Text → Text → Text → Text
 member_of org role user = codes "{\"org\":" ++ (org ++ (codes ",\"role\":" ++ (role ++ (codes ",\"user\":" ++ (user ++ codes "}")))))
 
--- a member of an organisation, and how many members that has
+-- a member of an organisation, and how many members that has then
 abbrev pub membership_text : Text → Text → Role → ℕ → Text
 membership_text o u role size = member_of (org_text o size) (quoted (role_text role)) (quoted u)
 
 abbrev pub membership_form : Text → Text → Role → Text → Option Text
-membership_form o u role text = option_map (membership_text o u role) (size_in text)
+membership_form o u role text = option_map (membership_text o u role) (size_in u text)
 
 -- whether anybody may read a package
 abbrev pub visibility_text : Bool → Text

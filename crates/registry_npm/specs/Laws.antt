@@ -1,28 +1,31 @@
 -- What holds of the dialect of npm's own requests: the laws that the functions of `src/laws.rt` ensure.
-use Rattle.std.specs.Prelude.{◌≡◌, ◌≤◌, ◌+◌, ◌∷◌, ◌⊎◌, [], ℕ, Bool, true, false, List, Option, Some, None, Ok, Err, if◌then◌else◌}
+use Rattle.std.specs.Prelude.{◌≡◌, ◌++◌, ◌∷◌, ◌⊎◌, [], ℕ, Bool, true, false, List, Option, Some, None, Ok, Err}
 use Rattle.registry_names.specs.Texts.{Text}
 use Rattle.registry_names.specs.Versions.{VersionParts}
 use Rattle.registry_names.specs.declared.refusal.Refusal.TheVariants.{NotFound}
+use Rattle.registry_names.specs.declared.stop.Stop.{Stop}
+use Rattle.registry_ranges.specs.Laws.{IsInForm}
+use Rattle.registry_ranges.specs.Selectors.{Condition, set_selects}
 use Rattle.registry_routes.specs.NpmRoutes.{NpmRoute, npm_route_of}
 use Rattle.registry_routes.specs.Routes.{Values, route_of}
 use Rattle.registry_routes.specs.declared.npm_endpoint.NpmEndpoint.{NpmEndpoint}
 use Rattle.registry_routes.specs.declared.npm_endpoint.NpmEndpoint.TheVariants as by
 use Rattle.registry_rules.specs.Actions.{is_command}
 use Rattle.registry_rules.specs.declared.reply.Reply.TheVariants.{Refused}
-use Rattle.registry_rules.specs.declared.request.Action.TheVariants.{VersionDoc}
-use Rattle.registry_rules.specs.declared.request.Asked.TheVariants.{Exact}
+use Rattle.registry_rules.specs.declared.request.Action.{Action}
+use Rattle.registry_rules.specs.declared.request.Action.TheVariants.{Archive, Deprecate, WhoAmI}
 use Rattle.registry_rules.specs.declared.request.Credential.{Credential}
 use Rattle.registry_rules.specs.declared.request.Credential.TheVariants.{Anonymous}
 use Rattle.registry_service.specs.Bodies.{reads_file}
 use Rattle.registry_service.specs.Callers.{reads_caller}
 use Rattle.registry_service.specs.HttpAnswers.{Outcome}
 use Rattle.registry_service.specs.Readings.{one, reads_name}
-use Rattle.registry_service.specs.Turns.{Dialect, Exchange, exchange, profile}
+use Rattle.registry_service.specs.Turns.{Dialect, Exchange, exchange, profile, stopped}
 use Rattle.registry_wire.specs.declared.wanted.Wanted.{Wanted}
 use Rattle.registry_npm.specs.Bodies.{begins_object}
-use Rattle.registry_npm.specs.Leading.{request}
+use Rattle.registry_npm.specs.Leading.{is_stop, request}
 use Rattle.registry_npm.specs.Npm.{is_npms, npm}
-use Rattle.registry_npm.specs.Packages.{is_gone}
+use Rattle.registry_npm.specs.Packages.{is_gone, publishes}
 
 -- ---- which requests are npm's own
 
@@ -55,16 +58,36 @@ NpmIsApart = (w : Wanted) → is_npm w ≡ true → (is_of_package (npm_route_of
 
 -- ---- what is asked in a turn
 
-abbrev pub command_count : Exchange → ℕ
-command_count e = if is_command e.asked.what then 1 else 0
+-- the conditions select no version
+abbrev pub SelectNothing : List (List Condition) → Type 0
+SelectNothing conditions = (v : VersionParts) → IsInForm v → set_selects v conditions ≡ false
 
-abbrev pub commands : List Exchange → ℕ
-commands [] = 0
-commands (e ∷ es) = command_count e + commands es
+-- a deprecation of no version
+abbrev pub ChangesNothing : Action → Type 0
+ChangesNothing (Deprecate p conditions message) = SelectNothing conditions
+ChangesNothing _ = ⊥
 
--- a turn asks for one command at most
-abbrev pub OneCommand : Dialect → Type 0
-OneCommand speaks = (w : Wanted) (at : ℕ) (es : List Exchange) (o : Outcome) → speaks.asks w at es o → commands es ≤ 1
+-- it can't change the registry: a query, or a deprecation of no version
+abbrev pub IsHarmless : Exchange → Type 0
+IsHarmless e = (is_command e.asked.what ≡ false) ⊎ ChangesNothing e.asked.what
+
+abbrev pub AreHarmless : List Exchange → Type 0
+AreHarmless [] = Unit {0}
+AreHarmless (e ∷ es) = IsHarmless e × AreHarmless es
+
+-- This is asked last, and nothing that was asked before it can change the registry. Unless it is refused
+-- or fails, the answer is neither
+pub record ComesLast (es : List Exchange) (o : Outcome) : Type 0 where
+  pub before : List Exchange
+  pub last : Exchange
+  pub are_harmless : AreHarmless before
+  pub asked : es ≡ before ++ last ∷ []
+  pub done : is_stop last.outcome ≡ false → is_stop o ≡ false
+
+-- A turn asks for nothing that can change the registry, or for one such thing, which comes last. So an
+-- error says that nothing was done, unless a fault of that command left open whether it was
+abbrev pub CommandComesLast : Dialect → Type 0
+CommandComesLast speaks = (w : Wanted) (at : ℕ) (es : List Exchange) (o : Outcome) → speaks.asks w at es o → AreHarmless es ⊎ ComesLast es o
 
 -- after a fault nothing more is asked, and it is the answer
 abbrev pub StopsAtFault : Outcome → List Exchange → Outcome → Type 0
@@ -92,9 +115,9 @@ NamesFile by.FileDrop v p version = one reads_name v (Ok p) × reads_file p v.se
 NamesFile by.ScopedFileDrop v p version = one reads_name v (Ok p) × reads_file p v.third (Ok version)
 NamesFile _ v p version = ⊥
 
--- nothing was asked but for the document of this version, which wasn't found
+-- nothing was asked but for the archive of this version, which wasn't found
 abbrev pub IsGone : ℕ → Text → VersionParts → List Exchange → Type 0
-IsGone at p version es = (who : Credential) × (es ≡ exchange (request at who (VersionDoc p (Exact version))) (Ok (Refused NotFound)) ∷ [])
+IsGone at p version es = (who : Credential) × (es ≡ exchange (request at who (Archive p version)) (Ok (Refused NotFound)) ∷ [])
 
 -- Where the deletion of an archive's file is answered by NotFound, the path names the file of no version
 -- of the package, or the registry doesn't find the version whose file it names
@@ -127,3 +150,35 @@ AreAskedFor w at (e ∷ es) = IsAskedFor w at e × AreAskedFor w at es
 -- whatever is asked is asked for the caller of the request, or for nobody
 abbrev pub AsksForCaller : Dialect → Type 0
 AsksForCaller speaks = (w : Wanted) (at : ℕ) (es : List Exchange) (o : Outcome) → speaks.asks w at es o → AreAskedFor w at es
+
+-- ---- strangers
+
+-- by these routes a body is read
+abbrev pub has_body : NpmEndpoint → Bool
+has_body by.Document = true
+has_body by.Revised = true
+has_body by.SetAccess = true
+has_body by.OrgSet = true
+has_body by.OrgRemove = true
+has_body by.TeamCreate = true
+has_body by.TeamAdd = true
+has_body by.TeamRemove = true
+has_body by.Grant = true
+has_body by.Revoke = true
+has_body _ = false
+
+-- what is answered where the registry says this of who calls
+abbrev pub TurnsAway : Outcome → List Exchange → Outcome → Type 0
+TurnsAway caller es o = (es ≡ []) × (is_stop o ≡ true) × (is_gone caller ≡ false → o ≡ caller)
+
+-- Who calls is asked first, and who is no user is answered that, and asked for nothing else. Who shows no
+-- token in form is answered at once
+abbrev pub AsksWhoFirst : Wanted → ℕ → List Exchange → Outcome → Type 0
+AsksWhoFirst w at es o = ((s : Stop) × reads_caller w.authorization (Err s) × (es ≡ []) × (o ≡ stopped s))
+    ⊎ ((who : Credential) × (caller : Outcome) × (later : List Exchange) × reads_caller w.authorization (Ok who) × (es ≡ exchange (request at who WhoAmI) caller ∷ later) × (is_stop caller ≡ true → TurnsAway caller later o))
+
+-- What is read of a body is read for users: nobody else is told anything of it. Only a publication in form
+-- may be asked for at once
+abbrev pub BodiesAreOfUsers : Type 0
+BodiesAreOfUsers = (w : Wanted) (at : ℕ) (es : List Exchange) (o : Outcome) (r : NpmRoute) → npm_route_of w.method w.target ≡ Some r → has_body r.endpoint ≡ true
+    → is_npms r.endpoint w.body ≡ true → npm.asks w at es o → AsksWhoFirst w at es o ⊎ publishes w at es o

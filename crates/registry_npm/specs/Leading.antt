@@ -7,6 +7,7 @@ use Rattle.registry_names.specs.declared.stop.Stop.{Stop}
 use Rattle.registry_rules.specs.declared.reply.Reply.{Reply}
 use Rattle.registry_rules.specs.declared.reply.Reply.TheVariants.{Doc, Refused}
 use Rattle.registry_rules.specs.declared.request.Action.{Action}
+use Rattle.registry_rules.specs.declared.request.Action.TheVariants.{WhoAmI}
 use Rattle.registry_rules.specs.declared.request.Credential.{Credential}
 use Rattle.registry_rules.specs.declared.request.Request.{Request}
 use Rattle.registry_service.specs.Callers.{reads_caller}
@@ -64,6 +65,11 @@ reading {A} reads next es o = ((a : A) × reads (Ok a) × next a es o) ⊎ ((s :
 -- by the caller of a request
 abbrev pub by_caller : Wanted → (Credential → Leads) → Leads
 by_caller w next = reading (reads_caller w.authorization) next
+
+-- Who calls is asked before the path or the body is read. Who is no user is answered in this way,
+-- whatever was sent
+abbrev pub by_user : (Outcome → Leads) → Wanted → ℕ → (Credential → Leads) → Leads
+by_user refused w at next = by_caller w (λ who. asks (request at who WhoAmI) (λ o. either (is_stop o) (refused o) (next who)))
 
 -- ---- documents
 

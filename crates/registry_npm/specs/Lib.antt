@@ -12,3 +12,4 @@ pub mod Npm
 pub mod Packages
 pub mod Purposes
 pub mod Queries
+pub mod Users

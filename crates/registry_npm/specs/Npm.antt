@@ -9,7 +9,7 @@ use Rattle.registry_routes.specs.Routes.{Values}
 use Rattle.registry_routes.specs.declared.npm_endpoint.NpmEndpoint.{NpmEndpoint}
 use Rattle.registry_routes.specs.declared.npm_endpoint.NpmEndpoint.TheVariants as by
 use Rattle.registry_rules.specs.declared.reply.Reply.{Reply}
-use Rattle.registry_rules.specs.declared.reply.Reply.TheVariants.{Refused}
+use Rattle.registry_rules.specs.declared.reply.Reply.TheVariants.{Doc, Refused}
 use Rattle.registry_rules.specs.declared.request.Action.{Action}
 use Rattle.registry_rules.specs.declared.request.Action.TheVariants.{OrgSet, Members, MyPackages, Tags, Teams, WhoAmI}
 use Rattle.registry_rules.specs.declared.request.Credential.TheVariants.{Anonymous}
@@ -21,11 +21,11 @@ use Rattle.registry_wire.specs.declared.labels.Labels.{Labels}
 use Rattle.registry_wire.specs.declared.wanted.Wanted.{Wanted}
 use Rattle.registry_npm.specs.Asked.{reads_first, reads_member, reads_user}
 use Rattle.registry_npm.specs.Bodies.{begins_object}
-use Rattle.registry_npm.specs.Collaborators.{shows_writers}
+use Rattle.registry_npm.specs.Collaborators.{for_form, shows_writers}
 use Rattle.registry_npm.specs.Forms.{empty_text, grants_form, membership_form, profile_form, teams_form, user_text, visibility_text}
 use Rattle.registry_npm.specs.Labels.{other_labels, own_labels}
-use Rattle.registry_npm.specs.Packages.{leads_document, leads_packument, leads_revised, leads_unpublish}
-use Rattle.registry_npm.specs.Leading.{Leads, asks, by_caller, document_of, either, ends, is_refused, or_memory, reading, request, shown_as, shows, unless_stopped}
+use Rattle.registry_npm.specs.Packages.{for_document, leads_document, leads_packument, leads_revised, leads_unpublish}
+use Rattle.registry_npm.specs.Leading.{Leads, asks, by_caller, by_user, document_of, either, ends, is_refused, or_memory, reading, request, shown_as, shows, unless_stopped}
 
 -- ---- after the first request
 
@@ -63,16 +63,20 @@ shows_visibility p w at = by_caller w (λ who. asks (request at Anonymous (Tags 
 abbrev pub shows_teams : Text → Wanted → ℕ → Leads
 shows_teams o w at = by_caller w (λ who. asks (request at who (Teams o)) (shown_as (teams_form o)))
 
--- the members of an organisation, of which one and the size are shown
-abbrev pub asks_size : Text → Text → Role → Credential → ℕ → Leads
-asks_size o u role who at = asks (request at who (Members o)) (shown_as (membership_form o u role))
+-- a user gets a role in an organisation, and where nothing refuses that, this is shown
+abbrev pub gives_role : Text → Text → Role → ℕ → Credential → Text → Leads
+gives_role o u role at who text = asks (request at who (OrgSet o u role)) (unless_stopped (ends (Ok (Doc text))))
 
--- to give a user a role in an organisation, and then its size
+-- what is to be shown is made of the members that are there, before the role is given
+abbrev pub counts_members : Text → Text → Role → ℕ → Credential → Outcome → Leads
+counts_members o u role at who c = for_document (λ text. or_memory (for_form (gives_role o u role at who) (membership_form o u role text))) (ends c) (document_of c)
+
+-- the members of an organisation are asked for, and then a user gets a role in it
 abbrev pub asks_role : Text → Text → Role → ℕ → Credential → Leads
-asks_role o u role at who = asks (request at who (OrgSet o u role)) (unless_stopped (asks_size o u role who at))
+asks_role o u role at who = asks (request at who (Members o)) (counts_members o u role at who)
 
-abbrev pub sets_member : Text → Text → Role → Wanted → ℕ → Leads
-sets_member o u role w at = by_caller w (λ who. or_memory (asks_role o u role at who))
+abbrev pub sets_member : Values → Text → ℕ → Credential → Leads
+sets_member v body at who = reading (reads_member v body) (λ m. or_memory (asks_role m.0 m.1 m.2 at who))
 
 -- ---- users
 
@@ -98,6 +102,10 @@ shows_own u w at = by_caller w (λ who. asks (request at who WhoAmI) (asks_own u
 abbrev pub asks_action : NpmEndpoint → Action → Wanted → ℕ → Leads
 asks_action e what w at = by_caller w (λ who. asks (request at who what) (follows e))
 
+-- by these routes a user asks for one command
+abbrev pub asks_command : NpmEndpoint → Values → Wanted → ℕ → Leads
+asks_command e v w at = by_user ends w at (λ who. reading (reads_first e v w.body) (λ what. asks (request at who what) ends))
+
 abbrev pub asks_first : NpmEndpoint → Values → Wanted → ℕ → Leads
 asks_first e v w at = reading (reads_first e v w.body) (λ what. asks_action e what w at)
 
@@ -111,7 +119,14 @@ leads by.Unpublish v w at = leads_unpublish v w at
 leads by.Visibility v w at = reading (one reads_name v) (λ p. shows_visibility p w at)
 leads by.Collaborators v w at = reading (one reads_name v) (λ p. shows_writers p w at)
 leads by.Teams v w at = reading (one reads_ident v) (λ o. shows_teams o w at)
-leads by.OrgSet v w at = reading (reads_member v w.body) (λ m. sets_member m.0 m.1 m.2 w at)
+leads by.OrgSet v w at = by_user ends w at (sets_member v w.body at)
+leads by.OrgRemove v w at = asks_command by.OrgRemove v w at
+leads by.TeamCreate v w at = asks_command by.TeamCreate v w at
+leads by.TeamAdd v w at = asks_command by.TeamAdd v w at
+leads by.TeamRemove v w at = asks_command by.TeamRemove v w at
+leads by.Grant v w at = asks_command by.Grant v w at
+leads by.Revoke v w at = asks_command by.Revoke v w at
+leads by.SetAccess v w at = asks_command by.SetAccess v w at
 leads by.User v w at = reading (one reads_user v) (λ u. shows_user u w at)
 leads by.UserPackages v w at = reading (one reads_ident v) (λ u. shows_own u w at)
 leads e v w at = asks_first e v w at

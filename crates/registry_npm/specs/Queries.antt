@@ -95,7 +95,7 @@ reader-route m target reads = then-routes m reads (segments_of (path_of target))
 
 -- ---- what they ask
 
-abbrev Queries : Leads → Type 0
+abbrev pub Queries : Leads → Type 0
 Queries leading = (es : List Exchange) (o : Outcome) → leading es o → AreQueries es
 
 asks-nothing : (es : List Exchange) → es ≡ [] → AreQueries es
@@ -140,7 +140,7 @@ q-caller : (p : Text) (at : ℕ) (who : Credential) (c : Outcome) → Queries (a
 q-caller p at who (Err fault) = q-ends (Err fault)
 q-caller p at who (Ok told) = q-asks (request at who (Tags p)) _ refl (λ c. q-unless (shows_public told) c (q-shows _))
 
-q-not_served : (c : Outcome) → Queries (not_served c)
+pub q-not_served : (c : Outcome) → Queries (not_served c)
 q-not_served c = q-unless (ends (Ok (Refused NotServed))) c (q-ends (Ok (Refused NotServed)))
 
 q-form : {A : Type 0} (next : A → Leads) (a : Option A) → ((x : A) → Queries (next x)) → Queries (for_form next a)
@@ -178,10 +178,10 @@ q-scope : (p : Text) (at : ℕ) (who : Credential) (o : Option Text) (c : Outcom
 q-scope p at who None c = q-shown writers_form c
 q-scope p at who (Some o) c = q-unless (asks_all p at who o) c (q-all p o at who)
 
-gave : (a b : Action) → ◌≡◌ {A = Result Action Stop} (Ok a) (Ok b) → is_command b ≡ false → is_command a ≡ false
+pub gave : (a b : Action) → ◌≡◌ {A = Result Action Stop} (Ok a) (Ok b) → is_command b ≡ false → is_command a ≡ false
 gave a b same is = let one : a ≡ b = cc in ap is_command one ∙ is
 
-q-first : (e : NpmEndpoint) (v : Values) (w : Wanted) (at : ℕ) → ((what : Action) → reads_first e v w.body (Ok what) → is_command what ≡ false) → ((c : Outcome) → Queries (follows e c)) → Queries (asks_first e v w at)
+pub q-first : (e : NpmEndpoint) (v : Values) (w : Wanted) (at : ℕ) → ((what : Action) → reads_first e v w.body (Ok what) → is_command what ≡ false) → ((c : Outcome) → Queries (follows e c)) → Queries (asks_first e v w at)
 q-first e v w at is f = q-reading (reads_first e v w.body) _ (λ what r. q-reading (reads_caller w.authorization) _ (λ who _. q-asks (request at who what) (follows e) (is what r) f))
 
 q-answer : (what : Action) (w : Wanted) (at : ℕ) → is_command what ≡ false → Queries (shows_answer what w at)
@@ -190,7 +190,7 @@ q-answer what w at is = q-reading (reads_caller w.authorization) _ (λ who _. q-
 q-packument : (p : Text) (w : Wanted) (at : ℕ) → Queries (shows_packument p w at)
 q-packument p w at = q-either (accepts_abbreviated w.accept) _ _ (q-answer (AbbreviatedPackument p) w at refl) (q-answer (RevisedPackument p) w at refl)
 
-q-leads : (e : NpmEndpoint) (v : Values) (w : Wanted) (at : ℕ) → is_reader e ≡ true → is_npms e w.body ≡ true → Queries (leads e v w at)
+pub q-leads : (e : NpmEndpoint) (v : Values) (w : Wanted) (at : ℕ) → is_reader e ≡ true → is_npms e w.body ≡ true → Queries (leads e v w at)
 q-leads by.Packument v w at is own = q-reading (one reads_name v) _ (λ p _. q-packument p w at)
 q-leads by.Document v w at is own = absurd (false≢true is)
 q-leads by.Revised v w at is own = absurd (false≢true is)

@@ -10,7 +10,7 @@ use crate::path::{file_version, ident, idents, name, token};
 use registry_access::Role;
 use registry_names::{Ident, Refusal, Stop};
 use registry_routes::{NpmEndpoint, Values};
-use registry_rules::{Action, Asked};
+use registry_rules::Action;
 use std::alloc::Global;
 
 /// What a turn by this route asks for first.
@@ -61,10 +61,7 @@ fn file_drop(alloc: Global, values: Values<'_>) -> Result<Action, Stop>
 {
     let package = name(alloc, values)?;
     let version = file_version(alloc, &package, values.second)?;
-    Ok(Action::VersionDoc {
-        package,
-        version: Asked::Exact(version),
-    })
+    Ok(Action::Archive { package, version })
 }
 
 fn scoped_file_drop(alloc: Global, values: Values<'_>) -> Result<Action, Stop>
@@ -72,10 +69,7 @@ fn scoped_file_drop(alloc: Global, values: Values<'_>) -> Result<Action, Stop>
 {
     let package = name(alloc, values)?;
     let version = file_version(alloc, &package, values.third)?;
-    Ok(Action::VersionDoc {
-        package,
-        version: Asked::Exact(version),
-    })
+    Ok(Action::Archive { package, version })
 }
 
 fn set_access(alloc: Global, values: Values<'_>, body: &[u8]) -> Result<Action, Stop>

@@ -2,11 +2,12 @@
 
 ghost use Rattle.std.specs.Prelude.{◌≡◌};
 ghost use Rattle.registry_npm.specs.Callers as spec;
+ghost use Rattle.registry_npm.specs.Leading as leading;
 
-use registry_names::{Refusal, Stop};
+use registry_names::{Moment, Refusal, Stop};
 use registry_publish::TokenDigest;
 use registry_routes::bearer_token;
-use registry_rules::Credential;
+use registry_rules::{Action, Credential, Request};
 use registry_wire::FieldValue;
 
 const NO_CALLER: Stop = Stop::Refused(Refusal::NoCaller);
@@ -49,5 +50,16 @@ pub(crate) fn credential(who: &Caller) -> Credential
     match who {
         Caller::Token(digest) => Credential::Token(*digest),
         Caller::Nobody => Credential::Anonymous,
+    }
+}
+
+/// A request of the caller.
+pub(crate) fn request(at: Moment, who: &Caller, what: Action) -> Request
+    ensures { result ≡ leading.request at (spec.who_of who.now) what }
+{
+    Request {
+        at,
+        who: credential(who),
+        what,
     }
 }

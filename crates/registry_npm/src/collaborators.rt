@@ -12,8 +12,8 @@ ghost use Rattle.registry_routes.specs.Readings.{values_view};
 ghost use Rattle.registry_routes.specs.declared.npm_endpoint.NpmEndpoint.TheVariants as by;
 ghost use Rattle.registry_rules.specs.declared.request.Action.TheVariants as action;
 
-use crate::caller::{Caller, caller_of};
-use crate::following::{copied, request};
+use crate::caller::{Caller, caller_of, request};
+use crate::following::copied;
 use crate::forms::names_in;
 use crate::rights::{collaborators_text, give, level_said, levels_in, members_in, reads, teams_in};
 use crate::shown::{doc, document, is_stop, stopped};

@@ -5,8 +5,7 @@ ghost use Rattle.registry_npm.specs.Callers.{who_of};
 ghost use Rattle.registry_npm.specs.Leading.{Comes, reading};
 ghost use Rattle.registry_npm.specs.Packages as spec;
 
-use crate::caller::Caller;
-use crate::following::request;
+use crate::caller::{Caller, request};
 use crate::shown::stopped;
 use registry_documents::Asked;
 use registry_names::{Fault, Ident, Message, Moment, Name, Refusal, Stop, Text, Ver};
@@ -48,7 +47,8 @@ pub(crate) fn late(path: Option<&str>, outcome: Result<Reply, Fault>) -> Result<
     }
 }
 
-fn stale(outcome: Result<Reply, Fault>) -> Result<Reply, Fault>
+/// The outcome, but `Stale` in the place of `NotFound`.
+pub(crate) fn stale(outcome: Result<Reply, Fault>) -> Result<Reply, Fault>
     ensures { spec.stale outcome [] result }
 {
     if is_gone(&outcome) {
@@ -112,37 +112,32 @@ fn is_revised(path: Option<&str>) -> bool
     path.is_some()
 }
 
-/// The right to write a package is tried, by a deprecation that selects no version.
-pub(crate) fn right<D: Service>(
-    alloc: Global,
-    service: &mut D,
-    path: Option<&str>,
-    name: Name,
-    who: &Caller,
-    at: Moment,
-) -> Result<Reply, Fault>
-    ensures { Comes D.answers service.old
-        (spec.tries_right (option_map (λ t. t.now) path.entry) name at (who_of who.now)) result service.new }
+/// A deprecation that selects no version, by which the right to write a package is tried.
+pub(crate) fn no_version(alloc: Global) -> Result<Deprecation, Stop>
+    ensures { spec.reads_versions spec.no_version [] result }
 {
-    deprecate(alloc, service, path, name, NO_VERSION, "", who, at)
+    versions(alloc, NO_VERSION, "")
 }
 
-/// What a document asks for is asked. One that says what is so already tries the right to say it, and
-/// changes nothing. Without a revision in its path it may ask for messages alone.
+/// What a document asks for is asked, of who may write the package: `tried` is what the trial of that
+/// came to, and the answer to a document that says what is so already. Without a revision in its path it
+/// may ask for messages alone.
 pub(crate) fn does<D: Service>(
     alloc: Global,
     service: &mut D,
     path: Option<&str>,
     name: Name,
+    tried: Result<Reply, Fault>,
     asked: Asked,
     who: &Caller,
     at: Moment,
 ) -> Result<Reply, Fault>
     ensures { Comes D.answers service.old
-        (spec.does (option_map (λ t. t.now) path.entry) name at (who_of who.now) asked) result service.new }
+        (spec.does (option_map (λ t. t.now) path.entry) name at (who_of who.now) tried asked)
+        result service.new }
 {
     match asked {
-        Asked::AlreadySo => right(alloc, service, path, name, who, at),
+        Asked::AlreadySo => tried,
         Asked::Deprecation { selector, message } => {
             deprecate(
                 alloc,

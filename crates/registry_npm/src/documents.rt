@@ -1,23 +1,27 @@
 //! The routes of packuments, of documents and of the withdrawal of all versions.
 
-ghost use Rattle.std.specs.Prelude.{◌≡◌, option_map, Ok, Err, MatchResult};
-ghost use Rattle.registry_documents.specs.Documents.{value_of};
+ghost use Rattle.std.specs.Prelude.{◌≡◌, ◌↔◌, IfOk, IsTrue, length, Ok, Err, MatchResult};
+ghost use Rattle.registry_documents.specs.Documents.{size_of, value_of};
+ghost use Rattle.registry_service.specs.Bodies.{reads_form};
+ghost use Rattle.registry_npm.specs.Callers.{who_of};
+ghost use Rattle.registry_npm.specs.Purposes.{HasSize, put_view};
 ghost use Rattle.registry_routes.specs.Readings.{values_view};
 ghost use Rattle.registry_npm.specs.Labels.{packument_labels};
 ghost use Rattle.registry_npm.specs.Leading.{Comes, reading};
 ghost use Rattle.registry_npm.specs.Packages as spec;
 
-use crate::caller::caller_of;
-use crate::following::request;
+use crate::caller::{Caller, caller_of, request};
 use crate::labels::{abbreviated_labels, full_labels};
 use crate::packages::{Purpose, package};
-use crate::told::{faulted, stopped};
+use crate::told::stopped;
+use crate::users::user;
 use crate::{path, shown};
 use registry_documents::{Document, Kind};
 use registry_names::{Fault, Moment, Name, Refusal, Stop, Text};
+use registry_publish::PublishForm;
 use registry_routes::{Values, decode_text};
 use registry_rules::{Action, Reply};
-use registry_service::{Service, Told, request_of};
+use registry_service::{Service, Told};
 use registry_wire::{Labels, Wanted, accepts_abbreviated};
 use std::alloc::Global;
 
@@ -94,47 +98,68 @@ pub(crate) fn revised<D: Service>(
     ensures { Comes D.answers service.old
         (spec.leads_revised (values_view values.entry) wanted.now at) result service.new }
 {
+    match user(alloc, service, wanted, at, true) {
+        Ok(who) => claim(alloc, service, values, wanted, &who, at),
+        Err(outcome) => Told::of(outcome),
+    }
+}
+
+fn claim<D: Service>(
+    alloc: Global,
+    service: &mut D,
+    values: Values<'_>,
+    wanted: &Wanted,
+    who: &Caller,
+    at: Moment,
+) -> Told
+    ensures { Comes D.answers service.old
+        (spec.leads_claim (values_view values.entry) wanted.now.body at (who_of who.now)) result
+        service.new }
+{
     match path::name(alloc, values) {
-        Ok(name) => revised_of(alloc, service, &name, values.second, wanted, at),
+        Ok(name) => claim_of(alloc, service, &name, values.second, wanted, who, at),
         Err(stop) => stopped(stop),
     }
 }
 
-fn revised_of<D: Service>(
+fn claim_of<D: Service>(
     alloc: Global,
     service: &mut D,
     name: &Name,
     written: &[u8],
     wanted: &Wanted,
+    who: &Caller,
     at: Moment,
 ) -> Told
-    ensures { Comes D.answers service.old (spec.claims_under name.now written.now wanted.now at)
-        result service.new }
+    ensures { Comes D.answers service.old (reading (spec.reads_revision written.now)
+        (λ named. spec.claims_under name.now named wanted.now.body at (who_of who.now))) result
+        service.new }
 {
     match revision(alloc, written) {
-        Ok(named) => revised_by(alloc, service, name, named.as_str(), wanted, at),
+        Ok(named) => claim_under(alloc, service, name, named.as_str(), wanted, who, at),
         Err(stop) => stopped(stop),
     }
 }
 
-fn revised_by<D: Service>(
+fn claim_under<D: Service>(
     alloc: Global,
     service: &mut D,
     name: &Name,
     named: &str,
     wanted: &Wanted,
+    who: &Caller,
     at: Moment,
 ) -> Told
-    ensures { Comes D.answers service.old (spec.claims name.now named.now wanted.now at)
-        result service.new }
+    ensures { Comes D.answers service.old
+        (spec.claims_under name.now named.now wanted.now.body at (who_of who.now)) result service.new }
 {
-    match read(alloc, wanted.body.as_slice()) {
+    match Document::read(alloc, wanted.body.as_slice()) {
         Ok(document) => {
             let purpose = Purpose::Judged {
                 path: Some(named),
                 document: &document,
             };
-            package(alloc, service, purpose, name, wanted, at)
+            package(alloc, service, purpose, name, who, at)
         }
         Err(stop) => stopped(stop),
     }
@@ -148,13 +173,6 @@ fn revision(alloc: Global, written: &[u8]) -> Result<Text, Stop>
     Ok(Text::from(text))
 }
 
-fn read(alloc: Global, body: &[u8]) -> Result<Document, Stop>
-    ensures { MatchResult result (λ d. spec.reads_document body.now (Ok (value_of d)))
-        (λ stop. spec.reads_document body.now (Err stop)) }
-{
-    Document::read(alloc, body)
-}
-
 /// The withdrawal of all versions under a revision.
 pub(crate) fn unpublish<D: Service>(
     alloc: Global,
@@ -166,32 +184,58 @@ pub(crate) fn unpublish<D: Service>(
     ensures { Comes D.answers service.old
         (spec.leads_unpublish (values_view values.entry) wanted.now at) result service.new }
 {
+    match user(alloc, service, wanted, at, true) {
+        Ok(who) => withdrawal(alloc, service, values, &who, at),
+        Err(outcome) => Told::of(outcome),
+    }
+}
+
+fn withdrawal<D: Service>(
+    alloc: Global,
+    service: &mut D,
+    values: Values<'_>,
+    who: &Caller,
+    at: Moment,
+) -> Told
+    ensures { Comes D.answers service.old
+        (spec.leads_withdrawal (values_view values.entry) at (who_of who.now)) result service.new }
+{
     match path::name(alloc, values) {
-        Ok(name) => unpublish_of(alloc, service, &name, values.second, wanted, at),
+        Ok(name) => withdrawal_of(alloc, service, &name, values.second, who, at),
         Err(stop) => stopped(stop),
     }
 }
 
-fn unpublish_of<D: Service>(
+fn withdrawal_of<D: Service>(
     alloc: Global,
     service: &mut D,
     name: &Name,
     written: &[u8],
-    wanted: &Wanted,
+    who: &Caller,
     at: Moment,
 ) -> Told
-    ensures { Comes D.answers service.old (spec.withdraws_under name.now written.now wanted.now at)
-        result service.new }
+    ensures { Comes D.answers service.old (reading (spec.reads_revision written.now)
+        (λ named. spec.serves_writer (spec.withdrawn named) name.now at (who_of who.now))) result
+        service.new }
 {
     match revision(alloc, written) {
         Ok(named) => {
             let purpose = Purpose::Withdrawn {
                 named: named.as_str(),
             };
-            package(alloc, service, purpose, name, wanted, at)
+            package(alloc, service, purpose, name, who, at)
         }
         Err(stop) => stopped(stop),
     }
+}
+
+/// What a package is put with.
+#[derive(Drop)]
+pub(crate) enum Put {
+    /// A version of it.
+    Published(PublishForm),
+    /// A claim about what was read.
+    Claimed(Document),
 }
 
 /// A publication, or a document that isn't one.
@@ -205,67 +249,85 @@ pub(crate) fn document<D: Service>(
     ensures { Comes D.answers service.old
         (spec.leads_document (values_view values.entry) wanted.now at) result service.new }
 {
-    match request_of(alloc, wanted, at) {
-        Ok(request) => Told::of(service.answer(alloc, &request)),
-        Err(Stop::Fault(fault)) => faulted(fault),
-        Err(Stop::Refused(refusal)) => claim(alloc, service, values, wanted, at, refusal),
+    match user(alloc, service, wanted, at, false) {
+        Ok(who) => put_by(alloc, service, values, wanted, &who, at),
+        Err(outcome) => Told::of(outcome),
     }
 }
 
-// What is no publication in form may be a claim. Otherwise this refusal stands.
-fn claim<D: Service>(
+fn put_by<D: Service>(
     alloc: Global,
     service: &mut D,
     values: Values<'_>,
     wanted: &Wanted,
+    who: &Caller,
     at: Moment,
-    refusal: Refusal,
-) -> Told
-    ensures { Comes D.answers service.old (reading (spec.reads_claim wanted.now.body)
-        (spec.leads_claim (values_view values.entry) wanted.now at refusal)) result service.new }
-{
-    match claim_of(alloc, wanted.body.as_slice()) {
-        Ok(Some(document)) => claimed(alloc, service, values, wanted, at, &document),
-        Ok(None) => stopped(Stop::Refused(refusal)),
-        Err(stop) => stopped(stop),
-    }
-}
-
-// A claim about what was read, if the body is one.
-fn claim_of(alloc: Global, body: &[u8]) -> Result<Option<Document>, Stop>
-    ensures { MatchResult result (λ d. spec.reads_claim body.now (Ok (option_map value_of d)))
-        (λ stop. spec.reads_claim body.now (Err stop)) }
-{
-    match Document::read(alloc, body) {
-        Ok(document) => match document.kind() {
-            Kind::Publication => Ok(None),
-            Kind::Package | Kind::Maintainers | Kind::Other => Ok(Some(document)),
-        },
-        Err(Stop::Refused(_)) => Ok(None),
-        Err(Stop::Fault(fault)) => Err(Stop::Fault(fault)),
-    }
-}
-
-fn claimed<D: Service>(
-    alloc: Global,
-    service: &mut D,
-    values: Values<'_>,
-    wanted: &Wanted,
-    at: Moment,
-    document: &Document,
 ) -> Told
     ensures { Comes D.answers service.old
-        (spec.leads_claimed (values_view values.entry) wanted.now at (value_of document.now))
-        result service.new }
+        (spec.leads_put (values_view values.entry) wanted.now.body at (who_of who.now)) result
+        service.new }
 {
     match path::name(alloc, values) {
-        Ok(name) => {
+        Ok(name) => put_of(alloc, service, &name, wanted, who, at),
+        Err(stop) => stopped(stop),
+    }
+}
+
+fn put_of<D: Service>(
+    alloc: Global,
+    service: &mut D,
+    name: &Name,
+    wanted: &Wanted,
+    who: &Caller,
+    at: Moment,
+) -> Told
+    ensures { Comes D.answers service.old (reading (spec.reads_put name.now wanted.now.body)
+        (spec.puts name.now wanted.now.body at (who_of who.now))) result service.new }
+{
+    match put_in(alloc, name, wanted.body.as_slice()) {
+        Ok(Put::Published(form)) => {
+            let request = request(at, who, Action::Publish { form });
+            Told::of(service.answer(alloc, &request))
+        }
+        Ok(Put::Claimed(document)) => {
             let purpose = Purpose::Judged {
                 path: None,
-                document,
+                document: &document,
             };
-            package(alloc, service, purpose, &name, wanted, at)
+            package(alloc, service, purpose, name, who, at)
         }
         Err(stop) => stopped(stop),
+    }
+}
+
+// The body: a publication of this package, or a claim.
+fn put_in(alloc: Global, name: &Name, body: &[u8]) -> Result<Put, Stop>
+    ensures read { MatchResult result (λ put. spec.reads_put name.now body.now (Ok (put_view put)))
+        (λ stop. spec.reads_put name.now body.now (Err stop)) }
+    ensures size { IfOk result (HasSize body.now) }
+{
+    let document = Document::read(alloc, body)?;
+    match document.kind() {
+        Kind::Publication => Ok(Put::Published(form_of(alloc, name, body)?)),
+        Kind::Package | Kind::Maintainers | Kind::Other => Ok(Put::Claimed(document)),
+    }
+}
+
+fn is_of(form: &PublishForm, name: &Name) -> bool
+    ensures { IsTrue result ↔ (form.now.name ≡ name.now) }
+{
+    form.name().text() == name.text()
+}
+
+// The form of a publish of this package.
+#[tactic(auto, unfolding(registry_service::specs::Bodies::reads_form))]
+fn form_of(alloc: Global, name: &Name, body: &[u8]) -> Result<PublishForm, Stop>
+    ensures { reads_form name.now body.now result }
+{
+    let form = PublishForm::read(alloc, body)?;
+    if is_of(&form, name) {
+        Ok(form)
+    } else {
+        Err(Stop::Refused(Refusal::BadBody))
     }
 }

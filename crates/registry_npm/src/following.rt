@@ -8,16 +8,21 @@ ghost use Rattle.registry_rules.specs.declared.reply.Reply.TheVariants.{Refused}
 ghost use Rattle.registry_rules.specs.declared.request.Action.TheVariants.{MyPackages};
 ghost use Rattle.registry_npm.specs.Callers.{who_of};
 ghost use Rattle.registry_npm.specs.Leading as leading;
-ghost use Rattle.registry_npm.specs.Leading.{Comes, asks, either, ends, or_memory, unless_stopped};
+ghost use Rattle.registry_npm.specs.Asked.{reads_first};
+ghost use Rattle.registry_npm.specs.Collaborators.{for_form};
+ghost use Rattle.registry_npm.specs.Forms.{membership_form};
+ghost use Rattle.registry_npm.specs.Leading.{Comes, asks, either, ends, or_memory, reading, unless_stopped};
 ghost use Rattle.registry_npm.specs.Npm as spec;
 ghost use Rattle.registry_routes.specs.declared.npm_endpoint.NpmEndpoint.TheVariants as by;
 
 use crate::asked::{first, member};
-use crate::caller::{Caller, caller_of, credential};
+use crate::caller::{Caller, caller_of, credential, request};
 use crate::collaborators::collaborators;
-use crate::shown::{is_stop, stopped};
+use crate::shown::{document, is_stop, stopped};
+use crate::users::user as user_of;
 use crate::{documents, path, shown, told};
 use registry_access::Role;
+use registry_cache::SharedText;
 use registry_names::{Fault, Ident, Moment, Name, Refusal, Stop};
 use registry_routes::{NpmEndpoint, Values};
 use registry_rules::{Action, Credential, Reply, Request};
@@ -69,24 +74,26 @@ pub(crate) fn by_route<D: Service>(
             )
         }
         NpmEndpoint::SetAccess => {
-            other(alloc, service, NpmEndpoint::SetAccess, values, wanted, at)
+            Told::of(command(alloc, service, NpmEndpoint::SetAccess, values, wanted, at))
         }
         NpmEndpoint::OrgPackages => {
             other(alloc, service, NpmEndpoint::OrgPackages, values, wanted, at)
         }
         NpmEndpoint::Members => { other(alloc, service, NpmEndpoint::Members, values, wanted, at) }
         NpmEndpoint::OrgRemove => {
-            other(alloc, service, NpmEndpoint::OrgRemove, values, wanted, at)
+            Told::of(command(alloc, service, NpmEndpoint::OrgRemove, values, wanted, at))
         }
         NpmEndpoint::TeamCreate => {
-            other(alloc, service, NpmEndpoint::TeamCreate, values, wanted, at)
+            Told::of(command(alloc, service, NpmEndpoint::TeamCreate, values, wanted, at))
         }
         NpmEndpoint::TeamMembers => {
             other(alloc, service, NpmEndpoint::TeamMembers, values, wanted, at)
         }
-        NpmEndpoint::TeamAdd => { other(alloc, service, NpmEndpoint::TeamAdd, values, wanted, at) }
+        NpmEndpoint::TeamAdd => {
+            Told::of(command(alloc, service, NpmEndpoint::TeamAdd, values, wanted, at))
+        }
         NpmEndpoint::TeamRemove => {
-            other(alloc, service, NpmEndpoint::TeamRemove, values, wanted, at)
+            Told::of(command(alloc, service, NpmEndpoint::TeamRemove, values, wanted, at))
         }
         NpmEndpoint::TeamPackages => {
             other(
@@ -98,8 +105,12 @@ pub(crate) fn by_route<D: Service>(
                 at,
             )
         }
-        NpmEndpoint::Grant => { other(alloc, service, NpmEndpoint::Grant, values, wanted, at) }
-        NpmEndpoint::Revoke => { other(alloc, service, NpmEndpoint::Revoke, values, wanted, at) }
+        NpmEndpoint::Grant => {
+            Told::of(command(alloc, service, NpmEndpoint::Grant, values, wanted, at))
+        }
+        NpmEndpoint::Revoke => {
+            Told::of(command(alloc, service, NpmEndpoint::Revoke, values, wanted, at))
+        }
         NpmEndpoint::WhoAmI => { other(alloc, service, NpmEndpoint::WhoAmI, values, wanted, at) }
         NpmEndpoint::Profile => { other(alloc, service, NpmEndpoint::Profile, values, wanted, at) }
         NpmEndpoint::Logout => { other(alloc, service, NpmEndpoint::Logout, values, wanted, at) }
@@ -107,16 +118,6 @@ pub(crate) fn by_route<D: Service>(
 }
 
 // ---- one request
-
-pub(crate) fn request(at: Moment, who: &Caller, what: Action) -> Request
-    ensures { result ≡ leading.request at (who_of who.now) what }
-{
-    Request {
-        at,
-        who: credential(who),
-        what,
-    }
-}
 
 // The first request of the route, and what follows.
 fn other<D: Service>(
@@ -154,6 +155,46 @@ fn asked<D: Service>(
     let request = request(at, &who, what);
     let outcome = service.answer(alloc, &request);
     follow(alloc, endpoint, outcome)
+}
+
+// A user asks for one command.
+fn command<D: Service>(
+    alloc: Global,
+    service: &mut D,
+    endpoint: NpmEndpoint,
+    values: Values<'_>,
+    wanted: &Wanted,
+    at: Moment,
+) -> Result<Reply, Fault>
+    ensures { Comes D.answers service.old
+        (spec.asks_command endpoint (values_view values.entry) wanted.now at) result service.new }
+{
+    match user_of(alloc, service, wanted, at, false) {
+        Ok(who) => commanded(alloc, service, endpoint, values, wanted, &who, at),
+        Err(outcome) => outcome,
+    }
+}
+
+fn commanded<D: Service>(
+    alloc: Global,
+    service: &mut D,
+    endpoint: NpmEndpoint,
+    values: Values<'_>,
+    wanted: &Wanted,
+    who: &Caller,
+    at: Moment,
+) -> Result<Reply, Fault>
+    ensures { Comes D.answers service.old
+        (reading (reads_first endpoint (values_view values.entry) wanted.now.body)
+        (λ what. asks (leading.request at (who_of who.now) what) ends)) result service.new }
+{
+    match first(alloc, endpoint, values, wanted.body.as_slice()) {
+        Ok(what) => {
+            let request = request(at, who, what);
+            service.answer(alloc, &request)
+        }
+        Err(stop) => stopped(stop),
+    }
 }
 
 // What follows the outcome of the first request.
@@ -311,6 +352,7 @@ fn teams_of<D: Service>(
     shown::teams(alloc, organisation, outcome)
 }
 
+// Only a user gives a role in an organisation.
 fn org_set<D: Service>(
     alloc: Global,
     service: &mut D,
@@ -321,34 +363,29 @@ fn org_set<D: Service>(
     ensures { Comes D.answers service.old
         (spec.leads by.OrgSet (values_view values.entry) wanted.now at) result service.new }
 {
-    match member(alloc, values, wanted.body.as_slice()) {
-        Ok((organisation, user, role)) => {
-            set_member(alloc, service, organisation, user, role, wanted, at)
-        }
-        Err(stop) => stopped(stop),
+    match user_of(alloc, service, wanted, at, false) {
+        Ok(who) => set_member(alloc, service, values, wanted, &who, at),
+        Err(outcome) => outcome,
     }
 }
 
-// A user gets a role in an organisation.
 fn set_member<D: Service>(
     alloc: Global,
     service: &mut D,
-    organisation: Ident,
-    user: Ident,
-    role: Role,
+    values: Values<'_>,
     wanted: &Wanted,
+    who: &Caller,
     at: Moment,
 ) -> Result<Reply, Fault>
-    ensures { Comes D.answers service.old (spec.sets_member organisation user role wanted.now at)
-        result service.new }
+    ensures { Comes D.answers service.old
+        (spec.sets_member (values_view values.entry) wanted.now.body at (who_of who.now)) result
+        service.new }
 {
-    let who = match caller_of(&wanted.authorization) {
-        Ok(who) => who,
-        Err(stop) => return stopped(stop),
-    };
-    match copied(alloc, &organisation) {
-        Ok(named) => set_named(alloc, service, organisation, user, role, named, &who, at),
-        Err(fault) => Err(fault),
+    match member(alloc, values, wanted.body.as_slice()) {
+        Ok((organisation, user, role)) => {
+            set_named(alloc, service, organisation, user, role, who, at)
+        }
+        Err(stop) => stopped(stop),
     }
 }
 
@@ -358,29 +395,15 @@ fn set_named<D: Service>(
     organisation: Ident,
     user: Ident,
     role: Role,
-    named: Ident,
     who: &Caller,
     at: Moment,
 ) -> Result<Reply, Fault>
-    requires { named ≡ organisation }
     ensures { Comes D.answers service.old
         (or_memory (spec.asks_role organisation user role at (who_of who.now)))
         result service.new }
 {
-    match copied(alloc, &user) {
-        Ok(called) => {
-            set_role(
-                alloc,
-                service,
-                organisation,
-                user,
-                role,
-                named,
-                &called,
-                who,
-                at,
-            )
-        }
+    match copied(alloc, &organisation) {
+        Ok(named) => count_members(alloc, service, named, organisation, user, role, who, at),
         Err(fault) => Err(fault),
     }
 }
@@ -396,22 +419,76 @@ pub(crate) fn copied(alloc: Global, name: &Ident) -> Result<Ident, Fault>
     }
 }
 
-// The command, and then the members of the organisation; both are named once more for that.
-fn set_role<D: Service>(
+// The members of the organisation are asked for, which is named once more for that.
+fn count_members<D: Service>(
+    alloc: Global,
+    service: &mut D,
+    named: Ident,
+    organisation: Ident,
+    user: Ident,
+    role: Role,
+    who: &Caller,
+    at: Moment,
+) -> Result<Reply, Fault>
+    requires { named ≡ organisation }
+    ensures { Comes D.answers service.old
+        (spec.asks_role organisation user role at (who_of who.now)) result service.new }
+{
+    let what = Action::Members {
+        organisation: named,
+    };
+    let request = request(at, who, what);
+    let outcome = service.answer(alloc, &request);
+    match document(outcome) {
+        Ok(text) => set_counted(
+            alloc,
+            service,
+            organisation,
+            user,
+            role,
+            text.as_str(),
+            who,
+            at,
+        ),
+        Err(other) => other,
+    }
+}
+
+// What is to be shown is made before the role is given.
+fn set_counted<D: Service>(
     alloc: Global,
     service: &mut D,
     organisation: Ident,
     user: Ident,
     role: Role,
-    named: Ident,
-    called: &Ident,
+    members: &str,
     who: &Caller,
     at: Moment,
 ) -> Result<Reply, Fault>
-    requires named { named ≡ organisation }
-    requires called { called.now ≡ user }
+    ensures { Comes D.answers service.old (or_memory (for_form
+        (spec.gives_role organisation user role at (who_of who.now))
+        (membership_form organisation user role members.now))) result service.new }
+{
+    match shown::membership(alloc, &organisation, &user, role, members) {
+        Ok(Some(shown)) => { give_role(alloc, service, organisation, user, role, shown, who, at) }
+        Ok(None) => Err(Fault::Database),
+        Err(fault) => Err(fault),
+    }
+}
+
+// The command comes last. Where nothing refuses it, this is shown.
+fn give_role<D: Service>(
+    alloc: Global,
+    service: &mut D,
+    organisation: Ident,
+    user: Ident,
+    role: Role,
+    shown: SharedText,
+    who: &Caller,
+    at: Moment,
+) -> Result<Reply, Fault>
     ensures { Comes D.answers service.old
-        (spec.asks_role organisation user role at (who_of who.now)) result service.new }
+        (spec.gives_role organisation user role at (who_of who.now) shown) result service.new }
 {
     let what = Action::OrgSet {
         organisation,
@@ -423,29 +500,7 @@ fn set_role<D: Service>(
     if is_stop(&outcome) {
         return outcome;
     }
-    size_after(alloc, service, named, called, role, who, at)
-}
-
-// The members of the organisation, of which the size is shown.
-fn size_after<D: Service>(
-    alloc: Global,
-    service: &mut D,
-    organisation: Ident,
-    user: &Ident,
-    role: Role,
-    who: &Caller,
-    at: Moment,
-) -> Result<Reply, Fault>
-    ensures { Comes D.answers service.old (spec.asks_size organisation user.now role (who_of who.now) at)
-        result service.new }
-{
-    let what = Action::Members { organisation };
-    let request = request(at, who, what);
-    let outcome = service.answer(alloc, &request);
-    let Action::Members { organisation } = &request.what else {
-        unreachable!();
-    };
-    shown::membership(alloc, organisation, user, role, outcome)
+    Ok(Reply::Doc(shown))
 }
 
 // ---- users

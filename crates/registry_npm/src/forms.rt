@@ -1,6 +1,6 @@
 //! Documents in the forms that npm reads.
 
-ghost use Rattle.std.specs.Prelude.{◌≡◌, codes, option_map, option_and_then, map, IfOk, IfErr, string_bytes};
+ghost use Rattle.std.specs.Prelude.{◌≡◌, ◌<◌, ◌^◌, codes, is_some, option_map, option_and_then, map, IfOk, IfErr, string_bytes};
 ghost use Rattle.json.specs.Print.{quoted};
 ghost use Rattle.serde_json.specs.Find.{as_str, get};
 ghost use Rattle.serde_json.specs.Read.{read};
@@ -237,20 +237,35 @@ fn user_text(alloc: Global, id: &str, name: &str) -> Result<Text, AllocError>
 }
 
 fn size_of(members: &Map<String, Value>) -> u64
-    ensures { result ≡ spec.size_of (members_view members.now.entries) }
+    ensures size { result ≡ spec.size_of (members_view members.now.entries) }
+    ensures small { result < 2 ^ 63 }
 {
     members.len() as u64
 }
 
-fn size_in(alloc: Global, text: &str) -> Result<Option<u64>, Fault>
-    ensures ok { IfOk result (λ size. size ≡ spec.size_in text.now) }
+// How many members an object has, once it has one with this key.
+fn size_with(key: &str, value: &Value, members: &Map<String, Value>) -> u64
+    ensures { result ≡ spec.size_with key.now (view value.now) (members_view members.now.entries) }
+{
+    let size = size_of(members);
+    if has(value, key) { size } else { size + 1 }
+}
+
+fn has(value: &Value, key: &str) -> bool
+    ensures { result ≡ is_some (get key.now (view value.now)) }
+{
+    value.get(key).is_some()
+}
+
+fn size_in(alloc: Global, key: &str, text: &str) -> Result<Option<u64>, Fault>
+    ensures ok { IfOk result (λ size. size ≡ spec.size_in key.now text.now) }
     ensures err { IfErr result (λ fault. fault ≡ Fault.Memory) }
 {
     let Some(value) = value_of(alloc, text)? else {
         return Ok(None);
     };
     match value.as_object() {
-        Some(members) => Ok(Some(size_of(members))),
+        Some(members) => Ok(Some(size_with(key, &value, members))),
         None => Ok(None),
     }
 }
@@ -285,8 +300,8 @@ fn membership_text(
     member_text(alloc, org.as_str(), role.as_str(), user.as_str())
 }
 
-/// A member, and how many members the document has: `{"org":{"name":"lab","size":2},..}`. `None`
-/// where it isn't an object.
+/// A member, and how many members there are with this one: `{"org":{"name":"lab","size":2},..}`. `None`
+/// where the document isn't an object.
 pub(crate) fn membership(
     alloc: Global,
     organisation: &Ident,
@@ -298,7 +313,7 @@ pub(crate) fn membership(
         ≡ spec.membership_form organisation.now user.now role text.now) }
     ensures err { IfErr result (λ fault. fault ≡ Fault.Memory) }
 {
-    match size_in(alloc, text)? {
+    match size_in(alloc, user.text(), text)? {
         Some(size) => Ok(Some(membership_text(alloc, organisation, user, role, size)?)),
         None => Ok(None),
     }

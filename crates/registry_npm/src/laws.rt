@@ -3,7 +3,7 @@
 ghost use Rattle.registry_service.specs.Dialects.{AsksQueriesByGet, IsDetermined};
 ghost use Rattle.registry_npm.specs.Changes.{DocumentsChangeOneThing};
 ghost use Rattle.registry_npm.specs.LabelLaws.{AbbreviatedAreShown, ArchivesKeepTags, ContentTagsAreTags, OnlyReadsAreLabelled, RefusalsHaveNoLabels, SharedIsPublic, ShownAreTagged, TagsAreRevisions};
-ghost use Rattle.registry_npm.specs.Laws.{AsksForCaller, FaultsEnd, FilesAreGone, NeverNotFound, NpmIsApart, OneCommand, OthersStay};
+ghost use Rattle.registry_npm.specs.Laws.{AsksForCaller, BodiesAreOfUsers, CommandComesLast, FaultsEnd, FilesAreGone, NeverNotFound, NpmIsApart, OthersStay};
 ghost use Rattle.registry_npm.specs.Npm.{npm};
 
 use registry_routes::laws::tables_meet;
@@ -21,9 +21,10 @@ pub fn npm_is_apart()
     tables_meet();
 }
 
-/// A turn asks for one command at most.
-pub fn one_command()
-    ensures { OneCommand npm }
+/// A turn asks for one thing at most that can change the registry, and for nothing after it. Where that was
+/// done, the answer is no error. Whatever else is asked is a query, or a deprecation that selects no version.
+pub fn command_comes_last()
+    ensures { CommandComesLast npm }
 {}
 
 /// After a fault nothing more is asked in a turn, and it is the answer.
@@ -37,7 +38,7 @@ pub fn get_asks_queries()
 {}
 
 /// The deletion of an archive's file is answered by `NotFound` only where the path names the file of no
-/// version of the package, or where the registry answers so of the document of that version.
+/// version of the package, or where the registry answers so of the archive of that version.
 pub fn files_are_gone()
     ensures { FilesAreGone }
 {}
@@ -48,12 +49,12 @@ pub fn never_not_found()
     ensures { NeverNotFound }
 {}
 
-/// A turn on a document asks for no command, or for one: the one thing in which the document differs
-/// from the packument and the maintainers that were read in the turn, with nothing between. That is a
-/// message for some versions, one version withdrawn, or one maintainer more or less. A document of
-/// another revision, or one that differs in anything else, asks for no command, and one that says what
-/// is so already for one that changes nothing. If the command is refused, so is the document. What is also
-/// a publication in form is one.
+/// A document is refused, and nothing was asked that can change the registry; or it says what is there, and
+/// nothing else was asked, either; or one command comes last: the one thing in which the document differs
+/// from the packument and the maintainers that were read in the turn, with nothing between. That is a message
+/// for some versions, one version withdrawn, or one maintainer more or less. Then the document is of the
+/// present revision, and if the command is refused, so is the document. The packument is asked for only of
+/// who may write the package. What is also a publication in form is one.
 pub fn documents_change_one_thing()
     ensures { DocumentsChangeOneThing }
 {}
@@ -67,6 +68,12 @@ pub fn answers_are_determined()
 /// Whatever a turn asks is asked at the moment of its request, for its caller or for nobody.
 pub fn asks_for_caller()
     ensures { AsksForCaller npm }
+{}
+
+/// Where a body is read, it is asked first who calls. Who is no user is answered that, whatever the body says,
+/// and asked for nothing else. Only a publication in form may be asked for at once.
+pub fn bodies_are_of_users()
+    ensures { BodiesAreOfUsers }
 {}
 
 /// A refusal or a fault says nothing to those who keep documents: neither a tag, nor how long it may

@@ -29,6 +29,7 @@ mod service;
 mod shown;
 mod told;
 mod turning;
+mod users;
 
 pub use crate::service::NpmService;
 pub use crate::turning::npm_turn;

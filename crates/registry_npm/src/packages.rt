@@ -1,7 +1,11 @@
 //! What npm wants of a package that it read: to have a document judged, or to withdraw all versions.
+//!
+//! Who may not write the package is refused before its packument is made, and a document of another
+//! revision is compared with it only where it is about as long. So neither costs more than a small
+//! packument, or than the bytes that were sent.
 
 ghost use Rattle.std.specs.Prelude.{◌≡◌, [], IfErr, IfOk, Ok, Some, bytes_eq, option_map};
-ghost use Rattle.registry_documents.specs.Documents.{value_of};
+ghost use Rattle.registry_documents.specs.Documents.{size_of, value_of};
 ghost use Rattle.registry_npm.specs.Callers.{who_of};
 ghost use Rattle.registry_rules.specs.declared.request.Action.TheVariants as action;
 ghost use Rattle.registry_npm.specs.Leading as leading;
@@ -12,9 +16,9 @@ ghost use Rattle.registry_documents.specs.Revisions.{revision};
 ghost use Rattle.registry_npm.specs.Packages as spec;
 ghost use Rattle.registry_npm.specs.Purposes.{purpose_view};
 
-use crate::caller::{Caller, caller_of};
-use crate::commands::{command, does, is_gone, late, right};
-use crate::following::{is_scoped, request};
+use crate::caller::{Caller, request};
+use crate::commands::{command, does, is_gone, late, no_version};
+use crate::following::is_scoped;
 use crate::forms::names_in;
 use crate::revisions::revision_of;
 use crate::shown;
@@ -23,9 +27,9 @@ use crate::told::{faulted, stopped};
 use registry_cache::SharedText;
 use registry_documents::{Asked, Document, Present, judge};
 use registry_names::{Fault, Moment, Name, Refusal, Text};
+use registry_routes::Deprecation;
 use registry_rules::{Action, Reply};
 use registry_service::{Service, Told};
-use registry_wire::Wanted;
 use std::alloc::Global;
 
 /// What npm wants of a package.
@@ -42,27 +46,19 @@ pub(crate) enum Purpose<'a> {
     },
 }
 
-/// It is asked who the caller is, then the packument and the maintainers of the package are asked for,
-/// and then the purpose is fulfilled.
-pub(crate) fn package<D: Service>(
-    alloc: Global,
-    service: &mut D,
-    purpose: Purpose<'_>,
-    name: &Name,
-    wanted: &Wanted,
-    at: Moment,
-) -> Told
-    ensures { Comes D.answers service.old
-        (spec.asks_for (purpose_view purpose.entry) name.now wanted.now at) result service.new }
+// The revision that the path names, if it names one.
+fn path_of<'a>(purpose: Purpose<'a>) -> Option<&'a str>
+    ensures { option_map (λ t. t.now) result ≡ spec.path_of (purpose_view purpose.entry) }
 {
-    match caller_of(&wanted.authorization) {
-        Ok(who) => serve_user(alloc, service, purpose, name, &who, at),
-        Err(stop) => stopped(stop),
+    match purpose {
+        Purpose::Judged { path, .. } => path,
+        Purpose::Withdrawn { named } => Some(named),
     }
 }
 
-// Who the caller is is asked first.
-fn serve_user<D: Service>(
+/// The right of a user to write the package is tried. Then the packument and the maintainers are asked
+/// for, and the purpose is fulfilled.
+pub(crate) fn package<D: Service>(
     alloc: Global,
     service: &mut D,
     purpose: Purpose<'_>,
@@ -71,14 +67,64 @@ fn serve_user<D: Service>(
     at: Moment,
 ) -> Told
     ensures { Comes D.answers service.old
-        (spec.serves_user (purpose_view purpose.entry) name.now at (who_of who.now)) result service.new }
+        (spec.serves_writer (purpose_view purpose.entry) name.now at (who_of who.now)) result service.new }
 {
-    let request = request(at, who, Action::WhoAmI);
-    let named = service.answer(alloc, &request);
-    if is_stop(&named) {
-        return otherwise(alloc, service, purpose, name, who, at, named);
+    match copied(alloc, name) {
+        Ok(package) => try_right(alloc, service, purpose, name, package, who, at),
+        Err(fault) => faulted(fault),
     }
-    serve(alloc, service, purpose, name, who, at)
+}
+
+fn try_right<D: Service>(
+    alloc: Global,
+    service: &mut D,
+    purpose: Purpose<'_>,
+    name: &Name,
+    copy: Name,
+    who: &Caller,
+    at: Moment,
+) -> Told
+    requires { copy ≡ name.now }
+    ensures { Comes D.answers service.old
+        (spec.tries_right (spec.path_of (purpose_view purpose.entry)) name.now at (who_of who.now)
+        (spec.serves (purpose_view purpose.entry) name.now at (who_of who.now))) result service.new }
+{
+    match no_version(alloc) {
+        Ok(trial) => tried(alloc, service, purpose, name, copy, trial, who, at),
+        Err(stop) => stopped(stop),
+    }
+}
+
+// By this deprecation the right is tried. Who hasn't it is answered what that comes to.
+fn tried<D: Service>(
+    alloc: Global,
+    service: &mut D,
+    purpose: Purpose<'_>,
+    name: &Name,
+    copy: Name,
+    trial: Deprecation,
+    who: &Caller,
+    at: Moment,
+) -> Told
+    requires { copy ≡ name.now }
+    ensures { Comes D.answers service.old
+        (asks (leading.request at (who_of who.now) (action.Deprecate name.now trial.selector trial.message))
+        (λ o. either (leading.is_stop o) (spec.late (spec.path_of (purpose_view purpose.entry)) o)
+        (spec.serves (purpose_view purpose.entry) name.now at (who_of who.now) o)))
+        result service.new }
+{
+    let Deprecation { selector, message } = trial;
+    let what = Action::Deprecate {
+        package: copy,
+        selector,
+        message,
+    };
+    let request = request(at, who, what);
+    let outcome = service.answer(alloc, &request);
+    if is_stop(&outcome) {
+        return Told::of(late(path_of(purpose), outcome));
+    }
+    serve(alloc, service, purpose, name, outcome, who, at)
 }
 
 fn serve<D: Service>(
@@ -86,14 +132,15 @@ fn serve<D: Service>(
     service: &mut D,
     purpose: Purpose<'_>,
     name: &Name,
+    tried: Result<Reply, Fault>,
     who: &Caller,
     at: Moment,
 ) -> Told
     ensures { Comes D.answers service.old
-        (spec.serves (purpose_view purpose.entry) name.now at (who_of who.now)) result service.new }
+        (spec.serves (purpose_view purpose.entry) name.now at (who_of who.now) tried) result service.new }
 {
     match copied(alloc, name) {
-        Ok(package) => packument(alloc, service, purpose, name, package, who, at),
+        Ok(package) => packument(alloc, service, purpose, name, package, tried, who, at),
         Err(fault) => faulted(fault),
     }
 }
@@ -116,79 +163,56 @@ fn packument<D: Service>(
     purpose: Purpose<'_>,
     name: &Name,
     copy: Name,
+    tried: Result<Reply, Fault>,
     who: &Caller,
     at: Moment,
 ) -> Told
     requires { copy ≡ name.now }
     ensures { Comes D.answers service.old (asks (leading.request at (who_of who.now) (action.Packument name.now))
-        (spec.shown_by name.now at (who_of who.now) (spec.other_of (purpose_view purpose.entry) name.now at (who_of who.now))
-        (spec.fulfils (purpose_view purpose.entry) name.now at (who_of who.now)))) result service.new }
+        (spec.shown_by name.now at (who_of who.now) (spec.other_of (purpose_view purpose.entry) tried)
+        (spec.fulfils (purpose_view purpose.entry) name.now at (who_of who.now) tried))) result service.new }
 {
     let request = request(at, who, Action::Packument { package: copy });
     let outcome = service.answer(alloc, &request);
     match document(outcome) {
-        Ok(text) => with_text(alloc, service, purpose, name, &text, who, at),
-        Err(other) => otherwise(alloc, service, purpose, name, who, at, other),
+        Ok(text) => with_text(alloc, service, purpose, name, &text, tried, who, at),
+        Err(other) => Told::of(otherwise(purpose, tried, other)),
     }
 }
 
-// The registry doesn't show the package.
-fn otherwise<D: Service>(
-    alloc: Global,
-    service: &mut D,
+// What is answered where something else than a document comes.
+fn otherwise(
     purpose: Purpose<'_>,
-    name: &Name,
-    who: &Caller,
-    at: Moment,
+    tried: Result<Reply, Fault>,
     outcome: Result<Reply, Fault>,
-) -> Told
-    ensures { Comes D.answers service.old
-        (spec.other_of (purpose_view purpose.entry) name.now at (who_of who.now) outcome)
-        result service.new }
+) -> Result<Reply, Fault>
+    ensures { spec.other_of (purpose_view purpose.entry) tried outcome [] result }
+{
+    if is_stop(&outcome) {
+        return refused(purpose, tried, outcome);
+    }
+    Err(Fault::Database)
+}
+
+// The registry refuses to show the package, or fails. Where no version is found, there is nothing to
+// withdraw.
+fn refused(
+    purpose: Purpose<'_>,
+    tried: Result<Reply, Fault>,
+    outcome: Result<Reply, Fault>,
+) -> Result<Reply, Fault>
+    ensures { spec.refused_of (purpose_view purpose.entry) tried outcome [] result }
 {
     match purpose {
-        Purpose::Judged { path, .. } => Told::of(late(path, outcome)),
-        Purpose::Withdrawn { named } => {
-            Told::of(withdrawn_from(alloc, service, named, name, who, at, outcome))
-        }
+        Purpose::Judged { path, .. } => late(path, outcome),
+        Purpose::Withdrawn { .. } => unless_gone(tried, outcome),
     }
 }
 
-// Where no version is found, there is nothing to withdraw, and the right to do so is tried.
-fn withdrawn_from<D: Service>(
-    alloc: Global,
-    service: &mut D,
-    named: &str,
-    name: &Name,
-    who: &Caller,
-    at: Moment,
-    outcome: Result<Reply, Fault>,
-) -> Result<Reply, Fault>
-    ensures { Comes D.answers service.old
-        (spec.unless_gone named.now name.now at (who_of who.now) outcome) result service.new }
+fn unless_gone(tried: Result<Reply, Fault>, outcome: Result<Reply, Fault>) -> Result<Reply, Fault>
+    ensures { either (spec.is_gone outcome) (ends tried) (ends outcome) [] result }
 {
-    if is_gone(&outcome) {
-        return tried(alloc, service, named, name, who, at);
-    }
-    outcome
-}
-
-fn tried<D: Service>(
-    alloc: Global,
-    service: &mut D,
-    named: &str,
-    name: &Name,
-    who: &Caller,
-    at: Moment,
-) -> Result<Reply, Fault>
-    ensures { Comes D.answers service.old
-        (or_memory (spec.tries_right (Some named.now) name.now at (who_of who.now)))
-        result service.new }
-{
-    match copied(alloc, name) {
-        Ok(package) => right(alloc, service, Some(named), package, who, at),
-        Err(fault) => Err(fault),
-    }
+    if is_gone(&outcome) { tried } else { outcome }
 }
 
 // The packument's text is there: the maintainers are asked for, if there may be some.
@@ -198,19 +222,20 @@ fn with_text<D: Service>(
     purpose: Purpose<'_>,
     name: &Name,
     text: &SharedText,
+    tried: Result<Reply, Fault>,
     who: &Caller,
     at: Moment,
 ) -> Told
     ensures { Comes D.answers service.old (spec.asks_names name.now at (who_of who.now)
-        (spec.other_of (purpose_view purpose.entry) name.now at (who_of who.now))
-        (spec.fulfils (purpose_view purpose.entry) name.now at (who_of who.now) text.now))
+        (spec.other_of (purpose_view purpose.entry) tried)
+        (spec.fulfils (purpose_view purpose.entry) name.now at (who_of who.now) tried text.now))
         result service.new }
 {
     if is_scoped(name) {
-        return fulfil(alloc, service, purpose, name, text, &[], who, at);
+        return fulfil(alloc, service, purpose, name, text, &[], tried, who, at);
     }
     match copied(alloc, name) {
-        Ok(package) => maintainers(alloc, service, purpose, name, package, text, who, at),
+        Ok(package) => maintainers(alloc, service, purpose, name, package, text, tried, who, at),
         Err(fault) => faulted(fault),
     }
 }
@@ -223,20 +248,33 @@ fn maintainers<D: Service>(
     name: &Name,
     copy: Name,
     text: &SharedText,
+    tried: Result<Reply, Fault>,
     who: &Caller,
     at: Moment,
 ) -> Told
     requires { copy ≡ name.now }
     ensures { Comes D.answers service.old (asks (leading.request at (who_of who.now) (action.Maintainers name.now))
-        (spec.named_by (spec.other_of (purpose_view purpose.entry) name.now at (who_of who.now))
-        (spec.fulfils (purpose_view purpose.entry) name.now at (who_of who.now) text.now)))
+        (spec.named_by (spec.other_of (purpose_view purpose.entry) tried)
+        (spec.fulfils (purpose_view purpose.entry) name.now at (who_of who.now) tried text.now)))
         result service.new }
 {
     let request = request(at, who, Action::Maintainers { package: copy });
     let outcome = service.answer(alloc, &request);
     match document(outcome) {
-        Ok(names) => with_names(alloc, service, purpose, name, text, names.as_str(), who, at),
-        Err(other) => otherwise(alloc, service, purpose, name, who, at, other),
+        Ok(names) => {
+            with_names(
+                alloc,
+                service,
+                purpose,
+                name,
+                text,
+                names.as_str(),
+                tried,
+                who,
+                at,
+            )
+        }
+        Err(other) => Told::of(otherwise(purpose, tried, other)),
     }
 }
 
@@ -248,15 +286,16 @@ fn with_names<D: Service>(
     name: &Name,
     text: &SharedText,
     names: &str,
+    tried: Result<Reply, Fault>,
     who: &Caller,
     at: Moment,
 ) -> Told
     ensures { Comes D.answers service.old (spec.with_names
-        (spec.fulfils (purpose_view purpose.entry) name.now at (who_of who.now) text.now) names.now)
+        (spec.fulfils (purpose_view purpose.entry) name.now at (who_of who.now) tried text.now) names.now)
         result service.new }
 {
     match names_in(alloc, names) {
-        Ok(Some(names)) => fulfil(alloc, service, purpose, name, text, &names, who, at),
+        Ok(Some(names)) => fulfil(alloc, service, purpose, name, text, &names, tried, who, at),
         Ok(None) => faulted(Fault::Database),
         Err(fault) => faulted(fault),
     }
@@ -269,16 +308,19 @@ fn fulfil<D: Service>(
     name: &Name,
     text: &SharedText,
     names: &[Text],
+    tried: Result<Reply, Fault>,
     who: &Caller,
     at: Moment,
 ) -> Told
     ensures { Comes D.answers service.old
-        (spec.fulfils (purpose_view purpose.entry) name.now at (who_of who.now) text.now names.now)
+        (spec.fulfils (purpose_view purpose.entry) name.now at (who_of who.now) tried text.now names.now)
         result service.new }
 {
     match purpose {
         Purpose::Judged { path, document } => {
-            Told::of(judged(alloc, service, path, document, name, text, names, who, at))
+            Told::of(judged(
+                alloc, service, path, document, name, text, names, tried, who, at,
+            ))
         }
         Purpose::Withdrawn { named } => {
             Told::of(withdrawn(alloc, service, named, name, text, names, who, at))
@@ -295,11 +337,13 @@ fn judged<D: Service>(
     name: &Name,
     packument: &SharedText,
     maintainers: &[Text],
+    tried: Result<Reply, Fault>,
     who: &Caller,
     at: Moment,
 ) -> Result<Reply, Fault>
     ensures { Comes D.answers service.old (spec.judged_by name.now (option_map (λ t. t.now) path.entry)
-        (value_of document.now) at (who_of who.now) packument.now maintainers.now) result service.new }
+        (value_of document.now) (size_of document.now) at (who_of who.now) tried packument.now
+        maintainers.now) result service.new }
 {
     let revision = match revision_of(alloc, packument, maintainers) {
         Ok(revision) => revision,
@@ -311,7 +355,7 @@ fn judged<D: Service>(
         revision: &revision,
     };
     match judge(alloc, document, path, present) {
-        Ok(asked) => done(alloc, service, path, asked, name, who, at),
+        Ok(asked) => done(alloc, service, path, asked, name, tried, who, at),
         Err(stop) => shown::stopped(stop),
     }
 }
@@ -323,15 +367,16 @@ fn done<D: Service>(
     path: Option<&str>,
     asked: Asked,
     name: &Name,
+    tried: Result<Reply, Fault>,
     who: &Caller,
     at: Moment,
 ) -> Result<Reply, Fault>
     ensures { Comes D.answers service.old (or_memory (spec.does (option_map (λ t. t.now) path.entry)
-        name.now at (who_of who.now) asked))
+        name.now at (who_of who.now) tried asked))
         result service.new }
 {
     match copied(alloc, name) {
-        Ok(package) => does(alloc, service, path, package, asked, who, at),
+        Ok(package) => does(alloc, service, path, package, tried, asked, who, at),
         Err(fault) => Err(fault),
     }
 }

@@ -138,22 +138,22 @@ pub(crate) fn writers(alloc: Global, outcome: Result<Reply, Fault>) -> Result<Re
     }
 }
 
-/// A member of an organisation, of the document of all members.
+/// A member of an organisation that has these members, once they have this role. `None` where the document
+/// isn't an object.
 pub(crate) fn membership(
     alloc: Global,
     organisation: &Ident,
     user: &Ident,
     role: Role,
-    outcome: Result<Reply, Fault>,
-) -> Result<Reply, Fault>
-    ensures { shown_as (membership_form organisation.now user.now role) outcome [] result }
+    members: &str,
+) -> Result<Option<SharedText>, Fault>
+    ensures ok { IfOk result (λ shown. shown
+        ≡ membership_form organisation.now user.now role members.now) }
+    ensures err { IfErr result (λ fault. fault ≡ Fault.Memory) }
 {
-    match document(outcome) {
-        Ok(text) => {
-            let form = forms::membership(alloc, organisation, user, role, text.as_str());
-            formed(text, form)
-        }
-        Err(other) => other,
+    match forms::membership(alloc, organisation, user, role, members)? {
+        Some(text) => Ok(Some(SharedText::from_text(text)?)),
+        None => Ok(None),
     }
 }
 

@@ -1,9 +1,8 @@
-use Rattle.registry_npm.specs.Callers.{who_of}
-use Rattle.registry_npm.proofs.ComesFacts.{comes-read, comes-stopped}
+use Rattle.registry_npm.proofs.ComesFacts.{comes-or, comes-starved}
 use Rattle.registry_npm.proofs.packages.package.Goals as goal
 
-pub returns-in-Err : goal.returns-in-Err
-returns-in-Err g c = comes-stopped g.D.Service.answers _ _ _ c.in-Err.stop _ c.in-Err.ensures c.stopped.ensures
-
 pub returns-in-Ok : goal.returns-in-Ok
-returns-in-Ok g c = comes-read g.D.Service.answers _ _ _ _ (who_of c.in-Ok.who) _ c.in-Ok.ensures c.serve_user.ensures
+returns-in-Ok g c = comes-or g.D.Service.answers _ _ _ _ c.try_right.ensures
+
+pub returns-in-Err : goal.returns-in-Err
+returns-in-Err g c = rw (c.faulted.ensures, c.in-Err.ensures.err) (comes-starved g.D.Service.answers _ _)

@@ -1,6 +1,4 @@
-use Rattle.std.proofs.Common.{refl, sym, ◌∙◌, Some, None}
-use Rattle.registry_routes.specs.Readings.{npm_route_view}
-use Rattle.registry_npm.proofs.OneFacts.{document-one, other-one}
+use Rattle.registry_npm.proofs.OneFacts.{document-one}
 use Rattle.registry_npm.proofs.turning.asks_one.Goals as goal
 
 pub returns-then-is_document : goal.returns-then-is_document
