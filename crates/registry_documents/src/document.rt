@@ -9,6 +9,7 @@ ghost use Rattle.registry_documents.specs.Documents as spec;
 ghost use Rattle.registry_documents.specs.Documents.{IsDocumentOf, IsNoDocument, kind_of, size_of, value_of};
 ghost use Rattle.registry_documents.specs.Judging.{may_repeat};
 
+use registry_json::ReadError;
 use registry_names::{Fault, Refusal, Stop};
 use serde_json::Value;
 use std::alloc::Global;
@@ -88,7 +89,8 @@ impl Document {
         packument.len().div_ceil(2) <= self.size
     }
 
-    pub(crate) fn value(&self) -> &Value
+    /// The JSON value that the document is.
+    pub fn value(&self) -> &Value
         ensures { view result.now ≡ value_of self.now }
     {
         &self.value
@@ -99,13 +101,10 @@ fn json_of(alloc: Global, body: &[u8]) -> Result<Value, Stop>
     ensures ok { IfOk result (λ value. IsUtf8 body.now × (read body.now ≡ Some (view value))) }
     ensures err { IfErr result (IsMemoryOr Refusal.BadBody (IsUtf8 body.now → read body.now ≡ None)) }
 {
-    match Value::from_slice(alloc, body) {
+    match registry_json::from_slice(alloc, body) {
         Ok(value) => Ok(value),
-        Err(error) => if error.is_memory() {
-            Err(Stop::Fault(Fault::Memory))
-        } else {
-            Err(BAD_BODY)
-        },
+        Err(ReadError::NotJson) => Err(BAD_BODY),
+        Err(ReadError::Memory) => Err(Stop::Fault(Fault::Memory)),
     }
 }
 

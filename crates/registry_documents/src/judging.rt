@@ -17,6 +17,7 @@ use crate::owners::{asked_of_owners, repeats_owners};
 use crate::package::asked_of_package;
 use crate::revision::Revision;
 use crate::versions::versions_in;
+use registry_json::ReadError;
 use registry_names::{Fault, Refusal, Stop, Text};
 use serde_json::Value;
 use std::alloc::Global;
@@ -115,13 +116,10 @@ fn packument_of(alloc: Global, text: &str) -> Result<Value, Fault>
     ensures ok { IfOk result (λ value. read text.now ≡ Some (view value)) }
     ensures err { IfErr result (FaultsReading ((d : Data) × (read text.now ≡ Some d))) }
 {
-    match Value::from_str(alloc, text) {
+    match registry_json::from_str(alloc, text) {
         Ok(value) => Ok(value),
-        Err(error) => if error.is_memory() {
-            Err(Fault::Memory)
-        } else {
-            Err(Fault::Database)
-        },
+        Err(ReadError::NotJson) => Err(Fault::Database),
+        Err(ReadError::Memory) => Err(Fault::Memory),
     }
 }
 

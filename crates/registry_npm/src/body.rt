@@ -9,6 +9,7 @@ ghost use Rattle.registry_routes.specs.Bodies.{IsJson, IsNoJson};
 ghost use Rattle.registry_npm.specs.Bodies as spec;
 
 use registry_access::{Grant, Role};
+use registry_json::ReadError;
 use registry_names::{Fault, Ident, Name, Refusal, Status, Stop};
 use serde_json::Value;
 use std::alloc::Global;
@@ -41,13 +42,10 @@ pub(crate) fn json_of(alloc: Global, body: &[u8]) -> Result<Value, Stop>
     ensures ok { IfOk result (λ value. IsJson body.now (view value)) }
     ensures err { IfErr result (IsMemoryOr Refusal.BadBody (IsNoJson body.now)) }
 {
-    match Value::from_slice(alloc, body) {
+    match registry_json::from_slice(alloc, body) {
         Ok(value) => Ok(value),
-        Err(error) => if error.is_memory() {
-            Err(Stop::Fault(Fault::Memory))
-        } else {
-            Err(BAD_BODY)
-        },
+        Err(ReadError::NotJson) => Err(BAD_BODY),
+        Err(ReadError::Memory) => Err(Stop::Fault(Fault::Memory)),
     }
 }
 

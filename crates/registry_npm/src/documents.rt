@@ -1,7 +1,8 @@
 //! The routes of packuments, of documents and of the withdrawal of all versions.
 
 ghost use Rattle.std.specs.Prelude.{◌≡◌, ◌↔◌, IfOk, IsTrue, length, Ok, Err, MatchResult};
-ghost use Rattle.registry_documents.specs.Documents.{size_of, value_of};
+ghost use Rattle.registry_documents.specs.Documents.{IsDocumentOf, size_of, value_of};
+ghost use Rattle.registry_publish.specs.Form.{IsFormOf, StopsForm};
 ghost use Rattle.registry_service.specs.Bodies.{reads_form};
 ghost use Rattle.registry_npm.specs.Callers.{who_of};
 ghost use Rattle.registry_npm.specs.Purposes.{HasSize, put_view};
@@ -17,7 +18,7 @@ use crate::told::stopped;
 use crate::users::user;
 use crate::{path, shown};
 use registry_documents::{Document, Kind};
-use registry_names::{Fault, Moment, Name, Refusal, Stop, Text};
+use registry_names::{BODY_LIMIT, Fault, Moment, Name, Refusal, Stop, Text};
 use registry_publish::PublishForm;
 use registry_routes::{Values, decode_text};
 use registry_rules::{Action, Reply};
@@ -308,7 +309,7 @@ fn put_in(alloc: Global, name: &Name, body: &[u8]) -> Result<Put, Stop>
 {
     let document = Document::read(alloc, body)?;
     match document.kind() {
-        Kind::Publication => Ok(Put::Published(form_of(alloc, name, body)?)),
+        Kind::Publication => Ok(Put::Published(form_of(alloc, name, body, &document)?)),
         Kind::Package | Kind::Maintainers | Kind::Other => Ok(Put::Claimed(document)),
     }
 }
@@ -319,12 +320,29 @@ fn is_of(form: &PublishForm, name: &Name) -> bool
     form.name().text() == name.text()
 }
 
+// The form of a publication, from the body as it was read already.
+fn publication(alloc: Global, body: &[u8], document: &Document) -> Result<PublishForm, Stop>
+    requires { IsDocumentOf body.now (value_of document.now) }
+    ensures { MatchResult result (IsFormOf body.now) (StopsForm body.now) }
+{
+    if body.len() > BODY_LIMIT {
+        return Err(Stop::Refused(Refusal::TooLarge));
+    }
+    PublishForm::of(alloc, document.value())
+}
+
 // The form of a publish of this package.
 #[tactic(auto, unfolding(registry_service::specs::Bodies::reads_form))]
-fn form_of(alloc: Global, name: &Name, body: &[u8]) -> Result<PublishForm, Stop>
+fn form_of(
+    alloc: Global,
+    name: &Name,
+    body: &[u8],
+    document: &Document,
+) -> Result<PublishForm, Stop>
+    requires { IsDocumentOf body.now (value_of document.now) }
     ensures { reads_form name.now body.now result }
 {
-    let form = PublishForm::read(alloc, body)?;
+    let form = publication(alloc, body, document)?;
     if is_of(&form, name) {
         Ok(form)
     } else {

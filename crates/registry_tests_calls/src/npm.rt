@@ -57,6 +57,7 @@ fn words_of<'a>(action: &'a Action, who: &'a str) -> (&'static str, &'a str, &'a
         Action::AbbreviatedPackument { package } => ("AbbreviatedPackument", package.text(), ""),
         Action::RevisedPackument { package } => ("RevisedPackument", package.text(), ""),
         Action::Archive { package, .. } => ("Archive", package.text(), who),
+        Action::Publish { .. } => ("Publish", "", ""),
         Action::Deprecate { package, .. } => ("Deprecate", package.text(), ""),
         Action::Withdraw { package, .. } => ("Withdraw", package.text(), ""),
         Action::WithdrawAll { .. } => ("WithdrawAll", "", ""),

@@ -31,6 +31,9 @@ PUT /theirs/-rev/0a1b {"_rev":"0a1b","versions":{}} => WhoAmI Deprecate => 403 {
 PUT /tool/-rev/0a1b {"_rev": => WhoAmI => 400 {"error":"BadBody"}
 PUT /tool [] => WhoAmI => 400 {"error":"BadBody"}
 PUT /tool {"_attachments":{}} => WhoAmI => 400 {"error":"BadBody"}
+# A publication, and one of another package.
+PUT /tool {"_attachments":{"tool-1.1.1.tgz":{"data":"YQ=="}},"name":"tool","versions":{"1.1.1":{"name":"tool","version":"1.1.1"}}} => WhoAmI Publish => 200 {"ok":true}
+PUT /late {"_attachments":{"tool-1.1.1.tgz":{"data":"YQ=="}},"name":"tool","versions":{"1.1.1":{"name":"tool","version":"1.1.1"}}} => WhoAmI => 400 {"error":"BadBody"}
 # One maintainer more.
 PUT /tool/-rev/a19ad3ca0a750021e752d6f385405e7e46a195a2a4b27f058a11b88727114031 {"_id":"tool","_rev":"a19ad3ca0a750021e752d6f385405e7e46a195a2a4b27f058a11b88727114031","maintainers":[{"name":"ann"},{"name":"bob"},{"name":"eve"}]} => WhoAmI Deprecate Packument Maintainers OwnerAdd => 200 {"ok":true}
 # One who is no user.
