@@ -1,5 +1,5 @@
 -- Who asks commands that are asked together, and what is answered after they were looked up.
-use Rattle.std.proofs.Common.{◌≡◌, ◌==◌, ◌<◌, ◌++◌, ◌∷◌, ◌∙◌, [], ℕ, false, List, Option, None, Some, Result, Ok, Err, length, get_or, ap, arith, subst, sym, true, true≢false}
+use Rattle.std.proofs.Common.{◌≡◌, ◌==◌, ◌<◌, ◌++◌, ◌∷◌, ◌∙◌, [], ℕ, false, List, Option, None, Some, Result, Ok, Err, length, get_or, ap, arith, refl, subst, sym, true, true≢false}
 use Rattle.std.proofs.lemmas.Bool.{eqb-true}
 use Rattle.std.specs.Prelude.{if◌then◌else◌}
 use Rattle.std.specs.Result.{is_err, is_ok, result_unwrap_or}
@@ -14,9 +14,10 @@ use Rattle.registry_tables.specs.Effects.{stored}
 use Rattle.registry_desk.specs.TokenUsers.{IsAskedOpen, NamesUser}
 use Rattle.registry_service.specs.HttpAnswers.{Outcome}
 use Rattle.registry_service.specs.Turns.{Answering, AnswersAsBefore, AnswersEach, exchanges}
-use Rattle.registry_log.specs.Logs.{AreFirstAsked}
-use Rattle.registry_log.specs.LookUps.{FindsUser, LooksUp, MayName, MayNameEach, Names}
+use Rattle.registry_log.specs.Logs.{AreFirstAsked, Logging, NamesTurn}
+use Rattle.registry_log.specs.LookUps.{FindsUser, LooksUp, MayName, MayNameEach, Names, NamesEach}
 use Rattle.registry_log.specs.declared.log.Asked.{Asked}
+use Rattle.registry_log.specs.declared.unnamed.Unnamed.{Unnamed}
 
 -- one more is known
 pub first-more : (rs : List Request) (known : List Asked) (r : Request) (a : Asked) → length known < length rs → r ≡ get_or rs (length known) r → a.at ≡ r.at → AreFirstAsked rs known → AreFirstAsked rs (known ++ a ∷ [])
@@ -46,6 +47,13 @@ pub named-before : (old mid new : Shown) (who : Credential) (user : Option Text)
 named-before old mid new who None look were finds clean = tt
 named-before old mid new who (Some user) look were finds clean =
     let found = finds clean in subst (λ (c : Contents). Names c who user) (look.stored (were clean) found.0) found.1
+
+-- of the lines that lacked a user one more has its own
+pub names-more : (old mid new : Shown) (us : List Unnamed) (u : Unnamed) (user : Option Text) (log log2 log3 : Logging) → (HasCleanDisk new → HasCleanDisk mid) → NamesEach old mid us log log2
+    → (HasCleanDisk new → MayName (stored old) (Token u.token) user) → NamesTurn u user log2 log3 → NamesEach old new (us ++ u ∷ []) log log3
+names-more old mid new [] u user log log2 log3 were same may turn = (user, log3, may, subst (λ (l : Logging). NamesTurn u user l log3) same turn, refl)
+names-more old mid new (v ∷ us) u user log log2 log3 were (first, then, named, noted, rest) may turn =
+    (first, then, (λ clean. named (were clean)), noted, names-more old mid new us u user then log2 log3 were rest may turn)
 
 -- where a push didn't fail, the value is the last one
 pub pushed : {A E : Type 0} (done : Result A E) (known : List Asked) (a : Asked) (new : List Asked) → is_err done ≡ false → new ≡ (if is_ok done then known ++ a ∷ [] else known) → new ≡ known ++ a ∷ []

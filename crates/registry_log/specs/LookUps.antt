@@ -9,8 +9,9 @@ use Rattle.registry_tables.specs.Contents.{Contents}
 use Rattle.registry_tables.specs.Effects.{stored}
 use Rattle.registry_desk.specs.Promises.{KeepsStored, WasOpen}
 use Rattle.registry_desk.specs.TokenUsers.{token_user}
-use Rattle.registry_log.specs.Logs.{AreFirstAsked, Logging, Remembers, RemembersAll}
+use Rattle.registry_log.specs.Logs.{AreFirstAsked, Logging, NamesTurn, Remembers, RemembersAll}
 use Rattle.registry_log.specs.declared.log.Asked.{Asked}
+use Rattle.registry_log.specs.declared.unnamed.Unnamed.{Unnamed}
 
 -- it was open where it is open, nothing that is stored was changed, and a crash leaves nothing new
 pub record LooksUp (old new : Shown) : Type 0 where
@@ -48,6 +49,12 @@ module _ (old new : Shown) where
     pub named : HasCleanDisk new → MayName (stored old) r.who user
     pub begun : ℕ
     pub remembers : Remembers r.at user begun log log2
+
+  -- Requests that lacked a user have their lines, in turn: each names whom its token names, or nobody, and
+  -- waits, or counts as lost.
+  abbrev pub NamesEach : List Unnamed → Logging → Logging → Type 0
+  NamesEach [] log log2 = log2 ≡ log
+  NamesEach (u ∷ us) log log2 = (user : Option Text) × (mid : Logging) × (HasCleanDisk new → MayName (stored old) (Token u.token) user) × NamesTurn u user log mid × NamesEach us mid log2
 
   -- so will those of the first of requests that are asked together, one after another
   pub record NamesAskers (rs : List Request) (log log2 : Logging) : Type 0 where

@@ -1,12 +1,12 @@
 //! A registry as a service that may keep a log.
 
-ghost use Rattle.std.specs.Prelude.{◌≡◌, ◌<◌, length, true};
+ghost use Rattle.std.specs.Prelude.{◌≡◌, ◌<◌, [], length, true};
 ghost use Rattle.std.specs.List.{AllByRecursion};
 ghost use Rattle.sqlite.specs.State.{HasCleanDisk, Survives};
 ghost use Rattle.registry_desk.specs.Together.{LeavesTogether};
 ghost use Rattle.registry_http.specs.Services.{EachEndsByFault, EachEndsIfShut, EndTogether, EndsByFault, EndsIfShut, applied, shown};
-ghost use Rattle.registry_log.specs.Logs.{AreFirstAsked};
-ghost use Rattle.registry_log.specs.LookUps.{FindsUser, LooksUp, MayNameEach, NamesAsker, NamesAskers};
+ghost use Rattle.registry_log.specs.Logs.{AreFirstAsked, logging};
+ghost use Rattle.registry_log.specs.LookUps.{FindsUser, LooksUp, MayNameEach, NamesAsker, NamesAskers, NamesEach};
 ghost use Rattle.registry_rules.specs.Actions.{is_command};
 ghost use Rattle.registry_rules.specs.declared.request.Credential.TheVariants.{Token};
 ghost use Rattle.registry_tables.specs.Effects.{stored};
@@ -263,7 +263,7 @@ fn known<S: Alter>(
     asked
 }
 
-// Looks up the users of the requests that lack one, and puts their lines.
+// Looks up the users of the requests that lack one, and puts their lines, one each.
 fn name_all<S: Alter, K: LogClock, W: LineSink>(
     alloc: Global,
     inner: &mut RegistryService<S>,
@@ -271,6 +271,8 @@ fn name_all<S: Alter, K: LogClock, W: LineSink>(
 )
     ensures before { AnswersAsBefore (applied (shown S.Store)) inner.old inner.new }
     ensures over { inner.new.is_over ≡ inner.old.is_over }
+    ensures names { NamesEach (shown S.Store inner.old) (shown S.Store inner.new) log.old.unnamed
+        (logging log.old.waiting log.old.answered log.old.later []) log.new }
 {
     let unnamed = log.take_unnamed();
     for request in &unnamed {
