@@ -6,6 +6,7 @@ pub mod LeftFacts
 pub mod ListFacts
 pub mod NamedFacts
 pub mod OtherFacts
+pub mod OverviewFacts
 pub mod RefusedFacts
 pub mod ReplyFacts
 pub mod RestFacts

@@ -1,11 +1,14 @@
 -- Laws of the registry without a package.
-use Rattle.std.specs.Prelude.{◌≡◌, ℕ, true, false, List, length, Some, None, Ok}
-use Rattle.registry_names.specs.Texts.{Text}
+use Rattle.std.specs.Prelude.{◌≡◌, ℕ, true, false, not, List, filter, length, map, Some, None, Ok}
+use Rattle.registry_names.specs.Maps.{entries}
+use Rattle.registry_names.specs.Texts.{Text, is}
 use Rattle.registry_names.specs.declared.refusal.Refusal.TheVariants.{Denied, Depended}
 use Rattle.registry_names.specs.declared.refusal.Rule.TheVariants.{A6}
+use Rattle.registry_names.specs.declared.status.Status.{Status}
 use Rattle.registry_access.specs.Positions.{level_in}
 use Rattle.registry_access.specs.declared.caller.Caller.{Caller}
 use Rattle.registry_access.specs.declared.levels.Level.TheVariants.{Nothing}
+use Rattle.registry_packument.specs.Lists.{overviews_text}
 use Rattle.registry_rules.specs.Actions.{is_command, names_package}
 use Rattle.registry_rules.specs.Callers.{caller_of}
 use Rattle.registry_rules.specs.Effects.{step_by}
@@ -17,7 +20,7 @@ use Rattle.registry_rules.specs.declared.reply.Reply.TheVariants.{Count, Created
 use Rattle.registry_rules.specs.declared.request.Action.{Action}
 use Rattle.registry_rules.specs.declared.request.Action.TheVariants.{WithdrawAll}
 use Rattle.registry_rules.specs.declared.request.Request.{Request}
-use Rattle.registry_laws_history.specs.Answers.{answer}
+use Rattle.registry_laws_history.specs.Answers.{answer, overview, packages_in}
 use Rattle.registry_laws_history.specs.History.{Entry, Legal, after}
 use Rattle.registry_laws_history.specs.Runs.{next}
 use Rattle.registry_laws_hidden.specs.Concerns.{is_held, is_shown, is_taken}
@@ -82,3 +85,13 @@ KeptIsDepended = (h : List Entry) (p : Text) (r : Request) → Legal h → is_he
 abbrev pub TakenIsDenied : Type 0
 TakenIsDenied = (h : List Entry) (p : Text) (who : Caller) (r : Request) → Legal h → caller_of (after h) r.who ≡ Some who → level_in (after h).access who p ≡ Nothing
     → is_taken (after h) who r.what p ≡ true → (answer (after h) r ≡ Refused (Denied A6)) × (answer (state_without (after h) p) r ≡ Created)
+
+-- ---- the one that shows a row of the package
+
+-- the operator's list of all packages, less the row of this one
+abbrev pub packages_but : State → Text → Text
+packages_but S p = overviews_text (map (overview S) (filter (λ (e : Text × Status). not (is e.0 p)) (entries S.access.statuses)))
+
+-- without the package it is the same list less its row: no other row tells anything of it
+abbrev pub ListLacksOneRow : Type 0
+ListLacksOneRow = (S : State) (p : Text) → packages_in (state_without S p) ≡ packages_but S p

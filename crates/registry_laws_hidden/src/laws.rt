@@ -2,7 +2,7 @@
 //! themselves, and its proof is the law's.
 
 ghost use Rattle.registry_laws_hidden.specs.Arrivals.{StrangersSeeTheSame};
-ghost use Rattle.registry_laws_hidden.specs.Laws.{KeptIsDepended, NamedLeaveTheRest, OthersAreAccepted, OthersMakeTheSame, RepliesAreAlike, RestsAreAlike, TakenIsDenied, UntouchedLeaveTheRest};
+ghost use Rattle.registry_laws_hidden.specs.Laws.{KeptIsDepended, ListLacksOneRow, NamedLeaveTheRest, OthersAreAccepted, OthersMakeTheSame, RepliesAreAlike, RestsAreAlike, TakenIsDenied, UntouchedLeaveTheRest};
 ghost use Rattle.registry_laws_hidden.specs.Lists.{ListsAreAnsweredAlike, ListsHaveArrivals};
 ghost use Rattle.registry_laws_hidden.specs.Runs.{RunsAreAlike};
 
@@ -37,6 +37,12 @@ pub fn unread_packages_are_unheard_of()
 pub fn two_requests_show_a_package()
     ensures kept { KeptIsDepended }
     ensures taken { TakenIsDenied }
+{}
+
+/// What the third excepted request shows. The operator's list of all packages is that of the registry
+/// without the package, and one row more: that of the package.
+pub fn the_list_of_packages_shows_one_row()
+    ensures { ListLacksOneRow }
 {}
 
 /// Take two legal histories that are the same list once the entries that name a package are
