@@ -6,8 +6,8 @@
 #
 # PROGRAM is out/registry where it is left out. All that is made lies in a folder of its own, which is
 # removed. Two lists of commands, one of which is the story with the example of each subcommand, are run
-# twice, each command by itself on one file and beside a server on another: both must print the same,
-# byte for byte, and end alike. Then it is tried what a killed server leaves, two servers, a folder
+# twice, each command by itself on one file and beside a server on another, which both have to be there:
+# they must print the same, byte for byte, and end alike. Then it is tried what a killed server leaves, two servers, a folder
 # that others may enter, a path too long for a socket, a server that is just starting, one that is
 # halted, clients that stop in the middle, more clients at once than there are slots, and a server that
 # is killed while it answers. Last come tokens that are made and end beside a
@@ -193,6 +193,7 @@ cat > "$work/commands" <<'END'
 --at 100 --operator token-new Ann
 --at 100 --operator token-new -- -ann
 --at 100 --as=-ann token-new ann
+--at 100 init
 --at 100 check
 --at 100 backup no-such-folder/copy.db
 --at 100 backup --no-check no-such-folder/copy.db
@@ -233,12 +234,16 @@ import pathlib, shlex, subprocess, sys
 program, work, calls, file, into = sys.argv[1:]
 for number, line in enumerate(open(f'{work}/{calls}'), 1):
     words = [f'{work}/{word.lower()}' if word in ('BODY', 'MORE', 'LAST', 'BROKEN', 'NOTHING') else word for word in shlex.split(line)]
-    came = subprocess.run([program, '--db', f'{work}/{file}', *words], cwd=work, capture_output=True)
+    came = subprocess.run([program, '--db', f'{work}/{file}', '--existing', *words], cwd=work, capture_output=True)
     pathlib.Path(f'{work}/{into}.{number}').write_bytes(came.stdout + b'|' + came.stderr + b'|' + str(came.returncode).encode())
 END
 }
 all_are_the_same() {
     calls=$1
+    for file in alone beside; do
+        run one "$work/$calls-$file.db" init
+        is_done one || return 1
+    done
     run_all "$calls" "$calls-alone.db" alone
     serve "$work/$calls-beside.db"
     run_all "$calls" "$calls-beside.db" beside
@@ -586,12 +591,29 @@ makes_no_other() {
     mv "$db" "$work/moved.db" && mv "$db-wal" "$work/moved.db-wal" || return 1
     run one "$db" --operator user-add mia
     is one 3 "has another file open" && [ ! -e "$db" ] || return 1
+    run one "$db" --existing --operator user-add mia
+    is one 3 "has another file open" && [ ! -e "$db" ] || return 1
+    run one "$db" init
+    is one 3 "has another file open" && [ ! -e "$db" ] && [ ! -e "$db-part" ] || return 1
     mv "$work/moved.db" "$db" && mv "$work/moved.db-wal" "$db-wal" || return 1
     run one "$db" --operator user-add mia
     is_done one || return 1
     stop
 }
 try 'a command makes no file where one was moved away from a server' makes_no_other
+
+makes_none() {
+    mv "$db" "$work/moved.db" && mv "$db-wal" "$work/moved.db-wal" || return 1
+    for words in '--operator user-add nia' '--operator token-new mia' "serve --socket $work/none.sock" 'check' "backup $work/none.db" 'stop'; do
+        # shellcheck disable=SC2086
+        run one "$db" --existing $words
+        is one 3 "isn't there or is empty" && [ ! -e "$db" ] && [ ! -e "$db-wal" ] || return 1
+    done
+    mv "$work/moved.db" "$db" && mv "$work/moved.db-wal" "$db-wal" || return 1
+    run one "$db" --existing --operator user-add nia
+    is_done one
+}
+try 'nor where it has to be there, without a server' makes_none
 
 # ---- tokens that are made
 

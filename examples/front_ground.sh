@@ -89,7 +89,8 @@ nth_port() { echo "$ports" | cut -d ' ' -f "$1"; }
 
 # ---- a registry
 
-registry() { "$program" --db "$work/registry.db" "$@" > "$work/out" 2>&1 || give_up "$* ended with $(cat "$work/out")"; }
+"$program" --db "$work/registry.db" init > /dev/null
+registry() { "$program" --db "$work/registry.db" --existing "$@" > "$work/out" 2>&1 || give_up "$* ended with $(cat "$work/out")"; }
 # Users with a token each, who ask the address.
 join() {
     for user in "$@"; do
@@ -102,7 +103,7 @@ join() {
 }
 serve() {
     : > "$work/server"
-    "$program" --db "$work/registry.db" serve --socket "$work/http.sock" "$@" > "$work/server" 2>&1 &
+    "$program" --db "$work/registry.db" --existing serve --socket "$work/http.sock" "$@" > "$work/server" 2>&1 &
     server=$!
     wait_for grep -q listening "$work/server" || give_up "the registry does not listen: $(cat "$work/server")"
 }

@@ -55,12 +55,13 @@ soon() {
 # ---- servers and requests
 
 port=$(python3 -c 'import socket; one = socket.socket(); one.bind(("127.0.0.1", 0)); print(one.getsockname()[1])')
-registry() { "$program" --db "$work/registry.db" "$@"; }
+"$program" --db "$work/registry.db" init > /dev/null
+registry() { "$program" --db "$work/registry.db" --existing "$@"; }
 # Starts a server that logs to a file, and waits until it listens.
 serve() {
     # What an earlier server said is gone before this one is waited for.
     rm -f "$work/server"
-    "$program" --db "$work/registry.db" serve --port "$port" --log "$1" > "$work/server" 2> "$work/errors" &
+    "$program" --db "$work/registry.db" --existing serve --port "$port" --log "$1" > "$work/server" 2> "$work/errors" &
     server=$!
     soon grep -qs listening "$work/server" || { cat "$work/errors" >&2; exit 1; }
 }
@@ -80,7 +81,7 @@ says() { grep -q "$2" "$1" 2>/dev/null; }
 # Whether a log is refused, with status 2.
 is_refused() {
     status=0
-    timeout 60 "$program" --db "$work/registry.db" serve --port "$port" --log "$1" > "$work/out" 2> "$work/err" || status=$?
+    timeout 60 "$program" --db "$work/registry.db" --existing serve --port "$port" --log "$1" > "$work/out" 2> "$work/err" || status=$?
     [ "$status" = 2 ] && [ "$(cat "$work/err")" = "error: --log takes a file that isn't one of the registry's" ]
 }
 
@@ -234,7 +235,7 @@ fi
 mkfifo "$work/journal"
 # A reader that reads when it is told to.
 exec 3<> "$work/journal"
-"$program" --db "$work/registry.db" serve --port "$port" --log - > "$work/journal" 2> "$work/errors" &
+"$program" --db "$work/registry.db" --existing serve --port "$port" --log - > "$work/journal" 2> "$work/errors" &
 server=$!
 read -r first <&3
 try 'where it listens stands first on standard output' [ "$first" = "listening 127.0.0.1:$port" ]

@@ -28,7 +28,7 @@ trap 'exit 143' TERM
 
 say() { printf '%s\n' "$*"; }
 fail() { say "npm.sh: $*" >&2; exit 1; }
-registry() { "$program" --db "$work/registry.db" "$@" > "$work/out" 2>&1; }
+registry() { "$program" --db "$work/registry.db" --existing "$@" > "$work/out" 2>&1; }
 milliseconds() { node -p 'Date.now()'; }
 seconds_of() { node -p "Date.parse('$1') / 1000"; }
 
@@ -74,6 +74,7 @@ stop_server() {
 
 [ -x "$program" ] || fail "there is no program $program: make build proves and builds it"
 say "the program is $program, npm is $(npm --version), node is $(node --version)"
+"$program" --db "$work/registry.db" init > "$work/out"
 for user in ann bob eve; do
     registry --operator user-add $user
     registry --operator token-add $user npm_${user}_000000001
@@ -117,7 +118,7 @@ publish_at 2024-03-01T12:00:00Z 0.9.2
 registry --as bob --at "$(seconds_of 2024-03-01T13:00:00Z)" withdraw @lab/kit 0.9.2
 say 'bob published @lab/kit 0.9.0 on 28 February 2024, 0.9.1 a day later, and 0.9.2, which he withdrew'
 
-"$program" --db "$work/registry.db" serve --port "$port" > "$work/server" &
+"$program" --db "$work/registry.db" --existing serve --port "$port" > "$work/server" &
 server=$!
 wait_for_server
 as ann "$work" view @lab/kit time --json

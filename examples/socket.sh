@@ -44,13 +44,14 @@ try() {
 # ---- servers and requests
 
 db=$work/registry.db
+"$program" --db "$db" init > /dev/null
 socket=$work/http.socket
 free_port() { python3 -c 'import socket; one = socket.socket(); one.bind(("127.0.0.1", 0)); print(one.getsockname()[1])'; }
 port=$(free_port)
 # Starts a server, and waits until it listens.
 serve() {
     rm -f "$work/server"
-    "$program" --db "$db" serve "$@" > "$work/server" 2> "$work/errors" &
+    "$program" --db "$db" --existing serve "$@" > "$work/server" 2> "$work/errors" &
     server=$!
     for _ in $(seq 1 500); do
         if grep -qs listening "$work/server"; then return 0; fi
@@ -115,6 +116,16 @@ try 'what is no socket stays' is_fault "$work/text" 'what is at the path of the 
 try 'as it was' grep -qx text "$work/text"
 try 'a long path is a fault' is_fault "$work/$(printf %0101d 0)" 'the path is too long for a socket'
 try 'and so is a folder that is not there' is_fault "$work/none/http.socket" "the socket can't be made"
+
+# A server whose file is lost: it listens before it opens the file.
+is_lost() {
+    status=0
+    "$program" --db "$work/lost.db" --existing serve --socket "$socket" --log "$work/lost.log" > "$work/out" 2> "$work/err" || status=$?
+    [ "$status" = 3 ] && [ "$(cat "$work/err")" = "fault: Database
+the registry's file isn't there or is empty" ] && [ ! -s "$work/out" ]
+}
+try 'a lost file is a fault where it has to be there' is_lost
+try 'of which neither a socket nor a file is left' eval 'is_gone && [ -z "$(ls -d "$work"/lost* 2> /dev/null)" ]'
 
 # ---- stops
 
@@ -183,7 +194,7 @@ for _ in $(seq 1 500); do
     if grep -qs there "$work/idle"; then break; fi
     sleep 0.01
 done
-adds() { "$program" --db "$db" --operator user-add ann > "$work/out"; }
+adds() { "$program" --db "$db" --existing --operator user-add ann > "$work/out"; }
 try 'a command comes in where no descriptor is left' adds
 kill "$clients"
 stop

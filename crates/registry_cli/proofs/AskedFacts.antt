@@ -60,28 +60,28 @@ read s h =
 
 -- ---- the words
 
-abbrev spoken : Text → Option ℕ → Who → Text → Text → NewToken
-spoken db at who user token = record { db = db; who = who; at = at; user = user }
+abbrev spoken : Text → Bool → Option ℕ → Who → Text → Text → NewToken
+spoken db existing at who user token = record { db = db; existing = existing; who = who; at = at; user = user }
 
-at_no_moment : (who : Who) (db user token : Text) → MeansTokenAdd (spoken db None who user token) token (token_add_arguments (spoken db None who user token) token)
+at_no_moment : (who : Who) (e : Bool) (db user token : Text) → MeansTokenAdd (spoken db e None who user token) token (token_add_arguments (spoken db e None who user token) token)
 unfolding walked walk_passes
-at_no_moment Operator db user token = record { taken = refl; one = refl; line = refl }
-at_no_moment (User name) db user token = record { taken = refl; one = refl; line = refl }
-at_no_moment Anonymous db user token = record { taken = refl; one = refl; line = refl }
+at_no_moment Operator e db user token = record { taken = refl; one = refl; line = refl }
+at_no_moment (User name) e db user token = record { taken = refl; one = refl; line = refl }
+at_no_moment Anonymous e db user token = record { taken = refl; one = refl; line = refl }
 
 -- the line, whatever its moment is
 abbrev asked_at : Who → Text → Text → Option ℕ → Line
-asked_at who user token at = record { db = codes "registry.db"; who = who; at = at; what = token_add_words user token }
+asked_at who user token at = record { db = codes "registry.db"; existing = false; who = who; at = at; what = token_add_words user token }
 
-at_moment : (who : Who) (db user token : Text) (s : ℕ) → s ≤ last_second → MeansTokenAdd (spoken db (Some s) who user token) token (token_add_arguments (spoken db (Some s) who user token) token)
+at_moment : (who : Who) (e : Bool) (db user token : Text) (s : ℕ) → s ≤ last_second → MeansTokenAdd (spoken db e (Some s) who user token) token (token_add_arguments (spoken db e (Some s) who user token) token)
 unfolding walked walk_passes
-at_moment Operator db user token s h = record { taken = rw (accepted s h) refl; one = refl; line = ap (asked_at Operator user token) (read s h) }
-at_moment (User name) db user token s h = record { taken = rw (accepted s h) refl; one = refl; line = ap (asked_at (User name) user token) (read s h) }
-at_moment Anonymous db user token s h = record { taken = rw (accepted s h) refl; one = refl; line = ap (asked_at Anonymous user token) (read s h) }
+at_moment Operator e db user token s h = record { taken = rw (accepted s h) refl; one = refl; line = ap (asked_at Operator user token) (read s h) }
+at_moment (User name) e db user token s h = record { taken = rw (accepted s h) refl; one = refl; line = ap (asked_at (User name) user token) (read s h) }
+at_moment Anonymous e db user token s h = record { taken = rw (accepted s h) refl; one = refl; line = ap (asked_at Anonymous user token) (read s h) }
 
 pub asked : (n : NewToken) (token : Text) → IfSome n.at (λ s. s ≤ last_second) → MeansTokenAdd n token (token_add_arguments n token)
 asked n token within = go n.at within
   where
     go : (at : Option ℕ) → IfSome at (λ s. s ≤ last_second) → MeansTokenAdd (record n { at = at }) token (token_add_arguments (record n { at = at }) token)
-    go None within = at_no_moment n.who n.db n.user token
-    go (Some s) within = at_moment n.who n.db n.user token s within
+    go None within = at_no_moment n.who n.existing n.db n.user token
+    go (Some s) within = at_moment n.who n.existing n.db n.user token s within

@@ -11,10 +11,10 @@ use Rattle.registry_rules.specs.declared.request.Action.{Action}
 use Rattle.registry_rules.specs.declared.request.Action.TheVariants as action
 use Rattle.registry_rules.specs.declared.request.Credential.{Credential}
 use Rattle.registry_cli.specs.Asked.{reads_line}
-use Rattle.registry_cli.specs.Lines.{at_in, has_both, has_flag, line_of, value_in, who_in}
+use Rattle.registry_cli.specs.Lines.{at_in, has_both, has_flag, is_existing_in, line_of, value_in, who_in}
 use Rattle.registry_cli.specs.Subcommands.{bare, connections, flag, number, numbers, option, options, registry, required, user, with_rules, with_subcommands}
 use Rattle.registry_cli.specs.declared.errands.Errand.{Errand}
-use Rattle.registry_cli.specs.declared.errands.Errand.TheVariants.{TokenNew, Check, Backup, Restore, Stop, Serve}
+use Rattle.registry_cli.specs.declared.errands.Errand.TheVariants.{Init, TokenNew, Check, Backup, Restore, Stop, Serve}
 use Rattle.registry_cli.specs.declared.errands.NewToken.{NewToken}
 use Rattle.registry_cli.specs.declared.errands.Serving.{Serving}
 use Rattle.registry_cli.specs.declared.meaning.Line.{Line}
@@ -43,7 +43,7 @@ abbrev pub npm : Rule
 npm = flag (codes "npm") (codes "npm")
 
 abbrev pub errands : List (Text × List Rule)
-errands = (codes "token-new", user ∷ []) ∷ (codes "check", []) ∷ (codes "backup", no_check ∷ copy ∷ []) ∷ (codes "restore", no_check ∷ copy ∷ []) ∷ (codes "stop", []) ∷ (codes "serve", port_beside ∷ socket ∷ connections ∷ log ∷ npm ∷ []) ∷ []
+errands = (codes "init", []) ∷ (codes "token-new", user ∷ []) ∷ (codes "check", []) ∷ (codes "backup", no_check ∷ copy ∷ []) ∷ (codes "restore", no_check ∷ copy ∷ []) ∷ (codes "stop", []) ∷ (codes "serve", port_beside ∷ socket ∷ connections ∷ log ∷ npm ∷ []) ∷ []
 
 -- the options are those of requests
 abbrev pub admin_command : App
@@ -54,8 +54,13 @@ admin_command = with_subcommands (with_rules bare options) errands
 abbrev pub db_in : List Row → Text
 db_in rows = value_in rows (codes "PATH")
 
+-- A file is made where none is yet. `--existing` says nothing of that, nor of `restore`; `check`,
+-- `backup` and `stop` make none anyway
+abbrev pub init : List Row → Option Errand
+init rows = Some (Init (db_in rows))
+
 abbrev pub new_token : Who → List Row → List Row → Option Errand
-new_token who rows found = Some (TokenNew (record { db = db_in rows; who = who; at = at_in rows; user = value_in found (codes "USER") }))
+new_token who rows found = Some (TokenNew (record { db = db_in rows; existing = is_existing_in rows; who = who; at = at_in rows; user = value_in found (codes "USER") }))
 
 abbrev pub check : List Row → Option Errand
 check rows = Some (Check (db_in rows))
@@ -83,7 +88,7 @@ listens_at_port found = is_some (first_of (codes "PORT") found) || is_none (firs
 
 -- the line that serves, without a socket, a log or npm's own requests
 abbrev pub serving_line : Who → List Row → List Row → Line
-serving_line who rows found = record { db = db_in rows; who = who; at = at_in rows; what = codes "serve" ∷ port_in found ∷ value_in found (codes "CONNECTIONS") ∷ [] }
+serving_line who rows found = record { db = db_in rows; existing = is_existing_in rows; who = who; at = at_in rows; what = codes "serve" ∷ port_in found ∷ value_in found (codes "CONNECTIONS") ∷ [] }
 
 -- the same, with the path of the socket and that of the log, where they are given. npm's own requests
 -- are answered if the flag says so, and not by default.
@@ -92,13 +97,14 @@ serve who rows found = Some (Serve (record { line = serving_line who rows found;
 
 abbrev pub errand_called : Who → List Row → Text → List Row → Option Errand
 errand_called who rows name found =
+    if bytes_eq name (codes "init") then init rows else (
     if bytes_eq name (codes "token-new") then new_token who rows found else (
     if bytes_eq name (codes "check") then check rows else (
     if bytes_eq name (codes "backup") then backup rows found else (
     if bytes_eq name (codes "restore") then restore rows found else (
     if bytes_eq name (codes "stop") then stop rows else (
     if bytes_eq name (codes "serve") then serve who rows found else (
-    None))))))
+    None)))))))
 
 abbrev pub errand_by : Who → List Row → Option (Text × List Row) → Option Errand
 errand_by who rows None = None
@@ -119,9 +125,10 @@ token_add_words user token = codes "token-add" ∷ user ∷ token ∷ []
 
 -- the line by which whoever asks adds the token
 abbrev pub token_add : NewToken → Text → Line
-token_add n token = record { db = n.db; who = n.who; at = n.at; what = token_add_words n.user token }
+token_add n token = record { db = n.db; existing = n.existing; who = n.who; at = n.at; what = token_add_words n.user token }
 
--- The arguments that ask a server to do the same. They name no file, since a server has its own.
+-- The arguments that ask a server to do the same. They name no file and don't ask that one is there,
+-- since a server has its own.
 -- The user stands after `--`, where no text is taken for an option.
 
 abbrev pub listed : Option Text → List Text
@@ -141,11 +148,12 @@ abbrev pub token_add_arguments : NewToken → Text → List Text
 token_add_arguments n token =
     listed (who_word n.who) ++ listed (at_word n.at) ++ codes "token-add" ∷ codes "--" ∷ n.user ∷ token ∷ []
 
--- the program takes the words, and they mean the line that adds the token to the file `registry.db`
+-- the program takes the words, and they mean the line that adds the token to the file `registry.db`,
+-- whether it is there or not
 pub record MeansTokenAdd (n : NewToken) (token : Text) (words : List Text) : Type 0 where
   pub taken : takes registry words ≡ true
   pub one : has_both words ≡ false
-  pub line : line_of words ≡ record (token_add n token) { db = codes "registry.db" }
+  pub line : line_of words ≡ record (token_add n token) { db = codes "registry.db"; existing = false }
 
 -- whoever asks, and whatever the file has, the line asks that the user gets the token with this
 -- text's digest

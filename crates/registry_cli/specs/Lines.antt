@@ -27,6 +27,10 @@ has_flag rows id = bytes_eq (value_in rows id) (codes "true")
 abbrev pub is_operator_in : List Row → Bool
 is_operator_in rows = has_flag rows (codes "operator")
 
+-- the file has to be there: none is made
+abbrev pub is_existing_in : List Row → Bool
+is_existing_in rows = has_flag rows (codes "existing")
+
 -- both `--as` and `--operator`
 abbrev pub are_both : Option Text → Bool → Bool
 are_both user is_operator = is_some user && is_operator
@@ -90,6 +94,7 @@ told (Some found) = found.0 ∷ map (value_in found.1) (parameters_of found.0)
 abbrev pub line_in : List Row → Option (Text × List Row) → Line
 line_in rows found = record {
   db = value_in rows (codes "PATH");
+  existing = is_existing_in rows;
   who = who_in rows;
   at = at_in rows;
   what = told found;

@@ -45,6 +45,10 @@ moments = numbers 0 253402300799
 abbrev pub db : Rule
 db = with_default (codes "registry.db") (option (codes "PATH") (codes "db"))
 
+-- the file has to be there (this registry's own)
+abbrev pub existing : Rule
+existing = flag (codes "existing") (codes "existing")
+
 abbrev pub as_user : Rule
 as_user = option (codes "USER") (codes "as")
 
@@ -55,7 +59,7 @@ abbrev pub at_moment : Rule
 at_moment = number (codes "SECONDS") (codes "at") moments
 
 abbrev pub options : List Rule
-options = db ∷ as_user ∷ as_operator ∷ at_moment ∷ []
+options = db ∷ existing ∷ as_user ∷ as_operator ∷ at_moment ∷ []
 
 -- ---- the arguments of subcommands
 

@@ -24,7 +24,7 @@ const ABOUT: &str = "registry 0.1.0, a private npm-compatible package registry";
 
 /// The end of the help: an example, and the commands that ask for no request.
 const MORE: &str =
-    "Example: registry --db registry.db --operator user-add ann\n\nFor whoever runs it there are token-new, check, backup, restore and stop, too: registry check --help";
+    "Example: registry --db registry.db --operator user-add ann\n\nFor whoever runs it there are init, token-new, check, backup, restore and stop, too: registry check --help";
 
 // The argument of `clap` for a parameter.
 fn argument<'a>(alloc: Global, parameter: &Parameter) -> Arg<'a>
@@ -136,11 +136,11 @@ fn with_groups<'a>(
     Ok(command)
 }
 
-// The options that name the file and the user.
-fn with_names<'a>(alloc: Global, command: Command<'a>) -> Result<Command<'a>, AllocError>
+// The option that names the file, and the flag that it has to be there.
+fn with_file<'a>(alloc: Global, command: Command<'a>) -> Result<Command<'a>, AllocError>
     requires no_globals { (out-Command command).has_globals ≡ false }
     ensures app { IfOk result (λ c. app_of c
-        ≡ with_rule (with_rule (app_of command.entry) spec.db) spec.as_user) }
+        ≡ with_rule (with_rule (app_of command.entry) spec.db) spec.existing) }
     ensures no_globals { IfOk result (λ c. (out-Command c).has_globals ≡ false) }
 {
     let db = Arg::new(alloc, "PATH")
@@ -148,22 +148,35 @@ fn with_names<'a>(alloc: Global, command: Command<'a>) -> Result<Command<'a>, Al
         .help("The file that keeps the registry")
         .default_value("registry.db");
     let command = with_argument(command, db)?;
-    let user = Arg::new(alloc, "USER").long("as").help("Ask as this user");
-    with_argument(command, user)
+    let existing = Arg::new(alloc, "existing")
+        .long("existing")
+        .help("Make no registry where that file isn't there or is empty")
+        .action(ArgAction::SetTrue);
+    with_argument(command, existing)
 }
 
-// The flag of the operator, and the moment.
-fn with_moment<'a>(alloc: Global, command: Command<'a>) -> Result<Command<'a>, AllocError>
+// The options that say who asks.
+fn with_caller<'a>(alloc: Global, command: Command<'a>) -> Result<Command<'a>, AllocError>
     requires no_globals { (out-Command command).has_globals ≡ false }
     ensures app { IfOk result (λ c. app_of c
-        ≡ with_rule (with_rule (app_of command.entry) spec.as_operator) spec.at_moment) }
+        ≡ with_rule (with_rule (app_of command.entry) spec.as_user) spec.as_operator) }
     ensures no_globals { IfOk result (λ c. (out-Command c).has_globals ≡ false) }
 {
+    let user = Arg::new(alloc, "USER").long("as").help("Ask as this user");
+    let command = with_argument(command, user)?;
     let operator = Arg::new(alloc, "operator")
         .long("operator")
         .help("Ask as the operator, who adds users, tokens and organisations")
         .action(ArgAction::SetTrue);
-    let command = with_argument(command, operator)?;
+    with_argument(command, operator)
+}
+
+// The option of the moment.
+fn with_moment<'a>(alloc: Global, command: Command<'a>) -> Result<Command<'a>, AllocError>
+    requires no_globals { (out-Command command).has_globals ≡ false }
+    ensures app { IfOk result (λ c. app_of c ≡ with_rule (app_of command.entry) spec.at_moment) }
+    ensures no_globals { IfOk result (λ c. (out-Command c).has_globals ≡ false) }
+{
     let at = Arg::new(alloc, "SECONDS")
         .long("at")
         .help("Ask at this second since 1970, and not now")
@@ -189,7 +202,8 @@ fn with_options<'a>(alloc: Global) -> Result<Command<'a>, AllocError>
     ensures app { IfOk result (λ c. app_of c ≡ with_rules bare options) }
     ensures no_globals { IfOk result (λ c. (out-Command c).has_globals ≡ false) }
 {
-    with_moment(alloc, with_names(alloc, bare(alloc)?)?)
+    let command = with_file(alloc, bare(alloc)?)?;
+    with_moment(alloc, with_caller(alloc, command)?)
 }
 
 /// The whole command of requests.

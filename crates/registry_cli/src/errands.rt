@@ -19,7 +19,7 @@ ghost use Rattle.registry_cli.specs.declared.usage.Usage.TheVariants as usage;
 use crate::arguments::{Arguments, push_text, push_word};
 use crate::command::{admin_command, registry};
 use crate::meaning::{Line, Who};
-use crate::reading::{at, caller, given, has_flag, line_by, texts, value};
+use crate::reading::{at, caller, given, has_flag, is_existing, line_by, texts, value};
 use crate::usage::Usage;
 use clap::error::ErrorKind;
 use clap::{ArgMatches, Error};
@@ -29,6 +29,11 @@ use std::alloc::{AllocError, Global};
 /// What the people who run the registry ask for besides requests.
 #[derive(Debug, Drop)]
 pub enum Errand {
+    /// A new, empty registry in a file that is made for it.
+    Init {
+        /// The path of the file, where none is yet.
+        db: Text,
+    },
     /// A token that is made for a user.
     TokenNew(NewToken),
     /// A check that everything in a file is as requests suppose it.
@@ -84,6 +89,8 @@ pub struct Serving {
 pub struct NewToken {
     /// The path of the file that keeps the registry.
     pub db: Text,
+    /// Whether that file has to be there: none is made.
+    pub existing: bool,
     /// Who asks.
     pub who: Who,
     /// When it is asked. `None` where the machine's clock says it.
@@ -101,13 +108,25 @@ impl NewToken {
         ensures asks { IfOk result (λ l. asks_to_serve l.what ≡ false) }
         ensures stored { IfOk result (λ l. AddsTokenOf l self.user token) }
     {
-        let NewToken { db, who, at, user } = self;
+        let NewToken {
+            db,
+            existing,
+            who,
+            at,
+            user,
+        } = self;
         let what = token_add_words(alloc, user, token)?;
-        Ok(Line { db, who, at, what })
+        Ok(Line {
+            db,
+            existing,
+            who,
+            at,
+            what,
+        })
     }
 
     /// The arguments that ask a server of the file to do the same as [`line`](NewToken::line). They
-    /// name no file, since a server has its own.
+    /// name no file and don't ask that one is there, since a server has its own.
     pub fn arguments(&self, alloc: Global, token: &str) -> Result<Vec<Text>, AllocError>
         ensures words { IfOk result (λ words. words.items ≡ token_add_arguments self.now token.now) }
         ensures asked { IfOk result (λ words. MeansTokenAdd self.now token.now words.items) }
@@ -331,6 +350,7 @@ fn errand_called(
         name.now (rows_of (found_of found.now))) }
 {
     match name {
+        "init" => init(alloc, matches),
         "token-new" => new_token(alloc, matches, who, found),
         "check" => check(alloc, matches),
         "backup" => backup(alloc, matches, found),
@@ -339,6 +359,14 @@ fn errand_called(
         "serve" => serve(alloc, matches, who, found),
         _ => Ok(None),
     }
+}
+
+fn init(alloc: Global, matches: &ArgMatches<'_>) -> Result<Option<Errand>, AllocError>
+    ensures { IfOk result (λ e. e ≡ spec.init (rows_of (found_of matches.now))) }
+{
+    Ok(Some(Errand::Init {
+        db: Text::from_str(alloc, value(matches, "PATH"))?,
+    }))
 }
 
 fn new_token(
@@ -352,6 +380,7 @@ fn new_token(
 {
     Ok(Some(Errand::TokenNew(NewToken {
         db: Text::from_str(alloc, value(matches, "PATH"))?,
+        existing: is_existing(matches),
         who,
         at: at(matches),
         user: Text::from_str(alloc, value(found, "USER"))?,

@@ -23,6 +23,8 @@ pub enum Who {
 pub struct Line {
     /// The path of the file that keeps the registry.
     pub db: Text,
+    /// Whether that file has to be there: none is made.
+    pub existing: bool,
     /// Who asks.
     pub who: Who,
     /// When it is asked. `None` where the machine's clock says it.

@@ -7,7 +7,7 @@ ghost use Rattle.clap.specs.Simple.{subcommand_rows_of};
 ghost use Rattle.clap.specs.Takes.{takes};
 ghost use Rattle.clap.specs.Walk.{first_of, rows_of};
 ghost use Rattle.registry_cli.specs.Lines as spec;
-ghost use Rattle.registry_cli.specs.Lines.{IsWhole, are_both, are_both_in, at_in, has_both, is_operator_in, line_of, told, value_in, who_in};
+ghost use Rattle.registry_cli.specs.Lines.{IsWhole, are_both, are_both_in, at_in, has_both, is_existing_in, is_operator_in, line_of, told, value_in, who_in};
 ghost use Rattle.registry_cli.specs.Subcommands.{registry};
 ghost use Rattle.registry_cli.specs.Usages.{IsMemoryOrBoth, said_of_both};
 
@@ -84,6 +84,7 @@ pub(crate) fn line_by(
 ) -> Result<Line, AllocError>
     ensures { IfOk result (λ l. l ≡ record {
       db = value_in (rows_of (found_of matches.now)) (codes "PATH");
+      existing = is_existing_in (rows_of (found_of matches.now));
       who = who;
       at = at_in (rows_of (found_of matches.now));
       what = what;
@@ -91,6 +92,7 @@ pub(crate) fn line_by(
 {
     Ok(Line {
         db: Text::from_str(alloc, value(matches, "PATH"))?,
+        existing: is_existing(matches),
         who,
         at: at(matches),
         what,
@@ -127,6 +129,13 @@ fn is_operator(matches: &ArgMatches<'_>) -> bool
     ensures { result ≡ is_operator_in (rows_of (found_of matches.now)) }
 {
     has_flag(matches, "operator")
+}
+
+// Whether the file has to be there.
+pub(crate) fn is_existing(matches: &ArgMatches<'_>) -> bool
+    ensures { result ≡ is_existing_in (rows_of (found_of matches.now)) }
+{
+    has_flag(matches, "existing")
 }
 
 // The message where both are given.

@@ -467,7 +467,13 @@ const RESTORED: Parameter = Parameter {
     need: Need::Required,
 };
 
-static ERRANDS: [Subcommand; 6] = [
+static ERRANDS: [Subcommand; 7] = [
+    Subcommand {
+        name: "init",
+        parameters: &[],
+        about: "Make the file of a new, empty registry, where no file is yet",
+        example: "Example: registry --db registry.db init",
+    },
     Subcommand {
         name: "token-new",
         parameters: &[USER],

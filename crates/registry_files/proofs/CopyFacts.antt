@@ -25,7 +25,7 @@ use Rattle.registry_migration.specs.Older.{schema_of}
 use Rattle.registry_migration.specs.declared.older.Older.{Older}
 use Rattle.registry_migration.specs.declared.older.Older.TheVariants.{First, Second}
 use Rattle.registry_names.specs.Texts.{Text}
-use Rattle.registry_files.specs.Copies.{HoldsSeen, HoldsTold, IsCopy, IsHeld, IsOlder, IsRead, IsRestored, RestoresOlder, RestoresRegistry, StaysCommitted, alone}
+use Rattle.registry_files.specs.Copies.{HoldsRegistry, HoldsSeen, HoldsTold, IsCopy, IsHeld, IsOlder, IsRead, IsRestored, RestoresOlder, RestoresRegistry, StaysCommitted, alone}
 use Rattle.registry_files.specs.Lines.{lines_of}
 use Rattle.registry_rows.specs.Tables.{no_tables}
 use Rattle.registry_rows.specs.Ready.{IsReady}
@@ -54,12 +54,16 @@ holds_trees {D} {g} conn files s copied rests clean on same =
     let trees : (file_state conn).committed.trees ≡ s.now.trees = ap (λ (d : Database). d.trees) (same ∙ sym (rests.settled clean on)) in
     ∥∥₁_map copied.seen.alone (λ h. (subst (λ (db : Trees). HoldsDatabase (alone (g.seen files.db)) db) trees h, is_registry s s.now.trees ready refl))
 
+-- what was stored when a registry was closed is in the file alone
+pub holds_stored : {D : Type 0} {g : Ghosts D} (conn : Held (FileStore D g)) (files : Files D) → Rests (file_state conn) → IsCopied conn files → HoldsRegistry (g.seen files.db) (stored (file_state conn))
+holds_stored {D} {g} conn files rests copied = ∥∥₁_map (holds_trees {g = g} conn files (file_state conn) copied rests copied.was_clean copied.was_open refl) (λ h. ((file_state conn).now.trees, h.0, h.1))
+
 pub is_copy : {D : Type 0} {g : Ghosts D} (conn : Held (FileStore D g)) (files : Files D) (old new : Option (List ℕ)) → Rests (file_state conn) → IsCopied conn files
     → Appends old new (g.seen files.db) → IsCopy (file_state conn) old new
 is_copy {D} {g} conn files old new rests copied wrote = record {
   file = g.seen files.db;
   wrote = wrote;
-  holds = ∥∥₁_map (holds_trees {g = g} conn files (file_state conn) copied rests copied.was_clean copied.was_open refl) (λ h. ((file_state conn).now.trees, h.0, h.1));
+  holds = holds_stored {g = g} conn files rests copied;
 }
 
 abbrev image_with : List ℕ → List ℕ → Image

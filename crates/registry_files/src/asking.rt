@@ -2,6 +2,7 @@
 
 use crate::beside::{TRIES, ask_server, busy, is_busy, pause, require_no_other};
 use crate::ending::Ending;
+use crate::opening::require_existing;
 use crate::progress::{Progress, Work};
 use crate::registries::Registries;
 use registry_names::Text;
@@ -14,6 +15,8 @@ use std::alloc::Global;
 pub struct Question<'a> {
     /// The path of the file that keeps the registry.
     pub path: &'a str,
+    /// Whether that file has to be there.
+    pub existing: bool,
     /// What is asked of the registry itself.
     pub request: &'a Request,
     /// What is sent to a server.
@@ -32,7 +35,8 @@ pub enum Answer {
 }
 
 /// Asks the registry in a file, or the server that has the file. If another process has it and no
-/// server answers, both are tried again, for five seconds.
+/// server answers, both are tried again, for five seconds. A file that has to be there isn't made: it is
+/// looked at before each try.
 pub fn answer_to<R: Registries>(
     rt: &HostRuntime,
     alloc: Global,
@@ -41,6 +45,7 @@ pub fn answer_to<R: Registries>(
 ) -> Result<Answer, Ending> {
     let Question {
         path,
+        existing,
         request,
         arguments,
         body,
@@ -48,6 +53,7 @@ pub fn answer_to<R: Registries>(
     require_no_other(rt, alloc, path)?;
     let _opening = Progress::begin(rt, Work::Opening, path);
     for _ in 0..TRIES {
+        require_existing(rt, alloc, path, existing)?;
         let reply = registries.reply(rt, alloc, path, request);
         if !is_busy(&reply) {
             return Ok(Answer::Reply(reply?));

@@ -39,7 +39,7 @@ pub enum Failure {
     File,
     /// The copy that the arguments name, which can't be made.
     Backup(Snag),
-    /// The registry's file, which can't be made from a copy.
+    /// The registry's file, which can't be made anew or from a copy.
     Restore(Snag),
     /// Standard output.
     Write,

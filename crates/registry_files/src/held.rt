@@ -61,8 +61,8 @@ pub fn copy_bytes(rt: &HostRuntime, path: &str, target: &mut File) -> Result<(),
     }
 }
 
-// The fault where a file of the registry can't be read.
-fn unread(error: &io::Error) -> Ending {
+/// The fault where a file of the registry can't be read.
+pub fn unread(error: &io::Error) -> Ending {
     if error.kind() == ErrorKind::OutOfMemory {
         Ending::from(Fault::Memory)
     } else {

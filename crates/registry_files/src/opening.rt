@@ -1,6 +1,6 @@
 //! Opening the file that keeps the registry, and letting go of it.
 
-ghost use Rattle.std.specs.Prelude.{IfOk, IsTrue};
+ghost use Rattle.std.specs.Prelude.{◌≡◌, ◌↔◌, IfOk, IsTrue};
 ghost use Rattle.sqlite.specs.Closing.{IsCopied};
 ghost use Rattle.sqlite.specs.Files.{file_state};
 ghost use Rattle.sqlite.specs.Held.{state};
@@ -9,14 +9,16 @@ ghost use Rattle.sqlite_wal.specs.Reads.{AreClean};
 ghost use Rattle.registry_desk.specs.Opened.{HoldsEach, HoldsFound, IsFreshIfEmpty};
 ghost use Rattle.registry_desk.specs.Resting.{Rests};
 ghost use Rattle.registry_files.specs.Copies.{IsOlder};
+ghost use Rattle.registry_files.specs.Heads.{magic};
 
 use crate::begins::Begins;
 use crate::beside::{TRIES, busy, is_busy, pause};
 use crate::ending::{Ending, Failure, Obstacle};
+use crate::held::unread;
 use crate::progress::{Progress, Work};
 use registry_desk::{Registry, SCHEMA, Unopened};
 use registry_migration::older_schema;
-use registry_names::Fault;
+use registry_names::{Fault, FromRead, ReadStop, read_whole};
 use sqlite::types::ValueRef;
 use sqlite::{Alter, Connection, Error, ErrorCode, FileFrom, FileStore, Files};
 use sqlite_disk::{Disk, Tally};
@@ -24,6 +26,9 @@ use sqlite_std_file::OpenError;
 use std::alloc::Global;
 use std::fs;
 use std::io::ErrorKind;
+
+/// What the file of each database begins with.
+const MAGIC: &[u8] = b"SQLite format 3\0";
 
 /// Opens the registry in the file at the path, and shows a line on a terminal meanwhile.
 pub fn open<S: Begins>(
@@ -65,10 +70,11 @@ pub fn unopened<S: Begins>(rt: &HostRuntime, path: &str) -> Ending {
 }
 
 /// The registry in the file at the path. Where another process has the file, it is tried again, for
-/// five seconds.
+/// five seconds. A file that has to be there isn't made: it is looked at before each try.
 pub fn open_soon<S: Begins>(
     rt: &HostRuntime,
     path: &str,
+    existing: bool,
 ) -> Result<Registry<FileStore<FileFrom<S>>>, Ending>
     ensures found { IfOk result (λ r. HoldsFound (image_at S.Start) (file_state r)) }
     ensures each { IfOk result (λ r. HoldsEach (image_at S.Start) (file_state r)) }
@@ -76,6 +82,7 @@ pub fn open_soon<S: Begins>(
 {
     let _opening = Progress::begin(rt, Work::Opening, path);
     for _ in 0..TRIES {
+        require_existing(rt, rt.alloc(), path, existing)?;
         let opened = open_once::<S>(rt, path);
         if !is_busy(&opened) {
             return opened;
@@ -95,6 +102,45 @@ pub fn require_file(rt: &HostRuntime, path: &str) -> Result<(), Ending> {
     }
 }
 
+/// Checks, where the file at the path has to be there, that it is and begins as each database does. So
+/// no open makes a registry of a file that isn't there, that is empty, or that was no database.
+pub fn require_existing(
+    rt: &HostRuntime,
+    alloc: Global,
+    path: &str,
+    existing: bool,
+) -> Result<(), Ending> {
+    if !existing {
+        return Ok(());
+    }
+    require_file(rt, path)?;
+    if is_magic(&first_bytes(rt, alloc, path)?) {
+        Ok(())
+    } else {
+        Err(Ending::Fault(Failure::Opening(Obstacle::Foreign)))
+    }
+}
+
+// The first bytes of the file at the path, at most as many as each database begins with.
+fn first_bytes(rt: &HostRuntime, alloc: Global, path: &str) -> Result<Vec<u8>, Ending> {
+    let file = match fs::open(rt, path) {
+        Ok(file) => file,
+        Err(error) => return Err(unread(&error)),
+    };
+    match read_whole(alloc, &mut FromRead::new(file), MAGIC.len()) {
+        Ok(first) => Ok(first),
+        Err(ReadStop::Read) => Err(Ending::Fault(Failure::Opening(Obstacle::Unreachable))),
+        Err(ReadStop::Memory) => Err(Ending::from(Fault::Memory)),
+    }
+}
+
+// Whether these are the bytes that each database begins with. No empty file has them.
+fn is_magic(first: &[u8]) -> bool
+    ensures { IsTrue result ↔ (first.now ≡ magic) }
+{
+    first == MAGIC
+}
+
 /// Whether another process has the registry's file at the path. Nothing of the file is read. It is
 /// a fault if no file is there, or an empty one.
 pub fn is_taken<S: Begins>(rt: &HostRuntime, path: &str) -> Result<bool, Ending> {
@@ -106,6 +152,14 @@ pub fn is_taken<S: Begins>(rt: &HostRuntime, path: &str) -> Result<bool, Ending>
             Some(obstacle) => Err(Ending::Fault(Failure::Opening(obstacle))),
             None => Err(Ending::from(Fault::Memory)),
         },
+    }
+}
+
+/// The fault where this keeps the files from being opened.
+pub fn not_opened(error: OpenError) -> Ending {
+    match open_obstacle(error) {
+        Some(obstacle) => Ending::Fault(Failure::Opening(obstacle)),
+        None => Ending::from(Fault::Memory),
     }
 }
 

@@ -160,6 +160,7 @@ pub fn ask_line<R: Registries>(
     let request = request(alloc, line, given)?;
     let question = Question {
         path: line.db.as_str(),
+        existing: line.existing,
         request: &request,
         arguments,
         body: &given.body,

@@ -4,7 +4,7 @@ use crate::commands::{ask_line, given_alone};
 use crate::serving::serve_beside;
 use registry_cli::{Errand, NewToken, TOKEN_BYTES, print_token, token_of};
 use registry_files::{
-    Answer, Begins, DONE, Ending, Failure, Registries, back_up, print_check, print_done,
+    Answer, Begins, DONE, Ending, Failure, Registries, back_up, make_new, print_check, print_done,
     print_sent_token, print_wrong, restore, stop,
 };
 use registry_names::{ByteOut, Text};
@@ -26,6 +26,10 @@ pub fn run_errand<S: Begins, R: Registries, O: ByteOut, E: ByteOut>(
     errors: &mut E,
 ) -> Result<u8, Ending> {
     match errand {
+        Errand::Init { db } => {
+            make_new::<S>(rt, alloc, db.as_str())?;
+            print_done(DONE, output)
+        }
         Errand::TokenNew(new) => make_token(rt, alloc, registries, new, output, errors),
         Errand::Check { db } => print_check::<S, _, _>(rt, alloc, db.as_str(), output, errors),
         Errand::Backup { db, copy, checks } => {

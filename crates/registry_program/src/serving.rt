@@ -37,14 +37,15 @@ const ROOM: usize = 4_194_304;
 /// What is printed where commands can't be answered.
 const NO_COMMANDS: &str = "no command beside this server is answered: ";
 
-/// Where a server listens and for how many connections, the path of its file, the path of a log of
-/// requests, if one is kept, and whether npm's own requests are answered.
+/// Where a server listens and for how many connections, the path of its file and whether that has to be
+/// there, the path of a log of requests, if one is kept, and whether npm's own requests are answered.
 #[derive(Clone, Copy)]
 struct ServeOptions<'a> {
     port: Option<u16>,
     socket: Option<&'a str>,
     connections: u64,
     path: &'a str,
+    existing: bool,
     log: Option<&'a str>,
     answers_npm: bool,
 }
@@ -60,6 +61,7 @@ impl<'a> ServeOptions<'a> {
             socket: None,
             connections,
             path: line.db.as_str(),
+            existing: line.existing,
             log: None,
             answers_npm: false,
         })
@@ -216,7 +218,7 @@ fn serve_file<S: Begins, K: LogClock + Drop, W: LineSink + Drop, O: ByteOut, E: 
     output: &mut O,
     errors: &mut E,
 ) -> Result<Ended, Ending> {
-    match open_soon::<S>(rt, bound.options.path) {
+    match open_soon::<S>(rt, bound.options.path, bound.options.existing) {
         Ok(registry) => {
             keep_room(alloc);
             serve_registry(rt, alloc, bound, log, registry, listener, output, errors)

@@ -8,12 +8,15 @@ use registry_names::Moment;
 use std::alloc::Global;
 use std::process::Abort;
 
-// Arguments; ` => ` and what they mean: the file, who asks, when, and what.
-const LINES: &str = "serve => registry.db; nobody; None; serve 8080 1000000
-serve --port 1 => registry.db; nobody; None; serve 1 1000000
-serve --connections 1000000 --port 65535 => registry.db; nobody; None; serve 65535 1000000
-serve --connections=1 => registry.db; nobody; None; serve 8080 1
---operator --at 5 serve => registry.db; the operator; Some(5); serve 8080 1000000";
+// Arguments; ` => ` and what they mean: the file, whether it has to be there, who asks, when, and what.
+const LINES: &str = "serve => registry.db; false; nobody; None; serve 8080 1000000
+--existing serve => registry.db; true; nobody; None; serve 8080 1000000
+--existing --db serve serve => serve; true; nobody; None; serve 8080 1000000
+--db=--existing serve => --existing; false; nobody; None; serve 8080 1000000
+serve --port 1 => registry.db; false; nobody; None; serve 1 1000000
+serve --connections 1000000 --port 65535 => registry.db; false; nobody; None; serve 65535 1000000
+serve --connections=1 => registry.db; false; nobody; None; serve 8080 1
+--operator --at 5 serve => registry.db; false; the operator; Some(5); serve 8080 1000000";
 
 fn means(rt: &impl Abort, alloc: Global, line: &Line, wanted: &str) {
     let who = match &line.who {
@@ -22,7 +25,8 @@ fn means(rt: &impl Abort, alloc: Global, line: &Line, wanted: &str) {
         Who::Anonymous => "nobody",
     };
     let (db, at) = (line.db.as_str(), line.at.map(Moment::seconds));
-    let mut meant = format!(in alloc; "{db}; {who}; {at:?};").expect(rt, "memory");
+    let existing = line.existing;
+    let mut meant = format!(in alloc; "{db}; {existing}; {who}; {at:?};").expect(rt, "memory");
     for argument in line.what.as_slice() {
         meant.push(' ').expect(rt, "memory");
         meant.push_str(argument.as_str()).expect(rt, "memory");

@@ -24,6 +24,7 @@ fn tokens_are_made_and_added(rt: HostRuntime) {
     let digest_of = TokenDigest::of(TOKEN).expect(&rt, "a token");
     let new = NewToken {
         db: text(&rt, alloc, "registry.db"),
+        existing: false,
         who: Who::Operator,
         at: None,
         user: text(&rt, alloc, "ann"),

@@ -1,8 +1,9 @@
 //! The program over streams that fail. Its modules have a check that finds something, copies and what
-//! is made of them, tokens that are made, clients over loopback, and the moments of requests.
+//! is made of them, a file that is made once, tokens that are made, clients over loopback, and the moments of requests.
 
 mod checks;
 mod copies;
+mod inits;
 mod moments;
 mod restores;
 mod serving;

@@ -13,5 +13,5 @@ returns-clause-asks c = ap asks_to_serve c.in_ok-what.ensures ∙ added_asks c.a
 
 pub returns-clause-stored : goal.returns-clause-stored
 returns-clause-stored c =
-    subst (λ (what : List Text). AddsTokenOf (record { db = c.args.self.db; who = c.args.self.who; at = c.args.self.at; what = what }) c.args.self.user c.args.token)
+    subst (λ (what : List Text). AddsTokenOf (record { db = c.args.self.db; existing = c.args.self.existing; who = c.args.self.who; at = c.args.self.at; what = what }) c.args.self.user c.args.token)
     (sym c.in_ok-what.ensures) (adds_token c.args.self c.args.token)
