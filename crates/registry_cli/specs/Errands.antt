@@ -16,7 +16,6 @@ use Rattle.registry_cli.specs.Subcommands.{bare, connections, flag, number, numb
 use Rattle.registry_cli.specs.declared.errands.Errand.{Errand}
 use Rattle.registry_cli.specs.declared.errands.Errand.TheVariants.{Init, TokenNew, Check, Backup, Restore, Stop, Serve}
 use Rattle.registry_cli.specs.declared.errands.NewToken.{NewToken}
-use Rattle.registry_cli.specs.declared.errands.Serving.{Serving}
 use Rattle.registry_cli.specs.declared.meaning.Line.{Line}
 use Rattle.registry_cli.specs.declared.meaning.Who.{Who}
 use Rattle.registry_cli.specs.declared.meaning.Who.TheVariants.{Operator, User, Anonymous}

@@ -1,6 +1,6 @@
 -- The program's own table of subcommands is that of the definition.
 use Rattle.std.specs.Borrow.{Bor}
-use Rattle.std.specs.Prelude.{List, map, true}
+use Rattle.std.specs.Prelude.{List, map}
 use Rattle.clap.specs.Walk.{Rule, Text}
 use Rattle.registry_cli.specs.Subcommands.{flag, number, numbers, option, optional, required, with_default}
 use Rattle.registry_cli.specs.declared.subcommand.Need.{Need}
