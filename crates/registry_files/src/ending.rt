@@ -1,5 +1,8 @@
 //! Why the program ends without an answer.
 
+ghost use Rattle.std.specs.Prelude.{◌≡◌};
+ghost use Rattle.registry_files.specs.Asked.{ending_of, stopping};
+
 use registry_cli::Usage;
 use registry_names::{Fault, ReadStop, Refusal, Stop, Text, WriteFailed};
 use std::alloc::AllocError;
@@ -118,6 +121,8 @@ pub enum Obstacle {
 }
 
 impl From<Fault> for Ending {
+    ghost from_gives = { λ fault e. e ≡ ending_of fault };
+
     fn from(fault: Fault) -> Ending {
         Ending::Fault(Failure::Registry(fault))
     }
@@ -139,6 +144,8 @@ impl From<Usage> for Ending {
 }
 
 impl From<Stop> for Ending {
+    ghost from_gives = { λ stop e. e ≡ stopping stop };
+
     fn from(stop: Stop) -> Ending {
         match stop {
             Stop::Refused(refusal) => Ending::Refused(refusal),

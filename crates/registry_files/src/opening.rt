@@ -1,6 +1,6 @@
 //! Opening the file that keeps the registry, and letting go of it.
 
-ghost use Rattle.std.specs.Prelude.{◌≡◌, ◌↔◌, IfOk, IsTrue};
+ghost use Rattle.std.specs.Prelude.{◌≡◌, ◌↔◌, IfErr, IfOk, IsTrue};
 ghost use Rattle.sqlite.specs.Closing.{IsCopied};
 ghost use Rattle.sqlite.specs.Files.{file_state};
 ghost use Rattle.sqlite.specs.Held.{state};
@@ -8,6 +8,7 @@ ghost use Rattle.sqlite_wal.specs.Files.{image_at};
 ghost use Rattle.sqlite_wal.specs.Reads.{AreClean};
 ghost use Rattle.registry_desk.specs.Opened.{HoldsEach, HoldsFound, IsFreshIfEmpty};
 ghost use Rattle.registry_desk.specs.Resting.{Rests};
+ghost use Rattle.registry_files.specs.Asked.{IsUnopened};
 ghost use Rattle.registry_files.specs.Copies.{IsOlder};
 ghost use Rattle.registry_files.specs.Heads.{magic};
 
@@ -51,6 +52,7 @@ pub fn open_once<S: Begins>(
     ensures found { IfOk result (λ r. HoldsFound (image_at S.Start) (file_state r)) }
     ensures each { IfOk result (λ r. HoldsEach (image_at S.Start) (file_state r)) }
     ensures empty { IfOk result (λ r. IsFreshIfEmpty (image_at S.Start) (file_state r)) }
+    ensures unopened { IfErr result IsUnopened }
 {
     match Registry::open(rt, path, S::begin()) {
         Ok(registry) => Ok(registry),
@@ -60,7 +62,9 @@ pub fn open_once<S: Begins>(
 }
 
 /// Why the file at the path wasn't opened. Where it opens now, another process had it.
-pub fn unopened<S: Begins>(rt: &HostRuntime, path: &str) -> Ending {
+pub fn unopened<S: Begins>(rt: &HostRuntime, path: &str) -> Ending
+    ensures { IsUnopened result }
+{
     let seen = seen_obstacle(rt, path);
     let obstacle = match Registry::open(rt, path, S::begin()) {
         Ok(_registry) => Obstacle::Busy,

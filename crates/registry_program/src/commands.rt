@@ -1,7 +1,8 @@
 //! What the program does when it is given arguments.
 
-ghost use Rattle.std.specs.Prelude.{◌≡◌, false};
+ghost use Rattle.std.specs.Prelude.{◌≡◌, IfOk, false, unwrap_or};
 ghost use Rattle.registry_cli.specs.Lines.{IsWhole, asks_to_serve};
+ghost use Rattle.registry_program.specs.Commands.{AsksFor, AsksLine, Prints, PrintsAnswer};
 
 use crate::errands::run_errand;
 use crate::moment::read_moment;
@@ -57,6 +58,10 @@ fn answer_line<S: Begins, R: Registries, I: ByteIn, O: ByteOut, E: ByteOut>(
     errors: &mut E,
 ) -> Result<u8, Ending>
     requires whole { IsWhole line.now.what }
+    ensures turn { asks_to_serve line.now.what ≡ false → IfOk result (λ status.
+        PrintsAnswer R.asks line.now (O.bytes output.old) (O.bytes output.new)
+        (O.is_unknown output.new) (E.bytes errors.old) (E.bytes errors.new) (E.is_unknown errors.new)
+        status) }
 {
     if line.asks_to_serve() {
         return serve::<S, _, _>(rt, alloc, line, output, errors);
@@ -98,6 +103,9 @@ fn print_answer<R: Registries, O: ByteOut, E: ByteOut>(
 ) -> Result<u8, Ending>
     requires whole { IsWhole line.now.what }
     requires asks { asks_to_serve line.now.what ≡ false }
+    ensures turn { IfOk result (λ status. PrintsAnswer R.asks line.now (O.bytes output.old)
+        (O.bytes output.new) (O.is_unknown output.new) (E.bytes errors.old) (E.bytes errors.new)
+        (E.is_unknown errors.new) status) }
 {
     match ask_line(rt, alloc, registries, line, arguments, given) {
         Ok(answer) => print_given(alloc, answer, output, errors),
@@ -110,7 +118,11 @@ fn print_given<O: ByteOut, E: ByteOut>(
     answer: Answer,
     output: &mut O,
     errors: &mut E,
-) -> Result<u8, Ending> {
+) -> Result<u8, Ending>
+    ensures prints { IfOk result (λ status. Prints answer (O.bytes output.old) (O.bytes output.new)
+        (O.is_unknown output.new) (E.bytes errors.old) (E.bytes errors.new) (E.is_unknown errors.new)
+        status) }
+{
     match answer {
         Answer::Reply(reply) => Ok(print_reply(&reply, output, errors)?),
         Answer::Sent(bytes) => print_sent(alloc, &bytes, output, errors),
@@ -120,10 +132,10 @@ fn print_given<O: ByteOut, E: ByteOut>(
 /// What a line asks with, besides its words.
 #[derive(Drop)]
 pub struct Given {
-    // The moment that it gives, or else that of the clock.
-    at: Moment,
-    // The bytes of the file that it names, or those of the input that it reads, or none.
-    body: Vec<u8>,
+    /// The moment that it gives, or else that of the clock.
+    pub at: Moment,
+    /// The bytes of the file that it names, or those of the input that it reads, or none.
+    pub body: Vec<u8>,
 }
 
 /// What a line asks with. The clock is read first, and then the file or the input.
@@ -132,14 +144,18 @@ pub fn given_to<I: ByteIn>(
     alloc: Global,
     line: &Line,
     input: &mut I,
-) -> Result<Given, Ending> {
+) -> Result<Given, Ending>
+    ensures { IfOk result (λ given. given.at ≡ unwrap_or line.now.at given.at) }
+{
     let at = asked_at(rt, line)?;
     let body = body_of(rt, alloc, line, input)?;
     Ok(Given { at, body })
 }
 
 /// What a line asks with that reads neither a file nor the input.
-pub fn given_alone(rt: &HostRuntime, alloc: Global, line: &Line) -> Result<Given, Ending> {
+pub fn given_alone(rt: &HostRuntime, alloc: Global, line: &Line) -> Result<Given, Ending>
+    ensures { IfOk result (λ given. given.at ≡ unwrap_or line.now.at given.at) }
+{
     let at = asked_at(rt, line)?;
     let body = Vec::new(alloc);
     Ok(Given { at, body })
@@ -156,6 +172,7 @@ pub fn ask_line<R: Registries>(
 ) -> Result<Answer, Ending>
     requires whole { IsWhole line.now.what }
     requires asks { asks_to_serve line.now.what ≡ false }
+    ensures asks { AsksLine R.asks line.now given.now.body.items given.now.at result }
 {
     let request = request(alloc, line, given)?;
     let question = Question {
@@ -172,6 +189,7 @@ pub fn ask_line<R: Registries>(
 fn request(alloc: Global, line: &Line, given: &Given) -> Result<Request, Ending>
     requires whole { IsWhole line.now.what }
     requires asks { asks_to_serve line.now.what ≡ false }
+    ensures { AsksFor line.now given.now.body.items given.now.at result }
 {
     let (who, what) = action_of(alloc, line, &given.body)?;
     let at = given.at;
@@ -179,7 +197,9 @@ fn request(alloc: Global, line: &Line, given: &Given) -> Result<Request, Ending>
 }
 
 // When a line asks: at the moment that it gives, or now.
-fn asked_at(rt: &HostRuntime, line: &Line) -> Result<Moment, Ending> {
+fn asked_at(rt: &HostRuntime, line: &Line) -> Result<Moment, Ending>
+    ensures { IfOk result (λ at. at ≡ unwrap_or line.now.at at) }
+{
     match line.at {
         Some(at) => Ok(at),
         None => match read_moment(rt) {

@@ -1,5 +1,14 @@
 //! Registries in files.
 
+ghost use Rattle.std.specs.Prelude.{◌≡◌, Result};
+ghost use Rattle.sqlite.specs.Files.{file_state};
+ghost use Rattle.sqlite.specs.Held.{state};
+ghost use Rattle.sqlite.specs.State.{State as Shown};
+ghost use Rattle.sqlite_wal.specs.Files.{image_at};
+ghost use Rattle.registry_desk.specs.Promises.{Applied};
+ghost use Rattle.registry_files.specs.Asked.{AsksOpened, told};
+ghost use Rattle.registry_http.specs.Services.{shown};
+
 use registry_desk::Registry;
 use registry_files::{Begins, Ending, Registries, open_once};
 use registry_http::RegistryService;
@@ -26,6 +35,8 @@ impl<S: Begins> InFiles<S> {
 }
 
 impl<S: Begins> Registries for InFiles<S> {
+    ghost asks = { AsksOpened (image_at S.Start) };
+
     /// The file is made where there is none.
     fn reply(
         &mut self,
@@ -47,29 +58,38 @@ fn reply_in<D: Disk + Drop>(
     alloc: Global,
     registry: Registry<FileStore<D>>,
     request: &Request,
-) -> Result<Reply, Ending> {
+) -> Result<Reply, Ending>
+    ensures applied { (o : Result Reply Fault) × (after : Shown)
+        × Applied (file_state registry) after request.now o × (result ≡ told o) }
+{
     match outcome_in(alloc, registry, request) {
         Ok(reply) => Ok(reply),
         Err(fault) => Err(Ending::from(fault)),
     }
 }
 
+// The outcome of a request, which is asked of the registry alone.
 fn outcome_in<S: Alter + Drop>(
     alloc: Global,
     registry: Registry<S>,
     request: &Request,
-) -> Result<Reply, Fault> {
+) -> Result<Reply, Fault>
+    ensures applied { (after : Shown) × Applied (state S.Store registry) after request.now result }
+{
     let mut service = RegistryService::new(registry);
     service.answer(alloc, request)
 }
 
-/// The reply of a service, which answers as `Registry::apply` does; its contract has only one
-/// clause.
+/// The reply of a service, which answers as `Registry::apply` does.
 pub fn reply_of<S: Alter>(
     alloc: Global,
     service: &mut RegistryService<S>,
     request: &Request,
-) -> Result<Reply, Ending> {
+) -> Result<Reply, Ending>
+    ensures applied { (o : Result Reply Fault)
+        × Applied (shown S.Store service.old) (shown S.Store service.new) request.now o
+        × (result ≡ told o) }
+{
     match service.answer(alloc, request) {
         Ok(reply) => Ok(reply),
         Err(fault) => Err(Ending::from(fault)),
