@@ -1,3 +1,4 @@
+pub mod AskedFacts
 mod CheckFacts
 mod CopyFacts
 mod LineFacts
