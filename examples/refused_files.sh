@@ -9,7 +9,7 @@
 # other one; the server goes on meanwhile. Then a disk's syncs fail under a server: the publish that
 # meets this is answered by a fault, the server ends with status 3 and says why, and started again it
 # has what was answered. Then the registry's file is one that is none, or that may not be written: each command
-# must say so, as docs/CLI.md has it, and leave every byte. What another SQLite wrote anew is rescued by
+# must say so, as docs/OPERATIONS.md has it, and leave every byte. What another SQLite wrote anew is rescued by
 # tools/rescue. What can't be had here is left out, and
 # the script says so: the full disk needs root and mount, one that fails cc, a file that may not be
 # written setpriv or su where root runs it, another program's file python3. The status is 0 where all else came out. It

@@ -402,6 +402,7 @@ def commands(sizes):
         yield Said(f'command-publish-{shape}', ['publish'], 'plain', f'`publish` of 4 MiB of {shape} beside a server', 'bob',
                    lambda folder, shape=shape: ['--as', 'bob', 'publish', written(folder, publication_of_shape(shape, 'new', '1.0.0'))], spoils=True)
     yield Said('command-backup', ['backup'], 'fat', '`backup` beside a server', 'the operator', lambda folder: ['backup', absent(folder)], spoils=True)
+    yield Said('command-init', ['init'], 'plain', '`init` where a file is there already, of its own process', 'the operator', ['init'], (3,), spoils=True, alone=True)
     yield Said('command-restore', ['restore'], 'fat', '`restore`, of its own process', 'the operator', lambda folder: ['restore', copied(folder)], spoils=True, alone=True)
     yield Said('command-serve', ['serve'], 'fat', 'a start, of its own process: `tags`, which opens the file', 'the operator', ['tags', 'kit'], spoils=True, alone=True)
 
