@@ -125,7 +125,8 @@ is_lost() {
 the registry's file isn't there or is empty" ] && [ ! -s "$work/out" ]
 }
 try 'a lost file is a fault where it has to be there' is_lost
-try 'of which neither a socket nor a file is left' eval 'is_gone && [ -z "$(ls -d "$work"/lost* 2> /dev/null)" ]'
+leaves_none() { is_gone && [ -z "$(find "$work" -name 'lost*')" ]; }
+try 'of which neither a socket nor a file is left' leaves_none
 
 # ---- stops
 
