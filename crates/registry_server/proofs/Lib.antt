@@ -13,5 +13,6 @@ mod HeldFacts
 mod RemainderFacts
 mod WokenFacts
 mod QueryFacts
+pub mod RoundFacts
 mod ComingFacts
 mod OutgoingFacts

@@ -5,5 +5,6 @@ pub mod Listening
 pub mod Phases
 pub mod Pools
 pub mod Queries
+pub mod Rounds
 pub mod Sockets
 pub mod Worlds

@@ -2,9 +2,11 @@
 
 ghost use Rattle.registry_server.specs.Phases.{BytesGive, EnteredEndsInTime, NeverGiveMore, NewPhasesEndInTime, PaidEndsInTime, ResponseTimePasses, StagesGiveNone, WaitedEndsInTime, WaitsGiveNone};
 ghost use Rattle.registry_server.specs.Pools.{AllHoldLittle, AllIdleEndsLeaveFew, AllIdleEndsLeaveLittle, AllIdleEndsLeaveRest, EndsLeaveFew, EndsLeaveLittle, EndsLeaveRest, FinishesLeaveFew, FinishesLeaveLittle, FinishesLeaveRest, HoldsAskQueries, HoldsKeepCommands, IdleEndsLeaveFew, IdleEndsLeaveLittle, IdleEndsLeaveRest, NewConnectionsLeaveFew, NewConnectionsLeaveLittle, NewConnectionsLeaveRest, NewPoolHoldsLittle, NewPoolReadsFew, NewPoolRests, NewcomersEndIdle, NewcomersLeaveBusy, QueriesAreAnswers, RoundsHoldLittleMore, RoundsLeaveLittle, RoundsReadFew, ServersHoldLittle, StopsEndIdle, StopsLeaveUnderWay, UnreadHoldLittle, VisitsLeaveRest, WakesLeaveFew, WakesLeaveLittle, WakesLeaveRest, WantOfRoomEndsIdle, WhoWaitsHasBegun};
+ghost use Rattle.registry_server.specs.Rounds.{RoundsAskInTurns};
 ghost use Rattle.registry_service.specs.Turns.{spoken};
 ghost use Rattle.registry_server.specs.Worlds.{Begins, Comes, Finishes, Lasts, Sends, Shuts, Starves, TakesTurns, VisitsLead};
 
+use crate::guests::Guests;
 use crate::socket::Socket;
 use registry_service::HttpService;
 
@@ -130,4 +132,11 @@ pub fn held_servers_ask_queries<S: Socket, D: HttpService>()
 pub fn held_servers_keep_commands<S: Socket, D: HttpService>()
     ensures waits { HoldsKeepCommands S.received S.sent S.has_none S.is_full S.has_more S.is_ended S.is_broken D.speaks D.answers D.over }
     ensures comes { NewcomersLeaveBusy S }
+{}
+
+/// All that a server asks of its service, from its beginning to its end (`asks` of `Server::run_beside`),
+/// it asks in turns of connections and in visits of guests, each at what all earlier ones left. In
+/// between the service may only look something up.
+pub fn servers_ask_in_turns<S: Socket, D: HttpService, G: Guests>()
+    ensures { RoundsAskInTurns S.received S.sent S.has_none S.is_full S.has_more S.is_ended S.is_broken D.speaks D.answers D.over (G.visits D.answers D.over) }
 {}

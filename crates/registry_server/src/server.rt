@@ -6,6 +6,7 @@ ghost use Rattle.registry_service.specs.Turns.{AnswersAsBefore};
 ghost use Rattle.registry_server.specs.Listening.{lets_in};
 ghost use Rattle.registry_server.specs.Pools as spec;
 ghost use Rattle.registry_server.specs.Pools.{AreWoken, IsPlaceFor, IsUnderWay, LetsIn, MayHaveOne, ServesQueries, at_place, new_at};
+ghost use Rattle.registry_server.specs.Rounds.{AsksInRounds};
 
 use crate::clocks::{Timer, WallClock};
 use crate::guests::{FIRST_GUEST, GUEST_TOKENS, Guests, NoGuests};
@@ -114,7 +115,10 @@ impl Server {
         at: Moment,
         service: &mut D,
     ) -> io::Result<Ended>
-        ensures { IfOk result (λ ended. ended ≡ spec.why_ended (D.over service.new) false) }
+        ensures why { IfOk result (λ ended. ended ≡ spec.why_ended (D.over service.new) false) }
+        ensures asks { AsksInRounds ⟦<TcpStream as Socket>⟧.received ⟦<TcpStream as Socket>⟧.sent ⟦<TcpStream as Socket>⟧.has_none ⟦<TcpStream as Socket>⟧.is_full
+            ⟦<TcpStream as Socket>⟧.has_more ⟦<TcpStream as Socket>⟧.is_ended ⟦<TcpStream as Socket>⟧.is_broken D.speaks D.answers D.over
+            (⟦<NoGuests as Guests>⟧.visits D.answers D.over) service.old service.new }
     {
         self.run_beside(rt, alloc, at, service, &mut NoGuests)
     }
@@ -135,7 +139,10 @@ impl Server {
         service: &mut D,
         guests: &mut G,
     ) -> io::Result<Ended>
-        ensures { IfOk result (λ ended. ended ≡ spec.why_ended (D.over service.new) (G.stops guests.new)) }
+        ensures why { IfOk result (λ ended. ended ≡ spec.why_ended (D.over service.new) (G.stops guests.new)) }
+        ensures asks { AsksInRounds ⟦<TcpStream as Socket>⟧.received ⟦<TcpStream as Socket>⟧.sent ⟦<TcpStream as Socket>⟧.has_none ⟦<TcpStream as Socket>⟧.is_full
+            ⟦<TcpStream as Socket>⟧.has_more ⟦<TcpStream as Socket>⟧.is_ended ⟦<TcpStream as Socket>⟧.is_broken D.speaks D.answers D.over
+            (G.visits D.answers D.over) service.old service.new }
     {
         self.run_rounds(rt, alloc, at, service, guests)
     }
@@ -149,7 +156,10 @@ impl Server {
         service: &mut D,
         guests: &mut G,
     ) -> io::Result<Ended>
-        ensures { IfOk result (λ ended. ended ≡ spec.why_ended (D.over service.new) (G.stops guests.new)) }
+        ensures why { IfOk result (λ ended. ended ≡ spec.why_ended (D.over service.new) (G.stops guests.new)) }
+        ensures asks { AsksInRounds ⟦<TcpStream as Socket>⟧.received ⟦<TcpStream as Socket>⟧.sent ⟦<TcpStream as Socket>⟧.has_none ⟦<TcpStream as Socket>⟧.is_full
+            ⟦<TcpStream as Socket>⟧.has_more ⟦<TcpStream as Socket>⟧.is_ended ⟦<TcpStream as Socket>⟧.is_broken D.speaks D.answers D.over
+            (G.visits D.answers D.over) service.old service.new }
     {
         let start = Instant::now(rt)?;
         // One goes on while the server is held, and one doesn't.
@@ -220,6 +230,9 @@ impl Server {
             (lets_in self.new.listener.left) self.new.pool.places.items (G.empty guests.new)) }
         ensures shut { OnOk result (G.holds guests.old ≡ false → G.stops guests.old ≡ true
             → lets_in self.new.listener.left ≡ false) }
+        ensures asks { AsksInRounds ⟦<TcpStream as Socket>⟧.received ⟦<TcpStream as Socket>⟧.sent ⟦<TcpStream as Socket>⟧.has_none ⟦<TcpStream as Socket>⟧.is_full
+            ⟦<TcpStream as Socket>⟧.has_more ⟦<TcpStream as Socket>⟧.is_ended ⟦<TcpStream as Socket>⟧.is_broken D.speaks D.answers D.over
+            (G.visits D.answers D.over) service.old service.new }
     {
         if guests.holds() {
             return self.serve_queries(alloc, service, clock, buffer, guests, now);
@@ -263,6 +276,9 @@ impl Server {
         ensures goes_on { IfOk result (λ goes. goes ≡ spec.goes_on (D.over service.new) false
             (lets_in self.new.listener.left) self.new.pool.places.items (G.empty guests.new)) }
         ensures shut { OnOk result (G.stops guests.old ≡ true → lets_in self.new.listener.left ≡ false) }
+        ensures asks { AsksInRounds ⟦<TcpStream as Socket>⟧.received ⟦<TcpStream as Socket>⟧.sent ⟦<TcpStream as Socket>⟧.has_none ⟦<TcpStream as Socket>⟧.is_full
+            ⟦<TcpStream as Socket>⟧.has_more ⟦<TcpStream as Socket>⟧.is_ended ⟦<TcpStream as Socket>⟧.is_broken D.speaks D.answers D.over
+            (G.visits D.answers D.over) service.old service.new }
     {
         if guests.stops() {
             self.stop(guests)?;
