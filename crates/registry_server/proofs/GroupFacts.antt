@@ -1,8 +1,9 @@
 -- Commands that are answered together.
-use Rattle.std.proofs.Common.{◌≡◌, ◌≢◌, ◌<◌, ◌≤◌, ◌+◌, ◌-◌, ◌==◌, ◌++◌, ◌∷◌, ◌∙◌, ◌⊎◌, ◌&&◌, not, [], ℕ, Bool, true, false, List, Option, None, Some, IsSome, drop, get_or, length, set, take, refl, ap, subst, sym, inl, inr, arith, append-nil, append_assoc, length-append}
+use Rattle.std.proofs.Common.{◌≡◌, ◌≢◌, ◌<◌, ◌≤◌, ◌+◌, ◌-◌, ◌==◌, ◌++◌, ◌∷◌, ◌∙◌, ◌⊎◌, ◌&&◌, not, [], ℕ, Bool, true, false, List, Option, None, Some, IsSome, drop, get_or, length, set, sum_by, take, refl, ap, subst, sym, inl, inr, arith, append-nil, append_assoc, length-append}
 use Rattle.std.specs.List.{AllByRecursion}
 use Rattle.std.proofs.lemmas.Bool.{false≢true}
 use Rattle.std.proofs.lemmas.List.{drop-drop, drop-set-lt, drop_all, drop_more, get_or-drop, length-take, take_all, take_more, take_more_set}
+use Rattle.std.proofs.lemmas.List.Sums.{sum_by_push}
 use Rattle.std.specs.Io.KnownBytes.{append_known}
 use Rattle.registry_rules.specs.Actions.{is_command}
 use Rattle.registry_rules.specs.declared.request.Request.{Request}
@@ -22,7 +23,7 @@ use Rattle.registry_service.proofs.LabelFacts.{plain-answers}
 use Rattle.registry_service.proofs.TogetherFacts.{reads-later}
 use Rattle.registry_server.specs.ConnectionStates.{MayTakeTurn, Pending, TakesTurn, pending}
 use Rattle.registry_server.specs.Connections.{AnswersOnce, IsDone, IsLost, LeavesLittle, OpenConnection, SendsDue, Visits, asked_in_answer, asked_in_visit, must_wait}
-use Rattle.registry_server.specs.Groups.{AnswersAside, AnswersNext, AnswersPlace, AnswersPlaces, AreAsked, AreSpelled, AskedEach, IsAsked, IsFirst, IsNotNext, IsStill, SetsPlaceAside, VisitsFirst, VisitsOrSetsAside, in_order}
+use Rattle.registry_server.specs.Groups.{AddsLeaveWithin, AnswersAside, AnswersNext, AnswersPlace, AnswersPlaces, AreAsked, AreSpelled, AskedEach, EmptyGroupsAreWithin, GroupsHoldLittle, IsAsked, IsFirst, IsNotNext, IsStill, IsWithin, SetsPlaceAside, VisitsFirst, VisitsOrSetsAside, in_order, used_in}
 use Rattle.registry_server.specs.Phases.{SentAt, entered, takes_turns}
 use Rattle.registry_server.specs.Pools.{IsOneCommand, VisitsAll, VisitsAt, VisitsIf, VisitsLater, VisitsOne, VisitsThere, after_visit, asked_if, asked_there, is_held_back, is_to_visit, with_connection}
 use Rattle.registry_server.specs.declared.connection.Visit.{Visit}
@@ -220,7 +221,30 @@ not-over true is = absurd (false≢true is)
 not-over false is = refl
 
 pub still : (g : Group) → IsStill g g
-still g = record { commands = refl; requests = refl; outcomes = refl }
+still g = record { commands = refl; requests = refl; outcomes = refl; room = refl }
+
+-- ---- how many bytes commands take
+
+abbrev used : List Command → ℕ
+used cs = sum_by (λ (c : Command). c.used) cs
+
+pub empty-within : EmptyGroupsAreWithin
+empty-within g empty =
+    let none : used_in g ≡ 0 = ap used empty.commands in
+    omega (arith, none, empty.room)
+
+pub adds-within : AddsLeaveWithin
+adds-within old new c r adds within =
+    let more : used_in new ≡ used_in old + c.used = ap used adds.commands ∙ sum_by_push (λ (c : Command). c.used) old.commands.items c in
+    omega (arith, more, adds.room, within)
+
+still-within : (g h : Group) → IsStill g h → IsWithin g → IsWithin h
+still-within g h still within =
+    let same : used_in h ≡ used_in g = ap used still.commands in
+    omega (arith, same, still.room, within)
+
+pub groups-hold_little : GroupsHoldLittle
+groups-hold_little g within = omega (arith, within)
 
 module _ {S : Type 0} (received sent : S → Option (List ℕ)) (has_none is_full has_more is_ended is_broken : S → Bool) (speaks : Dialect) {D : Type 0} (answers : Answering D) (over : D → Bool) where
   -- what the commands ask
@@ -454,6 +478,12 @@ module _ {S : Type 0} (received sent : S → Option (List ℕ)) (has_none is_ful
   many-step paused crowd now most i p q g h m N r1 r2 (inr x) many =
       let more = ap (λ (l : List Command). length l) x.2.commands in
       omega (arith, x.2.outcomes, many, more, length-append g.commands.items (x.0 ∷ []))
+
+  -- the bytes of the commands and the room for more still make the limit
+  pub within-step : (paused crowd : Bool) (now most i : ℕ) (p q : Place S) (g h : Group) (m N : D) (r1 r2 : Option (List ℕ))
+      → VisitsOrSetsAside received sent has_none is_full has_more is_ended is_broken speaks answers over paused crowd now most i p q g h m N r1 r2 → IsWithin g → IsWithin h
+  within-step paused crowd now most i p q g h m N r1 r2 (inl (still, one)) within = still-within g h still within
+  within-step paused crowd now most i p q g h m N r1 r2 (inr x) within = adds-within g h x.0 x.1 x.2 within
 
   -- one more place was passed
   pub first-step : (paused crowd : Bool) (now most : ℕ) (old items : List (Place S)) (i : ℕ) (p q : Place S) (g h : Group) (M m N : D) (r r1 r2 : Option (List ℕ))

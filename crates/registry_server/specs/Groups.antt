@@ -1,5 +1,5 @@
 -- Commands that are set aside in a round of visits, and answered together after its other visits.
-use Rattle.std.specs.Prelude.{◌≡◌, ◌≢◌, ◌≤◌, ◌+◌, ◌++◌, ◌∷◌, ◌⊎◌, ⊤, [], ℕ, Bool, true, false, List, Option, Some, Ok, drop, length, reverse}
+use Rattle.std.specs.Prelude.{◌≡◌, ◌≢◌, ◌≤◌, ◌+◌, ◌++◌, ◌∷◌, ◌⊎◌, ◌&&◌, ⊤, [], ℕ, Bool, true, false, List, Option, Some, Ok, drop, length, nat_le, reverse, sum_by}
 use Rattle.registry_rules.specs.Actions.{is_command}
 use Rattle.registry_rules.specs.declared.request.Request.{Request}
 use Rattle.registry_wire.specs.Spelling.{HasRequest}
@@ -60,22 +60,57 @@ module _ {D : Type 0} (answers : Answering D) where
 
 -- ---- a group
 
+-- a command takes at most this many bytes, or else it isn't set aside
+abbrev pub command_limit : ℕ
+command_limit = 32_768
+
+-- the commands that are answered together take at most this many bytes
+abbrev pub group_limit : ℕ
+group_limit = 1_048_576
+
+-- a command of so many bytes may be set aside, and there is room for it
+abbrev pub has_room : Group → ℕ → Bool
+has_room g bytes = nat_le bytes command_limit && nat_le bytes g.room
+
 pub record IsEmpty (g : Group) : Type 0 where
   pub commands : g.commands.items ≡ []
   pub requests : g.requests.items ≡ []
   pub outcomes : length g.outcomes.items ≡ 0
+  pub room : g.room ≡ group_limit
 
--- a command is added at the end, with what it asks
+-- a command is added at the end, with what it asks, and takes its bytes of the room
 pub record Adds (old new : Group) (c : Command) (r : Request) : Type 0 where
   pub commands : new.commands.items ≡ old.commands.items ++ c ∷ []
   pub requests : new.requests.items ≡ old.requests.items ++ r ∷ []
   pub outcomes : length new.outcomes.items ≡ length old.outcomes.items + 1
+  pub room : c.used + new.room ≡ old.room
 
 -- none is added
 pub record IsStill (old new : Group) : Type 0 where
   pub commands : new.commands.items ≡ old.commands.items
   pub requests : new.requests.items ≡ old.requests.items
   pub outcomes : length new.outcomes.items ≡ length old.outcomes.items
+  pub room : new.room ≡ old.room
+
+-- how many bytes the commands of a group take together
+abbrev pub used_in : Group → ℕ
+used_in g = sum_by (λ (c : Command). c.used) g.commands.items
+
+-- these bytes and the room for more make the limit
+abbrev pub IsWithin : Group → Type 0
+IsWithin g = used_in g + g.room ≡ group_limit
+
+-- so it is at first
+abbrev pub EmptyGroupsAreWithin : Type 0
+EmptyGroupsAreWithin = (g : Group) → IsEmpty g → IsWithin g
+
+-- and still after a command is added
+abbrev pub AddsLeaveWithin : Type 0
+AddsLeaveWithin = (old new : Group) (c : Command) (r : Request) → Adds old new c r → IsWithin old → IsWithin new
+
+-- then the commands take no more than the limit together
+abbrev pub GroupsHoldLittle : Type 0
+GroupsHoldLittle = (g : Group) → IsWithin g → used_in g ≤ group_limit
 
 -- the outcomes of the commands, in their order
 abbrev pub in_order : Group → List Outcome
@@ -110,10 +145,11 @@ module _ {S : Type 0} (received sent : S → Option (List ℕ)) {D : Type 0} (an
     pub ends : IsDone old.state → new.is_over ≡ true → new.state.held ≡ []
     pub leaves : (last : OpenConnection S) → LeavesRest new.state.held last → LeavesLittle most old → LeavesLittle most last
 
-  -- The same, and the first request that is held is a command, which is set aside.
+  -- The same, and the first request that is held is a small command, which is set aside.
   pub record SetsAside (now most : ℕ) (old new : OpenConnection S) (number : ℕ) (c : Command) (r : Request) : Type 0 where
     pub ready : IsReady now most old new
     pub first : IsFirst answers.speaks new.state.held c
+    pub small : c.used ≤ command_limit
     pub spelled : IsSpelled c r
     pub place : c.number ≡ number
 

@@ -1,10 +1,10 @@
 //! One open connection.
 
-ghost use Rattle.std.specs.Prelude.{◌≡◌, ◌≢◌, [], ℕ, List, Option, None, Some, true, false, IfOk, IsSome, OnOk, OnErr, length};
+ghost use Rattle.std.specs.Prelude.{◌≡◌, ◌≤◌, ◌≢◌, [], ℕ, List, Option, None, Some, true, false, IfOk, IsSome, OnOk, OnErr, length};
 ghost use Rattle.registry_wire.specs.Spelling.{IsUnfinished};
 ghost use Rattle.registry_server.specs.ConnectionStates.{Does, MayTakeTurn, fresh};
 ghost use Rattle.registry_server.specs.Connections.{AnswersOnce, Drops, IsDone, IsLost, LeavesLittle, LeavesRest, Receives, SendsDue, StarvesOnce, Visits, body_since, connected, finishing, has_body, is_answered, may_command, must_wait, stage_after, waiting};
-ghost use Rattle.registry_server.specs.Groups.{Adds, AnswersAside, IsFirst, IsReady, IsSpelled, IsStill, SetsAside};
+ghost use Rattle.registry_server.specs.Groups.{Adds, AnswersAside, IsFirst, IsReady, IsSpelled, IsStill, SetsAside, command_limit};
 ghost use Rattle.registry_server.specs.Phases as phases;
 ghost use Rattle.registry_service.specs.Turns.{spoken};
 ghost use Rattle.registry_server.specs.Queries.{queries};
@@ -238,7 +238,7 @@ impl<S: Socket> Connection<S> {
     ) -> bool
         ensures stays { self.new ≡ self.old }
         ensures aside { result ≡ true → (c : Command) × (r : Request) × Adds group.old group.new c r
-            × IsFirst D.speaks self.old.state.held c × IsSpelled c r × (c.number ≡ number) }
+            × IsFirst D.speaks self.old.state.held c × IsSpelled c r × (c.number ≡ number) × (c.used ≤ command_limit) }
         ensures still { result ≡ false → IsStill group.old group.new }
     {
         if !group.has_room(self.held_len()) {

@@ -1,6 +1,7 @@
 //! Commands that are answered together.
 
 ghost use Rattle.std.specs.Prelude.{◌≡◌, ◌+◌, ◌++◌, ◌∷◌, [], None, false, true, length, IfOk, IfSome, if◌then◌else◌};
+ghost use Rattle.registry_server.specs.Groups as spec;
 ghost use Rattle.registry_server.specs.Groups.{Adds, AreAsked, AreSpelled, AskedEach, IsEmpty, IsNotNext, IsStill, Takes, in_order};
 
 use crate::pool::CONNECTION_COUNT;
@@ -67,17 +68,21 @@ impl Group {
     }
 
     /// Whether a command may be added where a connection holds this many bytes.
-    pub fn has_room(&self, held: usize) -> bool {
+    pub fn has_room(&self, held: usize) -> bool
+        ensures { result ≡ spec.has_room self.now held }
+    {
         held <= COMMAND_LIMIT && held <= self.room
     }
 
-    /// Adds a command, and what it asks. False where there is no memory for it, and then it isn't
-    /// added.
+    /// Adds a command, and what it asks. False where there is no room or no memory for it, and then it
+    /// isn't added.
     pub fn add(&mut self, command: Command, request: Request) -> bool
         ensures added { result ≡ true → Adds self.old self.new command request }
         ensures full { result ≡ false → IsStill self.old self.new }
     {
-        let used = command.used;
+        let Some(room) = self.room.checked_sub(command.used) else {
+            return false;
+        };
         if self.requests.push(request).is_err() {
             return false;
         }
@@ -85,7 +90,7 @@ impl Group {
             let _request = self.requests.pop();
             return false;
         }
-        self.room = self.room.saturating_sub(used);
+        self.room = room;
         true
     }
 
@@ -96,6 +101,7 @@ impl Group {
         ensures outcomes { length self.new.outcomes.items
             ≡ (if result then length self.old.outcomes.items + 1 else length self.old.outcomes.items) }
         ensures requests { self.new.requests ≡ self.old.requests }
+        ensures room { self.new.room ≡ self.old.room }
     {
         if self.outcomes.push(Err(Fault::Memory)).is_err() {
             return false;

@@ -1,6 +1,7 @@
 //! Laws of connections. Each is the contract of a function that does nothing.
 
 ghost use Rattle.registry_server.specs.Phases.{BytesGive, EnteredEndsInTime, NeverGiveMore, NewPhasesEndInTime, PaidEndsInTime, ResponseTimePasses, StagesGiveNone, WaitedEndsInTime, WaitsGiveNone};
+ghost use Rattle.registry_server.specs.Groups.{AddsLeaveWithin, EmptyGroupsAreWithin, GroupsHoldLittle};
 ghost use Rattle.registry_server.specs.Pools.{AllHoldLittle, AllIdleEndsLeaveFew, AllIdleEndsLeaveLittle, AllIdleEndsLeaveRest, EndsLeaveFew, EndsLeaveLittle, EndsLeaveRest, FinishesLeaveFew, FinishesLeaveLittle, FinishesLeaveRest, HoldsAskQueries, HoldsKeepCommands, IdleEndsLeaveFew, IdleEndsLeaveLittle, IdleEndsLeaveRest, NewConnectionsLeaveFew, NewConnectionsLeaveLittle, NewConnectionsLeaveRest, NewPoolHoldsLittle, NewPoolReadsFew, NewPoolRests, NewcomersEndIdle, NewcomersLeaveBusy, QueriesAreAnswers, RoundsHoldLittleMore, RoundsLeaveLittle, RoundsReadFew, ServersHoldLittle, StopsEndIdle, StopsLeaveUnderWay, UnreadHoldLittle, VisitsLeaveRest, WakesLeaveFew, WakesLeaveLittle, WakesLeaveRest, WantOfRoomEndsIdle, WhoWaitsHasBegun};
 ghost use Rattle.registry_server.specs.Rounds.{RoundsAskInTurns};
 ghost use Rattle.registry_service.specs.Turns.{spoken};
@@ -115,6 +116,15 @@ pub fn connections_hold_little<S: Socket, D: HttpService>()
     ensures unread { UnreadHoldLittle S }
     ensures all { AllHoldLittle S }
     ensures servers { ServersHoldLittle S }
+{}
+
+/// Commands that are answered together take little: the bytes that they take and the room that is left
+/// make 1,048,576. This holds of an empty group, and each command that is added keeps it so. So they
+/// take at most as many together (`most`).
+pub fn groups_hold_little()
+    ensures begins { EmptyGroupsAreWithin }
+    ensures adds { AddsLeaveWithin }
+    ensures most { GroupsHoldLittle }
 {}
 
 /// While a server is held, its service is asked only queries, however many rounds that takes

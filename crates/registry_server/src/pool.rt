@@ -3,7 +3,7 @@
 ghost use Rattle.std.specs.Prelude.{◌≡◌, ◌≢◌, ◌&&◌, ℕ, List, Option, None, Some, true, false, IfOk, IsSome, is_none, length, map, not, position, replicate};
 ghost use Rattle.std.specs.List.{list_all, list_any};
 ghost use Rattle.registry_server.specs.Connections.{IsDone, IsLost, LeavesLittle, Visits, may_command, must_wait};
-ghost use Rattle.registry_server.specs.Groups.{Adds, AnswersNext, AnswersPlace, AnswersPlaces, AreSpelled, AskedEach, IsEmpty, IsStill, SetsAside, VisitsFirst, VisitsOrSetsAside, in_order};
+ghost use Rattle.registry_server.specs.Groups.{Adds, AnswersNext, AnswersPlace, AnswersPlaces, AreSpelled, AskedEach, IsEmpty, IsStill, IsWithin, SetsAside, VisitsFirst, VisitsOrSetsAside, in_order};
 ghost use Rattle.registry_server.specs.Pools as spec;
 ghost use Rattle.registry_server.specs.Pools.{ChoosesIf, ChoosesNext, EndsIdle, IsFirstOfEarliest, IsPlaceFor, LooksAtBodies, VisitsRound, at_place, idle_times, new_at, place_count, waiting_times};
 ghost use Rattle.registry_service.specs.HttpAnswers.{Outcome};
@@ -579,6 +579,7 @@ impl<S: Socket> ConnectionPool<S> {
             D.speaks (answering commands_wait D.answers) D.over commands_wait is_crowd now (length buffer.old) 0 self.old.places.items self.new.places.items
             self.new.group.commands.items self.new.group.requests.items service.old service.new (C.readings clock.old) (C.readings clock.new) }
         ensures many { length self.new.group.outcomes.items ≡ length self.new.group.commands.items }
+        ensures within { IsWithin self.new.group }
     {
         self.group.clear();
         visit_places(
@@ -683,6 +684,7 @@ fn visit_places<S: Socket, D: HttpService, C: Clock>(
         D.speaks (answering commands_wait D.answers) D.over commands_wait is_crowd now (length buffer.old) 0 places.old places.new
         group.new.commands.items group.new.requests.items service.old service.new (C.readings clock.old) (C.readings clock.new) }
     ensures many { length group.new.outcomes.items ≡ length group.new.commands.items }
+    ensures within { IsWithin group.new }
 {
     for (number, place) in places.iter_mut().enumerate() {
         place.visit(

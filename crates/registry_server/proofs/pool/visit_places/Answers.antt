@@ -4,7 +4,7 @@ use Rattle.registry_server.specs.declared.group.Command.{Command}
 use Rattle.registry_server.specs.declared.pool.Place.{Place}
 use Rattle.registry_server.specs.Groups.{VisitsFirst, VisitsOrSetsAside}
 use Rattle.registry_server.specs.Queries.{answering}
-use Rattle.registry_server.proofs.GroupFacts.{first-step, many-step, same-here}
+use Rattle.registry_server.proofs.GroupFacts.{empty-within, first-step, many-step, same-here, within-step}
 use Rattle.registry_server.proofs.PoolFacts.{rest-step}
 use Rattle.registry_server.proofs.pool.visit_places.Goals as goal
 
@@ -12,6 +12,7 @@ pub loop-number-init : goal.loop-number-init
 loop-number-init g c = record {
   visited = (c.requires.commands, c.requires.requests, refl, refl);
   many = c.requires.outcomes ∙ sym (ap (λ (l : List Command). length l) c.requires.commands);
+  within = empty-within c.args.group.now c.requires;
   rest = refl;
 }
 
@@ -30,6 +31,7 @@ loop-number-preserved g c =
       visited = first-step socket.received socket.sent socket.has_none socket.is_full socket.has_more socket.is_ended socket.is_broken g.D.HttpService.speaks asked g.D.Service.over c.args.commands_wait c.args.is_crowd c.args.now (length c.args.buffer.now) old items i here c.visit.new.self c.loop-number.group c.visit.new.group _ _ _ _ _ _ within len
           (same-here old items i here c.loop-number.invariant.rest (ap (λ (p : Place g.row.S.Denot). get_or items i p) c.index-places-number.is)) c.loop-number.invariant.visited one;
       many = many-step socket.received socket.sent socket.has_none socket.is_full socket.has_more socket.is_ended socket.is_broken g.D.HttpService.speaks asked g.D.Service.over c.args.commands_wait c.args.is_crowd c.args.now (length c.args.buffer.now) i here c.visit.new.self c.loop-number.group c.visit.new.group _ _ _ _ one c.loop-number.invariant.many;
+      within = within-step socket.received socket.sent socket.has_none socket.is_full socket.has_more socket.is_ended socket.is_broken g.D.HttpService.speaks asked g.D.Service.over c.args.commands_wait c.args.is_crowd c.args.now (length c.args.buffer.now) i here c.visit.new.self c.loop-number.group c.visit.new.group _ _ _ _ one c.loop-number.invariant.within;
       rest = rest-step old items i _ c.loop-number.invariant.rest;
     }
 

@@ -9,12 +9,12 @@ returns-in-Done-clause-visits g c = λ visit same. c.in-Done.ensures.visits (λ 
 
 pub returns-in-Ready-clause-aside : goal.returns-in-Ready-clause-aside
 returns-in-Ready-clause-aside g c = λ none.
-    let (command, request, adds, first, spelled, place) = c.set_aside.ensures.aside c.if-set_aside.true in (
+    let (command, request, adds, first, spelled, place, small) = c.set_aside.ensures.aside c.if-set_aside.true in (
       command,
       request,
       adds,
       subst (λ (new : OpenConnection g.row.S.Denot). SetsAside g.S.Socket.received g.S.Socket.sent (spoken g.D.HttpService.speaks g.D.Service.answers) c.args.now (length c.args.buffer.now) c.args.self.now new c.args.number command request) (sym c.set_aside.ensures.stays)
-          (record { ready = c.in-Ready.ensures.ready refl; first = first; spelled = spelled; place = place }),
+          (record { ready = c.in-Ready.ensures.ready refl; first = first; small = small; spelled = spelled; place = place }),
     )
 
 pub returns-in-Ready-2-clause-visits : goal.returns-in-Ready-2-clause-visits
