@@ -1,5 +1,5 @@
 -- What a server asks in rounds.
-use Rattle.std.proofs.Common.{◌≡◌, ◌⊎◌, ◌∷◌, ◌==◌, ◌&&◌, not, [], ℕ, Bool, true, false, List, Option, None, Some, refl, sym, subst, inl, inr}
+use Rattle.std.proofs.Common.{◌≡◌, ◌∷◌, ◌==◌, ◌&&◌, not, [], ℕ, Bool, true, false, List, Option, None, Some, refl, sym, subst, inl, inr}
 use Rattle.registry_service.specs.Turns.{Answering, AnswersAsBefore, Cause, Dialect, Turns, spoken}
 use Rattle.registry_service.specs.declared.turning.Turned.{Turned}
 use Rattle.registry_server.specs.Connections.{OpenConnection, Visits}
