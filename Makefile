@@ -11,7 +11,7 @@ EVERY := 1
 JOBS := 1
 SECONDS := 600
 
-.PHONY: help demo quick run build test check stories stops plants docs fmt npm npm-team front fronts beside log socket kill files older page limits large prices soak starve fuzz bench compare house copy installs examples kit
+.PHONY: help demo quick run build test check stories stops plants docs fmt npm npm-team front fronts names beside log socket image kill files older page limits large prices soak starve fuzz bench compare house copy installs examples kit
 
 help:
 	@echo 'Build:'
@@ -34,9 +34,11 @@ help:
 	@echo '  make npm-team runs all that npm offers a team, directly and through nginx: 4 minutes; it needs nginx'
 	@echo '  make front    the same through nginx with TLS, hostile clients, public packages: 3 minutes; it needs nginx'
 	@echo '  make fronts   a further front that keeps answers and asks before each use: a minute; it needs nginx'
+	@echo '  make names    names that mean something to nginx, on the list of the house: a minute; it needs nginx and sqlite3'
 	@echo '  make page     looks at the page through nginx in headless Chromium: 4 minutes; it needs both'
 	@echo '  make beside   runs commands beside a server, and kills, halts and stops it meanwhile: 4 minutes'
 	@echo '  make socket   serves at a Unix socket: who may connect, takeovers, stops: ten seconds'
+	@echo '  make image    makes the root of a container image, and serves in it: ten seconds; it needs root'
 	@echo '  make log      keeps a log of requests: moves it away, and fills its disk: half a minute'
 	@echo '  make kill     kills a server 500 times while 16 clients publish at once: 7 minutes'
 	@echo '  make files    fills a disk, opens files that hold no registry, and restores copies'
@@ -91,6 +93,9 @@ front: out/registry
 fronts: out/registry
 	@examples/fronts.sh out/registry
 
+names: out/registry
+	@examples/names.sh out/registry
+
 page: out/registry
 	@examples/page.sh out/registry
 
@@ -99,6 +104,9 @@ beside: out/registry
 
 log: out/registry
 	@examples/log.sh out/registry
+
+image: out/registry
+	@examples/image.sh out/registry
 
 socket: out/registry
 	@examples/socket.sh out/registry

@@ -11,14 +11,16 @@
 # certificates, nginx's files, and the configurations and caches of npm and yarn. Each try prints a
 # line, and the last line is `N passed, 0 failed`, with status 0, or the status is 1.
 #
-# Nothing is installed. It needs nginx, npm, node, openssl, curl and tar (Debian: apt-get install
-# nginx npm openssl curl), and tries classic yarn where the path has yarn 1.x or yarnpkg (Debian:
-# apt-get install yarnpkg). nginx need not run as root, nor be set up.
+# Nothing is installed. It needs nginx with its module headers-more, npm, node, openssl, curl and tar
+# (Debian: apt-get install nginx libnginx-mod-http-headers-more-filter npm openssl curl), and tries classic
+# yarn where the path has yarn 1.x or yarnpkg (Debian: apt-get install yarnpkg). nginx need not run as root,
+# nor be set up.
 set -eu
 
 name=front.sh
 # shellcheck source=examples/front_ground.sh
 . "$(dirname "$0")/front_ground.sh"
+needs_headers_more
 
 # npm to the registry itself, without the front.
 directly() {
@@ -57,6 +59,8 @@ begin_front "$work/nginx"
 front=$!
 wait_for ask "$address/-/ping" || give_up "nginx does not answer: $(cat "$work/nginx/error.log" "$work/out")"
 say "the program is $program; $(nginx -v 2>&1), npm $(npm --version), node $(node --version)"
+
+has_E() { grep -q -E -- "$1" "$work/out"; }
 
 # ---- the way through
 
@@ -279,19 +283,14 @@ try 'without a token a restricted package is not found' hides
 
 # ---- requests as bytes
 
-# Sends what standard input says, with its escapes, and prints what comes, until the end or until
-# nothing more comes for a second.
+# Sends what standard input says, with its escapes, and prints what comes until the end.
 cat > "$work/raw.js" << 'TEXT'
 const [port, kind] = process.argv.slice(2);
 const text = require("fs").readFileSync(0, "latin1").replace(/\\([rnt])/g, (_, it) => ({ r: "\r", n: "\n", t: "\t" })[it]);
 const socket = kind === "tls" ? require("tls").connect({ port, host: "127.0.0.1", rejectUnauthorized: false }) : require("net").connect(port, "127.0.0.1");
-let timer = setTimeout(() => { console.error("nothing came for 30 s"); process.exit(1); }, 30000);
+setTimeout(() => { console.error("no end came for a minute"); process.exit(1); }, 60000);
 socket.on(kind === "tls" ? "secureConnect" : "connect", () => socket.write(Buffer.from(text, "latin1")));
-socket.on("data", (bytes) => {
-    process.stdout.write(bytes);
-    clearTimeout(timer);
-    timer = setTimeout(() => process.exit(0), 1000);
-});
+socket.on("data", (bytes) => process.stdout.write(bytes));
 socket.on("error", (error) => { console.error(error.message); process.exit(1); });
 socket.on("end", () => process.exit(0));
 TEXT
@@ -325,9 +324,14 @@ also_beside_another() {
 try 'so it is beside another one' also_beside_another
 
 # Lines of the list while the front runs: whether a reload is taken, and what a client gets meanwhile.
-# It is in force when there is a worker that wasn't there before.
+# It is in force when there is a worker that wasn't there before, and no earlier one listens.
 workers() { cat /proc/"$front"/task/*/children | tr ' ' '\n' | sort; }
 has_new_worker() { workers | grep -v -x -F "$old_workers" | grep -q .; }
+has_ended() { ! grep -q nginx "/proc/$1/cmdline" 2> /dev/null || grep -q 'shutting down' "/proc/$1/cmdline"; }
+is_replaced() {
+    has_new_worker || return 1
+    for one in $old_workers; do has_ended "$one" || return 1; done
+}
 signal_front() {
     old_workers=$(workers)
     kill -HUP "$front"
@@ -335,7 +339,7 @@ signal_front() {
 reload() {
     nginx -q -t -e "$work/nginx/error.log" -p "$work/nginx" -c "$work/nginx/nginx.conf" 2> "$work/out" || return 1
     signal_front
-    wait_for has_new_worker && sleep 0.5
+    wait_for is_replaced && sleep 0.2
 }
 twice_is_none() {
     printf '%s 1;\n' npm_bob_leaked.+000001 npm_ann_000000001 npm_ann_000000001 > "$work/nginx/refused"
@@ -441,10 +445,11 @@ unknown_is_401() {
     [ "$(status_of "$address/-/front/caller")" = 404 ] && [ "$(status_of -X POST "$address/-/front/caller")" = 404 ]
 }
 try 'so is each change with such a token; what nginx asks itself nobody else can ask' unknown_is_401
+has_asked() { [ "$(grep -c . "$work/requests.log")" -ge "$1" ]; }
 reads_ask_once() {
     asked_before=$(grep -c . "$work/requests.log")
     ask -o /dev/null "$address/large" && status_of "$address/large" > /dev/null && status_of -X PUT -d '{}' "$address/large" > /dev/null
-    wait_for test "$(grep -c . "$work/requests.log")" -ge $((asked_before + 4))
+    wait_for has_asked $((asked_before + 4))
     tail -n +$((asked_before + 1)) "$work/requests.log" > "$work/out"
     [ "$(grep -c ' GET /large ' "$work/out")" = 2 ] && [ "$(grep -c ' PUT /large ' "$work/out")" = 1 ] && [ "$(grep -c '' "$work/out")" = 4 ]
 }
@@ -459,15 +464,17 @@ try 'no answer can be a page or a script at this address' is_no_page
 
 # ---- what is logged
 
+has_lines() { [ "$(grep -c . "$work/nginx/registry.log")" -ge "$1" ]; }
 logged() {
+    logged_before=$(grep -c . "$work/nginx/registry.log")
     long=$(printf 'x%.0s' $(seq 1 600))
     for target in /-/user/token/npm_bob_000000001 /-/npm/v1/tokens/token/npm_bob_000000001 "/kit?t=npm_$(printf '%040d' 7)&u=npm_bob_000000001" /npm_helper "/$long"; do
         status_of "$address$target" > /dev/null
     done
     status_of -X DELETE "$address/-/user/token/npm_bob_000000001" > /dev/null
     ask -o /dev/null "http://localhost:$plain/-/user/token/npm_bob_000000001"
-    sleep 1
-    tail -n 7 "$work/nginx/registry.log" > "$work/out"
+    wait_for has_lines $((logged_before + 7))
+    tail -n +$((logged_before + 1)) "$work/nginx/registry.log" > "$work/out"
     has '"GET /-/user/token/\*\*\*" 404' && has '"GET /-/npm/v1/tokens/token/\*\*\*" 404' && has '"GET /kit?t=npm_\*\*\*" 404' && has '"GET /npm_helper" 404' &&
         has '"GET /x\{499\}\.\.\." 4' && has '"DELETE /-/user/token/\*\*\*" 404' && has '"GET /-/user/token/\*\*\*" 308' || return 1
     ! grep -q -e npm_bob -e 0000007 "$work/nginx/registry.log" "$work/nginx/access.log"
@@ -522,13 +529,10 @@ fi
 # ---- hostile clients
 
 # Keeps up to so many connections open, each with half a head: where one is closed, another is opened. With
-# ONCE they are opened one after the other, and none again. Says
-# when as many are open as are wanted, and, once the file `enough` is there and fifty were closed by nginx, how
-# long the middle one of those was open.
+# ONCE they are opened one after the other, and none again. Says when as many are open as are wanted.
 cat > "$work/halves.js" << 'TEXT'
-const [port, count, wanted, kind, work] = process.argv.slice(2);
+const [port, count, wanted, kind] = process.argv.slice(2);
 const options = { port, host: "127.0.0.1", rejectUnauthorized: false };
-const lives = [];
 let open = 0;
 let is_told = false;
 const is_once = process.env.ONCE === "yes";
@@ -536,10 +540,10 @@ let left = Number(count);
 const next = () => { if (is_once && left > 0) begin(); };
 const begin = () => {
     left -= 1;
-    let since = 0;
+    let isOpen = false;
     const socket = require(kind).connect(options, () => {
         socket.write("GET / HTTP/1.1\r\nhost: localhost\r\n");
-        since = Date.now();
+        isOpen = true;
         open += 1;
         if (open >= Number(wanted) && !is_told) console.log(`open ${open}`);
         is_told = is_told || open >= Number(wanted);
@@ -547,56 +551,50 @@ const begin = () => {
     });
     socket.on("error", () => {});
     socket.on("close", () => {
-        if (since) {
-            open -= 1;
-            lives.push((Date.now() - since) / 1000);
-        }
-        if (!is_once) setTimeout(begin, since ? 0 : 100);
-        else if (!since) next();
+        if (isOpen) open -= 1;
+        if (!is_once) setTimeout(begin, isOpen ? 0 : 100);
+        else if (!isOpen) next();
     });
 };
 for (let number = 0; number < (is_once ? 1 : Number(count)); number += 1) setTimeout(begin, number);
-setInterval(() => {
-    if (!require("fs").existsSync(`${work}/enough`) || lives.length < 50) return;
-    lives.sort((one, other) => one - other);
-    console.log(`closed ${lives.length} after ${Math.round(lives[Math.floor(lives.length / 2)])}`);
-    process.exit(0);
-}, 200);
 TEXT
 keep_halves() {
-    rm -f "$work/enough"
     : > "$work/halves"
-    node "$work/halves.js" "$@" "$work" > "$work/halves" 2>&1 &
+    node "$work/halves.js" "$@" > "$work/halves" 2>&1 &
     halves=$!
     stand_ins="$stand_ins $halves"
 }
+# How many seconds nginx kept those that it closed, by its own log.
+timed_out() { sed -n 's|.*" 408 [0-9]* \([0-9]*\)\.[0-9]* - .*|\1|p' "$work/nginx/registry.log" | tail -n +$((timed_out_before + 1)); }
+has_timed_out() { [ "$(timed_out | wc -l)" -ge "$1" ]; }
 costs_nobody() {
+    timed_out_before=0
+    timed_out_before=$(timed_out | wc -l)
     keep_halves "$1" 1000 "$2" "$3"
     wait_for grep -q '^open' "$work/halves" || { echo 'there were never so many open' > "$work/out"; return 1; }
     for interface in 127.0.0.1 127.0.0.2; do
         [ "$(ask --max-time 60 --interface $interface -o "$work/out" -w '%{http_code}' "$address/large")" = 200 ] || { cat "$work/halves" >> "$work/out"; return 1; }
     done
-    touch "$work/enough"
-    wait_for grep -q '^closed' "$work/halves" || return 1
-    cp "$work/halves" "$work/out"
-    # Those that were closed were open for 10 s: less as the client saw it, if it was busy, but not much more.
-    seconds=$(sed -n 's/^closed [0-9]* after //p' "$work/halves")
-    [ "$seconds" -ge 5 ] && [ "$seconds" -le 40 ]
+    wait_for has_timed_out 50 || return 1
+    kill "$halves"
+    # The middle one of fifty. It counts from the first bytes, which a busy client sends late.
+    timed_out | head -n 50 | sort -n | sed -n 25p > "$work/out"
+    has_E '^([5-9]|[12][0-9])$'
 }
 try 'a thousand half heads of one address at a time cost nobody an answer, and are closed after 10 s' costs_nobody "$plain" 1000 net
-# A busy machine opens fewer than a hundred of these in a second, so that many are closed meanwhile.
-try 'nor do hundreds of them behind TLS' costs_nobody "$secure" 400 tls
+# A busy machine opens a few dozen of these in a second, so that many are closed meanwhile.
+try 'nor do a hundred of them and more behind TLS' costs_nobody "$secure" 120 tls
 
-# A front that has as few connections as Debian gives it, for as long as nginx lets a head take by itself.
+# A front that has as few connections as Debian gives it, and lets a head take as long as all this does.
 configure "$work/few" "unix:$work/http.sock" "$(nth_port 9)" "$(nth_port 10)"
 sed -i 's/worker_connections 16384/worker_connections 768/' "$work/few/nginx.conf"
-sed -i 's/^client_header_timeout .*/client_header_timeout 60s;/' "$work/few/registry.conf"
+sed -i 's/^client_header_timeout .*/client_header_timeout 1h;/' "$work/few/registry.conf"
 begin_front "$work/few"
 few_address=https://localhost:$(nth_port 10)
 wait_for with_token --fail "$few_address/large" || give_up "the front with few connections does not answer: $(cat "$work/few/error.log" "$work/out")"
 costs_all() {
     ONCE=yes keep_halves "$(nth_port 10)" 1500 700 tls
-    # nginx tells that it has none left. Nothing ends before a minute is over.
+    # nginx tells that it has none left. Nothing ends by itself.
     wait_for grep -q '\[alert\].* worker_connections are not enough' "$work/few/error.log" && wait_for grep -q '^open' "$work/halves" || return 1
     sleep 1
     if ask --max-time 4 --interface 127.0.0.2 -o /dev/null "$few_address/large" 2> "$work/out"; then return 1; fi
@@ -632,8 +630,8 @@ else
     say 'skipped: the firewall, which needs nft, ip and a network namespace (Debian: apt-get install nftables iproute2)'
 fi
 
-# 30 changes at once, and then a read. It says how many changes were answered before the read, and how long
-# all of them took.
+# 90 changes at once, which take nine seconds, and then a read. It says how many changes were answered before
+# the read, and how long all of them took.
 cat > "$work/changes.js" << 'TEXT'
 const [port, work] = process.argv.slice(2);
 const agent = new (require("https").Agent)({ keepAlive: true, rejectUnauthorized: false });
@@ -645,12 +643,12 @@ const ask = (method) => new Promise((done, failed) => {
 (async () => {
     let answered = 0;
     const began = Date.now();
-    const changes = [...Array(30)].map(() => ask("PUT").then(() => { answered += 1; }));
+    const changes = [...Array(90)].map(() => ask("PUT").then(() => { answered += 1; }));
     while (answered < 3) await new Promise((done) => setTimeout(done, 10));
     const status = await ask("GET");
     const before = answered;
     await Promise.all(changes);
-    console.log(status, before < 25 ? "before most of them" : `after ${before}`, Date.now() - began >= 2500 ? "not at once" : `${Date.now() - began} ms`);
+    console.log(status, before < 80 ? "before most of them" : `after ${before}`, Date.now() - began >= 8000 ? "not at once" : `${Date.now() - began} ms`);
     agent.destroy();
 })().catch((error) => { console.error(error.message); process.exit(1); });
 TEXT
@@ -663,11 +661,12 @@ try 'of one address ten changes a second reach the registry, and reading does no
 # ---- a registry that ends connections
 
 # Answers the first request of a connection, and ends the connection at the next one, but for /warm, which
-# takes half a second, and the question who calls. /hang and /waits are
+# waits for six of them, and the question who calls. /hang and /waits are
 # answered never, what the health check asks for with 500, and /whole with 30 MB. Of each request it writes
 # down when it begins to come and when it is there, and when an answer of 30 MB was taken.
 cat > "$work/ending.js" << 'TEXT'
 const [port, log] = process.argv.slice(2);
+const warm = [];
 require("net").createServer((socket) => {
     let seen = 0;
     let text = "";
@@ -692,8 +691,10 @@ require("net").createServer((socket) => {
         if (line.includes("/huge")) {
             answer(200, "x".repeat(100000000));
             socket.on("close", () => say("huge is closed"));
-        } else if (line.includes("/warm")) setTimeout(() => answer(200, "{}"), 500);
-        else if (line.includes("/whole")) answer(200, "x".repeat(30000000), () => say("taken"));
+        } else if (line.includes("/warm")) {
+            warm.push(() => answer(200, "{}"));
+            if (warm.length === 6) warm.splice(0).forEach((one) => one());
+        } else if (line.includes("/whole")) answer(200, "x".repeat(30000000), () => say("taken"));
         else if (line.includes("/dist-tags")) answer(500, "{}");
         else if (seen > 1) socket.destroy();
         else answer(200, "{}");
@@ -711,7 +712,7 @@ ending_front=$!
 wait_for with_token --fail "$ending_address/first" || give_up "the second front does not answer: $(cat "$work/ending/error.log" "$work/out")"
 
 # It is looked at a minute later.
-ask --interface 127.0.0.3 --max-time 90 -o /dev/null -w '%{http_code} %{time_total}' "$ending_address/waits" > "$work/waits" 2>&1 &
+ask --interface 127.0.0.3 --max-time 300 -o /dev/null -w '%{http_code} %{time_total}' "$ending_address/waits" > "$work/waits" 2>&1 &
 waits=$!
 stand_ins="$stand_ins $waits"
 
@@ -793,6 +794,7 @@ held_in_files() {
     echo $((held / 1000000))
 }
 holds_64() { [ "$(held_in_files)" -ge 60 ]; }
+holds_less() { [ "$(held_in_files)" -lt 60 ]; }
 holds_little() {
     node "$work/slow.js" "$(nth_port 8)" takes-nothing /huge > "$work/out" 2>&1 &
     taker=$!
@@ -801,11 +803,12 @@ holds_little() {
     sleep 2
     most=$(held_in_files)
     echo "$most MB" > "$work/out"
-    wait_for grep -q '^huge is closed$' "$work/ending.log" && [ "$most" -le 70 ] && [ "$(held_in_files)" -lt 60 ] && kill "$taker"
+    wait_for grep -q '^huge is closed$' "$work/ending.log" && [ "$most" -le 70 ] && wait_for holds_less && kill "$taker"
 }
 try 'of an answer of 100 MB that a client does not take 64 MiB lie on the disk, and the client is cut off' holds_little
 
 # Hundred requests that are not answered, then one more of the same address and one of another.
+hundred_hang() { [ "$(grep -c '^GET /hang' "$work/ending.log")" = 100 ]; }
 limits_requests() {
     node - "$(nth_port 8)" > "$work/hang" 2>&1 << 'TEXT' &
 const port = Number(process.argv[2]);
@@ -815,12 +818,9 @@ for (let number = 0; number < 100; number += 1) {
 TEXT
     hang=$!
     stand_ins="$stand_ins $hang"
-    for _ in $(seq 1 100); do
-        if [ "$(grep -c '^GET /hang' "$work/ending.log")" = 100 ]; then break; fi
-        sleep 0.1
-    done
-    status=$(ask --max-time 5 -o "$work/out" -w '%{http_code}' "$ending_address/more")
-    other=$(ask --max-time 5 --interface 127.0.0.2 -o "$work/out" -w '%{http_code}' "$ending_address/more")
+    wait_for hundred_hang
+    status=$(ask --max-time 60 -o "$work/out" -w '%{http_code}' "$ending_address/more")
+    other=$(ask --max-time 60 --interface 127.0.0.2 -o "$work/out" -w '%{http_code}' "$ending_address/more")
     kill "$hang"
     echo "$status $other" > "$work/out"
     [ "$status" = 429 ] && [ "$other" = 200 ]
@@ -849,7 +849,8 @@ const acting = { "service-worker-allowed": "/", "set-cookie": "outside=1", link:
     "content-disposition": "inline", "strict-transport-security": "max-age=0", "alt-svc": 'h2="evil.example:443"', "x-frame-options": "ALLOWALL",
     "reporting-endpoints": 'x="https://evil.example/"', nel: "{}", "www-authenticate": "Basic", "npm-notice": "token?", "cache-control": "no-store", vary: "*",
     "permissions-policy": "camera=*", "speculation-rules": '"/x.json"', "x-accel-expires": "0", "x-accel-buffering": "no", "x-accel-limit-rate": "1",
-    "x-accel-charset": "utf-7", expires: "0", sourcemap: "/x.map", "origin-agent-cluster": "?0" };
+    "x-accel-charset": "utf-7", expires: "0", sourcemap: "/x.map", "origin-agent-cluster": "?0", "x-nobody-knows": "1", "9th": "1", _etc: "1",
+    etag: '"theirs"', "last-modified": "Mon, 01 Jan 2024 00:00:00 GMT", "content-encoding": "br", "content-language": "tlh", upgrade: "h2c" };
 const hostile = {
     html: [200, "text/html", "<script>navigator.serviceWorker.register('/script-x')</script>"],
     script: [200, "text/javascript", "self.addEventListener('fetch', () => {})"],
@@ -943,7 +944,6 @@ try 'outside nobody learns a token, a cookie, an address or a session' tells_not
 no_cookie() { with_token -D "$work/out" -o /dev/null "$address/left-pad" && has '^HTTP/[0-9.]* 200' && ! grep -i -q set-cookie "$work/out"; }
 try 'and sets no cookie' no_cookie
 
-has_E() { grep -q -E -- "$1" "$work/out"; }
 # What a hostile public registry answers, as packuments and as archives: its status here, its type, and
 # which fields come at all.
 is_harmless() {
@@ -957,11 +957,10 @@ is_harmless() {
             [ "$(grep -i -c '^content-type:' "$work/head")" = 1 ] && has_E '^Content-Type: application/(json|octet-stream)$' || return 1
             if [ $kind != accel ] && [ $wanted = 200 ]; then has '^Content-Type: application/octet-stream$' || return 1; fi
             has "^Content-Security-Policy: sandbox; default-src 'none'$" && has '^X-Content-Type-Options: nosniff$' || return 1
-            sed -n 's/^\([A-Za-z-]*\):.*/\L\1/p' "$work/out" | sort > "$work/fields"
+            sed -n 's/^\([^: ]*\):.*/\L\1/p' "$work/out" | sort > "$work/fields"
             printf '%s\n' accept-ranges connection content-encoding content-length content-security-policy content-type cross-origin-resource-policy \
-                date etag last-modified server transfer-encoding vary x-content-type-options | sort > "$work/good"
-            # nginx passes on what a 401 asks for, which nobody heeds in a 404.
-            if [ $kind = asks ]; then sed -i '/^www-authenticate$/d' "$work/fields"; fi
+                date server transfer-encoding vary x-content-type-options | sort > "$work/good"
+            if has_E '^(Vary|Content-Encoding): *(\*|br)$'; then return 1; fi
             sort -u "$work/fields" | comm -23 - "$work/good" > "$work/others"
             cat "$work/others" >> "$work/out"
             [ ! -s "$work/others" ] && [ "$(uniq -d "$work/fields" | wc -l)" = 0 ] || return 1
@@ -969,7 +968,17 @@ is_harmless() {
         done
     done
 }
-try 'no answer from outside is a page, a script or a worker here, sets a cookie, redirects, or steers nginx' is_harmless
+try 'no field of an answer from outside passes: it is no page, script or worker here, sets no cookie, and steers nothing' is_harmless
+keeps_no_texts() {
+    for kind in html typeless; do
+        target=/$kind-x/-/$kind-x-2.0.0.tgz
+        for _ in 1 2; do ask -o /dev/null "$address$target"; done
+        grep -c "^GET $target " "$work/outside.log"
+    done > "$work/counts"
+    tr '\n' ' ' < "$work/counts" > "$work/out"
+    has '^2 1 $'
+}
+try 'what comes from outside as a text is not kept' keeps_no_texts
 same_kinds() {
     for kind in 'text/html' 'application/vnd.npm.install-v1+json; q=1.0, */*' 'x/y'; do ask -o /dev/null -H "accept: $kind" "$address/kinds"; done
     grep -c '^GET /kinds ' "$work/outside.log" > "$work/out"
@@ -1048,31 +1057,6 @@ installs_kept() {
 }
 try 'and an install of what was asked for before works, from a clean cache, with and without a lockfile' installs_kept
 
-# ---- the list of the house, as docs/FRONT.md makes it
-
-# Names that mean something else to nginx, or that a backslash changes, and one of each character and of each length.
-odd_names="default include hostnames volatile tool new rest 0 a.b_c-d e.. $(printf 'l%.0s' $(seq 1 214))"
-lists_odd_names() {
-    for odd in $odd_names; do
-        printf '{"name":"%s","versions":{"1.0.0":{"name":"%s","version":"1.0.0"}},"_attachments":{"a.tgz":{"data":"YWJj"}}}' "$odd" "$odd" > "$work/body.json"
-        [ "$(status_of -X PUT --data-binary "@$work/body.json" "http://127.0.0.1:$port/$odd")" = 201 ] || { say "$odd" >> "$work/out"; return 1; }
-    done
-    registry backup "$work/names.db"
-    sed -n '/^sqlite3 /,/registry-house$/p' "$top/docs/FRONT.md" | sed -e "s|/var/lib/registry/names.db|$work/names.db|" -e "s|/etc/nginx/registry-house|$work/nginx/house|" > "$work/list.sh"
-    sh -e "$work/list.sh" > "$work/out" 2>&1 && reload || return 1
-    for odd in $odd_names; do
-        [ "$(status_of "$address/$odd")" = 200 ] && [ "$(status_of "$address/$odd/9.9.9")" = 404 ] || { say "$odd" >> "$work/out"; return 1; }
-        printf '{"name":"%s","versions":{"1.1.0":{"name":"%s","version":"1.1.0"}},"_attachments":{"a.tgz":{"data":"YWJj"}}}' "$odd" "$odd" > "$work/body.json"
-        [ "$(status_of -X PUT --data-binary "@$work/body.json" "$address/$odd")" = 201 ] || { say "$odd" >> "$work/out"; return 1; }
-    done
-    [ "$(status_of "$address/@lab%2fkit")" = 200 ] && [ "$(status_of -X PUT -d '{}' "$address/not-listed")" = 403 ]
-}
-if command -v sqlite3 > /dev/null; then
-    try 'packages called default, include or tool, and all others, are on the list, and nginx takes it' lists_odd_names
-else
-    say 'skipped: the list, which needs sqlite3 (Debian: apt-get install sqlite3)'
-fi
-
 # ---- the registry ends, and comes back
 
 stops_soon() {
@@ -1085,7 +1069,7 @@ stops_soon() {
     taken=$((($(date +%s%N) - began) / 1000000))
     kill "$stays"
     echo "a stop took $taken ms" > "$work/out"
-    [ $taken -le 8000 ] && wait "$server" && grep -q 'a command told it to stop' "$work/server"
+    [ $taken -le 15000 ] && wait "$server" && grep -q 'a command told it to stop' "$work/server"
 }
 try 'a stop takes seconds, whatever connections the front keeps and however slow its clients are' stops_soon
 is_down() { [ "$(status_of "$address/-/ping")" = 502 ] && [ "$(status_of "$address/@lab%2fkit")" = 502 ] && [ "$(status_of -X PUT -d '{}' "$address/@lab%2fkit")" = 502 ]; }
@@ -1098,7 +1082,7 @@ try 'the front asks the next server without a reload' comes_back
 waits_a_minute() {
     wait "$waits" || true
     cp "$work/waits" "$work/out"
-    has '^504 [6-9][0-9]\.'
+    has_E '^504 ([6-9][0-9]|[12][0-9][0-9])\.'
 }
 try 'what is not answered within 60 s is 504' waits_a_minute
 
@@ -1128,9 +1112,7 @@ refuses_stale() { [ "$(status_of -X DELETE "$address/older/-rev/undefined")" = 4
 try 'and nothing where its revision is not the present one' refuses_stale
 logs_out() {
     as ann "$work" npm logout && [ "$(ask -o "$work/out" -w '%{http_code}' -H 'authorization: Bearer npm_ann_000000001' "$address/@lab%2fkit")" = 401 ] || return 1
-    sleep 1
-    tail -n 3 "$work/nginx/registry.log" > "$work/out"
-    has '"DELETE /-/user/token/\*\*\*" 200'
+    wait_for grep -q '"DELETE /-/user/token/\*\*\*" 200' "$work/nginx/registry.log"
 }
 try 'npm logout ends the token, which is not in the log' logs_out
 

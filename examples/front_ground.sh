@@ -14,6 +14,12 @@ for tool in nginx npm node openssl curl tar; do
     command -v $tool > /dev/null || { echo "$name: $tool is needed, and isn't there (Debian: apt-get install nginx npm openssl curl)" >&2; exit 2; }
 done
 
+# nginx's module that public packages need.
+needs_headers_more() {
+    [ -e "$headers_more" ] || { echo "$name: $headers_more is needed, and isn't there (Debian: apt-get install libnginx-mod-http-headers-more-filter)" >&2; exit 2; }
+}
+headers_more=$(nginx -V 2>&1 | tr ' ' '\n' | sed -n 's|^--modules-path=||p')/ngx_http_headers_more_filter_module.so
+
 work=$(mktemp -d)
 server=
 fronts=
@@ -133,6 +139,7 @@ configure() {
     {
         if [ "$(id -u)" -eq 0 ]; then echo "user $(id -un) $(id -gn);"; fi
         cat << TEXT
+$([ ! -e "$headers_more" ] || echo "load_module $headers_more;")
 daemon off;
 worker_processes 1;
 worker_rlimit_nofile 20000;

@@ -148,7 +148,7 @@ mark() {
 since() { sed "1,/ \/-\/mark-$marks /d" "$work/requests.log" | cut -d ' ' -f 2-5 | grep -v ' command '; }
 has_come() { [ "$(since | wc -l)" -ge "$1" ]; }
 asked() {
-    for _ in $(seq 1 40); do if has_come "$1"; then break; fi; sleep 0.05; done
+    wait_for has_come "$1" || true
     since > "$work/asked" || true
     cat "$work/asked" >> "$work/out"
     [ "$(wc -l < "$work/asked")" = "$1" ]
@@ -400,11 +400,13 @@ try 'four readers at once, of whom two may read, while the package gets eight ve
 
 # ---- whose requests the first front sees
 
+has_lines() { [ "$(grep -c . "$work/first/registry.log")" -ge "$1" ]; }
 names_clients() {
+    lines_before=$(grep -c . "$work/first/registry.log")
     at_further --interface 127.0.0.3 -o /dev/null "$address/tool/1.0.0" && at_further --interface 127.0.0.4 -H 'x-real-ip: 192.0.2.99' -o /dev/null "$address/tool/1.0.0" &&
         ask --interface 127.0.0.3 -H 'x-real-ip: 192.0.2.99' -o /dev/null "$address/tool/1.0.0" || return 1
-    sleep 1
-    tail -n 3 "$work/first/registry.log" | cut -d ' ' -f 1 > "$work/out"
+    wait_for has_lines $((lines_before + 3))
+    tail -n +$((lines_before + 1)) "$work/first/registry.log" | cut -d ' ' -f 1 > "$work/out"
     [ "$(tr '\n' ' ' < "$work/out")" = '127.0.0.3 127.0.0.4 127.0.0.3 ' ]
 }
 try 'the first front knows the address of a client of the further one, and nobody can make one up' names_clients

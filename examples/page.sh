@@ -11,8 +11,8 @@
 # system allows one, and otherwise on loopback. Pictures at three widths come to out/page; all else that
 # is made lies in a folder of its own, which is removed.
 #
-# Nothing is installed. It needs Chromium, nginx, npm, node, openssl, curl, Python 3, and the libraries
-# that show READMEs.
+# Nothing is installed. It needs Chromium, nginx with its module headers-more, npm, node, openssl, curl,
+# Python 3, and the libraries that show READMEs.
 set -eu
 
 top=$(cd "$(dirname "$0")/.." && pwd)
@@ -20,11 +20,12 @@ program=$(realpath "${1:-$top/out/registry}")
 [ $# -eq 0 ] || shift
 PATH=$PATH:/usr/sbin:/sbin
 [ -x "$program" ] || { echo "page.sh: there is no program $program: make build proves and builds it" >&2; exit 2; }
-install='Debian: apt-get install chromium nginx npm openssl curl python3 libjs-marked node-dompurify'
+install='Debian: apt-get install chromium nginx libnginx-mod-http-headers-more-filter npm openssl curl python3 libjs-marked node-dompurify'
 for tool in chromium nginx npm node openssl curl python3; do
     command -v $tool > /dev/null || { echo "page.sh: $tool is needed, and isn't there ($install)" >&2; exit 2; }
 done
-for file in /usr/share/javascript/marked/marked.min.js /usr/share/nodejs/dompurify/dist/purify.min.js; do
+modules=$(nginx -V 2>&1 | tr ' ' '\n' | sed -n 's|^--modules-path=||p')
+for file in "$modules/ngx_http_headers_more_filter_module.so" /usr/share/javascript/marked/marked.min.js /usr/share/nodejs/dompurify/dist/purify.min.js; do
     [ -e "$file" ] || { echo "page.sh: $file is needed, and isn't there ($install)" >&2; exit 2; }
 done
 echo "$(chromium --version --no-sandbox 2> /dev/null), $(nginx -v 2>&1), npm $(npm --version)"

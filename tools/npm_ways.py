@@ -210,10 +210,19 @@ def placed(name, port, secure, certificates, folder):
     return re.sub(r'^ *listen \[::\].*\n', '', text, flags=re.MULTILINE)
 
 
+def headers_more():
+    """Where nginx has its module headers-more, which public packages need."""
+    said = subprocess.run(['nginx', '-V'], capture_output=True, text=True).stderr
+    found = re.search(r'--modules-path=(\S+)', said)
+    return pathlib.Path(found[1] if found else '/usr/lib/nginx/modules') / 'ngx_http_headers_more_filter_module.so'
+
+
 def nginx_of(folder):
     """What is around the front in nginx's configuration."""
     places = ''.join(f'    {kind}_temp_path {folder}/{kind};\n' for kind in ('client_body', 'proxy', 'fastcgi', 'uwsgi', 'scgi'))
     user = 'user root root;\n' if pathlib.Path('/proc/self').stat().st_uid == 0 else ''
+    module = headers_more()
+    user += f'load_module {module};\n' if module.exists() else ''
     return (f'{user}daemon off;\nworker_processes 1;\npid {folder}/pid;\nerror_log {folder}/error.log warn;\n'
             f'events {{ worker_connections 256; }}\nhttp {{\n    access_log off;\n{places}    include {folder}/registry.conf;\n}}\n')
 

@@ -10,6 +10,7 @@ import json
 import subprocess
 import tarfile
 import time
+import unicodedata
 
 DAY = 86_400
 TOKENS = {user: f'npm_{user}_{"0" * 30}{number}' for number, user in enumerate(('ann', 'bob', 'cal', 'eve', 'kim', 'ops'))}
@@ -70,6 +71,17 @@ ATTACKS = [
     '<portal src=/attack/10></portal>', '<marquee onstart=alert(1)>x</marquee>',
 ]
 HOSTILE = '<img src=x onerror=alert(1)>"\'`</title><script>alert(1)</script>\u202e'
+
+# What Unicode lists as ignorable where nothing shows it (Default_Ignorable_Code_Point), apart from most of
+# its last plane, and the categories of controls, formats and ends of lines and paragraphs. Two more are blank.
+IGNORABLE = [(0xAD, 0xAD), (0x34F, 0x34F), (0x61C, 0x61C), (0x115F, 0x1160), (0x17B4, 0x17B5), (0x180B, 0x180F), (0x200B, 0x200F),
+             (0x202A, 0x202E), (0x2060, 0x206F), (0x3164, 0x3164), (0xFE00, 0xFE0F), (0xFEFF, 0xFEFF), (0xFFA0, 0xFFA0), (0xFFF0, 0xFFF8),
+             (0x1BCA0, 0x1BCA3), (0x1D173, 0x1D17A), (0xE0000, 0xE0080), (0xE0100, 0xE0110), (0xE01EF, 0xE0200), (0xE0FFF, 0xE0FFF)]
+UNSEEN = sorted({chr(code) for first, last in IGNORABLE for code in range(first, last + 1)} | {'\u2800', '\U0001d159'} |
+                {chr(code) for code in range(0x110000) if unicodedata.category(chr(code)) in ('Cc', 'Cf', 'Zl', 'Zp')} - {'\t', '\n', '\r'})
+# Those that a reference to a character can name: HTML reads others as other characters.
+REFERRED = [it for it in UNSEEN if it != '\0' and not '\x80' <= it <= '\x9f']
+EMOJI = '\u26a0\ufe0f \U0001f469\u200d\U0001f4bb 1\ufe0f\u20e3 \U0001f3f4\U000e0067\U000e0062\U000e0065\U000e006e\U000e0067\U000e007f'
 
 
 def archive_of(files):
@@ -203,6 +215,17 @@ def hostile(house):
     house.publish('bob', '@lab/broken', '1.0.0', 6, readme=None, archive=b'no archive at all')
 
 
+def unseen(house):
+    """Each character that turns text or isn't seen, in each text; in a README also as a reference."""
+    text = f'{EMOJI} {"-".join(UNSEEN[:60])} {"-".join(UNSEEN)}'
+    rows = [f'- {ord(it):x}[{it}] [&#{ord(it)};] [&#x{ord(it):x};] `[{it}]` **[{it}](https://lab.example/{it} "{it}")**' for it in REFERRED]
+    readme = f'# Title of {EMOJI} {"-".join(UNSEEN[1:])}\n\n<p>&rlm;&shy;&lrm;&zwj;&zwnj;</p>\n\n' + '\n'.join(rows)
+    more = {'description': text, 'readme': readme, 'keywords': [text], 'license': text, 'author': {'name': text}, 'homepage': f'https://lab.example/{text}',
+            'bugs': {'url': f'https://lab.example/{text}'}, 'engines': {'node': text}, 'dependencies': {text[:100]: text, 'tool': text}}
+    house.publish('bob', '@lab/unseen', '1.0.0', 7, **more)
+    house.run('--as', 'bob', 'deprecate', '@lab/unseen', '1.x', ''.join(UNSEEN[1:300]))
+
+
 def heavy(house):
     """Texts and an archive that are made to take long."""
     bomb = archive_of({'package/data': '0' * (80 << 20), 'package/README.md': 'too late'})
@@ -214,7 +237,7 @@ def heavy(house):
 
 def house_of(program, folder):
     house = House(program, folder)
-    for part in (people, kit, others, hostile):
+    for part in (people, kit, others, hostile, unseen):
         part(house)
     return house
 

@@ -36,9 +36,12 @@ const items = (value) => (Array.isArray(value) ? value : []);
 
 const KINDS = [['dependencies', 'Dependencies'], ['peerDependencies', 'Peer dependencies'], ['optionalDependencies', 'Optional dependencies']];
 
-// Characters that aren't visible, or that turn the direction of what follows, are shown as a mark.
-const UNSEEN = /[\0-\x08\x0b-\x1f\x7f-\x9f\u200b\u200e\u200f\u2028-\u202e\u2060-\u206f\ufeff\ufff9-\ufffb]/g;
-const visible = (text) => text.replaceAll('\r\n', '\n').replace(UNSEEN, '\ufffd');
+// Each character is shown as a mark that turns the direction of text, or that isn't seen: by Unicode's own
+// properties, and two symbols that are blank. Tabs and newlines stay, and so does an emoji as Unicode lists
+// it, with the characters that join it.
+const EMOJI_OR_UNSEEN =
+    /(\p{RGI_Emoji})|[[\p{Bidi_Control}\p{Default_Ignorable_Code_Point}\p{Cf}\p{Zl}\p{Zp}\p{Cc}\u2800\u{1d159}]--[\t\n]]/gv;
+const visible = (text) => text.replaceAll('\r\n', '\n').replace(EMOJI_OR_UNSEEN, (_, emoji) => emoji ?? '\ufffd');
 const shortened = (text, longest) => (text.length > longest ? `${text.slice(0, longest)}…` : text);
 const textOf = (value, longest = 300) => (typeof value === 'string' ? visible(shortened(value.trim(), longest)) : '');
 
@@ -472,8 +475,8 @@ function rowOf(name, level, details) {
     const anchor = row.firstChild;
     row.setAttribute('data-name', name);
     anchor.setAttribute('href', routeOf(name));
-    anchor.firstChild.textContent = scope ? `@${scope}/` : '';
-    anchor.append(scope ? name.slice(scope.length + 2) : name);
+    anchor.firstChild.textContent = scope ? visible(`@${scope}/`) : '';
+    anchor.append(visible(scope ? name.slice(scope.length + 2) : name));
     const known = session.details.get(name);
     if (known) describe(row, level, known);
     else details.observer.observe(row);
@@ -764,7 +767,7 @@ function neededBy(it, signal) {
                 if (error instanceof Refusal && [404, 'large'].includes(error.status)) return null;
                 throw error;
             });
-            if (detail?.needs.has(it.name)) list.append(element('li', {}, link(routeOf(name), name)));
+            if (detail?.needs.has(it.name)) list.append(element('li', {}, link(routeOf(name), visible(name))));
             read += 1;
             if (read % 20 === 0) state.textContent = `${read} of ${names.length} read …`;
         };
@@ -961,10 +964,14 @@ function decoded(text) {
 // reads one of another function of its own.
 globalThis.shadowNode ??= {};
 
-// What is left of HTML, or null where there is no sanitizer, or it fails.
+// What is left of HTML, or null where there is no sanitizer, or it fails. References to characters are
+// characters by then.
 function cleaned(html) {
     try {
-        return globalThis.DOMPurify.sanitize(html, CLEAN);
+        const fragment = globalThis.DOMPurify.sanitize(html, CLEAN);
+        const texts = document.createTreeWalker(fragment, NodeFilter.SHOW_TEXT);
+        while (texts.nextNode()) texts.currentNode.data = visible(texts.currentNode.data);
+        return fragment;
     } catch {
         return null;
     }
