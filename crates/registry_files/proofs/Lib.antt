@@ -1,4 +1,3 @@
-pub mod AskedFacts
 mod CheckFacts
 mod CopyFacts
 mod LineFacts

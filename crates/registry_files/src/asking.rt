@@ -1,8 +1,5 @@
 //! Asks the registry in a file, even if another process has the file.
 
-ghost use Rattle.std.specs.Prelude.{IfOk};
-ghost use Rattle.registry_files.specs.Asked.{AnswersBy};
-
 use crate::beside::{TRIES, ask_server, busy, is_busy, pause, require_no_other};
 use crate::ending::Ending;
 use crate::opening::require_existing;
@@ -45,9 +42,7 @@ pub fn answer_to<R: Registries>(
     alloc: Global,
     registries: &mut R,
     question: Question<'_>,
-) -> Result<Answer, Ending>
-    ensures asks { IfOk result (λ answer. AnswersBy R.asks question.request answer) }
-{
+) -> Result<Answer, Ending> {
     let Question {
         path,
         existing,

@@ -52,8 +52,8 @@ named-before old mid new who (Some user) look were finds clean =
 pub names-more : (old mid new : Shown) (us : List Unnamed) (u : Unnamed) (user : Option Text) (log log2 log3 : Logging) → (HasCleanDisk new → HasCleanDisk mid) → NamesEach old mid us log log2
     → (HasCleanDisk new → MayName (stored old) (Token u.token) user) → NamesTurn u user log2 log3 → NamesEach old new (us ++ u ∷ []) log log3
 names-more old mid new [] u user log log2 log3 were same may turn = (user, log3, may, subst (λ (l : Logging). NamesTurn u user l log3) same turn, refl)
-names-more old mid new (v ∷ us) u user log log2 log3 were (first, then, named, noted, rest) may turn =
-    (first, then, (λ clean. named (were clean)), noted, names-more old mid new us u user then log2 log3 were rest may turn)
+names-more old mid new (v ∷ us) u user log log2 log3 were (first, after, named, noted, rest) may turn =
+    (first, after, (λ clean. named (were clean)), noted, names-more old mid new us u user after log2 log3 were rest may turn)
 
 -- where a push didn't fail, the value is the last one
 pub pushed : {A E : Type 0} (done : Result A E) (known : List Asked) (a : Asked) (new : List Asked) → is_err done ≡ false → new ≡ (if is_ok done then known ++ a ∷ [] else known) → new ≡ known ++ a ∷ []

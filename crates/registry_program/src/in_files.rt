@@ -1,13 +1,10 @@
 //! Registries in files.
 
 ghost use Rattle.std.specs.Prelude.{◌≡◌, Result};
-ghost use Rattle.sqlite.specs.Files.{file_state};
 ghost use Rattle.sqlite.specs.Held.{state};
-ghost use Rattle.sqlite.specs.State.{State as Shown};
-ghost use Rattle.sqlite_wal.specs.Files.{image_at};
 ghost use Rattle.registry_desk.specs.Promises.{Applied};
-ghost use Rattle.registry_files.specs.Asked.{AsksOpened, told};
-ghost use Rattle.registry_http.specs.Services.{shown};
+ghost use Rattle.registry_files.specs.Asked.{told};
+ghost use Rattle.registry_http.specs.Services.{Serving, shown};
 
 use registry_desk::Registry;
 use registry_files::{Begins, Ending, Registries, open_once};
@@ -15,8 +12,7 @@ use registry_http::RegistryService;
 use registry_names::Fault;
 use registry_rules::{Reply, Request};
 use registry_service::Service;
-use sqlite::{Alter, FileStore};
-use sqlite_disk::Disk;
+use sqlite::Alter;
 use std::alloc::Global;
 use std::marker::PhantomData;
 
@@ -35,8 +31,6 @@ impl<S: Begins> InFiles<S> {
 }
 
 impl<S: Begins> Registries for InFiles<S> {
-    ghost asks = { AsksOpened (image_at S.Start) };
-
     /// The file is made where there is none.
     fn reply(
         &mut self,
@@ -54,13 +48,13 @@ impl<S: Begins> Registries for InFiles<S> {
 
 // The reply of a registry, whose file is let go of. Its log isn't copied into its file: the next
 // open does what is left to do.
-fn reply_in<D: Disk + Drop>(
+fn reply_in<S: Alter + Drop>(
     alloc: Global,
-    registry: Registry<FileStore<D>>,
+    registry: Registry<S>,
     request: &Request,
 ) -> Result<Reply, Ending>
-    ensures applied { (o : Result Reply Fault) × (after : Shown)
-        × Applied (file_state registry) after request.now o × (result ≡ told o) }
+    ensures applied { (o : Result Reply Fault) × (N : Serving S)
+        × Applied (state S.Store registry) (shown S.Store N) request.now o × (result ≡ told o) }
 {
     match outcome_in(alloc, registry, request) {
         Ok(reply) => Ok(reply),
@@ -74,7 +68,8 @@ fn outcome_in<S: Alter + Drop>(
     registry: Registry<S>,
     request: &Request,
 ) -> Result<Reply, Fault>
-    ensures applied { (after : Shown) × Applied (state S.Store registry) after request.now result }
+    ensures applied { (N : Serving S)
+        × Applied (state S.Store registry) (shown S.Store N) request.now result }
 {
     let mut service = RegistryService::new(registry);
     service.answer(alloc, request)

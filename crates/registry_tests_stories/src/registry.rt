@@ -1,7 +1,5 @@
 //! The registry of a story, in memory or in a file.
 
-ghost use Rattle.registry_files.specs.Asked.{AsksSome};
-
 use crate::failure::{Stop, failed_with};
 use registry_desk::Registry;
 use registry_files::{Ending, Registries};
@@ -36,8 +34,6 @@ impl StoryRegistry {
 }
 
 impl Registries for StoryRegistry {
-    ghost asks = { AsksSome };
-
     /// A file other than `registry.db` is always opened.
     fn reply(
         &mut self,

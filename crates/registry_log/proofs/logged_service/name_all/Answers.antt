@@ -1,9 +1,9 @@
-use Rattle.std.proofs.Common.{◌≡◌, ◌∙◌, ◌∷◌, [], ℕ, List, length, get_or, take, refl, sym, ap, subst, arith}
-use Rattle.std.proofs.Math.Seq.{take-suc}
-use Rattle.std.proofs.lemmas.List.{take_all}
+use Rattle.std.proofs.Common.{◌≡◌, ◌∙◌, ◌<◌, ◌+◌, ◌++◌, ◌∷◌, [], List, length, get_or, take, refl, sym, ap, subst, arith}
+use Rattle.std.proofs.lemmas.List.{take_more}
 use Rattle.sqlite.specs.State.{HasCleanDisk}
+use Rattle.registry_rules.specs.declared.request.Credential.TheVariants.{Token}
 use Rattle.registry_http.specs.Services.{shown}
-use Rattle.registry_log.specs.Logs.{Logging, logging}
+use Rattle.registry_log.specs.Logs.{logging}
 use Rattle.registry_log.specs.LookUps.{NamesEach}
 use Rattle.registry_log.specs.declared.unnamed.Unnamed.{Unnamed}
 use Rattle.registry_log.proofs.EndFacts.{looks-same, looks-then}
@@ -27,7 +27,10 @@ loop-request-preserved g c =
     let us = c.args.log.now.unnamed in
     let request = c.request-item.result in
     let first = logging c.args.log.now.waiting c.args.log.now.answered c.args.log.now.later [] in
-    let turned : take (suc c.loop-request.request-index) us ≡ take c.loop-request.request-index us ++ request ∷ [] = take-suc us c.loop-request.request-index request _ in
+    let turned : take (c.loop-request.request-index + 1) us ≡ take c.loop-request.request-index us ++ request ∷ [] =
+    take_more us c.loop-request.request-index request
+    (subst (λ (us : List Unnamed). c.loop-request.request-index < length us) (c.deref-request-items.ensures.value ∙ c.take_unnamed-unnamed.ensures.taken) c.loop-request-test.true) ∙ ap (λ (r : Unnamed). take c.loop-request.request-index us ++ r ∷ [])
+    (ap (λ (us : List Unnamed). get_or us c.loop-request.request-index request) (sym (c.deref-request-items.ensures.value ∙ c.take_unnamed-unnamed.ensures.taken)) ∙ sym c.request-item.is) in
     let were : HasCleanDisk new → HasCleanDisk mid = λ clean. omega (arith, c.found_user-user.ensures.looks.survives.clean, clean) in
     record {
       before = λ r o N applies. it.before r o N (c.found_user-user.ensures.before r o N applies);
