@@ -33,7 +33,7 @@ use Rattle.registry_documents.specs.declared.asked.Asked.{Asked}
 use Rattle.registry_documents.specs.declared.asked.Asked.TheVariants.{AlreadySo, Deprecation as Deprecates, Withdrawal, OwnerAdd as AddsOwner, OwnerRemove as RemovesOwner}
 use Rattle.registry_npm.specs.Packages.{Purpose, Put, asks_late, asks_names, claimed, does, for_document, for_names, fulfils, is_gone, judged, judges, late, leads_document, leads_put, named_by, no_version, other_of, path_of, published, puts, reads_document, reads_owner, reads_put, reads_revision, reads_versions, reads_withdrawn, refused_of, serves, serves_writer, shows_answer, shows_packument, stale, tries, unless_nobody, with_names, withdrawn}
 use Rattle.registry_npm.specs.Leading.{Leads, asks, by_caller, by_user, document_of, either, ends, in_form, is_stop, or_memory, reading, request, shown_as, shows, unless_stopped}
-use Rattle.registry_npm.specs.Npm.{asks_by, asks_caller, asks_command, asks_first, asks_role, follows, is_npms, is_user, leads, not_served, npm, shows_public}
+use Rattle.registry_npm.specs.Npm.{asks_by, asks_caller, asks_command, asks_first, asks_role, follows, is_npms, is_user, leads, no_document, not_served, npm, shows_public}
 
 -- ---- what is asked for the caller
 
@@ -218,8 +218,8 @@ by-scope w at p who None c is = by-shown w at writers_form c
 by-scope w at p who (Some o) c is = by-unless w at (asks_all p at who o) c (by-all w at p o who is)
 
 by-role : (w : Wanted) (at : ℕ) (o u : Text) (role : Role) (who : Credential) → reads_caller w.authorization (Ok who) → By w at (asks_role o u role at who)
-by-role w at o u role who is = by-asks w at (request at who (Members o)) _ (refl, inl is) (λ c. by-for_document w at _ (ends c) (document_of c) (λ text. by-or_memory w at _ (by-form w at _ (membership_form o u role text)
-    (λ shown. by-asks w at (request at who (OrgSet o u role)) _ (refl, inl is) (λ e. by-unless w at (ends (Ok (Doc shown))) e (by-ends w at (Ok (Doc shown))))))) (by-ends w at c))
+by-role w at o u role who is = by-asks w at (request at who (Members o)) _ (refl, inl is) (λ c. by-for_document w at _ (no_document c) (document_of c) (λ text. by-or_memory w at _ (by-form w at _ (membership_form o u role text)
+    (λ shown. by-asks w at (request at who (OrgSet o u role)) _ (refl, inl is) (λ e. by-unless w at (ends (Ok (Doc shown))) e (by-ends w at (Ok (Doc shown))))))) (by-either w at (is_stop c) _ _ (by-ends w at c) (by-ends w at (Err Database))))
 
 -- ---- all routes
 

@@ -24,6 +24,7 @@ use Rattle.registry_names.specs.declared.stop.Stop.TheVariants.{Refused as Refus
 use Rattle.registry_ranges.specs.Selectors.{Condition}
 use Rattle.registry_routes.specs.NpmRoutes.{NpmRoute, npm_route_of}
 use Rattle.registry_routes.specs.Routes.{Values}
+use Rattle.registry_routes.specs.Written.{text_of}
 use Rattle.registry_routes.specs.declared.npm_endpoint.NpmEndpoint.{NpmEndpoint}
 use Rattle.registry_routes.specs.declared.npm_endpoint.NpmEndpoint.TheVariants as by
 use Rattle.registry_rules.specs.Actions.{is_command}
@@ -32,18 +33,20 @@ use Rattle.registry_rules.specs.declared.request.Action.{Action}
 use Rattle.registry_rules.specs.declared.request.Action.TheVariants.{Deprecate, Maintainers, OwnerAdd, OwnerRemove, Packument, WhoAmI, Withdraw}
 use Rattle.registry_rules.specs.declared.request.Credential.{Credential}
 use Rattle.registry_rules.specs.declared.request.Request.{Request}
+use Rattle.registry_service.specs.Callers.{reads_caller}
 use Rattle.registry_service.specs.HttpAnswers.{Outcome}
 use Rattle.registry_service.specs.Readings.{Reading, one, reads_name}
 use Rattle.registry_service.specs.Turns.{AsksByRoute, Exchange, exchange, stopped}
 use Rattle.registry_wire.specs.declared.wanted.Wanted.{Wanted}
-use Rattle.registry_npm.specs.Changes.{Answers, AreCompared, AreNamed, AreRead, ChangesOneThing, DocumentsChangeOneThing, IsAbout, IsRefused, IsSent, IsSo, Makes, SaysWhatIsThere}
+use Rattle.registry_npm.specs.Changes.{Answers, AreCompared, AreNamed, AreRead, AsksOfWriter, ChangesOneThing, DocumentsChangeOneThing, IsAbout, IsNoPublication, IsRefused, IsSent, IsSo, Makes, PackumentsAreOfWriters, SaysWhatIsThere, TriesRight}
 use Rattle.registry_npm.specs.Forms.{names_in}
 use Rattle.registry_npm.specs.Leading.{Leads, asks, by_user, document_of, either, ends, is_stop, or_memory, reading, request}
 use Rattle.registry_npm.specs.Npm.{is_npms, leads, asks_by}
-use Rattle.registry_npm.specs.Packages.{Put, asks_names, claimed, does, for_document, for_names, is_gone, judged, judged_by, judges, late, leads_claim, leads_document, leads_put, named_by, other_of, published, publishes, puts, reads_document, reads_owner, reads_put, reads_revision, reads_versions, reads_withdrawn, serves, serves_writer, stale, unless_nobody, with_names}
+use Rattle.registry_npm.specs.Packages.{IsPublication, Purpose, Put, asks_names, claimed, does, for_document, for_names, is_gone, judged, judged_by, judges, late, leads_claim, leads_document, leads_put, leads_withdrawal, named_by, other_of, path_of, published, publishes, puts, reads_document, reads_owner, reads_put, reads_revision, reads_versions, reads_withdrawn, serves, serves_writer, stale, unless_nobody, with_names, withdrawn}
 use Rattle.registry_npm.specs.Laws.{AreHarmless, IsHarmless, SelectNothing}
 use Rattle.registry_npm.proofs.DeterminedFacts.{same-document, same-name, same-value}
 use Rattle.registry_npm.proofs.LawFacts.{gone-stops, harmless-asked}
+use Rattle.registry_npm.proofs.RouteFacts.{published-once, publishes-one}
 use Rattle.registry_npm.proofs.TrialFacts.{selects-nothing}
 
 -- ---- what a document asks for, by its kind
@@ -148,10 +151,10 @@ answer-asked false (Some (RemovesOwner u)) asked h = absurd (cc)
 -- ---- what is answered
 
 -- nothing more is asked, and this is answered of the outcome
-abbrev Last : (Outcome → Leads) → Type 0
+abbrev pub Last : (Outcome → Leads) → Type 0
 Last next = (c : Outcome) (es : List Exchange) (o : Outcome) → next c es o → (es ≡ []) × Answers c o
 
-last-ends : Last ends
+pub last-ends : Last ends
 last-ends c es o h = (h.0, (λ e. h.1, λ e. ap is_stop h.1 ∙ e))
 
 last-either : (refusal : Refusal) (c : Outcome) (es : List Exchange) (o : Outcome) → either (is_gone c) (ends (Ok (Refuse refusal))) (ends c) es o → (es ≡ []) × Answers c o
@@ -162,14 +165,14 @@ last-either refusal c es o h = elim (cases_Bool (is_gone c)) [
   | inr n ↦ let there : ends c es o = rw n at h in last-ends c es o there
 ]
 
-last-late : (path : Option Text) → Last (late path)
+pub last-late : (path : Option Text) → Last (late path)
 last-late None c es o h = last-ends c es o h
 last-late (Some named) c es o h = last-either Stale c es o h
 
 last-nobody : Last unless_nobody
 last-nobody c es o h = last-either BadName c es o h
 
-last-asked : (r : Request) (next : Outcome → Leads) (es : List Exchange) (o : Outcome) → Last next → asks r next es o → (c : Outcome) × (es ≡ exchange r c ∷ []) × Answers c o
+pub last-asked : (r : Request) (next : Outcome → Leads) (es : List Exchange) (o : Outcome) → Last next → asks r next es o → (c : Outcome) × (es ≡ exchange r c ∷ []) × Answers c o
 unfolding asks
 last-asked r next [] o last h = absurd h
 last-asked r next (e ∷ es) o last h =
@@ -178,18 +181,18 @@ last-asked r next (e ∷ es) o last h =
 
 -- ---- the end of a turn
 
-stopped-stops : (s : Stop) → is_stop (stopped s) ≡ true
+pub stopped-stops : (s : Stop) → is_stop (stopped s) ≡ true
 stopped-stops (Refuses r) = refl
 stopped-stops (Faulted fault) = refl
 
 -- nothing more is asked, and an error is answered
-abbrev Refused : List Exchange → Outcome → Type 0
+abbrev pub Refused : List Exchange → Outcome → Type 0
 Refused es o = (es ≡ []) × (is_stop o ≡ true)
 
 refused-ends : (c : Outcome) (es : List Exchange) (o : Outcome) → is_stop c ≡ true → ends c es o → Refused es o
 refused-ends c es o stops h = (h.0, ap is_stop h.1 ∙ stops)
 
-refused-late : (path : Option Text) (c : Outcome) (es : List Exchange) (o : Outcome) → is_stop c ≡ true → late path c es o → Refused es o
+pub refused-late : (path : Option Text) (c : Outcome) (es : List Exchange) (o : Outcome) → is_stop c ≡ true → late path c es o → Refused es o
 refused-late path c es o stops h = let x = last-late path c es o h in (x.0, x.1.1 stops)
 
 module _ (path : Option Text) (d : Data) (size : ℕ) (p : Text) (at : ℕ) (who : Credential) (tried : Outcome) (text : Text) (names : List Text) where
@@ -280,10 +283,10 @@ module _ (path : Option Text) (d : Data) (size : ℕ) (p : Text) (at : ℕ) (who
 
 -- ---- the whole turn
 
-abbrev Turn : Option Text → Data → Text → ℕ → List Exchange → Outcome → Type 0
-Turn path d p at es o = IsRefused es o ⊎ SaysWhatIsThere d p at es o ⊎ ChangesOneThing path d p at es o
+abbrev pub Turn : Wanted → Option Text → Data → Text → ℕ → List Exchange → Outcome → Type 0
+Turn w path d p at es o = IsRefused es o ⊎ SaysWhatIsThere w d p at es o ⊎ ChangesOneThing w path d p at es o
 
-no-harm : (es : List Exchange) → es ≡ [] → AreHarmless es
+pub no-harm : (es : List Exchange) → es ≡ [] → AreHarmless es
 no-harm es e = rw e tt
 
 -- nothing more is asked, after what can't change anything
@@ -293,10 +296,10 @@ after-refused e es o is h = ((is, h.0), h.1)
 at-end : (es : List Exchange) (o : Outcome) → Refused es o → IsRefused es o
 at-end es o h = (no-harm es h.0, h.1)
 
-exchange-is : (e : Exchange) (r : Request) (c : Outcome) → e.asked ≡ r → e.outcome ≡ c → e ≡ exchange r c
+pub exchange-is : (e : Exchange) (r : Request) (c : Outcome) → e.asked ≡ r → e.outcome ≡ c → e ≡ exchange r c
 exchange-is e r c a b = rw (← a, ← b) refl
 
-document-is : (c : Outcome) (t : Text) → document_of c ≡ Some t → c ≡ Ok (Doc t)
+pub document-is : (c : Outcome) (t : Text) → document_of c ≡ Some t → c ≡ Ok (Doc t)
 document-is (Err fault) t h = absurd (cc)
 document-is (Ok Created) t h = absurd (cc)
 document-is (Ok Done) t h = absurd (cc)
@@ -306,10 +309,10 @@ document-is (Ok (Refuse r)) t h = absurd (cc)
 document-is (Ok (Doc u)) t h = let same : u ≡ t = cc in ap (λ (x : Text). Ok (Doc x)) same
 
 -- a query is harmless
-query : (e : Exchange) (r : Request) → e.asked ≡ r → is_command r.what ≡ false → IsHarmless e
+pub query : (e : Exchange) (r : Request) → e.asked ≡ r → is_command r.what ≡ false → IsHarmless e
 query e r same is = harmless-asked e r same (inl is)
 
-module _ (path : Option Text) (d : Data) (size : ℕ) (p : Text) (at : ℕ) (who : Credential) where
+module _ (w : Wanted) (path : Option Text) (d : Data) (size : ℕ) (p : Text) (at : ℕ) (who : Credential) (calls : reads_caller w.authorization (Ok who)) where
   -- what was asked before the packument: who calls, and a trial of their right
   record AreFirst (tried : Outcome) (first second : Exchange) : Type 0 where
     is_first : first.asked ≡ request at who WhoAmI
@@ -363,10 +366,11 @@ module _ (path : Option Text) (d : Data) (size : ℕ) (p : Text) (at : ℕ) (who
   append-harmless (e ∷ before) es h k = (h.0, append-harmless before es h.1 k)
 
   -- after what was read a command comes, or nothing
-  closes : (tried : Outcome) (text : Text) (names : List Text) (reads es : List Exchange) (o : Outcome) → AreRead at who p text names tried reads → AreHarmless reads → Ending path d size p at who tried text names es o → Turn path d p at (reads ++ es) o
+  closes : (tried : Outcome) (text : Text) (names : List Text) (reads es : List Exchange) (o : Outcome) → AreRead at who p text names tried reads → AreHarmless reads → Ending path d size p at who tried text names es o → Turn w path d p at (reads ++ es) o
   closes tried text names reads es o are harmless (inl h) = inl (append-harmless reads es harmless (no-harm es h.0), h.1)
   closes tried text names reads es o are harmless (inr (inl e)) = inr (inl (record {
     who = who;
+    is_caller = calls;
     text = text;
     names = names;
     are_read = rw (e.nothing, e.answer) (rw (append-nothing reads) are);
@@ -374,6 +378,7 @@ module _ (path : Option Text) (d : Data) (size : ℕ) (p : Text) (at : ℕ) (who
   }))
   closes tried text names reads es o are harmless (inr (inr e)) = inr (inr (record {
     who = who;
+    is_caller = calls;
     text = text;
     names = names;
     packument = e.packument;
@@ -396,11 +401,11 @@ module _ (path : Option Text) (d : Data) (size : ℕ) (p : Text) (at : ℕ) (who
       let x = first-harmless tried first second are in
       (x.0, (x.1, (query third (request at who (Packument p)) (ap (λ (e : Exchange). e.asked) is-third) refl, h)))
 
-  three-refused : (tried : Outcome) (text : Text) (first second third : Exchange) (es : List Exchange) (o : Outcome) → AreFirst tried first second → third ≡ exchange (request at who (Packument p)) (Ok (Doc text)) → IsRefused es o → Turn path d p at (first ∷ second ∷ third ∷ es) o
+  three-refused : (tried : Outcome) (text : Text) (first second third : Exchange) (es : List Exchange) (o : Outcome) → AreFirst tried first second → third ≡ exchange (request at who (Packument p)) (Ok (Doc text)) → IsRefused es o → Turn w path d p at (first ∷ second ∷ third ∷ es) o
   three-refused tried text first second third es o are is-third h = inl (three-harmless tried text first second third es are is-third h.0, h.1)
 
   for-names_turn : (tried : Outcome) (text : Text) (first second third fourth : Exchange) (t : Text) (names : Option (List Text)) (es : List Exchange) (o : Outcome) → AreFirst tried first second → third ≡ exchange (request at who (Packument p)) (Ok (Doc text)) → is_some (scope_of p) ≡ false
-      → fourth ≡ exchange (request at who (Maintainers p)) (Ok (Doc t)) → names_in t ≡ names → for_names (judged_by p path d size at who tried text) names es o → Turn path d p at (first ∷ second ∷ third ∷ fourth ∷ es) o
+      → fourth ≡ exchange (request at who (Maintainers p)) (Ok (Doc t)) → names_in t ≡ names → for_names (judged_by p path d size at who tried text) names es o → Turn w path d p at (first ∷ second ∷ third ∷ fourth ∷ es) o
   for-names_turn tried text first second third fourth t None es o are is-third plain is-fourth named h =
       three-refused tried text first second third (fourth ∷ es) o are is-third (after-refused fourth es o (query fourth (request at who (Maintainers p)) (ap (λ (e : Exchange). e.asked) is-fourth) refl) (no-harm es h.0, ap is_stop h.1))
   for-names_turn tried text first second third fourth t (Some names) es o are is-third plain is-fourth named h =
@@ -409,7 +414,7 @@ module _ (path : Option Text) (d : Data) (size : ℕ) (p : Text) (at : ℕ) (who
 
   -- the maintainers were asked for
   fourth-turn : (tried : Outcome) (text : Text) (first second third fourth : Exchange) (t : Option Text) (es : List Exchange) (o : Outcome) → AreFirst tried first second → third ≡ exchange (request at who (Packument p)) (Ok (Doc text)) → is_some (scope_of p) ≡ false
-      → fourth.asked ≡ request at who (Maintainers p) → document_of fourth.outcome ≡ t → for_document (with_names (judged_by p path d size at who tried text)) (other tried fourth.outcome) t es o → Turn path d p at (first ∷ second ∷ third ∷ fourth ∷ es) o
+      → fourth.asked ≡ request at who (Maintainers p) → document_of fourth.outcome ≡ t → for_document (with_names (judged_by p path d size at who tried text)) (other tried fourth.outcome) t es o → Turn w path d p at (first ∷ second ∷ third ∷ fourth ∷ es) o
   unfolding or_memory
   fourth-turn tried text first second third fourth None es o are is-third plain is shown h = three-refused tried text first second third (fourth ∷ es) o are is-third (after-refused fourth es o (query fourth (request at who (Maintainers p)) is refl) (at-end es o (other-ends tried fourth.outcome es o h)))
   fourth-turn tried text first second third fourth (Some t) es o are is-third plain is shown (inr h) = three-refused tried text first second third (fourth ∷ es) o are is-third (after-refused fourth es o (query fourth (request at who (Maintainers p)) is refl) (no-harm es h.0, ap is_stop h.1))
@@ -417,14 +422,14 @@ module _ (path : Option Text) (d : Data) (size : ℕ) (p : Text) (at : ℕ) (who
       for-names_turn tried text first second third fourth t (names_in t) es o are is-third plain (exchange-is fourth (request at who (Maintainers p)) (Ok (Doc t)) is (document-is fourth.outcome t shown)) refl h
 
   asked-turn : (tried : Outcome) (text : Text) (first second third : Exchange) (es : List Exchange) (o : Outcome) → AreFirst tried first second → third ≡ exchange (request at who (Packument p)) (Ok (Doc text)) → is_some (scope_of p) ≡ false
-      → or_memory (asks (request at who (Maintainers p)) (named_by (other tried) (judged_by p path d size at who tried text))) es o → Turn path d p at (first ∷ second ∷ third ∷ es) o
+      → or_memory (asks (request at who (Maintainers p)) (named_by (other tried) (judged_by p path d size at who tried text))) es o → Turn w path d p at (first ∷ second ∷ third ∷ es) o
   unfolding or_memory asks
   asked-turn tried text first second third es o are is-third plain (inr h) = three-refused tried text first second third es o are is-third (no-harm es h.0, ap is_stop h.1)
   asked-turn tried text first second third [] o are is-third plain (inl h) = absurd h
   asked-turn tried text first second third (fourth ∷ es) o are is-third plain (inl h) = fourth-turn tried text first second third fourth (document_of fourth.outcome) es o are is-third plain h.0 refl h.1
 
   -- the packument is there
-  text-turn : (tried : Outcome) (text : Text) (first second third : Exchange) (es : List Exchange) (o : Outcome) → AreFirst tried first second → third ≡ exchange (request at who (Packument p)) (Ok (Doc text)) → asks_names p at who (other tried) (judged_by p path d size at who tried text) es o → Turn path d p at (first ∷ second ∷ third ∷ es) o
+  text-turn : (tried : Outcome) (text : Text) (first second third : Exchange) (es : List Exchange) (o : Outcome) → AreFirst tried first second → third ≡ exchange (request at who (Packument p)) (Ok (Doc text)) → asks_names p at who (other tried) (judged_by p path d size at who tried text) es o → Turn w path d p at (first ∷ second ∷ third ∷ es) o
   text-turn tried text first second third es o are is-third h = elim (cases_Bool (is_some (scope_of p))) [
     | inl scoped ↦
         let there : judged_by p path d size at who tried text [] es o = rw scoped at h in
@@ -435,12 +440,12 @@ module _ (path : Option Text) (d : Data) (size : ℕ) (p : Text) (at : ℕ) (who
   ]
 
   third-turn : (tried : Outcome) (first second third : Exchange) (t : Option Text) (es : List Exchange) (o : Outcome) → AreFirst tried first second → third.asked ≡ request at who (Packument p) → document_of third.outcome ≡ t
-      → for_document (λ text. asks_names p at who (other tried) (judged_by p path d size at who tried text)) (other tried third.outcome) t es o → Turn path d p at (first ∷ second ∷ third ∷ es) o
+      → for_document (λ text. asks_names p at who (other tried) (judged_by p path d size at who tried text)) (other tried third.outcome) t es o → Turn w path d p at (first ∷ second ∷ third ∷ es) o
   third-turn tried first second third None es o are is-third shown h = inl (with-first tried first second (third ∷ es) o are (after-refused third es o (query third (request at who (Packument p)) is-third refl) (at-end es o (other-ends tried third.outcome es o h))))
   third-turn tried first second third (Some text) es o are is-third shown h =
       text-turn tried text first second third es o are (exchange-is third (request at who (Packument p)) (Ok (Doc text)) is-third (document-is third.outcome text shown)) h
 
-  serves-turn : (tried : Outcome) (first second : Exchange) (es : List Exchange) (o : Outcome) → AreFirst tried first second → serves (judged path d size) p at who tried es o → Turn path d p at (first ∷ second ∷ es) o
+  serves-turn : (tried : Outcome) (first second : Exchange) (es : List Exchange) (o : Outcome) → AreFirst tried first second → serves (judged path d size) p at who tried es o → Turn w path d p at (first ∷ second ∷ es) o
   unfolding or_memory asks
   serves-turn tried first second es o are (inr h) = inl (with-first tried first second es o are (no-harm es h.0, ap is_stop h.1))
   serves-turn tried first second [] o are (inl h) = absurd h
@@ -448,7 +453,7 @@ module _ (path : Option Text) (d : Data) (size : ℕ) (p : Text) (at : ℕ) (who
 
   -- the right was tried
   tried-turn : (first second : Exchange) (conditions : List (List Condition)) (message : Text) (es : List Exchange) (o : Outcome) → first.asked ≡ request at who WhoAmI → SelectNothing conditions → second.asked ≡ request at who (Deprecate p conditions message)
-      → either (is_stop second.outcome) (late path second.outcome) (serves (judged path d size) p at who second.outcome) es o → Turn path d p at (first ∷ second ∷ es) o
+      → either (is_stop second.outcome) (late path second.outcome) (serves (judged path d size) p at who second.outcome) es o → Turn w path d p at (first ∷ second ∷ es) o
   tried-turn first second conditions message es o is-first none is-second h = elim (cases_Bool (is_stop second.outcome)) [
     | inl y ↦
         let there : late path second.outcome es o = rw y at h in
@@ -467,88 +472,152 @@ module _ (path : Option Text) (d : Data) (size : ℕ) (p : Text) (at : ℕ) (who
 
   -- a trial, after who calls was asked
   asks-turn : (first : Exchange) (conditions : List (List Condition)) (message : Text) (es : List Exchange) (o : Outcome) → first.asked ≡ request at who WhoAmI → SelectNothing conditions
-      → asks (request at who (Deprecate p conditions message)) (λ c. either (is_stop c) (late path c) (serves (judged path d size) p at who c)) es o → Turn path d p at (first ∷ es) o
+      → asks (request at who (Deprecate p conditions message)) (λ c. either (is_stop c) (late path c) (serves (judged path d size) p at who c)) es o → Turn w path d p at (first ∷ es) o
   unfolding asks
   asks-turn first conditions message [] o is-first none h = absurd h
   asks-turn first conditions message (second ∷ es) o is-first none h = tried-turn first second conditions message es o is-first none h.0 h.1
 
-  refused-first : (first : Exchange) (es : List Exchange) (o : Outcome) → first.asked ≡ request at who WhoAmI → IsRefused es o → Turn path d p at (first ∷ es) o
+  refused-first : (first : Exchange) (es : List Exchange) (o : Outcome) → first.asked ≡ request at who WhoAmI → IsRefused es o → Turn w path d p at (first ∷ es) o
   refused-first first es o is-first h = inl (after-refused first es o (query first (request at who WhoAmI) is-first refl) h)
 
-  writer-turn : (first : Exchange) (es : List Exchange) (o : Outcome) → first.asked ≡ request at who WhoAmI → serves_writer (judged path d size) p at who es o → Turn path d p at (first ∷ es) o
+  pub writer-turn : (first : Exchange) (es : List Exchange) (o : Outcome) → first.asked ≡ request at who WhoAmI → serves_writer (judged path d size) p at who es o → Turn w path d p at (first ∷ es) o
   unfolding or_memory reading
   writer-turn first es o is-first (inr h) = refused-first first es o is-first (no-harm es h.0, ap is_stop h.1)
   writer-turn first es o is-first (inl (inl (v, r, h))) = asks-turn first v.selector v.message es o is-first (selects-nothing v.selector r.2) h
   writer-turn first es o is-first (inl (inr (s, r, h))) = refused-first first es o is-first (at-end es o (refused-ends (stopped s) es o (stopped-stops s) h))
 
 -- what isn't in form is refused
-turn-reading : {A : Type 0} (path : Option Text) (d : Data) (p : Text) (at : ℕ) (who : Credential) (first : Exchange) (reads : Reading A) (next : A → Leads) (es : List Exchange) (o : Outcome) → first.asked ≡ request at who WhoAmI → ((a : A) → reads (Ok a) → next a es o → Turn path d p at (first ∷ es) o) → reading reads next es o → Turn path d p at (first ∷ es) o
+turn-reading : {A : Type 0} (w : Wanted) (path : Option Text) (d : Data) (p : Text) (at : ℕ) (who : Credential) (first : Exchange) (reads : Reading A) (next : A → Leads) (es : List Exchange) (o : Outcome) → first.asked ≡ request at who WhoAmI → ((a : A) → reads (Ok a) → next a es o → Turn w path d p at (first ∷ es) o) → reading reads next es o → Turn w path d p at (first ∷ es) o
 unfolding reading
-turn-reading path d p at who first reads next es o is-first f (inl (a, r, h)) = f a r h
-turn-reading path d p at who first reads next es o is-first f (inr (s, r, h)) = inl (after-refused first es o (query first (request at who WhoAmI) is-first refl) (at-end es o (refused-ends (stopped s) es o (stopped-stops s) h)))
+turn-reading w path d p at who first reads next es o is-first f (inl (a, r, h)) = f a r h
+turn-reading w path d p at who first reads next es o is-first f (inr (s, r, h)) = inl (after-refused first es o (query first (request at who WhoAmI) is-first refl) (at-end es o (refused-ends (stopped s) es o (stopped-stops s) h)))
 
 -- a user calls, or nobody
 user-turn : (refused : Outcome → Leads) (next : Credential → Leads) (path : Option Text) (d : Data) (p : Text) (w : Wanted) (at : ℕ) (es : List Exchange) (o : Outcome)
     → ((c : Outcome) (later : List Exchange) → is_stop c ≡ true → refused c later o → Refused later o)
-    → ((who : Credential) (first : Exchange) (later : List Exchange) → first.asked ≡ request at who WhoAmI → next who later o → Turn path d p at (first ∷ later) o) → by_user refused w at next es o → Turn path d p at es o
+    → ((who : Credential) (first : Exchange) (later : List Exchange) → reads_caller w.authorization (Ok who) → first.asked ≡ request at who WhoAmI → next who later o → Turn w path d p at (first ∷ later) o) → by_user refused w at next es o → Turn w path d p at es o
 unfolding reading asks
 user-turn refused next path d p w at es o g f (inr (s, r, h)) = inl (at-end es o (refused-ends (stopped s) es o (stopped-stops s) h))
 user-turn refused next path d p w at [] o g f (inl (who, r, h)) = absurd h
 user-turn refused next path d p w at (first ∷ es) o g f (inl (who, r, h)) = elim (cases_Bool (is_stop first.outcome)) [
   | inl y ↦ let there : refused first.outcome es o = rw y at h.1 in inl (after-refused first es o (query first (request at who WhoAmI) h.0 refl) (at-end es o (g first.outcome es y there)))
-  | inr n ↦ let there : next who es o = rw n at h.1 in f who first es h.0 there
+  | inr n ↦ let there : next who es o = rw n at h.1 in f who first es r h.0 there
 ]
 
 -- ---- the routes
 
 revised-turn : (v : Values) (w : Wanted) (at : ℕ) (es : List Exchange) (o : Outcome) (path : Option Text) (d : Data) (p : Text) → IsSent by.Revised v w.body path d → one reads_name v (Ok p)
-    → leads by.Revised v w at es o → Turn path d p at es o
-revised-turn v w at es o path d p sent named h = user-turn stale (leads_claim v w.body at) path d p w at es o (λ c later stops k. refused-late (Some []) c later o stops k) (λ who first later is-first k.
-    turn-reading path d p at who first (one reads_name v) _ later o is-first (λ q r l. turn-reading path d p at who first (reads_revision v.second) _ later o is-first (λ t u m. turn-reading path d p at who first (reads_document w.body) _ later o is-first (λ c x n.
+    → leads by.Revised v w at es o → Turn w path d p at es o
+revised-turn v w at es o path d p sent named h = user-turn stale (leads_claim v w.body at) path d p w at es o (λ c later stops k. refused-late (Some []) c later o stops k) (λ who first later calls is-first k.
+    turn-reading w path d p at who first (one reads_name v) _ later o is-first (λ q r l. turn-reading w path d p at who first (reads_revision v.second) _ later o is-first (λ t u m. turn-reading w path d p at who first (reads_document w.body) _ later o is-first (λ c x n.
     let same-p : q ≡ p = same-name v q p r named in
     let same-d : c ≡ d = same-document w.body c d x sent.0 in
     let same-path : Some t ≡ path = ap (λ (y : Text). Some y) u.0 ∙ sym sent.1 in
     let there : serves_writer (judged path d (length w.body)) p at who later o = rw (← same-path, ← same-d, ← same-p) n in
-    writer-turn path d (length w.body) p at who first later o is-first there) m) l) k) h
-
-abbrev Sent : Option Text → Data → Text → Wanted → ℕ → List Exchange → Outcome → Type 0
-Sent path d p w at es o = IsRefused es o ⊎ SaysWhatIsThere d p at es o ⊎ ChangesOneThing path d p at es o ⊎ publishes w at es o
-
-sent-turn : (path : Option Text) (d : Data) (p : Text) (w : Wanted) (at : ℕ) (es : List Exchange) (o : Outcome) → Turn path d p at es o → Sent path d p w at es o
-sent-turn path d p w at es o (inl h) = inl h
-sent-turn path d p w at es o (inr (inl h)) = inr (inl h)
-sent-turn path d p w at es o (inr (inr h)) = inr (inr (inl h))
+    writer-turn w path d (length w.body) p at who calls first later o is-first there) m) l) k) h
 
 -- what is put is a claim
-put-turn : (v : Values) (w : Wanted) (at : ℕ) (who : Credential) (first : Exchange) (es : List Exchange) (o : Outcome) (path : Option Text) (d : Data) (p : Text) (put : Put) → IsSent by.Document v w.body path d → first.asked ≡ request at who WhoAmI
-    → reads_put p w.body (Ok put) → puts p w.body at who put es o → Turn path d p at (first ∷ es) o
-put-turn v w at who first es o path d p (published form) sent is-first r h = absurd (sent.1 (ap kind_of (same-value w.body d r.0.0 sent.0 r.0.1) ∙ r.0.2))
-put-turn v w at who first es o path d p (claimed c) sent is-first r h =
+put-turn : (v : Values) (w : Wanted) (at : ℕ) (who : Credential) (calls : reads_caller w.authorization (Ok who)) (first : Exchange) (es : List Exchange) (o : Outcome) (path : Option Text) (d : Data) (p : Text) (put : Put) → IsSent by.Document v w.body path d → first.asked ≡ request at who WhoAmI
+    → reads_put p w.body (Ok put) → puts p w.body at who put es o → Turn w path d p at (first ∷ es) o
+put-turn v w at who calls first es o path d p (published form) sent is-first r h = absurd (sent.1 (ap kind_of (same-value w.body d r.0.0 sent.0 r.0.1) ∙ r.0.2))
+put-turn v w at who calls first es o path d p (claimed c) sent is-first r h =
     let same-d : c ≡ d = same-value w.body c d r.0 sent.0 in
     let there : serves_writer (judged path d (length w.body)) p at who es o = rw (sent.2, ← same-d) h in
-    writer-turn path d (length w.body) p at who first es o is-first there
+    writer-turn w path d (length w.body) p at who calls first es o is-first there
 
 document-turn : (v : Values) (w : Wanted) (at : ℕ) (es : List Exchange) (o : Outcome) (path : Option Text) (d : Data) (p : Text) → IsSent by.Document v w.body path d → one reads_name v (Ok p)
-    → leads_document v w at es o → Sent path d p w at es o
-document-turn v w at es o path d p sent named (inl h) = inr (inr (inr h))
-document-turn v w at es o path d p sent named (inr h) = sent-turn path d p w at es o (user-turn ends (leads_put v w.body at) path d p w at es o (λ c later stops k. refused-ends c later o stops k) (λ who first later is-first k.
-    turn-reading path d p at who first (one reads_name v) _ later o is-first (λ q r l.
+    → (publishes w at es o → IsPublication w.body) → leads_document v w at es o → Turn w path d p at es o
+document-turn v w at es o path d p sent named once (inl h) = let it = once h in absurd (sent.1 (ap kind_of (same-value w.body d it.0 sent.0 it.1) ∙ it.2))
+document-turn v w at es o path d p sent named once (inr h) = user-turn ends (leads_put v w.body at) path d p w at es o (λ c later stops k. refused-ends c later o stops k) (λ who first later calls is-first k.
+    turn-reading w path d p at who first (one reads_name v) _ later o is-first (λ q r l.
     let same-p : q ≡ p = same-name v q p r named in
     let there : reading (reads_put p w.body) (puts p w.body at who) later o = rw (← same-p) l in
-    turn-reading path d p at who first (reads_put p w.body) _ later o is-first (λ put x m. put-turn v w at who first later o path d p put sent is-first x m) there) k) h)
+    turn-reading w path d p at who first (reads_put p w.body) _ later o is-first (λ put x m. put-turn v w at who calls first later o path d p put sent is-first x m) there) k) h
 
 sent-by : (e : NpmEndpoint) (v : Values) (w : Wanted) (at : ℕ) (es : List Exchange) (o : Outcome) (path : Option Text) (d : Data) (p : Text) → IsSent e v w.body path d → one reads_name v (Ok p)
-    → either (is_npms e w.body) (leads e v w at) (AsksByRoute w at) es o → Sent path d p w at es o
-sent-by by.Document v w at es o path d p sent named h = document-turn v w at es o path d p sent named h
-sent-by by.Revised v w at es o path d p sent named h = sent-turn path d p w at es o (revised-turn v w at es o path d p sent named h)
-sent-by _ v w at es o path d p sent named h = absurd sent
+    → (e ≡ by.Document → publishes w at es o → IsPublication w.body) → either (is_npms e w.body) (leads e v w at) (AsksByRoute w at) es o → Turn w path d p at es o
+sent-by by.Document v w at es o path d p sent named once h = document-turn v w at es o path d p sent named (once refl) h
+sent-by by.Revised v w at es o path d p sent named once h = revised-turn v w at es o path d p sent named h
+sent-by _ v w at es o path d p sent named once h = absurd sent
 
 sent-found : (x : Option NpmRoute) (r : NpmRoute) (w : Wanted) (at : ℕ) (es : List Exchange) (o : Outcome) (path : Option Text) (d : Data) (p : Text) → x ≡ Some r → IsSent r.endpoint r.values w.body path d → one reads_name r.values (Ok p)
-    → asks_by x w at es o → Sent path d p w at es o
-sent-found None r w at es o path d p e sent named h = absurd (cc)
-sent-found (Some x) r w at es o path d p e sent named h =
+    → (r.endpoint ≡ by.Document → publishes w at es o → IsPublication w.body) → asks_by x w at es o → Turn w path d p at es o
+sent-found None r w at es o path d p e sent named once h = absurd (cc)
+sent-found (Some x) r w at es o path d p e sent named once h =
     let same : r ≡ x = cc in
-    sent-by x.endpoint x.values w at es o path d p (subst (λ (y : NpmRoute). IsSent y.endpoint y.values w.body path d) same sent) (subst (λ (y : NpmRoute). one reads_name y.values (Ok p)) same named) h
+    sent-by x.endpoint x.values w at es o path d p (subst (λ (y : NpmRoute). IsSent y.endpoint y.values w.body path d) same sent) (subst (λ (y : NpmRoute). one reads_name y.values (Ok p)) same named)
+    (λ is. once (ap (λ (y : NpmRoute). y.endpoint) same ∙ is)) h
 
 pub documents_change_one_thing : DocumentsChangeOneThing
-documents_change_one_thing w at es o r path d p found sent named h = sent-found (npm_route_of w.method w.target) r w at es o path d p found sent named h
+documents_change_one_thing w at es o r path d p found sent named h = sent-found (npm_route_of w.method w.target) r w at es o path d p found sent named (λ is k. publishes-one r w at es o (published-once r w at es o found is k)) h
+
+-- ---- for whom it is read
+
+tries-nothing : (at : ℕ) (who : Credential) (p : Text) (es : List Exchange) → es ≡ [] → TriesRight at who p es
+tries-nothing at who p es e = rw e tt
+
+tries-reading : {A : Type 0} (at : ℕ) (who : Credential) (p : Text) (reads : Reading A) (next : A → Leads) (es : List Exchange) (o : Outcome) → ((a : A) → reads (Ok a) → next a es o → TriesRight at who p es) → reading reads next es o → TriesRight at who p es
+unfolding reading
+tries-reading at who p reads next es o f (inl (a, r, h)) = f a r h
+tries-reading at who p reads next es o f (inr (s, r, h)) = tries-nothing at who p es h.0
+
+tries-writer : (purpose : Purpose) (p : Text) (at : ℕ) (who : Credential) (es : List Exchange) (o : Outcome) → serves_writer purpose p at who es o → TriesRight at who p es
+unfolding or_memory reading asks
+tries-writer purpose p at who es o (inr h) = tries-nothing at who p es h.0
+tries-writer purpose p at who es o (inl (inr (s, r, h))) = tries-nothing at who p es h.0
+tries-writer purpose p at who [] o (inl (inl (v, r, h))) = tt
+tries-writer purpose p at who (e ∷ es) o (inl (inl (v, r, h))) = (v.selector, v.message, selects-nothing v.selector r.2, h.0, λ stops.
+    let there : late (path_of purpose) e.outcome es o = rw stops at h.1 in
+    (last-late (path_of purpose) e.outcome es o there).0)
+
+asks-user : (refused : Outcome → Leads) (next : Credential → Leads) (p : Text) (w : Wanted) (at : ℕ) (es : List Exchange) (o : Outcome)
+    → ((c : Outcome) (later : List Exchange) → refused c later o → later ≡ []) → ((who : Credential) (later : List Exchange) → next who later o → TriesRight at who p later) → by_user refused w at next es o → AsksOfWriter at p es
+unfolding reading asks
+asks-user refused next p w at [] o g f h = tt
+asks-user refused next p w at (e ∷ es) o g f (inr (s, r, h)) = let none : e ∷ es ≡ [] = h.0 in absurd (cc)
+asks-user refused next p w at (e ∷ es) o g f (inl (who, r, h)) = elim (cases_Bool (is_stop e.outcome)) [
+  | inl y ↦ let there : refused e.outcome es o = rw y at h.1 in (who, h.0, tries-nothing at who p es (g e.outcome es there))
+  | inr n ↦ let there : next who es o = rw n at h.1 in (who, h.0, f who es there)
+]
+
+pub name-is : (v : Values) (p : Text) → one reads_name v (Ok p) → p ≡ text_of v.first
+unfolding one
+name-is v p named = named.0
+
+asks-claim : (v : Values) (w : Wanted) (at : ℕ) (es : List Exchange) (o : Outcome) → leads by.Revised v w at es o → AsksOfWriter at (text_of v.first) es
+asks-claim v w at es o h = asks-user stale (leads_claim v w.body at) (text_of v.first) w at es o (λ c later k. (last-late (Some []) c later o k).0) (λ who later k.
+    tries-reading at who _ (one reads_name v) _ later o (λ p named l. tries-reading at who _ (reads_revision v.second) _ later o (λ t u m. tries-reading at who _ (reads_document w.body) _ later o (λ d x n.
+    subst (λ (q : Text). TriesRight at who q later) (name-is v p named) (tries-writer (judged (Some t) d (length w.body)) p at who later o n)) m) l) k) h
+
+asks-withdrawal : (v : Values) (w : Wanted) (at : ℕ) (es : List Exchange) (o : Outcome) → leads by.Unpublish v w at es o → AsksOfWriter at (text_of v.first) es
+asks-withdrawal v w at es o h = asks-user stale (leads_withdrawal v at) (text_of v.first) w at es o (λ c later k. (last-late (Some []) c later o k).0) (λ who later k.
+    tries-reading at who _ (one reads_name v) _ later o (λ p named l. tries-reading at who _ (reads_revision v.second) _ later o (λ t u m.
+    subst (λ (q : Text). TriesRight at who q later) (name-is v p named) (tries-writer (withdrawn t) p at who later o m)) l) k) h
+
+tries-put : (p body : Text) (at : ℕ) (who : Credential) (put : Put) (es : List Exchange) (o : Outcome) → ¬ (IsPublication body) → reads_put p body (Ok put) → puts p body at who put es o → TriesRight at who p es
+tries-put p body at who (published form) es o other r h = absurd (other r.0)
+tries-put p body at who (claimed d) es o other r h = tries-writer (judged None d (length body)) p at who es o h
+
+asks-put : (v : Values) (w : Wanted) (at : ℕ) (es : List Exchange) (o : Outcome) → (publishes w at es o → IsPublication w.body) → ¬ (IsPublication w.body) → leads_document v w at es o → AsksOfWriter at (text_of v.first) es
+asks-put v w at es o once other (inl h) = absurd (other (once h))
+asks-put v w at es o once other (inr h) = asks-user ends (leads_put v w.body at) (text_of v.first) w at es o (λ c later k. k.0) (λ who later k.
+    tries-reading at who _ (one reads_name v) _ later o (λ p named l. tries-reading at who _ (reads_put p w.body) _ later o (λ put r m.
+    subst (λ (q : Text). TriesRight at who q later) (name-is v p named) (tries-put p w.body at who put later o other r m)) l) k) h
+
+asks-written : (e : NpmEndpoint) (v : Values) (w : Wanted) (at : ℕ) (es : List Exchange) (o : Outcome) → (e ≡ by.Document → publishes w at es o → IsPublication w.body) → IsNoPublication e w.body
+    → either (is_npms e w.body) (leads e v w at) (AsksByRoute w at) es o → AsksOfWriter at (text_of v.first) es
+asks-written by.Document v w at es o once other h = asks-put v w at es o (once refl) other h
+asks-written by.Revised v w at es o once other h = asks-claim v w at es o h
+asks-written by.Unpublish v w at es o once other h = asks-withdrawal v w at es o h
+asks-written _ v w at es o once other h = absurd other
+
+asks-found : (x : Option NpmRoute) (r : NpmRoute) (w : Wanted) (at : ℕ) (es : List Exchange) (o : Outcome) → x ≡ Some r → (r.endpoint ≡ by.Document → publishes w at es o → IsPublication w.body) → IsNoPublication r.endpoint w.body
+    → asks_by x w at es o → AsksOfWriter at (text_of r.values.first) es
+asks-found None r w at es o e once other h = absurd (cc)
+asks-found (Some x) r w at es o e once other h =
+    let same : x ≡ r = cc in
+    subst (λ (y : NpmRoute). AsksOfWriter at (text_of y.values.first) es) same (asks-written x.endpoint x.values w at es o (λ is. once (ap (λ (y : NpmRoute). y.endpoint) (sym same) ∙ is))
+    (subst (λ (y : NpmRoute). IsNoPublication y.endpoint w.body) (sym same) other) h)
+
+pub packuments_are_of_writers : PackumentsAreOfWriters
+packuments_are_of_writers w at es o r found other h = asks-found (npm_route_of w.method w.target) r w at es o found (λ is k. publishes-one r w at es o (published-once r w at es o found is k)) other h

@@ -63,7 +63,7 @@ use Rattle.registry_npm.specs.Bodies.{StopsText, reads_access, reads_grant_at, r
 use Rattle.registry_npm.specs.Collaborators.{asks_all, asks_scope, asks_teams, for_form, for_left, left_after, level_said, levels_in, members_in, most_bytes, taking, teams_in}
 use Rattle.registry_npm.specs.Forms.{grants_form, membership_form, names_in, profile_form, teams_form, user_text, writers_form}
 use Rattle.registry_npm.specs.Leading.{Leads, asks, by_caller, by_user, document_of, either, ends, in_form, is_stop, or_memory, reading, request, shown_as, shows, unless_stopped}
-use Rattle.registry_npm.specs.Npm.{asks_by, asks_caller, asks_command, asks_first, asks_own, asks_role, follows, gives_role, is_npms, is_user, leads, not_served, npm, sets_member, shows_public, shows_visibility}
+use Rattle.registry_npm.specs.Npm.{asks_by, asks_caller, asks_command, asks_first, asks_own, asks_role, follows, gives_role, is_npms, is_user, leads, no_document, not_served, npm, sets_member, shows_public, shows_visibility}
 use Rattle.registry_npm.specs.Packages.{IsPublication, Purpose, StopsPut, asks_late, asks_names, claimed, does, for_document, for_names, fulfils, is_gone, judged, judges, late, leads_claim, leads_document, leads_put, leads_revised, leads_unpublish, leads_withdrawal, named_by, no_version, other_of, path_of, published, publishes, puts, reads_document, reads_owner, reads_put, reads_revision, reads_versions, reads_withdrawn, refused_of, serves, serves_writer, shows_answer, shows_packument, stale, tries, tries_right, unless_nobody, with_names, withdrawn}
 use Rattle.registry_npm.proofs.AsciiFacts.{ident-utf8, name-utf8}
 use Rattle.registry_npm.proofs.PublishFacts.{refusal-form}
@@ -756,7 +756,7 @@ one-shown_role : (o u : Text) (role : Role) (at : ℕ) (who : Credential) (text 
 one-shown_role o u role at who text = one-asks (request at who (OrgSet o u role)) _ (λ c. one-unless (ends (Ok (Doc text))) c (one-ends (Ok (Doc text))))
 
 one-role : (o u : Text) (role : Role) (at : ℕ) (who : Credential) → One (asks_role o u role at who)
-one-role o u role at who = one-asks (request at who (Members o)) _ (λ c. one-for_document _ (ends c) (document_of c) (λ text. one-or_memory _ (one-form _ (membership_form o u role text) (one-shown_role o u role at who))) (one-ends c))
+one-role o u role at who = one-asks (request at who (Members o)) _ (λ c. one-for_document _ (no_document c) (document_of c) (λ text. one-or_memory _ (one-form _ (membership_form o u role text) (one-shown_role o u role at who))) (one-either (is_stop c) _ _ (one-ends c) (one-ends (Err Database))))
 
 asked-role : (v : Values) (w : Wanted) (at : ℕ) → OneAsked (leads by.OrgSet v w at)
 asked-role v w at = asked-user ends w at (sets_member v w.body at) one-ends (λ who. one-reading (reads_member v w.body) _ (sole-member v w.body) (λ m. one-or_memory _ (one-role m.0 m.1 m.2 at who)))

@@ -49,7 +49,7 @@ use Rattle.registry_documents.specs.declared.asked.Asked.TheVariants.{AlreadySo,
 use Rattle.registry_npm.specs.Packages.{Purpose, Put, asks_late, asks_names, claimed, does, for_document, for_names, fulfils, is_gone, judged, judges, late, leads_document, leads_put, named_by, no_version, other_of, path_of, published, puts, reads_document, reads_owner, reads_put, reads_revision, reads_versions, reads_withdrawn, refused_of, serves, serves_writer, shows_answer, shows_packument, stale, tries, tries_right, unless_nobody, with_names, withdrawn}
 use Rattle.registry_npm.specs.Queries.{Queries, gave, q-first, q-leads, q-not_served}
 use Rattle.registry_npm.specs.Leading.{Leads, asks, by_caller, by_user, document_of, either, ends, in_form, is_stop, or_memory, reading, request, shown_as, shows, unless_stopped}
-use Rattle.registry_npm.specs.Npm.{asks_by, asks_caller, asks_command, asks_first, asks_own, asks_role, follows, is_npms, is_user, leads, not_served, npm, shows_own, shows_public, shows_teams, shows_user, shows_visibility}
+use Rattle.registry_npm.specs.Npm.{asks_by, asks_caller, asks_command, asks_first, asks_own, asks_role, follows, is_npms, is_user, leads, no_document, not_served, npm, shows_own, shows_public, shows_teams, shows_user, shows_visibility}
 use Rattle.registry_npm.proofs.TrialFacts.{selects-nothing}
 
 -- ---- of either
@@ -202,8 +202,8 @@ last-command : (e : NpmEndpoint) (v : Values) (w : Wanted) (at : ℕ) → Last (
 last-command e v w at = last-user ends w at _ last-ends (λ who. last-reading (reads_first e v w.body) _ (λ what _. last-asks (request at who what) ends answered-ends))
 
 last-role : (o u : Text) (role : Role) (at : ℕ) (who : Credential) → Last (asks_role o u role at who)
-last-role o u role at who = last-then (request at who (Members o)) _ (λ c. inl refl) (λ c. last-document _ (ends c) (document_of c) (λ text. last-or_memory _ (last-form _ (membership_form o u role text)
-    (λ shown. last-asks (request at who (OrgSet o u role)) _ (answered-shown shown)))) (last-ends c))
+last-role o u role at who = last-then (request at who (Members o)) _ (λ c. inl refl) (λ c. last-document _ (no_document c) (document_of c) (λ text. last-or_memory _ (last-form _ (membership_form o u role text)
+    (λ shown. last-asks (request at who (OrgSet o u role)) _ (answered-shown shown)))) (either-of Last (is_stop c) _ _ (last-ends c) (last-ends (Err Database))))
 
 last-member : (v : Values) (w : Wanted) (at : ℕ) → Last (leads by.OrgSet v w at)
 last-member v w at = last-user ends w at _ last-ends (λ who. last-reading (reads_member v w.body) _ (λ m _. last-or_memory _ (last-role m.0 m.1 m.2 at who)))
@@ -434,8 +434,8 @@ stops-user_first refused w at next s f = stops-reading (reads_caller w.authoriza
 
 stops-role : (o u : Text) (role : Role) (at : ℕ) (who : Credential) → Stops (asks_role o u role at who)
 stops-role o u role at who = stops-asks (request at who (Members o)) _ (record {
-  later = λ c. stops-text _ (ends c) (document_of c) (λ text. stops-or_memory _ (stops-form _ (membership_form o u role text)
-      (λ shown. stops-asks (request at who (OrgSet o u role)) _ (stops-unless _ (stops-ended (Ok (Doc shown))))))) (stops-ended c);
+  later = λ c. stops-text _ (no_document c) (document_of c) (λ text. stops-or_memory _ (stops-form _ (membership_form o u role text)
+      (λ shown. stops-asks (request at who (OrgSet o u role)) _ (stops-unless _ (stops-ended (Ok (Doc shown))))))) (either-of Stops (is_stop c) _ _ (stops-ended c) (stops-ended (Err Database)));
   at_fault = λ f es o h. h;
 })
 
@@ -672,32 +672,32 @@ module _ (v : Values) (written : Text) where
   came-stop s (inr (q, named, inr (u, found, given))) e p version is = cc
 
   came-action : (w : Wanted) (at : ℕ) (es : List Exchange) (what : Action) → reads (Ok what) → by_caller w (λ who. asks (request at who what) not_served) es (Ok (Refused NotFound))
-      → (p : Text) × (version : VersionParts) × Names p version × IsGone at p version es
+      → (p : Text) × (version : VersionParts) × Names p version × IsGone w at p version es
   unfolding reading
   came-action w at es what (p, named, (version, found, given)) (inl (who, r, h)) =
       let same : what ≡ Archive p version = cc in
-      (p, version, (named, found), (who, rw (← same) (came-asks (request at who what) es h)))
+      (p, version, (named, found), (who, r, rw (← same) (came-asks (request at who what) es h)))
   came-action w at es what (p, named, (version, found, given)) (inr (s, r, h)) = absurd (caller-found w.authorization s r (sym h.1))
 
   came-file : (w : Wanted) (at : ℕ) (es : List Exchange) → reading reads (λ what. by_caller w (λ who. asks (request at who what) not_served)) es (Ok (Refused NotFound))
-      → ((p : Text) (version : VersionParts) → ¬ (Names p version)) ⊎ ((p : Text) × (version : VersionParts) × Names p version × IsGone at p version es)
+      → ((p : Text) (version : VersionParts) → ¬ (Names p version)) ⊎ ((p : Text) × (version : VersionParts) × Names p version × IsGone w at p version es)
   unfolding reading
   came-file w at es (inl (what, r, h)) = inr (came-action w at es what r h)
   came-file w at es (inr (s, r, h)) = inl (came-stop s r (sym h.1))
 
-abbrev Came : NpmEndpoint → Values → ℕ → List Exchange → Type 0
-Came e v at es = ((p : Text) (version : VersionParts) → ¬ (NamesFile e v p version)) ⊎ ((p : Text) × (version : VersionParts) × NamesFile e v p version × IsGone at p version es)
+abbrev Came : NpmEndpoint → Values → Wanted → ℕ → List Exchange → Type 0
+Came e v w at es = ((p : Text) (version : VersionParts) → ¬ (NamesFile e v p version)) ⊎ ((p : Text) × (version : VersionParts) × NamesFile e v p version × IsGone w at p version es)
 
-gone-by : (e : NpmEndpoint) (v : Values) (w : Wanted) (at : ℕ) (es : List Exchange) → is_file_drop e ≡ true → either (is_npms e w.body) (leads e v w at) (AsksByRoute w at) es (Ok (Refused NotFound)) → Came e v at es
+gone-by : (e : NpmEndpoint) (v : Values) (w : Wanted) (at : ℕ) (es : List Exchange) → is_file_drop e ≡ true → either (is_npms e w.body) (leads e v w at) (AsksByRoute w at) es (Ok (Refused NotFound)) → Came e v w at es
 gone-by by.FileDrop v w at es d h = came-file v v.second w at es h
 gone-by by.ScopedFileDrop v w at es d h = came-file v v.third w at es h
 gone-by _ v w at es d h = absurd (cc)
 
-gone-found : (x : Option NpmRoute) (r : NpmRoute) (w : Wanted) (at : ℕ) (es : List Exchange) → x ≡ Some r → is_file_drop r.endpoint ≡ true → asks_by x w at es (Ok (Refused NotFound)) → Came r.endpoint r.values at es
+gone-found : (x : Option NpmRoute) (r : NpmRoute) (w : Wanted) (at : ℕ) (es : List Exchange) → x ≡ Some r → is_file_drop r.endpoint ≡ true → asks_by x w at es (Ok (Refused NotFound)) → Came r.endpoint r.values w at es
 gone-found None r w at es e d h = absurd (cc)
 gone-found (Some x) r w at es e d h =
     let same : x ≡ r = cc in
-    subst (λ (y : NpmRoute). Came y.endpoint y.values at es) same (gone-by x.endpoint x.values w at es (ap (λ (y : NpmRoute). is_file_drop y.endpoint) same ∙ d) h)
+    subst (λ (y : NpmRoute). Came y.endpoint y.values w at es) same (gone-by x.endpoint x.values w at es (ap (λ (y : NpmRoute). is_file_drop y.endpoint) same ∙ d) h)
 
 pub files-are_gone : FilesAreGone
 files-are_gone w at es r found drop h = gone-found (npm_route_of w.method w.target) r w at es found drop h

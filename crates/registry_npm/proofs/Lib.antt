@@ -4,6 +4,7 @@ pub mod CallFacts
 pub mod ChangeFacts
 pub mod CollaboratorFacts
 pub mod ComesFacts
+pub mod DeedFacts
 pub mod DeterminedFacts
 pub mod FormFacts
 pub mod LabelFacts
@@ -12,6 +13,7 @@ pub mod NeverFacts
 pub mod OneFacts
 pub mod PublishFacts
 pub mod RightFacts
+pub mod RouteFacts
 pub mod ServiceFacts
 pub mod ShownFacts
 pub mod StrangerFacts

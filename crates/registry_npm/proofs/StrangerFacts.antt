@@ -1,5 +1,5 @@
 -- Why nobody but a user is told anything of a body.
-use Rattle.std.proofs.Common.{◌≡◌, ◌∷◌, ◌⊎◌, ◌∙◌, [], ℕ, true, List, Option, Some, None, Ok, sym, ap, inl, inr}
+use Rattle.std.proofs.Common.{◌≡◌, ◌∷◌, ◌⊎◌, ◌∙◌, [], ℕ, true, List, Option, Some, None, Ok, refl, sym, ap, subst, inl, inr}
 use Rattle.std.proofs.lemmas.Bool.{cases_Bool, false≢true}
 use Rattle.registry_names.specs.declared.refusal.Refusal.TheVariants.{Stale}
 use Rattle.registry_routes.specs.NpmRoutes.{NpmRoute, npm_route_of}
@@ -13,11 +13,12 @@ use Rattle.registry_rules.specs.declared.request.Request.{Request}
 use Rattle.registry_service.specs.HttpAnswers.{Outcome}
 use Rattle.registry_service.specs.Turns.{AsksByRoute, Exchange, exchange}
 use Rattle.registry_wire.specs.declared.wanted.Wanted.{Wanted}
-use Rattle.registry_npm.specs.Laws.{AsksWhoFirst, BodiesAreOfUsers, TurnsAway, has_body}
+use Rattle.registry_npm.specs.Laws.{AsksWhoFirst, BodiesAreOfUsers, PublishesAtOnce, TurnsAway, has_body}
 use Rattle.registry_npm.specs.Leading.{Leads, asks, by_user, ends, is_stop, reading, request}
 use Rattle.registry_npm.specs.Npm.{asks_by, is_npms, leads}
 use Rattle.registry_npm.specs.Packages.{is_gone, leads_claim, leads_put, publishes, stale}
 use Rattle.registry_npm.proofs.LawFacts.{either-yes}
+use Rattle.registry_npm.proofs.RouteFacts.{published-once}
 
 -- who is refused is turned away
 abbrev Turned : (Outcome → Leads) → Type 0
@@ -41,14 +42,14 @@ who-first refused w at next es o turned (inr (s, r, h)) = inl (s, r, h.0, h.1)
 who-first refused w at next [] o turned (inl (who, r, h)) = absurd h
 who-first refused w at next (e ∷ es) o turned (inl (who, r, h)) = inr (who, e.outcome, es, r, first-is e es (request at who WhoAmI) h.0, λ stops. turned e.outcome es o stops (rw stops at h.1))
 
-abbrev First : Wanted → ℕ → List Exchange → Outcome → Type 0
-First w at es o = AsksWhoFirst w at es o ⊎ publishes w at es o
+abbrev First : NpmEndpoint → Wanted → ℕ → List Exchange → Outcome → Type 0
+First e w at es o = AsksWhoFirst w at es o ⊎ ((e ≡ by.Document) × publishes w at es o)
 
-put-first : (v : Values) (w : Wanted) (at : ℕ) (es : List Exchange) (o : Outcome) → leads by.Document v w at es o → First w at es o
-put-first v w at es o (inl h) = inr h
+put-first : (v : Values) (w : Wanted) (at : ℕ) (es : List Exchange) (o : Outcome) → leads by.Document v w at es o → First by.Document w at es o
+put-first v w at es o (inl h) = inr (refl, h)
 put-first v w at es o (inr h) = inl (who-first ends w at (leads_put v w.body at) es o turned-ends h)
 
-body-first : (e : NpmEndpoint) (v : Values) (w : Wanted) (at : ℕ) (es : List Exchange) (o : Outcome) → has_body e ≡ true → leads e v w at es o → First w at es o
+body-first : (e : NpmEndpoint) (v : Values) (w : Wanted) (at : ℕ) (es : List Exchange) (o : Outcome) → has_body e ≡ true → leads e v w at es o → First e w at es o
 body-first by.Document v w at es o is h = put-first v w at es o h
 body-first by.Revised v w at es o is h = inl (who-first stale w at (leads_claim v w.body at) es o turned-stale h)
 body-first by.SetAccess v w at es o is h = inl (who-first ends w at _ es o turned-ends h)
@@ -61,12 +62,16 @@ body-first by.Grant v w at es o is h = inl (who-first ends w at _ es o turned-en
 body-first by.Revoke v w at es o is h = inl (who-first ends w at _ es o turned-ends h)
 body-first _ v w at es o is h = absurd (false≢true is)
 
-first-found : (x : Option NpmRoute) (r : NpmRoute) (w : Wanted) (at : ℕ) (es : List Exchange) (o : Outcome) → x ≡ Some r → has_body r.endpoint ≡ true → is_npms r.endpoint w.body ≡ true → asks_by x w at es o → First w at es o
+first-found : (x : Option NpmRoute) (r : NpmRoute) (w : Wanted) (at : ℕ) (es : List Exchange) (o : Outcome) → x ≡ Some r → has_body r.endpoint ≡ true → is_npms r.endpoint w.body ≡ true → asks_by x w at es o → First r.endpoint w at es o
 first-found None r w at es o e is own h = absurd (cc)
 first-found (Some x) r w at es o e is own h =
     let same : x ≡ r = cc in
-    body-first x.endpoint x.values w at es o (ap (λ (y : NpmRoute). has_body y.endpoint) same ∙ is)
-    (either-yes (is_npms x.endpoint w.body) (leads x.endpoint x.values w at) (AsksByRoute w at) es o (ap (λ (y : NpmRoute). is_npms y.endpoint w.body) same ∙ own) h)
+    subst (λ (y : NpmRoute). First y.endpoint w at es o) same (body-first x.endpoint x.values w at es o (ap (λ (y : NpmRoute). has_body y.endpoint) same ∙ is)
+    (either-yes (is_npms x.endpoint w.body) (leads x.endpoint x.values w at) (AsksByRoute w at) es o (ap (λ (y : NpmRoute). is_npms y.endpoint w.body) same ∙ own) h))
+
+at-once : (w : Wanted) (at : ℕ) (es : List Exchange) (o : Outcome) (r : NpmRoute) → npm_route_of w.method w.target ≡ Some r → First r.endpoint w at es o → AsksWhoFirst w at es o ⊎ PublishesAtOnce r w at es o
+at-once w at es o r found (inl h) = inl h
+at-once w at es o r found (inr h) = inr (published-once r w at es o found h.0 h.1)
 
 pub bodies_are_of_users : BodiesAreOfUsers
-bodies_are_of_users w at es o r found is own h = first-found (npm_route_of w.method w.target) r w at es o found is own h
+bodies_are_of_users w at es o r found is own h = at-once w at es o r found (first-found (npm_route_of w.method w.target) r w at es o found is own h)

@@ -1,5 +1,5 @@
 -- What a turn on one of npm's documents may change.
-use Rattle.std.specs.Prelude.{◌≡◌, ◌≢◌, ◌⊎◌, ◌++◌, ◌∷◌, [], ℕ, true, false, is_some, List, Option, Some, None, Ok}
+use Rattle.std.specs.Prelude.{⊤, ◌≡◌, ◌≢◌, ◌⊎◌, ◌++◌, ◌∷◌, [], ℕ, true, false, is_some, List, Option, Some, None, Ok}
 use Rattle.serde_json.specs.Data.{Data, Members}
 use Rattle.serde_json.specs.Read.{read}
 use Rattle.registry_documents.specs.Differences.{besides, repeats_owners, says_no_other}
@@ -21,6 +21,7 @@ use Rattle.registry_rules.specs.declared.reply.Reply.TheVariants.{Doc}
 use Rattle.registry_rules.specs.declared.request.Action.{Action}
 use Rattle.registry_rules.specs.declared.request.Action.TheVariants.{Deprecate, Maintainers, OwnerAdd, OwnerRemove, Packument, WhoAmI, Withdraw}
 use Rattle.registry_rules.specs.declared.request.Credential.{Credential}
+use Rattle.registry_service.specs.Callers.{reads_caller}
 use Rattle.registry_service.specs.HttpAnswers.{Outcome}
 use Rattle.registry_service.specs.Readings.{one, reads_name}
 use Rattle.registry_service.specs.Turns.{Exchange, exchange}
@@ -29,7 +30,7 @@ use Rattle.registry_npm.specs.Forms.{names_in}
 use Rattle.registry_npm.specs.Laws.{AreHarmless, SelectNothing}
 use Rattle.registry_npm.specs.Leading.{is_stop, request}
 use Rattle.registry_npm.specs.Npm.{npm}
-use Rattle.registry_npm.specs.Packages.{publishes}
+use Rattle.registry_npm.specs.Packages.{IsPublication}
 use Rattle.registry_documents.specs.Revisions.{revision}
 
 -- ---- what was sent, and what was read
@@ -99,19 +100,21 @@ IsRefused es o = AreHarmless es × (is_stop o ≡ true)
 abbrev pub IsSo : Data → Text → List Text → Type 0
 IsSo d text names = ((m : Data) × (read text ≡ Some m) × (asked_in d m names ≡ Some AlreadySo)) ⊎ (repeats_owners d names ≡ true)
 
--- The document says what was read in the turn. Only that was asked, for one who may write the package, and
--- the trial of their right is the answer
-pub record SaysWhatIsThere (d : Data) (p : Text) (at : ℕ) (es : List Exchange) (o : Outcome) : Type 0 where
+-- The document says what was read in the turn. Only that was asked, for a caller who may write the package,
+-- and the trial of their right is the answer
+pub record SaysWhatIsThere (w : Wanted) (d : Data) (p : Text) (at : ℕ) (es : List Exchange) (o : Outcome) : Type 0 where
   pub who : Credential
+  pub is_caller : reads_caller w.authorization (Ok who)
   pub text : Text
   pub names : List Text
   pub are_read : AreRead at who p text names o es
   pub is_so : IsSo d text names
 
--- The last that a turn asks is a command, for the one thing in which a document of the present revision
--- differs from what was read in that turn, and its outcome is the answer
-pub record ChangesOneThing (path : Option Text) (d : Data) (p : Text) (at : ℕ) (es : List Exchange) (o : Outcome) : Type 0 where
+-- The last that a turn asks is a command of its caller, for the one thing in which a document of the present
+-- revision differs from what was read in that turn, and its outcome is the answer
+pub record ChangesOneThing (w : Wanted) (path : Option Text) (d : Data) (p : Text) (at : ℕ) (es : List Exchange) (o : Outcome) : Type 0 where
   pub who : Credential
+  pub is_caller : reads_caller w.authorization (Ok who)
   pub text : Text
   pub names : List Text
   pub packument : Data
@@ -128,8 +131,33 @@ pub record ChangesOneThing (path : Option Text) (d : Data) (p : Text) (at : ℕ)
   pub answers : Answers outcome o
 
 -- A document is refused and changes nothing, or it says what is there, or a turn on it asks for the one thing
--- in which it differs from what was read in that turn. What is also a publication in form is one
+-- in which it differs from what was read in that turn
 abbrev pub DocumentsChangeOneThing : Type 0
 DocumentsChangeOneThing = (w : Wanted) (at : ℕ) (es : List Exchange) (o : Outcome) (r : NpmRoute) (path : Option Text) (d : Data) (p : Text)
     → npm_route_of w.method w.target ≡ Some r → IsSent r.endpoint r.values w.body path d → one reads_name r.values (Ok p)
-    → npm.asks w at es o → IsRefused es o ⊎ SaysWhatIsThere d p at es o ⊎ ChangesOneThing path d p at es o ⊎ publishes w at es o
+    → npm.asks w at es o → IsRefused es o ⊎ SaysWhatIsThere w d p at es o ⊎ ChangesOneThing w path d p at es o
+
+-- ---- for whom it is read
+
+-- a document or a withdrawal under a revision, or a body that is no publication
+abbrev pub IsNoPublication : NpmEndpoint → Text → Type 0
+IsNoPublication by.Revised body = ⊤
+IsNoPublication by.Unpublish body = ⊤
+IsNoPublication by.Document body = ¬ (IsPublication body)
+IsNoPublication _ body = ⊥
+
+-- Their right to write the package is tried by a deprecation of no version. Where it is refused or fails,
+-- nothing more is asked
+abbrev pub TriesRight : ℕ → Credential → Text → List Exchange → Type 0
+TriesRight at who p [] = ⊤
+TriesRight at who p (e ∷ es) = (selector : List (List Condition)) × (message : Text) × SelectNothing selector × (e.asked ≡ request at who (Deprecate p selector message)) × (is_stop e.outcome ≡ true → es ≡ [])
+
+-- who calls is asked first, and then whether they may write the package
+abbrev pub AsksOfWriter : ℕ → Text → List Exchange → Type 0
+AsksOfWriter at p [] = ⊤
+AsksOfWriter at p (e ∷ es) = (who : Credential) × (e.asked ≡ request at who WhoAmI) × TriesRight at who p es
+
+-- Whatever the answer is: for a document or a withdrawal, what there is of a package is asked only of who may write it
+abbrev pub PackumentsAreOfWriters : Type 0
+PackumentsAreOfWriters = (w : Wanted) (at : ℕ) (es : List Exchange) (o : Outcome) (r : NpmRoute) → npm_route_of w.method w.target ≡ Some r → IsNoPublication r.endpoint w.body
+    → npm.asks w at es o → AsksOfWriter at (text_of r.values.first) es

@@ -4,16 +4,18 @@ use Rattle.registry_names.specs.Texts.{Text}
 use Rattle.registry_names.specs.Versions.{VersionParts}
 use Rattle.registry_names.specs.declared.refusal.Refusal.TheVariants.{NotFound}
 use Rattle.registry_names.specs.declared.stop.Stop.{Stop}
+use Rattle.registry_publish.specs.Form.{FormParts, IsFormOf}
 use Rattle.registry_ranges.specs.Laws.{IsInForm}
 use Rattle.registry_ranges.specs.Selectors.{Condition, set_selects}
 use Rattle.registry_routes.specs.NpmRoutes.{NpmRoute, npm_route_of}
 use Rattle.registry_routes.specs.Routes.{Values, route_of}
+use Rattle.registry_routes.specs.Written.{text_of}
 use Rattle.registry_routes.specs.declared.npm_endpoint.NpmEndpoint.{NpmEndpoint}
 use Rattle.registry_routes.specs.declared.npm_endpoint.NpmEndpoint.TheVariants as by
 use Rattle.registry_rules.specs.Actions.{is_command}
 use Rattle.registry_rules.specs.declared.reply.Reply.TheVariants.{Refused}
 use Rattle.registry_rules.specs.declared.request.Action.{Action}
-use Rattle.registry_rules.specs.declared.request.Action.TheVariants.{Archive, Deprecate, WhoAmI}
+use Rattle.registry_rules.specs.declared.request.Action.TheVariants.{Archive, Deprecate, Publish, WhoAmI}
 use Rattle.registry_rules.specs.declared.request.Credential.{Credential}
 use Rattle.registry_rules.specs.declared.request.Credential.TheVariants.{Anonymous}
 use Rattle.registry_service.specs.Bodies.{reads_file}
@@ -25,7 +27,7 @@ use Rattle.registry_wire.specs.declared.wanted.Wanted.{Wanted}
 use Rattle.registry_npm.specs.Bodies.{begins_object}
 use Rattle.registry_npm.specs.Leading.{is_stop, request}
 use Rattle.registry_npm.specs.Npm.{is_npms, npm}
-use Rattle.registry_npm.specs.Packages.{is_gone, publishes}
+use Rattle.registry_npm.specs.Packages.{is_gone}
 
 -- ---- which requests are npm's own
 
@@ -115,16 +117,16 @@ NamesFile by.FileDrop v p version = one reads_name v (Ok p) × reads_file p v.se
 NamesFile by.ScopedFileDrop v p version = one reads_name v (Ok p) × reads_file p v.third (Ok version)
 NamesFile _ v p version = ⊥
 
--- nothing was asked but for the archive of this version, which wasn't found
-abbrev pub IsGone : ℕ → Text → VersionParts → List Exchange → Type 0
-IsGone at p version es = (who : Credential) × (es ≡ exchange (request at who (Archive p version)) (Ok (Refused NotFound)) ∷ [])
+-- nothing was asked but for the archive of this version, for the caller, and it wasn't found
+abbrev pub IsGone : Wanted → ℕ → Text → VersionParts → List Exchange → Type 0
+IsGone w at p version es = (who : Credential) × reads_caller w.authorization (Ok who) × (es ≡ exchange (request at who (Archive p version)) (Ok (Refused NotFound)) ∷ [])
 
 -- Where the deletion of an archive's file is answered by NotFound, the path names the file of no version
--- of the package, or the registry doesn't find the version whose file it names
+-- of the package, or the registry doesn't find the version whose file it names, for who calls
 abbrev pub FilesAreGone : Type 0
 FilesAreGone = (w : Wanted) (at : ℕ) (es : List Exchange) (r : NpmRoute) → npm_route_of w.method w.target ≡ Some r → is_file_drop r.endpoint ≡ true
     → npm.asks w at es (Ok (Refused NotFound)) → ((p : Text) (version : VersionParts) → ¬ (NamesFile r.endpoint r.values p version))
-    ⊎ ((p : Text) × (version : VersionParts) × NamesFile r.endpoint r.values p version × IsGone at p version es)
+    ⊎ ((p : Text) × (version : VersionParts) × NamesFile r.endpoint r.values p version × IsGone w at p version es)
 
 -- a document or a whole withdrawal under a revision
 abbrev pub is_revised : NpmEndpoint → Bool
@@ -177,8 +179,12 @@ abbrev pub AsksWhoFirst : Wanted → ℕ → List Exchange → Outcome → Type 
 AsksWhoFirst w at es o = ((s : Stop) × reads_caller w.authorization (Err s) × (es ≡ []) × (o ≡ stopped s))
     ⊎ ((who : Credential) × (caller : Outcome) × (later : List Exchange) × reads_caller w.authorization (Ok who) × (es ≡ exchange (request at who WhoAmI) caller ∷ later) × (is_stop caller ≡ true → TurnsAway caller later o))
 
+-- a publication in form of the package that the path names is asked for at once, for the caller
+abbrev pub PublishesAtOnce : NpmRoute → Wanted → ℕ → List Exchange → Outcome → Type 0
+PublishesAtOnce r w at es o = (r.endpoint ≡ by.Document) × ((who : Credential) × (form : FormParts) × reads_caller w.authorization (Ok who) × IsFormOf w.body form × (form.name ≡ text_of r.values.first) × (es ≡ exchange (request at who (Publish form)) o ∷ []))
+
 -- What is read of a body is read for users: nobody else is told anything of it. Only a publication in form
--- may be asked for at once
+-- of a package may be asked for at once, where packages are put
 abbrev pub BodiesAreOfUsers : Type 0
 BodiesAreOfUsers = (w : Wanted) (at : ℕ) (es : List Exchange) (o : Outcome) (r : NpmRoute) → npm_route_of w.method w.target ≡ Some r → has_body r.endpoint ≡ true
-    → is_npms r.endpoint w.body ≡ true → npm.asks w at es o → AsksWhoFirst w at es o ⊎ publishes w at es o
+    → is_npms r.endpoint w.body ≡ true → npm.asks w at es o → AsksWhoFirst w at es o ⊎ PublishesAtOnce r w at es o

@@ -3,6 +3,7 @@ pub mod Bodies
 pub mod Callers
 pub mod Changes
 pub mod Collaborators
+pub mod Deeds
 pub mod Forms
 pub mod LabelLaws
 pub mod Labels

@@ -3,6 +3,7 @@ use Rattle.std.specs.Prelude.{◌||◌, ℕ, not, Bool, true, false, bytes_eq, o
 use Rattle.registry_access.specs.declared.role.Role.{Role}
 use Rattle.registry_names.specs.Texts.{Text}
 use Rattle.registry_names.specs.declared.refusal.Refusal.TheVariants.{NotFound, NotServed}
+use Rattle.registry_names.specs.declared.stop.Fault.TheVariants.{Database}
 use Rattle.registry_packument.specs.Lists.{username_text}
 use Rattle.registry_routes.specs.NpmRoutes.{NpmRoute, npm_route_of}
 use Rattle.registry_routes.specs.Routes.{Values}
@@ -25,7 +26,7 @@ use Rattle.registry_npm.specs.Collaborators.{for_form, shows_writers}
 use Rattle.registry_npm.specs.Forms.{empty_text, grants_form, membership_form, profile_form, teams_form, user_text, visibility_text}
 use Rattle.registry_npm.specs.Labels.{other_labels, own_labels}
 use Rattle.registry_npm.specs.Packages.{for_document, leads_document, leads_packument, leads_revised, leads_unpublish}
-use Rattle.registry_npm.specs.Leading.{Leads, asks, by_caller, by_user, document_of, either, ends, is_refused, or_memory, reading, request, shown_as, shows, unless_stopped}
+use Rattle.registry_npm.specs.Leading.{Leads, asks, by_caller, by_user, document_of, either, ends, is_refused, is_stop, or_memory, reading, request, shown_as, shows, unless_stopped}
 
 -- ---- after the first request
 
@@ -67,9 +68,13 @@ shows_teams o w at = by_caller w (λ who. asks (request at who (Teams o)) (shown
 abbrev pub gives_role : Text → Text → Role → ℕ → Credential → Text → Leads
 gives_role o u role at who text = asks (request at who (OrgSet o u role)) (unless_stopped (ends (Ok (Doc text))))
 
+-- a refusal or a fault, in the place of a document; anything else is a fault of the registry
+abbrev pub no_document : Outcome → Leads
+no_document c = either (is_stop c) (ends c) (ends (Err Database))
+
 -- what is to be shown is made of the members that are there, before the role is given
 abbrev pub counts_members : Text → Text → Role → ℕ → Credential → Outcome → Leads
-counts_members o u role at who c = for_document (λ text. or_memory (for_form (gives_role o u role at who) (membership_form o u role text))) (ends c) (document_of c)
+counts_members o u role at who c = for_document (λ text. or_memory (for_form (gives_role o u role at who) (membership_form o u role text))) (no_document c) (document_of c)
 
 -- the members of an organisation are asked for, and then a user gets a role in it
 abbrev pub asks_role : Text → Text → Role → ℕ → Credential → Leads

@@ -450,8 +450,18 @@ fn count_members<D: Service>(
             who,
             at,
         ),
-        Err(other) => other,
+        Err(other) => no_document(other),
     }
+}
+
+// What is answered where something else than the members comes.
+fn no_document(outcome: Result<Reply, Fault>) -> Result<Reply, Fault>
+    ensures { spec.no_document outcome [] result }
+{
+    if is_stop(&outcome) {
+        return outcome;
+    }
+    Err(Fault::Database)
 }
 
 // What is to be shown is made before the role is given.

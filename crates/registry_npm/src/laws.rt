@@ -1,7 +1,8 @@
 //! Laws of npm's own requests. Each is the contract of a function that does nothing.
 
 ghost use Rattle.registry_service.specs.Dialects.{AsksQueriesByGet, IsDetermined};
-ghost use Rattle.registry_npm.specs.Changes.{DocumentsChangeOneThing};
+ghost use Rattle.registry_npm.specs.Changes.{DocumentsChangeOneThing, PackumentsAreOfWriters};
+ghost use Rattle.registry_npm.specs.Deeds.{DoneMeansDone};
 ghost use Rattle.registry_npm.specs.LabelLaws.{AbbreviatedAreShown, ArchivesKeepTags, ContentTagsAreTags, OnlyReadsAreLabelled, RefusalsHaveNoLabels, SharedIsPublic, ShownAreTagged, TagsAreRevisions};
 ghost use Rattle.registry_npm.specs.Laws.{AsksForCaller, BodiesAreOfUsers, CommandComesLast, FaultsEnd, FilesAreGone, NeverNotFound, NpmIsApart, OthersStay};
 ghost use Rattle.registry_npm.specs.Npm.{npm};
@@ -38,7 +39,7 @@ pub fn get_asks_queries()
 {}
 
 /// The deletion of an archive's file is answered by `NotFound` only where the path names the file of no
-/// version of the package, or where the registry answers so of the archive of that version.
+/// version of the package, or where the registry answers so to the caller of the archive of that version.
 pub fn files_are_gone()
     ensures { FilesAreGone }
 {}
@@ -49,14 +50,31 @@ pub fn never_not_found()
     ensures { NeverNotFound }
 {}
 
+/// Where a request of npm's own isn't answered by a refusal or a fault, it was done. By the routes that look
+/// at something only queries were asked. By any other the last that was asked is a command, for the caller,
+/// and it was accepted; and the path and the body name all that it is about. A document is in the body, and
+/// asks for the one thing in which it differs from what was read in the turn, or says what is there, after a
+/// trial of the right to write the package that wasn't refused. A whole withdrawal is under the revision that
+/// was read in the turn; or no version is found, after such a trial. The deletion of an archive's file, and
+/// what isn't served, is always refused, or fails.
+pub fn done_means_done()
+    ensures { DoneMeansDone }
+{}
+
 /// A document is refused, and nothing was asked that can change the registry; or it says what is there, and
 /// nothing else was asked, either; or one command comes last: the one thing in which the document differs
 /// from the packument and the maintainers that were read in the turn, with nothing between. That is a message
 /// for some versions, one version withdrawn, or one maintainer more or less. Then the document is of the
-/// present revision, and if the command is refused, so is the document. The packument is asked for only of
-/// who may write the package. What is also a publication in form is one.
+/// present revision, and if the command is refused, so is the document.
 pub fn documents_change_one_thing()
     ensures { DocumentsChangeOneThing }
+{}
+
+/// Of a document that is no publication, and of a whole withdrawal, whatever the answer is: it is asked first
+/// who calls, then their right to write the package is tried, and what there is of a package is asked for only
+/// where that is neither refused nor fails.
+pub fn packuments_are_of_writers()
+    ensures { PackumentsAreOfWriters }
 {}
 
 /// What a turn that asked something answers is determined by what it asked, and by what that came to,
@@ -71,7 +89,8 @@ pub fn asks_for_caller()
 {}
 
 /// Where a body is read, it is asked first who calls. Who is no user is answered that, whatever the body says,
-/// and asked for nothing else. Only a publication in form may be asked for at once.
+/// and asked for nothing else. Only where packages are put, a publication in form of the package that the
+/// path names may be asked for at once.
 pub fn bodies_are_of_users()
     ensures { BodiesAreOfUsers }
 {}
