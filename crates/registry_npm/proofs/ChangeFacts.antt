@@ -566,9 +566,15 @@ unfolding or_memory reading asks
 tries-writer purpose p at who es o (inr h) = tries-nothing at who p es h.0
 tries-writer purpose p at who es o (inl (inr (s, r, h))) = tries-nothing at who p es h.0
 tries-writer purpose p at who [] o (inl (inl (v, r, h))) = tt
-tries-writer purpose p at who (e ∷ es) o (inl (inl (v, r, h))) = (v.selector, v.message, selects-nothing v.selector r.2, h.0, λ stops.
-    let there : late (path_of purpose) e.outcome es o = rw stops at h.1 in
-    (last-late (path_of purpose) e.outcome es o there).0)
+tries-writer purpose p at who (e ∷ es) o (inl (inl (v, r, h))) = (
+  v.selector,
+  v.message,
+  selects-nothing v.selector r.2,
+  h.0,
+  λ stops.
+      let there : late (path_of purpose) e.outcome es o = rw stops at h.1 in
+      (last-late (path_of purpose) e.outcome es o there).0,
+)
 
 asks-user : (refused : Outcome → Leads) (next : Credential → Leads) (p : Text) (w : Wanted) (at : ℕ) (es : List Exchange) (o : Outcome)
     → ((c : Outcome) (later : List Exchange) → refused c later o → later ≡ []) → ((who : Credential) (later : List Exchange) → next who later o → TriesRight at who p later) → by_user refused w at next es o → AsksOfWriter at p es

@@ -12,11 +12,10 @@ use Rattle.registry_documents.specs.Revisions.{revision}
 use Rattle.registry_names.specs.Names.{scope_of}
 use Rattle.registry_names.specs.Spellings.{status_named}
 use Rattle.registry_names.specs.Texts.{Text}
-use Rattle.registry_names.specs.declared.refusal.Refusal.TheVariants.{NotFound, NotServed, Stale}
+use Rattle.registry_names.specs.declared.refusal.Refusal.TheVariants.{NotServed, Stale}
 use Rattle.registry_names.specs.declared.status.Status.{Status}
-use Rattle.registry_names.specs.declared.stop.Fault.TheVariants.{Database, Memory}
+use Rattle.registry_names.specs.declared.stop.Fault.TheVariants.{Database}
 use Rattle.registry_names.specs.declared.stop.Stop.{Stop}
-use Rattle.registry_publish.specs.Form.{FormParts, IsFormOf}
 use Rattle.registry_ranges.specs.Selectors.{Condition}
 use Rattle.registry_routes.specs.NpmRoutes.{NpmRoute, npm_route_of}
 use Rattle.registry_routes.specs.Routes.{Values}
@@ -25,27 +24,27 @@ use Rattle.registry_routes.specs.declared.npm_endpoint.NpmEndpoint.{NpmEndpoint}
 use Rattle.registry_routes.specs.declared.npm_endpoint.NpmEndpoint.TheVariants as by
 use Rattle.registry_rules.specs.declared.reply.Reply.TheVariants.{Doc, Refused}
 use Rattle.registry_rules.specs.declared.request.Action.{Action}
-use Rattle.registry_rules.specs.declared.request.Action.TheVariants.{Archive, Deprecate, Grant, Maintainers, Members, OrgRemove, OrgSet, Packument, Publish, Revoke, SetAccess, TeamAdd, TeamCreate, TeamRemove, TokenRemove, WhoAmI, WithdrawAll}
+use Rattle.registry_rules.specs.declared.request.Action.TheVariants.{Deprecate, Maintainers, Members, OrgSet, Packument, Publish, WhoAmI, WithdrawAll}
 use Rattle.registry_rules.specs.declared.request.Credential.{Credential}
 use Rattle.registry_rules.specs.declared.request.Request.{Request}
 use Rattle.registry_service.specs.Bodies.{reads_form}
 use Rattle.registry_service.specs.Callers.{reads_caller}
 use Rattle.registry_service.specs.HttpAnswers.{Outcome}
 use Rattle.registry_service.specs.Readings.{Reading, one, reads_ident, reads_name, refuses, two}
-use Rattle.registry_service.specs.Turns.{AsksByRoute, Exchange, exchange, stopped}
+use Rattle.registry_service.specs.Turns.{AsksByRoute, Exchange, exchange}
 use Rattle.registry_wire.specs.declared.wanted.Wanted.{Wanted}
 use Rattle.registry_npm.specs.Asked.{reads_first, reads_member}
-use Rattle.registry_npm.specs.Bodies.{reads_access, reads_grant_at, reads_granted, reads_ident_at, reads_json, reads_name_at, reads_role_at, reads_user_role, reads_word_at, text_at}
-use Rattle.registry_npm.specs.Changes.{Answers, AreRead, AreNamed}
+use Rattle.registry_npm.specs.Bodies.{reads_access, reads_grant_at, reads_granted, reads_ident_at, reads_name_at, reads_role_at, reads_user_role, reads_word_at, text_at}
+use Rattle.registry_npm.specs.Changes.{AreNamed}
 use Rattle.registry_npm.specs.Collaborators.{for_form}
 use Rattle.registry_npm.specs.Deeds.{DoesWhatItNames, DoneMeansDone, HasNoVersion, HasWord, IsDeed, IsDone, IsHeard, IsMissing, LeavesFactors, Names, WithdrawsAll}
 use Rattle.registry_npm.specs.Forms.{membership_form, names_in}
 use Rattle.registry_npm.specs.Laws.{AreHarmless, PublishesAtOnce, SelectNothing}
-use Rattle.registry_npm.specs.Leading.{Leads, asks, by_caller, by_user, document_of, either, ends, is_stop, or_memory, reading, request, unless_stopped}
-use Rattle.registry_npm.specs.Npm.{asks_by, asks_command, asks_first, asks_role, counts_members, follows, gives_role, is_npms, leads, no_document, not_served}
-use Rattle.registry_npm.specs.Packages.{Put, asks_late, asks_names, claimed, for_document, for_names, fulfils, is_gone, judged, late, leads_claim, leads_document, leads_put, leads_withdrawal, named_by, no_version, other_of, published, publishes, puts, reads_document, reads_put, reads_revision, reads_versions, serves, serves_writer, shown_by, stale, unpublished_by, with_names, withdrawn}
+use Rattle.registry_npm.specs.Leading.{Leads, asks, by_user, document_of, either, ends, is_stop, or_memory, reading, request, unless_stopped}
+use Rattle.registry_npm.specs.Npm.{asks_by, asks_command, asks_first, asks_role, follows, gives_role, is_npms, leads, no_document, not_served}
+use Rattle.registry_npm.specs.Packages.{Put, asks_late, asks_names, claimed, for_document, for_names, is_gone, late, leads_claim, leads_document, leads_put, leads_withdrawal, named_by, no_version, other_of, published, publishes, puts, reads_document, reads_put, reads_revision, reads_versions, serves, stale, unpublished_by, with_names, withdrawn}
 use Rattle.registry_npm.specs.Queries.{q-leads}
-use Rattle.registry_npm.proofs.ChangeFacts.{Turn, document-is, exchange-is, last-asked, last-ends, last-late, name-is, no-harm, query, refused-late, stopped-stops, writer-turn}
+use Rattle.registry_npm.proofs.ChangeFacts.{Turn, document-is, exchange-is, last-asked, last-late, name-is, query, refused-late, stopped-stops, writer-turn}
 use Rattle.registry_npm.proofs.LawFacts.{either-yes}
 use Rattle.registry_npm.proofs.RouteFacts.{published-once}
 use Rattle.registry_npm.proofs.TrialFacts.{selects-nothing}
@@ -296,20 +295,20 @@ module _ (w : Wanted) (at : ℕ) (o : Outcome) (on : is_stop o ≡ false) (named
       → other_of (withdrawn named) tried missing es o → Withdraws (first ∷ second ∷ (later ++ es))
   done-missing tried first second missing later es are is h = done-tested (Withdraws (first ∷ second ∷ (later ++ es))) (is_stop missing) _ (ends (Err Database)) es o
       (λ stops k. done-tested (Withdraws (first ∷ second ∷ (later ++ es))) (is_gone missing) (ends tried) (ends missing) es o
-          (λ gone l. inr (record {
-            who = who;
-            caller = first.outcome;
-            selector = selector;
-            message = message;
-            missing = missing;
-            later = later;
-            is_caller = calls;
-            selects_nothing = none;
-            is_missing = gone;
-            are_missing = is;
-            asked = rw (l.0, l.1) (rw (append-nothing later) (first-is tried first second later are));
-          }))
-          (λ there l. no-stop o on (stop-ends missing es o stops l)) k)
+      (λ gone l. inr (record {
+        who = who;
+        caller = first.outcome;
+        selector = selector;
+        message = message;
+        missing = missing;
+        later = later;
+        is_caller = calls;
+        selects_nothing = none;
+        is_missing = gone;
+        are_missing = is;
+        asked = rw (l.0, l.1) (rw (append-nothing later) (first-is tried first second later are));
+      }))
+      (λ there l. no-stop o on (stop-ends missing es o stops l)) k)
       (λ runs k. no-stop o on (ap is_stop k.1)) h
 
   -- the packument was read, and who maintains the package
@@ -317,30 +316,30 @@ module _ (w : Wanted) (at : ℕ) (o : Outcome) (on : is_stop o ≡ false) (named
       → unpublished_by p named at who text names es o → Withdraws (first ∷ second ∷ third ∷ (read ++ es))
   done-all tried first second third text names read es are is-third are-named h = done-or_memory (Withdraws (first ∷ second ∷ third ∷ (read ++ es))) _ es o on (λ k.
       done-tested (Withdraws (first ∷ second ∷ third ∷ (read ++ es))) (bytes_eq named (revision text names)) (asks_late (Some named) at who (WithdrawAll p)) (ends (Ok (Refused Stale))) es o (λ present l.
-          let x = last-asked (request at who (WithdrawAll p)) (late (Some named)) es o (last-late (Some named)) l in
-          inl (record {
-            who = who;
-            text = text;
-            names = names;
-            tried = tried;
-            outcome = x.0;
-            reads = first ∷ second ∷ third ∷ read;
-            is_caller = calls;
-            are_read = record {
-              caller = first.outcome;
-              selector = selector;
-              message = message;
-              selects_nothing = none;
-              is_writer = are.is_writer;
-              named = read;
-              are_named = are-named;
-              asked = rw is-third (first-is tried first second (exchange (request at who (Packument p)) (Ok (Doc text)) ∷ read) are);
-            };
-            is_present = (bytes_eq-Decides named (revision text names)).0 present;
-            asked = ap (λ (y : List Exchange). first ∷ second ∷ third ∷ (read ++ y)) x.1;
-            is_accepted = accepted x.0 o x.2.1 on;
-          }))
-          (λ other l. no-stop o on (ap is_stop l.1)) k) h
+      let x = last-asked (request at who (WithdrawAll p)) (late (Some named)) es o (last-late (Some named)) l in
+      inl (record {
+        who = who;
+        text = text;
+        names = names;
+        tried = tried;
+        outcome = x.0;
+        reads = first ∷ second ∷ third ∷ read;
+        is_caller = calls;
+        are_read = record {
+          caller = first.outcome;
+          selector = selector;
+          message = message;
+          selects_nothing = none;
+          is_writer = are.is_writer;
+          named = read;
+          are_named = are-named;
+          asked = rw is-third (first-is tried first second (exchange (request at who (Packument p)) (Ok (Doc text)) ∷ read) are);
+        };
+        is_present = (bytes_eq-Decides named (revision text names)).0 present;
+        asked = ap (λ (y : List Exchange). first ∷ second ∷ third ∷ (read ++ y)) x.1;
+        is_accepted = accepted x.0 o x.2.1 on;
+      }))
+      (λ other l. no-stop o on (ap is_stop l.1)) k) h
 
   done-names : (tried : Outcome) (first second third fourth : Exchange) (text t : Text) (names : Option (List Text)) (es : List Exchange) → AreFirst tried first second → third ≡ exchange (request at who (Packument p)) (Ok (Doc text)) → is_some (scope_of p) ≡ false
       → fourth ≡ exchange (request at who (Maintainers p)) (Ok (Doc t)) → names_in t ≡ names → for_names (unpublished_by p named at who text) names es o → Withdraws (first ∷ second ∷ third ∷ fourth ∷ es)
@@ -368,7 +367,7 @@ module _ (w : Wanted) (at : ℕ) (o : Outcome) (on : is_stop o ≡ false) (named
         | inr plain ↦
             let there : or_memory (asks (request at who (Maintainers p)) (named_by (other_of (withdrawn named) tried) (unpublished_by p named at who text))) es o = rw plain at h in
             done-or_memory (Withdraws (first ∷ second ∷ third ∷ es)) _ es o on (λ k. done-asks (λ (y : List Exchange). Withdraws (first ∷ second ∷ third ∷ y)) (request at who (Maintainers p)) _ es o
-                (λ fourth later also l. done-fourth tried first second third fourth text (document_of fourth.outcome) later are is-third plain also refl l) k) there
+            (λ fourth later also l. done-fourth tried first second third fourth text (document_of fourth.outcome) later are is-third plain also refl l) k) there
       ]
 
   done-serves : (tried : Outcome) (first second : Exchange) (es : List Exchange) → AreFirst tried first second → serves (withdrawn named) p at who tried es o → Withdraws (first ∷ second ∷ es)
