@@ -1,3 +1,4 @@
 mod BesideFacts
 mod HeldFacts
 mod UnseenFacts
+mod LifeFacts

@@ -1,3 +1,4 @@
 pub mod Beside
 pub mod Held
 pub mod Unseen
+pub mod Lives

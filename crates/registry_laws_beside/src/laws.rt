@@ -5,9 +5,12 @@ ghost use Rattle.registry_http.specs.Services.{shown};
 ghost use Rattle.registry_service.specs.Dialects.{IsDetermined};
 ghost use Rattle.registry_service.specs.Turns.{profile};
 ghost use Rattle.registry_laws_beside.specs.Beside.{LogRunsBeside, TurnsRunBeside};
+ghost use Rattle.registry_laws_beside.specs.Lives.{ServersLiveOneLife, ServersTakeTurns, with_commands};
 ghost use Rattle.registry_laws_beside.specs.Held.{HoldsLeaveStored, QueriesLeaveStored};
 ghost use Rattle.registry_laws_beside.specs.Unseen.{CommandsPrintTheSame, ConnectionsAreAnsweredTheSame, WorldsAreSuch};
 
+use registry_guests::CommandListener;
+use registry_server::{Guests, Socket};
 use registry_service::HttpService;
 use sqlite::Alter;
 
@@ -24,6 +27,25 @@ use sqlite::Alter;
 pub fn turns_beside_guests_are_one_run<S: Alter, D: HttpService>()
     ensures turns { TurnsRunBeside D.speaks (shown S.Store) }
     ensures all { LogRunsBeside D.speaks (shown S.Store) }
+{}
+
+/// All that a server asks of its service, from its beginning to its end (`asks` of
+/// `Server::run_beside`), it asks in the turns of its connections and of the commands beside them: those
+/// of the visits of its rounds, and no others, in their order. Each turn is taken at what all older
+/// ones left. Whatever the service may answer at the end, it might have answered where the last turn
+/// left it.
+pub fn servers_take_turns<C: Socket, D: HttpService>()
+    ensures { ServersTakeTurns C.received C.sent C.has_none C.is_full C.has_more C.is_ended C.is_broken D.speaks D.answers D.over
+        (⟦<CommandListener as Guests>⟧.visits D.answers D.over) (with_commands D.answers D.over) }
+{}
+
+/// The whole life of a server is one run of its registry: these turns, from the server's beginning to
+/// its end, are one run of the registry that the service shows, of the requests that were asked in
+/// them, in their order. `D` may be any service over HTTP of which some part shows a registry: it
+/// answers what this registry answers.
+pub fn servers_live_one_life<C: Socket, S: Alter, D: HttpService>()
+    ensures { ServersLiveOneLife C.received C.sent C.has_none C.is_full C.has_more C.is_ended C.is_broken D.speaks D.answers D.over
+        (⟦<CommandListener as Guests>⟧.visits D.answers D.over) (with_commands D.answers D.over) (shown S.Store) }
 {}
 
 /// What is asked about a package, on connections and by commands beside them, changes no byte of
