@@ -41,7 +41,6 @@ check more => Err(Words(Text { string: "error: unexpected argument 'more' found
 backup => Err(Words(Text { string: "error: the following required arguments
 init r.db => Err(Words(Text { string: "error: unexpected argument 'r.db' found
 init --existing => Err(Words(Text { string: "error: unexpected argument '--existing' found
---existing=yes check => Err(Words(Text { string: "error: unexpected value 'yes' for '--existing' found
 stop now => Err(Words(Text { string: "error: unexpected argument 'now' found
 check --help => Err(Words(Text { string: "Check that all that the file holds
 --at x check => Err(Words(Text { string: "error: invalid value 'x' for '--at <SECONDS>'

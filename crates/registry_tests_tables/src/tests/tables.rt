@@ -178,34 +178,6 @@ a need that two members name is put once
 status kit public
 publish kit 1.0.0 0 1 ,"dependencies":{"kid":"~2","pad":"^1"},"devDependencies":{"pod":"3"},"optionalDependencies":{"pad":"^1"},"peerDependencies":{"kid":"2.1"}
 then rows archives held kid 2.1 kid ~2 meta packages pad ^1 versions
-
-others need versions by ranges, by a tag, and no more once they are withdrawn
-status kit public
-status app public
-status web public
-publish kit 1.0.0 0
-publish kit 1.1.0-beta 0
-publish kit 2.0.0 0 1 ,"dependencies":{"kit":"*"}
-is-any-depended kit -> false
-publish app 1.0.0 0 1 ,"dependencies":{"kit":"^3"},"optionalDependencies":{"kit":"~0.9"}
-is-any-depended kit -> false
-is-depended kit 1.0.0 -> false
-publish app 1.1.0 0 1 ,"dependencies":{"kit":"1.0.1"},"peerDependencies":{"kit":"2.0.0"}
-is-depended kit 1.0.0 -> false
-is-depended kit 1.1.0-beta -> false
-is-depended kit 2.0.0 -> true
-is-any-depended kit -> true
-retire app 1.1.0 0 1
-is-depended kit 2.0.0 -> false
-is-any-depended kit -> false
-publish web 1.0.0 0 1 ,"dependencies":{"kit":"~1.1.0-alpha"}
-is-depended kit 1.0.0 -> false
-is-depended kit 1.1.0-beta -> true
-is-any-depended kit -> true
-is-any-depended app -> false
-publish web 1.1.0 0 1 ,"dependencies":{"kit":"latest"}
-is-depended kit 1.0.0 -> true
-is-depended web 1.0.0 -> false
 "#;
 
 /// Who is in the teams of organisations, what that grants, tokens, and numbers in the tables.

@@ -11,9 +11,9 @@ use registry_names::{Fault, Ident, Name};
 use registry_rows::write;
 use registry_tables::{
     are_grants_in_scope, has_grant, has_live, has_other_maintainer, has_tag, has_version,
-    is_any_depended, is_depended, is_maintainer, is_spent, load_archive, load_grants,
-    load_live_since, load_standing, load_status, load_tags, load_team_packages, load_team_users,
-    load_times, load_token_user, load_user_tokens, make, numbers_are_in_range, put_version,
+    is_maintainer, is_spent, load_archive, load_grants, load_standing, load_status, load_tags,
+    load_team_packages, load_team_users, load_times, load_token_user, load_user_tokens, make,
+    numbers_are_in_range, put_version,
 };
 use sqlite::{Alter, Transaction, params};
 use std::alloc::Global;
@@ -81,31 +81,6 @@ fn about_versions<S: Alter>(
         "has-version" => Ok(Loaded::IsSo(has_version(tx, asked.name(rt), third)?)),
         "is-spent" => Ok(Loaded::IsSo(is_spent(tx, asked.name(rt), third)?)),
         "has-tag" => Ok(Loaded::IsSo(has_tag(tx, asked.name(rt), third)?)),
-        _ => about_needs(rt, alloc, tx, asked),
-    }
-}
-
-// Answers whether others need a package.
-fn about_needs<S: Alter>(
-    rt: &impl Abort,
-    alloc: Global,
-    tx: &mut Transaction<'_, S>,
-    asked: &Asked<'_>,
-) -> Result<Loaded, Fault>
-    requires whole { IsWhole S.Store tx.old }
-    ensures same_reference { tx.new.conn.ghost_name ≡ tx.old.conn.ghost_name }
-    ensures whole { OnOk result (IsWhole S.Store tx.new) }
-{
-    match asked.verb {
-        "is-depended" => {
-            let is = is_depended(alloc, tx, asked.name(rt), asked.version(rt))?;
-            Ok(Loaded::IsSo(is))
-        }
-        "is-any-depended" => {
-            let live = load_live_since(alloc, tx, asked.name(rt))?;
-            let is = is_any_depended(alloc, tx, asked.name(rt), &live)?;
-            Ok(Loaded::IsSo(is))
-        }
         _ => about_people(rt, alloc, tx, asked),
     }
 }
